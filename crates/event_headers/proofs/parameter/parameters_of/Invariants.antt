@@ -1,0 +1,11 @@
+use Rattle.std.proofs.Common.{◌≡◌, length}
+use Rattle.event_headers.specs.Reading.{parameters_of}
+use Rattle.event_headers.specs.Views.{views}
+use Rattle.event_headers.proofs.Lists.{with_front}
+use Rattle.event_headers.proofs.parameter.parameters_of.Given as goal
+
+abbrev pub invariant-loop-rest : goal.invariant-loop-rest
+invariant-loop-rest l = with_front (views l.parameters.items) (parameters_of l.rest) ≡ parameters_of l.text
+
+abbrev pub decreases-loop-rest : goal.decreases-loop-rest
+decreases-loop-rest l = length l.rest

@@ -1,0 +1,9 @@
+pub mod Texts
+pub mod Values
+pub mod Content
+pub mod Changes
+pub mod Boxes
+pub mod Bodies
+pub mod Run
+pub mod Closings
+pub mod Code

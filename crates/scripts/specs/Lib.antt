@@ -1,0 +1,9 @@
+pub mod Arguments
+pub mod ArgumentsReading
+pub mod Changes
+pub mod Devices
+pub mod Errors
+pub mod Page
+pub mod Script
+pub mod Reading
+pub mod Views

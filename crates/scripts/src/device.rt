@@ -1,0 +1,111 @@
+//! Readers and writers that count their failures, so that a contract can tell when a device failed.
+ghost use Rattle.std.specs.Prelude.{◌≡◌, ℕ, Bool, true, false, IsOk, is_ok};
+ghost use Rattle.std.specs.Io.{ReadsAtMost, WritesAtMost};
+ghost use Rattle.std.specs.Io.KnownBytes.{ReadConsumes, WriteAppends, Keeps};
+ghost use Rattle.scripts.specs.Devices.{failures_after, failures_after_write};
+
+use std::io;
+use std::io::{Read, Write};
+
+/// A reader that counts its failures.
+#[derive(Drop)]
+pub struct Source<R> {
+    pub reader: R,
+    /// How many reads failed. It stays at 2^64 - 1 once there.
+    pub failures: u64,
+}
+
+impl<R> Source<R> {
+    /// This reader, which hasn't failed yet.
+    pub fn new(reader: R) -> Source<R>
+        ensures { result ≡ record { reader = reader; failures = 0 } }
+    {
+        Source {
+            reader,
+            failures: 0,
+        }
+    }
+}
+
+impl<R: Read> Read for Source<R> {
+    ghost remaining = { λ s. R.remaining s.reader };
+
+    fn read(&mut self, buf: &mut [u8]) -> io::Result<usize>
+        ensures bound { ReadsAtMost result buf.new }
+        ensures bytes { ReadConsumes (R.remaining self.old.reader) (R.remaining self.new.reader) result buf.new }
+        ensures counted { self.new.failures ≡ failures_after result self.old.failures }
+    {
+        match self.reader.read(buf) {
+            Ok(count) => Ok(count),
+            Err(fault) => {
+                self.failures = self.failures.saturating_add(1);
+                Err(fault)
+            }
+        }
+    }
+}
+
+/// A writer that counts its failures, and knows whether all it took was flushed.
+#[derive(Drop)]
+pub struct Sink<W> {
+    pub writer: W,
+    /// How many writes and flushes failed, with the writes that took none of some bytes. It stays at 2^64 - 1 once there.
+    pub failures: u64,
+    /// Whether a flush succeeded after the last write.
+    pub is_flushed: bool,
+}
+
+impl<W> Sink<W> {
+    /// This writer, which hasn't failed yet.
+    pub fn new(writer: W) -> Sink<W>
+        ensures { result ≡ record { writer = writer; failures = 0; is_flushed = false } }
+    {
+        Sink {
+            writer,
+            failures: 0,
+            is_flushed: false,
+        }
+    }
+}
+
+impl<W: Write> Write for Sink<W> {
+    ghost contents = { λ s. W.contents s.writer };
+
+    fn write(&mut self, buf: &[u8]) -> io::Result<usize>
+        ensures bound { WritesAtMost result buf.now }
+        ensures bytes { WriteAppends (W.contents self.old.writer) (W.contents self.new.writer) result buf.now }
+        ensures counted { self.new.failures ≡ failures_after_write buf.now result self.old.failures }
+    {
+        self.is_flushed = false;
+        let outcome = self.writer.write(buf);
+        match outcome {
+            Ok(0) if !buf.is_empty() => {
+                self.failures = self.failures.saturating_add(1);
+                Ok(0)
+            }
+            Ok(count) => Ok(count),
+            Err(fault) => {
+                self.failures = self.failures.saturating_add(1);
+                Err(fault)
+            }
+        }
+    }
+
+    fn flush(&mut self) -> io::Result<()>
+        ensures bytes { Keeps (W.contents self.old.writer) (W.contents self.new.writer) }
+        ensures counted { self.new.failures ≡ failures_after result self.old.failures }
+        ensures flushed { self.new.is_flushed ≡ is_ok result }
+    {
+        match self.writer.flush() {
+            Ok(()) => {
+                self.is_flushed = true;
+                Ok(())
+            }
+            Err(fault) => {
+                self.is_flushed = false;
+                self.failures = self.failures.saturating_add(1);
+                Err(fault)
+            }
+        }
+    }
+}

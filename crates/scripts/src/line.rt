@@ -1,0 +1,229 @@
+//! The words of a line.
+ghost use Rattle.std.specs.Prelude.{◌≡◌, ℕ, string_bytes};
+ghost use Rattle.scripts.specs.Reading.{Finds, Gives, octet_at, ip_of, addr_of, class_of, count_at, counts_of, mail_words, mail_at, progress_words, progress_at, named_at, order_of, line_of, control_of};
+ghost use Rattle.scripts.specs.Changes.{mail_of, progress_of};
+ghost use Rattle.scripts.specs.Views.{mail_seen, progress_seen};
+
+use crate::error::ScriptError;
+use crate::scan::{byte_of, count_of, cut_at, number_of, short_of, text_of};
+use crate::script::Control;
+use package::{Class, Counts, MailChange, Progress};
+use sip_read::Addr;
+use std::alloc::Global;
+
+/// An octet of an address before a dot, and what stands behind that.
+#[tactic(auto, unfolding(crate::specs::Reading::octet_at))]
+fn octet_at(text: &[u8]) -> Option<(u8, &[u8])>
+    ensures { Finds (λ x. (x.0, x.1.now)) result (octet_at text.now) }
+{
+    let (word, rest) = cut_at(b'.', text)?;
+    Some((byte_of(word)?, rest))
+}
+
+#[tactic(auto, unfolding(crate::specs::Reading::ip_of))]
+fn ip_of(text: &[u8]) -> Option<[u8; 4]>
+    ensures { Finds (λ x. x) result (ip_of text.now) }
+{
+    let (first, rest) = octet_at(text)?;
+    let (second, rest) = octet_at(rest)?;
+    let (third, rest) = octet_at(rest)?;
+    let fourth = byte_of(rest)?;
+    Some([first, second, third, fourth])
+}
+
+/// An address in dotted decimal, a colon and a port.
+#[tactic(auto, unfolding(crate::specs::Reading::addr_of))]
+pub fn addr_of(text: &[u8]) -> Option<Addr>
+    ensures { Finds (λ x. x) result (addr_of text.now) }
+{
+    let (host, rest) = cut_at(b':', text)?;
+    let ip = ip_of(host)?;
+    let port = short_of(rest)?;
+    Some(Addr { ip, port })
+}
+
+#[tactic(auto, unfolding(crate::specs::Reading::class_of))]
+fn class_of(word: &[u8]) -> Option<Class>
+    ensures { Finds (λ x. x) result (class_of word.now) }
+{
+    if word == b"voice".as_slice() {
+        Some(Class::Voice)
+    } else if word == b"fax".as_slice() {
+        Some(Class::Fax)
+    } else if word == b"pager".as_slice() {
+        Some(Class::Pager)
+    } else if word == b"multimedia".as_slice() {
+        Some(Class::Multimedia)
+    } else if word == b"text".as_slice() {
+        Some(Class::Text)
+    } else {
+        None
+    }
+}
+
+/// A count before a space, and what stands behind that.
+#[tactic(auto, unfolding(crate::specs::Reading::count_at))]
+fn count_at(text: &[u8]) -> Option<(u32, &[u8])>
+    ensures { Finds (λ x. (x.0, x.1.now)) result (count_at text.now) }
+{
+    let (word, rest) = cut_at(b' ', text)?;
+    Some((count_of(word)?, rest))
+}
+
+#[tactic(auto, unfolding(crate::specs::Reading::counts_of))]
+fn counts_of(text: &[u8]) -> Option<Counts>
+    ensures { Finds (λ x. x) result (counts_of text.now) }
+{
+    let (new_count, rest) = count_at(text)?;
+    let (old_count, rest) = count_at(rest)?;
+    let (urgent_new, rest) = count_at(rest)?;
+    let urgent_old = count_of(rest)?;
+    Some(Counts {
+        new_count,
+        old_count,
+        urgent_new,
+        urgent_old,
+    })
+}
+
+/// The words of a MAIL line behind the first.
+#[derive(Clone, Copy)]
+struct MailWords<'a> {
+    mailbox: &'a str,
+    class: Class,
+    counts: Counts,
+}
+
+#[tactic(auto, unfolding(crate::specs::Reading::mail_words))]
+fn mail_words(text: &[u8]) -> Option<MailWords<'_>>
+    ensures { Finds mail_seen result (mail_words text.now) }
+{
+    let (word, rest) = cut_at(b' ', text)?;
+    let mailbox = text_of(word)?;
+    let (word, rest) = cut_at(b' ', rest)?;
+    let class = class_of(word)?;
+    let counts = counts_of(rest)?;
+    Some(MailWords {
+        mailbox,
+        class,
+        counts,
+    })
+}
+
+/// The words of a PROGRESS line behind the first.
+#[derive(Clone, Copy)]
+struct ProgressWords<'a> {
+    tag: &'a str,
+    code: u16,
+    reason: &'a str,
+}
+
+#[tactic(auto, unfolding(crate::specs::Reading::progress_words))]
+fn progress_words(text: &[u8]) -> Option<ProgressWords<'_>>
+    ensures { Finds progress_seen result (progress_words text.now) }
+{
+    let (word, rest) = cut_at(b' ', text)?;
+    let tag = text_of(word)?;
+    let (word, rest) = cut_at(b' ', rest)?;
+    let code = short_of(word)?;
+    let reason = text_of(rest)?;
+    Some(ProgressWords { tag, code, reason })
+}
+
+/// The change of these values, where a mail change may have them.
+fn mail_change(mailbox: String, class: Class, counts: Counts) -> Option<MailChange>
+    ensures { result ≡ mail_of (record { mailbox = string_bytes mailbox; class = class; counts = counts }) }
+{
+    MailChange::new(
+        mailbox,
+        class,
+        counts.new_count,
+        counts.old_count,
+        counts.urgent_new,
+        counts.urgent_old,
+    )
+}
+
+#[tactic(auto, unfolding(crate::specs::Reading::mail_at))]
+fn mail_at(alloc: Global, text: &[u8]) -> Result<MailChange, ScriptError>
+    ensures { Gives (λ x. x) result (mail_at text.now) }
+{
+    let Some(words) = mail_words(text) else {
+        return Err(ScriptError::BadScript);
+    };
+    let mailbox = String::from_str(alloc, words.mailbox)?;
+    mail_change(mailbox, words.class, words.counts).ok_or(ScriptError::BadScript)
+}
+
+/// The progress of these values, where one may have them.
+fn progress_change(tag: String, code: u16, reason: String) -> Option<Progress>
+    ensures { result ≡ progress_of (record { tag = string_bytes tag; code = code; reason = string_bytes reason }) }
+{
+    Progress::new(tag, code, reason)
+}
+
+#[tactic(auto, unfolding(crate::specs::Reading::progress_at))]
+fn progress_at(alloc: Global, text: &[u8]) -> Result<Progress, ScriptError>
+    ensures { Gives (λ x. x) result (progress_at text.now) }
+{
+    let Some(words) = progress_words(text) else {
+        return Err(ScriptError::BadScript);
+    };
+    let tag = String::from_str(alloc, words.tag)?;
+    let reason = String::from_str(alloc, words.reason)?;
+    progress_change(tag, words.code, reason).ok_or(ScriptError::BadScript)
+}
+
+/// The line of this first word and this rest.
+#[tactic(auto, unfolding(crate::specs::Reading::named_at))]
+pub fn named_at(alloc: Global, name: &[u8], rest: &[u8]) -> Result<Control, ScriptError>
+    ensures { Gives (λ x. x) result (named_at name.now rest.now) }
+{
+    if name == b"MAIL".as_slice() {
+        Ok(Control::Mail(mail_at(alloc, rest)?))
+    } else if name == b"PROGRESS".as_slice() {
+        Ok(Control::Progress(progress_at(alloc, rest)?))
+    } else if name == b"TICK".as_slice() {
+        number_of(rest)
+            .map(Control::Tick)
+            .ok_or(ScriptError::BadScript)
+    } else {
+        Err(ScriptError::BadScript)
+    }
+}
+
+/// The line without the LF at its end.
+#[tactic(auto, unfolding(crate::specs::Reading::line_of))]
+fn line_of(bytes: &[u8]) -> Option<&[u8]>
+    ensures { Finds (λ x. x.now) result (line_of bytes.now) }
+{
+    match cut_at(b'\n', bytes) {
+        Some((line, [])) => Some(line),
+        Some(_) => None,
+        None => Some(bytes),
+    }
+}
+
+/// A control line without its LF.
+#[tactic(auto, unfolding(crate::specs::Reading::order_of))]
+fn order_of(alloc: Global, line: &[u8]) -> Result<Control, ScriptError>
+    ensures { Gives (λ x. x) result (order_of line.now) }
+{
+    if line == b"CLOSE".as_slice() {
+        return Ok(Control::Close);
+    }
+    let Some((name, rest)) = cut_at(b' ', line) else {
+        return Err(ScriptError::BadScript);
+    };
+    named_at(alloc, name, rest)
+}
+
+#[tactic(auto, unfolding(crate::specs::Reading::control_of))]
+pub fn control_of(alloc: Global, bytes: &[u8]) -> Result<Control, ScriptError>
+    ensures { Gives (λ x. x) result (control_of bytes.now) }
+{
+    let Some(line) = line_of(bytes) else {
+        return Err(ScriptError::BadScript);
+    };
+    order_of(alloc, line)
+}

@@ -1,0 +1,166 @@
+-- What is gathered from a list of values, header by header.
+use Rattle.std.proofs.Common.{◌≡◌, ◌≢◌, ℕ, ◌≤◌, ◌^◌, ◌<◌, Bool, true, false, eqb, ltb, cond, List, [], ◌∷◌, ◌++◌, length, take, Option, Some, None, option_map, Result, Ok, Err, refl, sym, ap, subst, ◌∙◌, append_assoc, arith, map, min, inl, inr}
+use Rattle.std.specs.Prelude.{◌⊎◌}
+use Rattle.std.specs.List.{filter_map}
+use Rattle.std.proofs.lemmas.Bool.{ltb-true, lt-ltb, ltb-false, le-ltb, ne_eqb}
+use Rattle.std.proofs.lemmas.List.{nil_from_length, append-nil}
+use Rattle.event_headers.specs.declared.field.Field.{Field}
+use Rattle.event_headers.specs.declared.field.Field.TheVariants as field
+use Rattle.event_headers.specs.Grammar.{number_of}
+use Rattle.event_headers.specs.Values.{EventValue, Range}
+use Rattle.sip_read.specs.declared.call.Sequence.{Sequence}
+use Rattle.sip_read.specs.declared.error.HeaderName.{HeaderName}
+use Rattle.sip_read.specs.declared.error.HeaderName.TheVariants as names
+use Rattle.sip_read.specs.declared.error.ReadError.{ReadError}
+use Rattle.sip_read.specs.declared.error.ReadError.TheVariants as errors
+use Rattle.sip_read.specs.declared.message.Head.{Head}
+use Rattle.sip_read.specs.declared.message.Message.{Message}
+use Rattle.sip_read.specs.declared.message.Message.TheVariants as messages
+use Rattle.sip_read.specs.declared.message.Party.{Party}
+use Rattle.sip_read.specs.declared.message.Request.{Request}
+use Rattle.sip_read.specs.declared.message.Via.{Via}
+use Rattle.sip_read.specs.declared.once.Once.{Once}
+use Rattle.sip_read.specs.declared.once.Once.TheVariants as once
+use Rattle.sip_read.specs.AddressesComputed.{contact_of}
+use Rattle.sip_read.specs.FieldsComputed.{event_kept, expires_kept}
+use Rattle.sip_read.specs.FirstLine.{First, request, status}
+use Rattle.sip_read.specs.FirstLineComputed.{first_at}
+use Rattle.sip_read.specs.GatheredComputed.{Fields, Gathered, nothing, fields_nothing, accept_more, first_or, with_item, with_items, gather}
+use Rattle.sip_read.specs.Items.{Item, via, from, to, call_id, cseq, content_length, contact, event, expires, accept, refer_to, require, record_route}
+use Rattle.sip_read.specs.Message.{via_in, from_in, to_in, call_id_in, cseq_in, length_in, contact_in, event_in, expires_in, accept_in, refer_to_in, require_in, route_in, with_commas, joined_lines}
+use Rattle.sip_read.specs.OnceComputed.{once_more, once_all, is_several, required, field_of}
+use Rattle.sip_read.specs.Vias.{Hop, via_of}
+
+-- ---- what is gathered, header by header
+
+abbrev pub capped : List ℕ → ℕ
+capped d = min (number_of d) (2 ^ 32)
+
+abbrev accept_all : Option (List ℕ) → List (List ℕ) → Option (List ℕ)
+accept_all o [] = o
+accept_all o (v ∷ vs) = accept_all (accept_more o v) vs
+
+abbrev first_all : Option Via → List Hop → Option Via
+first_all o [] = o
+first_all o (h ∷ hs) = first_all (first_or o (via_of h)) hs
+
+abbrev pub texts : List Hop → List (List ℕ)
+texts hs = map (λ h. h.text) hs
+
+abbrev fields_with : Fields → List Item → Fields
+fields_with f xs = record {
+  event = once_all f.event (map event_kept (filter_map event_in xs));
+  expires = once_all f.expires (map expires_kept (filter_map expires_in xs));
+  accept = accept_all f.accept (filter_map accept_in xs);
+  contact = once_all f.contact (map contact_of (filter_map contact_in xs));
+  refer_to = once_all f.refer_to (map contact_of (filter_map refer_to_in xs));
+  require = f.require ++ filter_map require_in xs;
+  record_routes = f.record_routes ++ filter_map route_in xs;
+}
+
+abbrev gathered_with : Gathered → List Item → Gathered
+gathered_with g xs = record {
+  vias = g.vias ++ texts (filter_map via_in xs);
+  top = first_all g.top (filter_map via_in xs);
+  from = once_all g.from (filter_map from_in xs);
+  to = once_all g.to (filter_map to_in xs);
+  call_id = once_all g.call_id (filter_map call_id_in xs);
+  cseq = once_all g.cseq (filter_map cseq_in xs);
+  content_length = once_all g.content_length (map capped (filter_map length_in xs));
+  fields = fields_with g.fields xs;
+}
+
+pub gathered_all : (g : Gathered) (xs : List Item) → with_items g xs ≡ gathered_with g xs
+gathered_all g [] = rw (append-nil g.vias, append-nil g.fields.require, append-nil g.fields.record_routes) refl
+gathered_all g (via h ∷ xs) = gathered_all (with_item g (via h)) xs ∙ rw (append_assoc g.vias (h.text ∷ []) (texts (filter_map via_in xs))) refl
+gathered_all g (from p ∷ xs) = gathered_all (with_item g (from p)) xs
+gathered_all g (to p ∷ xs) = gathered_all (with_item g (to p)) xs
+gathered_all g (call_id v ∷ xs) = gathered_all (with_item g (call_id v)) xs
+gathered_all g (cseq s ∷ xs) = gathered_all (with_item g (cseq s)) xs
+gathered_all g (content_length d ∷ xs) = gathered_all (with_item g (content_length d)) xs
+gathered_all g (contact v ∷ xs) = gathered_all (with_item g (contact v)) xs
+gathered_all g (event v ∷ xs) = gathered_all (with_item g (event v)) xs
+gathered_all g (expires v ∷ xs) = gathered_all (with_item g (expires v)) xs
+gathered_all g (accept v ∷ xs) = gathered_all (with_item g (accept v)) xs
+gathered_all g (refer_to v ∷ xs) = gathered_all (with_item g (refer_to v)) xs
+gathered_all g (require v ∷ xs) = gathered_all (with_item g (require v)) xs ∙ rw (append_assoc g.fields.require (v ∷ []) (filter_map require_in xs)) refl
+gathered_all g (record_route v ∷ xs) = gathered_all (with_item g (record_route v)) xs ∙ rw (append_assoc g.fields.record_routes (v ∷ []) (filter_map route_in xs)) refl
+
+-- ---- values that may stand once
+
+-- no value, one, or several
+abbrev pub once_of : {T : Type 0} → List T → Once T
+once_of [] = once.Absent
+once_of (x ∷ []) = once.One x
+once_of (x ∷ y ∷ ys) = once.Several
+
+several_stays : {T : Type 0} (xs : List T) → once_all once.Several xs ≡ once.Several
+several_stays [] = refl
+several_stays (x ∷ xs) = several_stays xs
+
+pub all_once : {T : Type 0} (xs : List T) → once_all once.Absent xs ≡ once_of xs
+all_once [] = refl
+all_once (x ∷ []) = refl
+all_once (x ∷ y ∷ ys) = several_stays ys
+
+first_stays : (v : Via) (hs : List Hop) → first_all (Some v) hs ≡ Some v
+first_stays v [] = refl
+first_stays v (h ∷ hs) = first_stays v hs
+
+abbrev pub top_of : List Hop → Option Via
+top_of [] = None
+top_of (h ∷ hs) = Some (via_of h)
+
+all_first : (hs : List Hop) → first_all None hs ≡ top_of hs
+all_first [] = refl
+all_first (h ∷ hs) = first_stays (via_of h) hs
+
+abbrev pub accept_of_lines : List (List ℕ) → Option (List ℕ)
+accept_of_lines [] = None
+accept_of_lines (v ∷ vs) = Some (with_commas v vs)
+
+accept_goes_on : (joined : List ℕ) (vs : List (List ℕ)) → accept_all (Some joined) vs ≡ Some (with_commas joined vs)
+accept_goes_on joined [] = refl
+accept_goes_on joined (v ∷ vs) = accept_goes_on (joined ++ 44 ∷ v) vs
+
+all_accept : (vs : List (List ℕ)) → accept_all None vs ≡ accept_of_lines vs
+all_accept [] = refl
+all_accept (v ∷ vs) = accept_goes_on v vs
+
+abbrev pub fields_of : List Item → Fields
+fields_of xs = record {
+  event = once_of (map event_kept (filter_map event_in xs));
+  expires = once_of (map expires_kept (filter_map expires_in xs));
+  accept = accept_of_lines (filter_map accept_in xs);
+  contact = once_of (map contact_of (filter_map contact_in xs));
+  refer_to = once_of (map contact_of (filter_map refer_to_in xs));
+  require = filter_map require_in xs;
+  record_routes = filter_map route_in xs;
+}
+
+abbrev pub gathered_of : List Item → Gathered
+gathered_of xs = record {
+  vias = texts (filter_map via_in xs);
+  top = top_of (filter_map via_in xs);
+  from = once_of (filter_map from_in xs);
+  to = once_of (filter_map to_in xs);
+  call_id = once_of (filter_map call_id_in xs);
+  cseq = once_of (filter_map cseq_in xs);
+  content_length = once_of (map capped (filter_map length_in xs));
+  fields = fields_of xs;
+}
+
+pub gathered_is : (xs : List Item) → with_items nothing xs ≡ gathered_of xs
+gathered_is xs = gathered_all nothing xs ∙ rw (
+  all_first (filter_map via_in xs),
+  all_once (filter_map from_in xs),
+  all_once (filter_map to_in xs),
+  all_once (filter_map call_id_in xs),
+  all_once (filter_map cseq_in xs),
+  all_once (map capped (filter_map length_in xs)),
+  all_once (map event_kept (filter_map event_in xs)),
+  all_once (map expires_kept (filter_map expires_in xs)),
+  all_accept (filter_map accept_in xs),
+  all_once (map contact_of (filter_map contact_in xs)),
+  all_once (map contact_of (filter_map refer_to_in xs)),
+) refl

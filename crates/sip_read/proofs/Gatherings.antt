@@ -1,0 +1,164 @@
+-- What the loops over elements and over lines gather.
+use Rattle.std.proofs.Common.{◌≡◌, ◌≢◌, ℕ, zero, suc, ◌≤◌, ◌<◌, Bool, true, false, eqb, cond, List, [], ◌∷◌, ◌++◌, length, Option, Some, None, option_map, refl, sym, ap, subst, ◌∙◌, arith}
+use Rattle.std.proofs.lemmas.Bool.{eqb-true}
+use Rattle.std.proofs.lemmas.List.{nil_from_length}
+use Rattle.event_headers.specs.Reading.{◌>>=◌, after_comma, elements_at, elements_of}
+use Rattle.event_headers.proofs.Pieces.{bind_same, some_is}
+use Rattle.event_headers.proofs.CommaLists.{comma_shortens}
+use Rattle.sip_read.specs.declared.item.Listed.{Listed}
+use Rattle.sip_read.specs.Items.{Item}
+use Rattle.sip_read.specs.ItemsComputed.{element_at, line_items, items_of, section_of}
+use Rattle.sip_read.specs.GatheredComputed.{Gathered, with_item, with_items, gather_line, gather}
+use Rattle.sip_read.specs.LinesComputed.{line_at, unfolded_of, lines_at, lines_of}
+use Rattle.sip_read.proofs.Continuations.{unfolded_shortens}
+use Rattle.sip_read.proofs.Elements.{element_shortens}
+use Rattle.sip_read.proofs.Lines.{line_shortens}
+use Rattle.sip_read.proofs.Sections.{step_of, no_lines, enough}
+
+-- ---- elements
+
+abbrev found : List Item → Option (List Item)
+found xs = Some xs
+
+abbrev goes : Listed → ℕ → Item → List ℕ → Option (List Item)
+goes k n x r = cond {A = Option (List Item)} (eqb (length r) 0) (found (x ∷ [])) (after_comma r >>= λ q. elements_at (element_at k) n q >>= λ xs. found (x ∷ xs))
+
+fuel : (k : Listed) (n m : ℕ) (t : List ℕ) → length t < n → length t < m → elements_at (element_at k) n t ≡ elements_at (element_at k) m t
+unfolding elements_at
+fuel k zero m t a b = absurd (omega (arith, a))
+fuel k (suc n) zero t a b = absurd (omega (arith, b))
+fuel k (suc n) (suc m) t a b = bind_same (element_at k t) (λ y. goes k n y.0 y.1) (λ y. goes k m y.0 y.1)
+    (λ y e. ap (λ (o : Option (List Item)). cond {A = Option (List Item)} (eqb (length y.1) 0) (found (y.0 ∷ [])) o)
+    (bind_same (after_comma y.1) (λ q. elements_at (element_at k) n q >>= λ xs. found (y.0 ∷ xs)) (λ q. elements_at (element_at k) m q >>= λ xs. found (y.0 ∷ xs))
+    (λ q c. ap (λ (o : Option (List Item)). o >>= λ xs. found (y.0 ∷ xs)) (fuel k n m q (omega (arith, a, element_shortens k t y.0 y.1 e, comma_shortens y.1 q c)) (omega (arith, b, element_shortens k t y.0 y.1 e, comma_shortens y.1 q c))))))
+
+-- what the elements of the text add to what was gathered
+abbrev pub adding : Listed → Gathered → List ℕ → Option Gathered
+adding k g t = option_map (with_items g) (elements_of (element_at k) t)
+
+later : (g : Gathered) (x : Item) (o : Option (List Item)) → option_map (with_items g) (o >>= λ xs. found (x ∷ xs)) ≡ option_map (with_items (with_item g x)) o
+later g x None = refl
+later g x (Some xs) = refl
+
+none_added : (g : Gathered) (o : Option (List Item)) → option_map (with_items g) o ≡ None → o ≡ None
+none_added g None e = refl
+none_added g (Some xs) e = absurd cc
+
+module _ (k : Listed) (g : Gathered) (t : List ℕ) (g₀ : Gathered) (t₀ : List ℕ) (so_far : adding k g t ≡ adding k g₀ t₀) where
+  failed : elements_of (element_at k) t ≡ None → elements_of (element_at k) t₀ ≡ None
+  failed e = none_added g₀ (elements_of (element_at k) t₀) (sym so_far ∙ ap (option_map (with_items g)) e)
+
+  pub fails_element : element_at k t ≡ None → elements_of (element_at k) t₀ ≡ None
+  unfolding elements_at
+  fails_element e = let z : elements_of (element_at k) t ≡ None = rw e refl in failed z
+
+  module _ (x : Item) (r : List ℕ) (is : element_at k t ≡ Some (x, r)) where
+    pub is_done : eqb (length r) 0 ≡ true → adding k g₀ t₀ ≡ Some (with_item g x)
+    unfolding elements_at
+    is_done empty = let z : elements_of (element_at k) t ≡ Some (x ∷ []) = rw (is, empty) refl in sym so_far ∙ ap (option_map (with_items g)) z
+
+    pub fails_comma : eqb (length r) 0 ≡ false → after_comma r ≡ None → elements_of (element_at k) t₀ ≡ None
+    unfolding elements_at
+    fails_comma some e = let z : elements_of (element_at k) t ≡ None = rw (is, some, e) refl in failed z
+
+    pub goes_on : eqb (length r) 0 ≡ false → (q : List ℕ) → after_comma r ≡ Some q → adding k (with_item g x) q ≡ adding k g₀ t₀
+    unfolding elements_at
+    goes_on some q c =
+        let enough : elements_at (element_at k) (length t) q ≡ elements_of (element_at k) q = fuel k (length t) (suc (length q)) q (omega (arith, element_shortens k t x r is, comma_shortens r q c)) (omega arith) in
+        let z : elements_of (element_at k) t ≡ (elements_of (element_at k) q >>= λ xs. found (x ∷ xs)) = rw (is, some, c) (ap (λ (o : Option (List Item)). o >>= λ xs. found (x ∷ xs)) enough) in
+        sym (later g x (elements_of (element_at k) q)) ∙ ap (option_map (with_items g)) (sym z) ∙ so_far
+
+-- ---- lines
+
+with_both : (g : Gathered) (xs ys : List Item) → with_items g (xs ++ ys) ≡ with_items (with_items g xs) ys
+with_both g [] ys = refl
+with_both g (x ∷ xs) ys = with_both (with_item g x) xs ys
+
+abbrev Read : Type 0
+Read = Option (List Item × List ℕ)
+
+abbrev section_found : List Item → List ℕ → Read
+section_found xs r = Some (xs, r)
+
+abbrev no_section : Read
+no_section = None
+
+abbrev lines_found : List (List ℕ) → List ℕ → Option (List (List ℕ) × List ℕ)
+lines_found ls r = Some (ls, r)
+
+after_line : (o : Option (List (List ℕ) × List ℕ)) (line : List ℕ) → ((o >>= λ l. lines_found (line ∷ l.0) l.1) >>= λ h. items_of h.0 >>= λ xs. section_found xs h.1) ≡ (line_items line >>= λ xs. (o >>= λ h. items_of h.0 >>= λ ys. section_found ys h.1) >>= λ q. section_found (xs ++ q.0) q.1)
+unfolding items_of
+after_line None line = step (line_items line) where
+  step : (o : Option (List Item)) → no_section ≡ (o >>= λ xs. no_section >>= λ q. section_found (xs ++ q.0) q.1)
+  step None = refl
+  step (Some xs) = refl
+after_line (Some h) line = step (line_items line) (items_of h.0) where
+  step : (o p : Option (List Item)) → ((o >>= λ x. p >>= λ ys. found (x ++ ys)) >>= λ xs. section_found xs h.1) ≡ (o >>= λ xs. (p >>= λ ys. section_found ys h.1) >>= λ q. section_found (xs ++ q.0) q.1)
+  step None p = refl
+  step (Some xs) None = refl
+  step (Some xs) (Some ys) = refl
+
+abbrev pair : Gathered → List ℕ → Gathered × List ℕ
+pair g r = (g, r)
+
+gathers : (g : Gathered) (xs : List Item) (o : Read) → option_map (λ q. pair (with_items g q.0) q.1) (o >>= λ q. section_found (xs ++ q.0) q.1) ≡ option_map (λ q. pair (with_items (with_items g xs) q.0) q.1) o
+gathers g xs None = refl
+gathers g xs (Some q) = ap (λ (h : Gathered). Some (pair h q.1)) (with_both g xs q.0)
+
+none_gathered : (g : Gathered) (o : Read) → o ≡ None → option_map (λ q. pair (with_items g q.0) q.1) o ≡ None
+none_gathered g o e = rw e refl
+
+module _ (g : Gathered) (t : List ℕ) (total : Option (Gathered × List ℕ)) (so_far : gather g t ≡ total) where
+  pub fails_line : line_at t ≡ None → total ≡ None
+  fails_line e = let z : section_of t ≡ None = rw (no_lines t e (length t)) refl in sym so_far ∙ none_gathered g (section_of t) z
+
+  module _ (first s : List ℕ) (is : line_at t ≡ Some (first, s)) where
+    pub ends : eqb (length first) 0 ≡ true → total ≡ Some (g, s)
+    unfolding items_of
+    ends empty =
+        let k : lines_of t ≡ Some ([], s) = step_of t first s is ∙ rw empty refl in
+        let z : section_of t ≡ Some ([], s) = rw k refl in
+        sym so_far ∙ ap (option_map (λ q. pair (with_items g q.0) q.1)) z
+
+    fails_unfolding : eqb (length first) 0 ≡ false → unfolded_of first s ≡ None → total ≡ None
+    fails_unfolding some e =
+        let k : lines_of t ≡ None = step_of t first s is ∙ rw (some, e) refl in
+        let z : section_of t ≡ None = rw k refl in
+        sym so_far ∙ none_gathered g (section_of t) z
+
+    module _ (some : eqb (length first) 0 ≡ false) (line r : List ℕ) (e : unfolded_of first s ≡ Some (line, r)) where
+      unfolds : section_of t ≡ (line_items line >>= λ xs. section_of r >>= λ q. section_found (xs ++ q.0) q.1)
+      unfolds =
+          let same : lines_at (length s) r ≡ lines_of r = enough (length s) (length r) r (unfolded_shortens first s line r e) (omega arith) in
+          let k : lines_of t ≡ (lines_of r >>= λ o. lines_found (line ∷ o.0) o.1) = step_of t first s is ∙ rw (some, e) (ap (λ (o : Option (List (List ℕ) × List ℕ)). o >>= λ o. lines_found (line ∷ o.0) o.1) same) in
+          ap (λ (o : Option (List (List ℕ) × List ℕ)). o >>= λ h. items_of h.0 >>= λ xs. section_found xs h.1) k ∙ after_line (lines_of r) line
+
+      fails_values : line_items line ≡ None → total ≡ None
+      fails_values none = let z : section_of t ≡ None = unfolds ∙ rw none refl in sym so_far ∙ none_gathered g (section_of t) z
+
+      line_goes_on : (xs : List Item) → line_items line ≡ Some xs → gather (with_items g xs) r ≡ total
+      line_goes_on xs found =
+          let z : section_of t ≡ (section_of r >>= λ q. section_found (xs ++ q.0) q.1) = unfolds ∙ rw found refl in
+          sym (gathers g xs (section_of r)) ∙ ap (option_map (λ q. pair (with_items g q.0) q.1)) (sym z) ∙ so_far
+
+    module _ (some : eqb (length first) 0 ≡ false) where
+      pub fails_added : gather_line g first s ≡ None → total ≡ None
+      fails_added none = line (unfolded_of first s) refl none where
+        values : (l : List ℕ × List ℕ) → unfolded_of first s ≡ Some l → (o : Option (List Item)) → line_items l.0 ≡ o → option_map (λ xs. pair (with_items g xs) l.1) o ≡ None → total ≡ None
+        values l found None e none = fails_values some l.0 l.1 found e
+        values l found (Some xs) e none = absurd cc
+
+        line : (o : Option (List ℕ × List ℕ)) → unfolded_of first s ≡ o → (o >>= λ l. option_map (λ xs. pair (with_items g xs) l.1) (line_items l.0)) ≡ None → total ≡ None
+        line None found none = fails_unfolding some found
+        line (Some l) found none = values l found (line_items l.0) refl none
+
+      pub added_goes_on : (g' : Gathered) (r : List ℕ) → gather_line g first s ≡ Some (g', r) → (gather g' r ≡ total) × (length r ≤ length s)
+      added_goes_on g' r adds = line (unfolded_of first s) refl adds where
+        values : (l : List ℕ × List ℕ) → unfolded_of first s ≡ Some l → (o : Option (List Item)) → line_items l.0 ≡ o → option_map (λ xs. pair (with_items g xs) l.1) o ≡ Some (pair g' r) → (gather g' r ≡ total) × (length r ≤ length s)
+        values l found None e adds = absurd cc
+        values l found (Some xs) e adds =
+            subst (λ (q : Gathered × List ℕ). (gather q.0 q.1 ≡ total) × (length q.1 ≤ length s)) (some_is (pair (with_items g xs) l.1) (pair g' r) adds) (line_goes_on some l.0 l.1 found xs e, unfolded_shortens first s l.0 l.1 found)
+
+        line : (o : Option (List ℕ × List ℕ)) → unfolded_of first s ≡ o → (o >>= λ l. option_map (λ xs. pair (with_items g xs) l.1) (line_items l.0)) ≡ Some (pair g' r) → (gather g' r ≡ total) × (length r ≤ length s)
+        line None found adds = absurd cc
+        line (Some l) found adds = values l found (line_items l.0) refl adds

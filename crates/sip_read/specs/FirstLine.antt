@@ -1,0 +1,42 @@
+-- The first line of a message (RFC 3261 sections 7.1 and 7.2).
+use Rattle.std.specs.Prelude.{◌≡◌, ℕ, ◌≤◌, true, List, ◌∷◌, ◌++◌, length, codes}
+use Rattle.std.specs.Str.{IsUtf8, str_eq_ignore_ascii_case}
+use Rattle.event_headers.specs.declared.scan.Class.TheVariants as class
+use Rattle.event_headers.specs.Bytes.{is_in}
+use Rattle.event_headers.specs.Grammar.{AllPassing, IsWord, number_of}
+
+pub data First : Type 0 where
+  request : (method uri : List ℕ) → First
+  status : (code : ℕ) (reason : List ℕ) → First
+
+-- the letters of the version ignore case:
+--   request-line = token SP 1*(33 to 126 but DQUOTE "<" ">") SP "SIP/2.0"
+pub record IsRequestLine (line method uri : List ℕ) : Type 0 where
+  pub version : List ℕ
+  pub is_method : IsWord class.Token method
+  pub is_uri : IsWord class.Uri uri
+  pub sip : str_eq_ignore_ascii_case version (codes "SIP/2.0") ≡ true
+  pub whole : line ≡ method ++ 32 ∷ (uri ++ 32 ∷ version)
+
+-- the code has three digits and is 100 to 699, the reason is a text without control characters:
+--   status-line = "SIP" "/" "2.0" SP 3digit SP reason
+pub record IsStatusLine (line : List ℕ) (code : ℕ) (reason : List ℕ) : Type 0 where
+  pub name : List ℕ
+  pub version : List ℕ
+  pub digits : List ℕ
+  pub is_name : IsWord class.Token name
+  pub is_version : IsWord class.Token version
+  pub sip : str_eq_ignore_ascii_case name (codes "SIP") ≡ true
+  pub two : str_eq_ignore_ascii_case version (codes "2.0") ≡ true
+  pub are_digits : IsWord class.Digit digits
+  pub three : length digits ≡ 3
+  pub number : code ≡ number_of digits
+  pub least : 100 ≤ code
+  pub most : code ≤ 699
+  pub no_control : AllPassing (is_in class.Shown) reason
+  pub is_text : IsUtf8 reason
+  pub whole : line ≡ name ++ 47 ∷ (version ++ 32 ∷ (digits ++ 32 ∷ reason))
+
+abbrev pub IsFirstLine : List ℕ → First → Type 0
+IsFirstLine line (request method uri) = IsRequestLine line method uri
+IsFirstLine line (status code reason) = IsStatusLine line code reason

@@ -1,0 +1,99 @@
+-- What the reader computes of all values, header by header.
+use Rattle.std.specs.Prelude.{◌≡◌, ℕ, Bool, true, false, List, [], ◌∷◌, ◌++◌, Option, Some, None, option_map, min, ◌^◌}
+use Rattle.event_headers.specs.Grammar.{number_of}
+use Rattle.event_headers.specs.Reading.{◌>>=◌}
+use Rattle.event_headers.specs.Values.{EventValue}
+use Rattle.sip_read.specs.declared.call.Sequence.{Sequence}
+use Rattle.sip_read.specs.declared.message.Party.{Party}
+use Rattle.sip_read.specs.declared.message.Via.{Via}
+use Rattle.sip_read.specs.declared.once.Once.{Once}
+use Rattle.sip_read.specs.declared.once.Once.TheVariants as once
+use Rattle.sip_read.specs.AddressesComputed.{contact_of}
+use Rattle.sip_read.specs.FieldsComputed.{event_kept, expires_kept}
+use Rattle.sip_read.specs.Items.{Item, via, from, to, call_id, cseq, content_length, contact, event, expires, accept, refer_to, require, record_route}
+use Rattle.sip_read.specs.ItemsComputed.{line_items, section_of}
+use Rattle.sip_read.specs.LinesComputed.{unfolded_of}
+use Rattle.sip_read.specs.OnceComputed.{once_more}
+use Rattle.sip_read.specs.Vias.{via_of}
+
+pub record Fields : Type 0 where
+  pub event : Once (Option EventValue)
+  pub expires : Once (Option ℕ)
+  pub accept : Option (List ℕ)
+  pub contact : Once (Option (List ℕ))
+  pub refer_to : Once (Option (List ℕ))
+  pub require : List (List ℕ)
+  pub record_routes : List (List ℕ)
+
+pub record Gathered : Type 0 where
+  pub vias : List (List ℕ)
+  pub top : Option Via
+  pub from : Once Party
+  pub to : Once Party
+  pub call_id : Once (List ℕ)
+  pub cseq : Once Sequence
+  pub content_length : Once ℕ
+  pub fields : Fields
+
+abbrev pub fields_nothing : Fields
+fields_nothing = record { event = once.Absent; expires = once.Absent; accept = None; contact = once.Absent; refer_to = once.Absent; require = []; record_routes = [] }
+
+abbrev pub nothing : Gathered
+nothing = record { vias = []; top = None; from = once.Absent; to = once.Absent; call_id = once.Absent; cseq = once.Absent; content_length = once.Absent; fields = fields_nothing }
+
+-- the Accept lines so far with a comma and a further one
+abbrev pub accept_more : Option (List ℕ) → List ℕ → Option (List ℕ)
+accept_more None v = Some v
+accept_more (Some joined) v = Some (joined ++ 44 ∷ v)
+
+-- the first one stays
+abbrev pub first_or : {A : Type 0} → Option A → A → Option A
+first_or None x = Some x
+first_or (Some y) x = Some y
+
+abbrev pub with_field : Fields → Item → Fields
+with_field f (event v) = record f { event = once_more f.event (event_kept v) }
+with_field f (expires v) = record f { expires = once_more f.expires (expires_kept v) }
+with_field f (accept v) = record f { accept = accept_more f.accept v }
+with_field f (contact v) = record f { contact = once_more f.contact (contact_of v) }
+with_field f (refer_to v) = record f { refer_to = once_more f.refer_to (contact_of v) }
+with_field f (require v) = record f { require = f.require ++ v ∷ [] }
+with_field f (record_route v) = record f { record_routes = f.record_routes ++ v ∷ [] }
+with_field f (via h) = f
+with_field f (from p) = f
+with_field f (to p) = f
+with_field f (call_id v) = f
+with_field f (cseq s) = f
+with_field f (content_length d) = f
+
+abbrev pub with_item : Gathered → Item → Gathered
+with_item g (via h) = record g { vias = g.vias ++ h.text ∷ []; top = first_or g.top (via_of h) }
+with_item g (from p) = record g { from = once_more g.from p }
+with_item g (to p) = record g { to = once_more g.to p }
+with_item g (call_id v) = record g { call_id = once_more g.call_id v }
+with_item g (cseq s) = record g { cseq = once_more g.cseq s }
+with_item g (content_length d) = record g { content_length = once_more g.content_length (min (number_of d) (2 ^ 32)) }
+with_item g (event v) = record g { fields = with_field g.fields (event v) }
+with_item g (expires v) = record g { fields = with_field g.fields (expires v) }
+with_item g (accept v) = record g { fields = with_field g.fields (accept v) }
+with_item g (contact v) = record g { fields = with_field g.fields (contact v) }
+with_item g (refer_to v) = record g { fields = with_field g.fields (refer_to v) }
+with_item g (require v) = record g { fields = with_field g.fields (require v) }
+with_item g (record_route v) = record g { fields = with_field g.fields (record_route v) }
+
+abbrev pub with_items : Gathered → List Item → Gathered
+with_items g [] = g
+with_items g (x ∷ xs) = with_items (with_item g x) xs
+
+-- whether there were such values, and what was gathered with them
+abbrev pub Adds : Gathered → Option (List Item) → Gathered → Bool → Type 0
+Adds old read new true = option_map (with_items old) read ≡ Some new
+Adds old read new false = read ≡ None
+
+-- what a line that begins with this piece says beyond what was gathered before, and what follows it
+abbrev pub gather_line : Gathered → List ℕ → List ℕ → Option (Gathered × List ℕ)
+gather_line g first t = unfolded_of first t >>= λ l. option_map (λ xs. (with_items g xs, l.1)) (line_items l.0)
+
+-- what the header lines say beyond what was gathered before, and what follows them
+abbrev pub gather : Gathered → List ℕ → Option (Gathered × List ℕ)
+gather g t = option_map (λ q. (with_items g q.0, q.1)) (section_of t)

@@ -1,0 +1,58 @@
+-- What contracts see of the code's values.
+use Rattle.std.specs.Prelude.{ℕ, List, Option, option_map}
+use Rattle.std.specs.Borrow.{Bor}
+use Rattle.sip_read.specs.declared.call.CSeq.{CSeq}
+use Rattle.sip_read.specs.declared.call.Sequence.{Sequence}
+use Rattle.sip_read.specs.declared.first_line.First.{First as FirstText}
+use Rattle.sip_read.specs.declared.first_line.First.TheVariants as firsts
+use Rattle.sip_read.specs.declared.gathered.Fields.{Fields as FieldsHeld}
+use Rattle.sip_read.specs.declared.gathered.Gathered.{Gathered as GatheredHeld}
+use Rattle.sip_read.specs.declared.item.Item.{Item as ItemText}
+use Rattle.sip_read.specs.declared.item.Item.TheVariants as items
+use Rattle.sip_read.specs.declared.message.Party.{Party}
+use Rattle.sip_read.specs.declared.party.PartyText.{PartyText}
+use Rattle.sip_read.specs.declared.via.Hop.{Hop as HopText}
+use Rattle.sip_read.specs.FirstLine.{First, request, status}
+use Rattle.sip_read.specs.GatheredComputed.{Fields, Gathered}
+use Rattle.sip_read.specs.Items as spec
+use Rattle.sip_read.specs.Vias.{Hop}
+
+abbrev pub sequence : CSeq → Sequence
+sequence s = record { number = s.number; method = s.method.now }
+
+abbrev pub party : PartyText → Party
+party p = record { text = p.text.now; tag = option_map (λ v. v.now) p.tag }
+
+abbrev pub hop : HopText → Hop
+hop h = record { text = h.text.now; sent_by = h.sent_by.now; branch = option_map (λ t. t.now) h.branch; bare_rport = h.bare_rport }
+
+abbrev pub item : ItemText → spec.Item
+item (items.Via h) = spec.via (hop h)
+item (items.From p) = spec.from (party p)
+item (items.To p) = spec.to (party p)
+item (items.CallId v) = spec.call_id v.now
+item (items.CSeq s) = spec.cseq (sequence s)
+item (items.ContentLength v) = spec.content_length v.now
+item (items.Contact v) = spec.contact v.now
+item (items.Event v) = spec.event v.now
+item (items.Expires v) = spec.expires v.now
+item (items.Accept v) = spec.accept v.now
+item (items.ReferTo v) = spec.refer_to v.now
+item (items.Require v) = spec.require v.now
+item (items.RecordRoute v) = spec.record_route v.now
+
+abbrev pub first : FirstText → First
+first (firsts.Request method uri) = request method.now uri.now
+first (firsts.Status code reason) = status code reason.now
+
+abbrev pub first_pair : (FirstText × Bor (List ℕ)) → First × List ℕ
+first_pair x = (first x.0, x.1.now)
+
+abbrev pub fields_seen : FieldsHeld → Fields
+fields_seen f = record { event = f.event; expires = f.expires; accept = option_map (λ v. v.items) f.accept; contact = f.contact; refer_to = f.refer_to; require = f.require.items; record_routes = f.record_routes.items }
+
+abbrev pub gathered_seen : GatheredHeld → Gathered
+gathered_seen g = record { vias = g.vias.items; top = g.top; from = g.from; to = g.to; call_id = g.call_id; cseq = g.cseq; content_length = g.content_length; fields = fields_seen g.fields }
+
+abbrev pub gathered_pair : (GatheredHeld × Bor (List ℕ)) → Gathered × List ℕ
+gathered_pair x = (gathered_seen x.0, x.1.now)

@@ -1,0 +1,70 @@
+//! Values of Call-ID and CSeq (RFC 3261 sections 20.8 and 20.16).
+ghost use Rattle.std.specs.Prelude.{◌≡◌, ◌<◌, ◌≤◌, ◌^◌, min};
+ghost use Rattle.event_headers.specs.Bytes.{Finds};
+ghost use Rattle.event_headers.specs.Grammar.{number_of};
+ghost use Rattle.sip_read.specs.ValuesComputed.{call_id_of, sequence_of};
+ghost use Rattle.std.specs.List.{list_all};
+ghost use Rattle.event_headers.specs.Reading.{all_of};
+ghost use Rattle.sip_read.specs.Calls.{is_visible};
+ghost use Rattle.sip_read.specs.Views.{sequence};
+
+use event_headers::Text;
+use event_headers::scan::{Class, span_at};
+use event_headers::word::{capped_number, text_of, word_of};
+
+fn all_visible(text: &[u8]) -> bool
+    ensures { result ≡ list_all is_visible text.now }
+{
+    text.iter().all(|byte| matches!(*byte, 33..=126))
+}
+
+/// The whole text, if it is one or more bytes 33 to 126.
+fn visible_of(text: &[u8]) -> Option<&[u8]>
+    ensures { Finds (λ x. x.now) result (all_of is_visible text.now) }
+{
+    if !text.is_empty() && all_visible(text) {
+        Some(text)
+    } else {
+        None
+    }
+}
+
+/// The Call-ID that the value is: one or more bytes 33 to 126.
+#[tactic(auto, unfolding(crate::specs::ValuesComputed::call_id_of))]
+pub fn call_id_of(value: &[u8]) -> Option<&str>
+    ensures { Finds (λ x. x.now) result (call_id_of value.now) }
+{
+    text_of(visible_of(value)?)
+}
+
+/// The number, below 2^31, and the method of a CSeq.
+#[derive(Drop)]
+pub struct Sequence {
+    pub number: u32,
+    pub method: Text,
+}
+
+/// A CSeq, as it stands in the line.
+#[derive(Clone, Copy)]
+pub struct CSeq<'a> {
+    pub number: u32,
+    pub method: &'a str,
+}
+
+#[tactic(auto, unfolding(crate::specs::ValuesComputed::sequence_of))]
+pub fn sequence_of(text: &[u8]) -> Option<CSeq<'_>>
+    ensures { Finds sequence result (sequence_of text.now) }
+{
+    let (digits, rest) = span_at(Class::Digit, text)?;
+    let (_, rest) = span_at(Class::Space, rest)?;
+    let method = word_of(Class::Token, rest)?;
+    let number = capped_number(digits);
+    if number < 1 << 31 {
+        Some(CSeq {
+            number: number as u32,
+            method,
+        })
+    } else {
+        None
+    }
+}

@@ -1,0 +1,282 @@
+//! What the header lines say, header by header.
+ghost use Rattle.std.specs.Prelude.{◌≡◌, ◌+◌, ◌<◌, ◌≤◌, ℕ, length, option_map, IfOk, OnOk};
+ghost use Rattle.event_headers.specs.Bytes.{Gives};
+ghost use Rattle.sip_read.specs.OnceComputed.{once_more};
+ghost use Rattle.sip_read.specs.GatheredComputed.{nothing, fields_nothing, with_item, with_field, accept_more, Adds, gather_line, gather};
+ghost use Rattle.sip_read.specs.ItemsComputed.{element_at, values_of, line_items};
+ghost use Rattle.sip_read.specs.AddressesComputed.{contact_of as contact_text};
+ghost use Rattle.event_headers.specs.Reading.{elements_of};
+ghost use Rattle.sip_read.specs.Views.{item as item_view, party as party_view, fields_seen, gathered_seen, gathered_pair};
+
+use crate::call::{CSeq, Sequence};
+use crate::folding::unfolded_of;
+use crate::header::{Header, header_named};
+use crate::item::{Item, Listed, element_at, single_of};
+use crate::line::{header_of, line_at};
+use crate::message::{Party, Via};
+use crate::once::Once;
+use crate::party::{PartyText, contact_of};
+use crate::value::{event_of, expires_of};
+use crate::via::Hop;
+use event_headers::scan::after_comma;
+use event_headers::word::{capped_number, is_text};
+use event_headers::{EventValue, NoMemory, Text};
+use std::alloc::Global;
+
+/// What the lines say that only a request's reader asks for.
+#[derive(Drop)]
+pub struct Fields {
+    pub event: Once<Option<EventValue>>,
+    pub expires: Once<Option<u32>>,
+    /// All Accept lines, joined with commas.
+    pub accept: Option<Vec<u8>>,
+    pub contact: Once<Option<Text>>,
+    pub refer_to: Once<Option<Text>>,
+    pub require: Vec<Text>,
+    pub record_routes: Vec<Text>,
+}
+
+/// What the lines say, as far as they were read. Each value is a text of its own.
+#[derive(Drop)]
+pub struct Gathered {
+    pub vias: Vec<Text>,
+    pub top: Option<Via>,
+    pub from: Once<Party>,
+    pub to: Once<Party>,
+    pub call_id: Once<Text>,
+    pub cseq: Once<Sequence>,
+    /// The number, or 2^32 where it is greater.
+    pub content_length: Once<u64>,
+    pub fields: Fields,
+}
+
+fn copy_of_some(alloc: Global, text: Option<&str>) -> Result<Option<Text>, NoMemory>
+    ensures { IfOk result (λ o. o ≡ option_map (λ t. t.now) text.entry) }
+{
+    match text {
+        Some(text) => Ok(Some(Text::of(alloc, text)?)),
+        None => Ok(None),
+    }
+}
+
+fn owned_party(alloc: Global, from: PartyText<'_>) -> Result<Party, NoMemory>
+    ensures { IfOk result (λ p. p ≡ party_view from.entry) }
+{
+    let text = Text::of(alloc, from.text)?;
+    let tag = copy_of_some(alloc, from.tag)?;
+    Ok(Party { text, tag })
+}
+
+/// The address of a Contact or a Refer-To, if the value is one.
+fn contact_value(alloc: Global, value: &[u8]) -> Result<Option<Text>, NoMemory>
+    ensures { IfOk result (λ o. o ≡ contact_text value.now) }
+{
+    copy_of_some(alloc, contact_of(alloc, value)?)
+}
+
+/// A further Accept line, behind a comma where it isn't the first.
+fn accept_more(alloc: Global, lines: &mut Option<Vec<u8>>, value: &[u8]) -> Result<(), NoMemory>
+    ensures { OnOk result (option_map (λ v. v.items) lines.new ≡ accept_more (option_map (λ v. v.items) lines.old) value.now) }
+{
+    match lines {
+        Some(joined) => {
+            joined.push(b',')?;
+            joined.extend_from_slice(value)?;
+        }
+        None => *lines = Some(Vec::from_slice(alloc, value)?),
+    }
+    Ok(())
+}
+
+impl Fields {
+    fn new(alloc: Global) -> Fields
+        ensures { fields_seen result ≡ fields_nothing }
+    {
+        Fields {
+            event: Once::Absent,
+            expires: Once::Absent,
+            accept: None,
+            contact: Once::Absent,
+            refer_to: Once::Absent,
+            require: Vec::new(alloc),
+            record_routes: Vec::new(alloc),
+        }
+    }
+
+    /// Takes in a value of a header that only requests are asked for.
+    fn add(&mut self, alloc: Global, item: Item<'_>) -> Result<(), NoMemory>
+        ensures { OnOk result (fields_seen self.new ≡ with_field (fields_seen self.old) (item_view item.entry)) }
+    {
+        match item {
+            Item::Event(value) => self.event.add(event_of(alloc, value)?),
+            Item::Expires(value) => self.expires.add(expires_of(value)?),
+            Item::Accept(value) => accept_more(alloc, &mut self.accept, value)?,
+            Item::Contact(value) => self.contact.add(contact_value(alloc, value)?),
+            Item::ReferTo(value) => self.refer_to.add(contact_value(alloc, value)?),
+            Item::Require(token) => self.require.push(Text::of(alloc, token)?)?,
+            Item::RecordRoute(route) => self.record_routes.push(Text::of(alloc, route)?)?,
+            _ => {}
+        }
+        Ok(())
+    }
+}
+
+impl Gathered {
+    pub fn new(alloc: Global) -> Gathered
+        ensures { gathered_seen result ≡ nothing }
+    {
+        Gathered {
+            vias: Vec::new(alloc),
+            top: None,
+            from: Once::Absent,
+            to: Once::Absent,
+            call_id: Once::Absent,
+            cseq: Once::Absent,
+            content_length: Once::Absent,
+            fields: Fields::new(alloc),
+        }
+    }
+
+    /// Takes in a Via value.
+    fn add_hop(&mut self, alloc: Global, hop: Hop<'_>) -> Result<(), NoMemory>
+        ensures { OnOk result (gathered_seen self.new ≡ with_item (gathered_seen self.old) (item_view (Item.Via hop.entry))) }
+    {
+        self.vias.push(Text::of(alloc, hop.text)?)?;
+        if self.top.is_none() {
+            let sent_by = Text::of(alloc, hop.sent_by)?;
+            let branch = copy_of_some(alloc, hop.branch)?;
+            self.top = Some(Via {
+                sent_by,
+                branch,
+                bare_rport: hop.bare_rport,
+            });
+        }
+        Ok(())
+    }
+
+    /// Takes in a value.
+    fn add(&mut self, alloc: Global, item: Item<'_>) -> Result<(), NoMemory>
+        ensures { OnOk result (gathered_seen self.new ≡ with_item (gathered_seen self.old) (item_view item.entry)) }
+    {
+        match item {
+            Item::Via(hop) => self.add_hop(alloc, hop)?,
+            Item::From(party) => self.from.add(owned_party(alloc, party)?),
+            Item::To(party) => self.to.add(owned_party(alloc, party)?),
+            Item::CallId(text) => self.call_id.add(Text::of(alloc, text)?),
+            Item::CSeq(CSeq { number, method }) => {
+                let method = Text::of(alloc, method)?;
+                self.cseq.add(Sequence { number, method });
+            }
+            Item::ContentLength(digits) => self.content_length.add(capped_number(digits)),
+            field => self.fields.add(alloc, field)?,
+        }
+        Ok(())
+    }
+
+    /// Takes in the elements of a list, and tells whether it is one.
+    fn add_elements(
+        &mut self,
+        alloc: Global,
+        listed: Listed,
+        value: &[u8],
+    ) -> Result<bool, NoMemory>
+        ensures { IfOk result (Adds (gathered_seen self.old) (elements_of (element_at listed) value.now) (gathered_seen self.new)) }
+    {
+        let mut rest = value;
+        loop {
+            let Some((item, after)) = element_at(alloc, listed, rest)? else {
+                return Ok(false);
+            };
+            self.add(alloc, item)?;
+            if after.is_empty() {
+                return Ok(true);
+            }
+            let Some(next) = after_comma(after) else {
+                return Ok(false);
+            };
+            rest = next;
+        }
+    }
+
+    /// Takes in the values of a header's line, and tells whether they are in its grammar.
+    fn add_values(&mut self, alloc: Global, header: Header, value: &[u8]) -> Result<bool, NoMemory>
+        ensures { IfOk result (Adds (gathered_seen self.old) (values_of header value.now) (gathered_seen self.new)) }
+    {
+        match header {
+            Header::Via => self.add_elements(alloc, Listed::Via, value),
+            Header::Require => self.add_elements(alloc, Listed::Require, value),
+            Header::RecordRoute => self.add_elements(alloc, Listed::RecordRoute, value),
+            Header::Other => Ok(true),
+            single => match single_of(alloc, single, value)? {
+                Some(item) => {
+                    self.add(alloc, item)?;
+                    Ok(true)
+                }
+                None => Ok(false),
+            },
+        }
+    }
+
+    /// Takes in a line, and tells whether it is a header line.
+    #[tactic(auto, unfolding(crate::specs::ItemsComputed::line_items))]
+    fn add_line(&mut self, alloc: Global, line: &[u8]) -> Result<bool, NoMemory>
+        ensures { IfOk result (Adds (gathered_seen self.old) (line_items line.now) (gathered_seen self.new)) }
+    {
+        if !is_text(line) {
+            return Ok(false);
+        }
+        match header_of(line) {
+            Some((name, value)) => self.add_values(alloc, header_named(name), value),
+            None => Ok(false),
+        }
+    }
+
+    /// Takes in the line that begins with this piece, with those that continue it. What stands behind it, if it is a header line.
+    fn add_unfolded<'a>(
+        &mut self,
+        alloc: Global,
+        first: &'a [u8],
+        text: &'a [u8],
+    ) -> Result<Option<&'a [u8]>, NoMemory>
+        ensures { Gives (λ r. (gathered_seen self.new, r.now)) result (gather_line (gathered_seen self.old) first.now text.now) }
+    {
+        let Some((line, rest)) = unfolded_of(alloc, first, text)? else {
+            return Ok(None);
+        };
+        if self.add_line(alloc, line.as_slice())? {
+            Ok(Some(rest))
+        } else {
+            Ok(None)
+        }
+    }
+
+    /// Takes in the header lines at the front, up to the empty line. What follows that.
+    fn add_lines<'a>(&mut self, alloc: Global, text: &'a [u8]) -> Result<Option<&'a [u8]>, NoMemory>
+        ensures { Gives (λ r. (gathered_seen self.new, r.now)) result (gather (gathered_seen self.old) text.now) }
+    {
+        let mut rest = text;
+        loop {
+            let Some((first, after)) = line_at(rest) else {
+                return Ok(None);
+            };
+            if first.is_empty() {
+                return Ok(Some(after));
+            }
+            let Some(next) = self.add_unfolded(alloc, first, after)? else {
+                return Ok(None);
+            };
+            rest = next;
+        }
+    }
+}
+
+/// What the header lines at the front say, up to the empty line, and what follows that.
+pub fn gather(alloc: Global, text: &[u8]) -> Result<Option<(Gathered, &[u8])>, NoMemory>
+    ensures { Gives gathered_pair result (gather nothing text.now) }
+{
+    let mut gathered = Gathered::new(alloc);
+    match gathered.add_lines(alloc, text)? {
+        Some(rest) => Ok(Some((gathered, rest))),
+        None => Ok(None),
+    }
+}

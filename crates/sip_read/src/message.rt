@@ -1,0 +1,76 @@
+//! SIP messages as values (RFC 3261 section 7).
+
+use event_headers::{EventValue, Field, Octets, Range, Text, Values};
+
+/// An IPv4 address and a port.
+#[derive(Clone, Copy, Debug, PartialEq, Eq)]
+pub struct Addr {
+    pub ip: [u8; 4],
+    pub port: u16,
+}
+
+/// The parts of a message's first Via value that decide (RFC 3261 section 20.42, RFC 3581).
+#[derive(Debug, Drop)]
+pub struct Via {
+    /// Host and port of who sent the request, as written.
+    pub sent_by: Text,
+    /// The value of the first `branch` parameter, where it has one.
+    pub branch: Option<Text>,
+    /// Whether a parameter `rport` stands there without a value.
+    pub bare_rport: bool,
+}
+
+/// A From or To (RFC 3261 sections 20.20 and 20.39).
+#[derive(Debug, Drop)]
+pub struct Party {
+    /// The whole value as written, in one line.
+    pub text: Text,
+    pub tag: Option<Text>,
+}
+
+/// What requests and responses both have.
+#[derive(Debug, Drop)]
+pub struct Head {
+    /// All Via values as written, the top one first.
+    pub vias: Values<Text>,
+    pub top: Via,
+    pub from: Party,
+    pub to: Party,
+    pub call_id: Text,
+    /// The number of the CSeq, below 2^31.
+    pub cseq: u32,
+    pub cseq_method: Text,
+}
+
+#[derive(Debug, Drop)]
+pub struct Request {
+    pub method: Text,
+    pub uri: Text,
+    pub head: Head,
+    pub event: Field<EventValue>,
+    /// Seconds.
+    pub expires: Field<u32>,
+    pub accept: Field<Values<Range>>,
+    /// The address alone.
+    pub contact: Field<Text>,
+    /// The address alone.
+    pub refer_to: Field<Text>,
+    pub require: Values<Text>,
+    /// Record-Route values as written, in order.
+    pub record_routes: Values<Text>,
+    pub body: Octets,
+}
+
+#[derive(Debug, Drop)]
+pub struct Response {
+    /// 100 to 699.
+    pub status: u16,
+    pub reason: Text,
+    pub head: Head,
+}
+
+#[derive(Debug, Drop)]
+pub enum Message {
+    Request(Request),
+    Response(Response),
+}

@@ -1,0 +1,5 @@
+pub mod Joins
+pub mod ViaLines
+pub mod Cuts
+pub mod ViaPieces
+pub mod ViaNames

@@ -1,0 +1,25 @@
+//! Writes SIP messages: answers to requests, and NOTIFYs. It sends nothing, and keeps nothing.
+//!
+//! There is one layout: each line stands in one place, as far as it applies, and each value is written in one way. The layout is a
+//! definition, a join of lines: `answer_text` in `specs/Answer.antt` and `notify_text` in `specs/Notify.antt`, with the rewriting of
+//! the top Via in `specs/Via.antt`. [`write_response`] and [`write_notify`] append exactly that text, and after
+//! [`NoMemory`](event_headers::NoMemory) the bytes are as they were.
+//!
+//! Begin with [`Answer`] and [`NotifyText`], which borrow what is written; contracts see them as the plain records `AnswerText` and
+//! `NotifyText` of the definitions. [`laws`] holds what is proved of the definitions themselves.
+#![tactic(auto)]
+
+pub mod answer;
+pub mod laws;
+mod line;
+pub mod notify;
+pub mod quoting;
+pub mod status;
+mod via;
+
+pub use answer::{Answer, write_response};
+pub use notify::{NotifyText, write_notify};
+pub use status::Status;
+
+#[cfg(test)]
+mod tests;
