@@ -31,6 +31,3 @@ mod via;
 pub use datagram::read;
 pub use error::{HeaderName, ReadError};
 pub use message::{Addr, Head, Message, Party, Request, Response, Via};
-
-#[cfg(test)]
-mod tests;

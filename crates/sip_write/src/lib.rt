@@ -20,6 +20,3 @@ mod via;
 pub use answer::{Answer, write_response};
 pub use notify::{NotifyText, write_notify};
 pub use status::Status;
-
-#[cfg(test)]
-mod tests;
