@@ -17,3 +17,4 @@ pub mod Events
 pub mod States
 pub mod Expiries
 pub mod WrittenTexts
+pub mod Tokens

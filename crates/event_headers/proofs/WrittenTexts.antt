@@ -100,14 +100,14 @@ digit_word x lt =
     let b : nat_le (48 + x) 57 ≡ true = le-leb (48 + x) 57 (omega (arith, lt)) in
     rw (a, b) refl
 
-abbrev IsSpelled : ℕ → List ℕ → Type 0
+abbrev pub IsSpelled : ℕ → List ℕ → Type 0
 IsSpelled n digits = IsWord class.Digit digits × (number_of digits ≡ n)
 
 some_behind : (x y : List ℕ) → y ≢ [] → x ++ y ≢ []
 some_behind [] y some e = some e
 some_behind (z ∷ x) y some e = absurd cc
 
-spelled : (n : ℕ) → n < 2 ^ 64 → IsSpelled n (decimal n)
+pub spelled : (n : ℕ) → n < 2 ^ 64 → IsSpelled n (decimal n)
 spelled n small = decimal_by_steps IsSpelled first more n small where
   first : (m : ℕ) → m < 10 → IsSpelled m ((48 + m) ∷ [])
   first m lt = ((rw (digit_word m lt) refl, not_empty (48 + m) []), omega arith)

@@ -10,3 +10,4 @@ pub mod HeaderViews
 pub mod Codes
 pub mod Covering
 pub mod Laws
+pub mod Tokens

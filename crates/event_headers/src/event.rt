@@ -13,7 +13,7 @@ use crate::error::{HeaderError, NoMemory};
 use crate::framed::token_with;
 use crate::parameter::word_named;
 use crate::scan::Class;
-use crate::text::Text;
+use crate::text::{Text, some_copy};
 use crate::values::EventValue;
 use std::alloc::Global;
 
@@ -36,16 +36,6 @@ fn event_of(alloc: Global, text: &[u8]) -> Result<Option<WrittenEvent<'_>>, NoMe
         return Ok(None);
     };
     Ok(Some(WrittenEvent { package, id }))
-}
-
-/// A copy of the text, where there is one.
-fn some_copy(alloc: Global, text: Option<&str>) -> Result<Option<Text>, NoMemory>
-    ensures { IfOk result (λ o. o ≡ option_map (λ t. t.now) text.entry) }
-{
-    match text {
-        Some(text) => Ok(Some(Text::of(alloc, text)?)),
-        None => Ok(None),
-    }
 }
 
 /// What the text says as an Event value.

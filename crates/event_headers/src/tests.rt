@@ -25,7 +25,7 @@ fn an_event_is_read_and_written(rt: HostRuntime) -> Result<(), Fail> {
         assert_eq!(rt; event.package(), package, "{text}");
         assert_eq!(rt; event.id().unwrap_or(""), id, "{text}");
         let mut out = Vec::new(alloc);
-        write_event(alloc, &event, &mut out)?;
+        write_event(alloc, &event.copy(alloc)?, &mut out)?;
         assert_eq!(rt; out.as_slice(), written.as_bytes(), "{text}");
     }
     Ok(())
@@ -178,6 +178,29 @@ fn values_are_tokens_in_small_letters(rt: HostRuntime) -> Result<(), Fail> {
 }
 
 #[test]
+fn a_number_and_words_make_values(rt: HostRuntime) -> Result<(), Fail> {
+    let alloc = rt.alloc();
+    let mut out = Vec::new(alloc);
+    write_event(alloc, &EventValue::numbered(alloc, "refer", 93)?, &mut out)?;
+    assert_eq!(rt; out.as_slice(), b"refer;id=93".as_slice());
+    for (state, written) in [
+        (
+            StateValue::worded(alloc, "active", Some(5), None, None)?,
+            "active;expires=5",
+        ),
+        (
+            StateValue::worded(alloc, "terminated", None, Some("noresource"), Some(7))?,
+            "terminated;reason=noresource;retry-after=7",
+        ),
+    ] {
+        let mut out = Vec::new(alloc);
+        write_state(alloc, &state, &mut out)?;
+        assert_eq!(rt; out.as_slice(), written.as_bytes());
+    }
+    Ok(())
+}
+
+#[test]
 fn refusals_have_numbers(rt: HostRuntime) {
     assert_eq!(rt; HeaderError::Grammar.number(), 1);
     assert_eq!(rt; HeaderError::TooLarge.number(), 2);
@@ -197,6 +220,8 @@ fn a_refused_growth_changes_nothing(rt: HostRuntime) {
             if write_event(alloc, &event, &mut out).is_err() {
                 assert_eq!(rt; out.as_slice(), b"kept".as_slice());
             }
+            let _copied = event.copy(alloc);
+            let _numbered = EventValue::numbered(alloc, "refer", 93);
         }
     }
     out.truncate(4);
@@ -206,6 +231,7 @@ fn a_refused_growth_changes_nothing(rt: HostRuntime) {
             if write_state(alloc, &state, &mut out).is_err() {
                 assert_eq!(rt; out.as_slice(), b"kept".as_slice());
             }
+            let _worded = StateValue::worded(alloc, "terminated", None, Some("timeout"), Some(5));
         }
     }
     out.truncate(4);

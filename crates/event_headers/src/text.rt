@@ -1,5 +1,5 @@
 //! Texts, bytes and lists, which contracts see as lists of numbers and of values.
-ghost use Rattle.std.specs.Prelude.{◌≡◌, ℕ, List, string_bytes, IfOk, IsTrue, ◌↔◌, [], bytes_eq};
+ghost use Rattle.std.specs.Prelude.{◌≡◌, ℕ, List, string_bytes, option_map, IfOk, IsTrue, ◌↔◌, [], bytes_eq};
 ghost use Rattle.std.specs.Str.{str_to_ascii_lowercase};
 
 use crate::error::NoMemory;
@@ -52,7 +52,8 @@ impl Text {
     pub fn into_string(self) -> String
         ensures { string_bytes result ≡ self }
     {
-        self.inner
+        let Text { inner } = self;
+        inner
     }
 
     /// Another text with the same characters.
@@ -67,6 +68,16 @@ impl Text {
         ensures { result ≡ bytes_eq self.now other.now }
     {
         self.as_str() == other
+    }
+}
+
+/// A copy of the text, where there is one.
+pub(crate) fn some_copy(alloc: Global, text: Option<&str>) -> Result<Option<Text>, NoMemory>
+    ensures { IfOk result (λ o. o ≡ option_map (λ t. t.now) text.entry) }
+{
+    match text {
+        Some(text) => Ok(Some(Text::of(alloc, text)?)),
+        None => Ok(None),
     }
 }
 
@@ -93,14 +104,15 @@ impl Octets {
     pub fn as_slice(&self) -> &[u8]
         ensures { result.now ≡ self.now }
     {
-        self.inner.as_slice()
+        &self.inner
     }
 
     /// The bytes that it was made from. It takes no memory.
     pub fn into_vec(self) -> Vec<u8>
         ensures { result.items ≡ self }
     {
-        self.inner
+        let Octets { inner } = self;
+        inner
     }
 }
 
@@ -140,6 +152,7 @@ impl<T> Values<T> {
     pub fn into_vec(self) -> Vec<T>
         ensures { result.items ≡ self }
     {
-        self.inner
+        let Values { inner } = self;
+        inner
     }
 }

@@ -1,11 +1,14 @@
 //! What the event headers say, as values.
-ghost use Rattle.std.specs.Prelude.{◌≡◌, ℕ, List, option_map, string_bytes, IfSome, IsSome, IsTrue, ◌↔◌};
+ghost use Rattle.std.specs.Prelude.{◌≡◌, ℕ, List, Some, decimal, option_map, string_bytes, IfOk, IfSome, IsSome, IsTrue, ◌↔◌};
 ghost use Rattle.event_headers.specs.Headers.{IsToken, IsSmallToken, IsEventValue, IsStateValue, IsRangeValue};
+ghost use Rattle.event_headers.specs.Tokens.{is_token, is_small_token};
 ghost use Rattle.event_headers.specs.Values as values;
 
+use crate::error::NoMemory;
 use crate::scan::Class;
-use crate::text::Text;
+use crate::text::{Text, some_copy};
 use crate::word::all_in;
+use std::alloc::Global;
 use std::marker::Model;
 
 /// Whether the text is a token.
@@ -86,6 +89,28 @@ impl EventValue {
         ensures { result ≡ record { «package» = «package»; id = id } }
     {
         EventValue { package, id }
+    }
+
+    /// The value of this package, a token, and of a number as the id, as the subscription that a REFER makes has (RFC 3515 section 2.4.6).
+    pub fn numbered(alloc: Global, package: &str, id: u32) -> Result<EventValue, NoMemory>
+        requires { IsTrue (is_token «package».now) }
+        ensures { IfOk result (λ e. e ≡ record { «package» = «package».now; id = Some (decimal id) }) }
+    {
+        let id = format!(in alloc; "{id}")?;
+        let package = Text::of(alloc, package)?;
+        Ok(EventValue {
+            package,
+            id: Some(Text::new(id)),
+        })
+    }
+
+    /// Another value with the same package and id.
+    pub fn copy(&self, alloc: Global) -> Result<EventValue, NoMemory>
+        ensures { IfOk result (λ e. e ≡ self.now) }
+    {
+        let package = self.package.copy(alloc)?;
+        let id = some_copy(alloc, self.id())?;
+        Ok(EventValue { package, id })
     }
 
     /// It does nothing. Its contract tells a caller that the package and the id are tokens.
@@ -173,6 +198,28 @@ impl StateValue {
             reason,
             retry_after,
         }
+    }
+
+    /// The value of copies of these words, which are tokens in small letters, and of these times.
+    pub fn worded(
+        alloc: Global,
+        word: &str,
+        expires: Option<u32>,
+        reason: Option<&str>,
+        retry_after: Option<u32>,
+    ) -> Result<StateValue, NoMemory>
+        requires word { IsTrue (is_small_token word.now) }
+        requires reason { IfSome reason (λ r. IsTrue (is_small_token r.now)) }
+        ensures { IfOk result (λ s. s ≡ record { word = word.now; expires = expires; reason = option_map (λ r. r.now) reason.entry; retry_after = retry_after }) }
+    {
+        let word = Text::of(alloc, word)?;
+        let reason = some_copy(alloc, reason)?;
+        Ok(StateValue {
+            word,
+            expires,
+            reason,
+            retry_after,
+        })
     }
 
     /// It does nothing. Its contract tells a caller that the word and the reason are tokens in small letters.

@@ -1,33 +1,33 @@
 -- What a mail change answers, by what the map has at the mailbox; and the contents of a list of names.
-use Rattle.std.proofs.Common.{◌≡◌, ℕ, List, [], ◌∷◌, ◌++◌, Option, None, Some, Bool, true, false, cond, refl, sym, ap, ◌∙◌, string_bytes, String, option_map, codes, map}
+use Rattle.std.proofs.Common.{◌≡◌, ℕ, List, [], ◌∷◌, ◌++◌, Option, None, Some, Bool, true, false, cond, refl, sym, ap, ◌∙◌, string_bytes, String, option_map, map}
 use Rattle.std.specs.Str.{bytes_eq}
 use Rattle.std.specs.Map.{lookup}
 use Rattle.std.specs.Ordering.{nat_cmp, eq_by_cmp}
 use Rattle.std.specs.Cmp.Lexicographic.{slice_cmp, nat_list_cmp_total}
-use Rattle.std.specs.FinMap.{find, get, insert, from_entries, same_map, get-insert, get-from_entries}
+use Rattle.std.specs.FinMap.{find, insert, same_map, get-insert, get-from_entries}
 use Rattle.std.proofs.lemmas.Map.Lookups.{exact_bytes}
 use Rattle.std.specs.declared.alloc.Global.{Global}
 use Rattle.package.specs.declared.counts.MailCounts.{MailCounts}
 use Rattle.package.specs.declared.change.Outcome.{Outcome}
-use Rattle.package.specs.declared.change.Outcome.TheVariants.{Changed, Same, Unknown}
+use Rattle.package.specs.declared.change.Outcome.TheVariants.{Changed, Same}
 use Rattle.package.specs.Values.{MailChange}
-use Rattle.package.specs.Content.{Content, Contents, OfMail, contents_of, held, with_held, is_finished, SuitsPackage, mail_package}
+use Rattle.package.specs.Content.{finite_maps, Content, Contents, OfMail, contents_of, held, with_held, is_finished, SuitsPackage, mail_package}
 use Rattle.package.specs.Changes.{mail_at, same_counts, counts_of, with_counts, unset}
 use Rattle.package.proofs.Held.{get_held}
 use Rattle.message_summary.specs.Mailboxes.{first_contents}
 
 module _ {Y : Type 0} (es : List (String Y × MailCounts)) (m : MailChange) (q : List ℕ) (same : q ≡ m.mailbox) where
-  pub found : (o : Option MailCounts) → lookup (λ k. bytes_eq q (string_bytes k)) es ≡ o → mail_at (contents_of OfMail es) m (held (contents_of OfMail es) m.mailbox) ≡ mail_at (contents_of OfMail es) m (option_map OfMail o)
-  found o e = ap (λ p. mail_at (contents_of OfMail es) m (held (contents_of OfMail es) p)) (sym same) ∙ ap (mail_at (contents_of OfMail es) m) (get_held OfMail es q ∙ ap (option_map OfMail) e)
+  pub found : (o : Option MailCounts) → lookup (λ k. bytes_eq q (string_bytes k)) es ≡ o → mail_at finite_maps (contents_of OfMail es) m (held (contents_of OfMail es) m.mailbox) ≡ mail_at finite_maps (contents_of OfMail es) m (option_map OfMail o)
+  found o e = ap (λ p. mail_at finite_maps (contents_of OfMail es) m (held (contents_of OfMail es) p)) (sym same) ∙ ap (mail_at finite_maps (contents_of OfMail es) m) (get_held OfMail es q ∙ ap (option_map OfMail) e)
 
   answer : MailCounts → Bool → Outcome × Contents
   answer c b = cond b (Same, contents_of OfMail es) (Changed, with_held (contents_of OfMail es) m.mailbox (OfMail (with_counts m.class m.counts c)))
 
-  pub found_same : (c : MailCounts) → lookup (λ k. bytes_eq q (string_bytes k)) es ≡ Some c → same_counts (counts_of m.class c) (Some m.counts) ≡ true → (Same, contents_of OfMail es) ≡ mail_at (contents_of OfMail es) m (held (contents_of OfMail es) m.mailbox)
+  pub found_same : (c : MailCounts) → lookup (λ k. bytes_eq q (string_bytes k)) es ≡ Some c → same_counts (counts_of m.class c) (Some m.counts) ≡ true → (Same, contents_of OfMail es) ≡ mail_at finite_maps (contents_of OfMail es) m (held (contents_of OfMail es) m.mailbox)
   unfolding answer
   found_same c e t = sym (found (Some c) e ∙ ap (answer c) t)
 
-  pub found_changed : (c : MailCounts) → lookup (λ k. bytes_eq q (string_bytes k)) es ≡ Some c → same_counts (counts_of m.class c) (Some m.counts) ≡ false → (Changed, with_held (contents_of OfMail es) m.mailbox (OfMail (with_counts m.class m.counts c))) ≡ mail_at (contents_of OfMail es) m (held (contents_of OfMail es) m.mailbox)
+  pub found_changed : (c : MailCounts) → lookup (λ k. bytes_eq q (string_bytes k)) es ≡ Some c → same_counts (counts_of m.class c) (Some m.counts) ≡ false → (Changed, with_held (contents_of OfMail es) m.mailbox (OfMail (with_counts m.class m.counts c))) ≡ mail_at finite_maps (contents_of OfMail es) m (held (contents_of OfMail es) m.mailbox)
   unfolding answer
   found_changed c e t = sym (found (Some c) e ∙ ap (answer c) t)
 

@@ -1,7 +1,7 @@
 //! A set of mailboxes as an event package.
 ghost use Rattle.std.specs.Prelude.{◌≡◌, IfOk, IsSome};
 ghost use Rattle.indexmap.specs.IndexMap.{get_by_text};
-ghost use Rattle.package.specs.Content.{OfMail, contents_of, held, with_held, mail_package};
+ghost use Rattle.package.specs.Content.{finite_maps, OfMail, contents_of, held, with_held, mail_package};
 ghost use Rattle.package.specs.Changes as spec;
 ghost use Rattle.package.specs.Changes.{mail_at};
 ghost use Rattle.package.specs.Closings.{counted};
@@ -38,7 +38,7 @@ impl Mailboxes {
     fn take_in(&mut self, mail: &MailChange) -> Outcome
         ensures change { let before = contents_of OfMail self.old.mailboxes.entries in
             (result, contents_of OfMail self.new.mailboxes.entries)
-            ≡ mail_at before mail.now (held before mail.now.mailbox) }
+            ≡ mail_at finite_maps before mail.now (held before mail.now.mailbox) }
         ensures counted { self.new.ending ≡ counted result self.old.ending }
     {
         let outcome = set_counts(&mut self.mailboxes, mail);
@@ -82,7 +82,7 @@ fn replace(mailboxes: &mut IndexMap<String, MailCounts>, name: &str, counts: Mai
 /// Sets the counts of one class in one mailbox.
 fn set_counts(mailboxes: &mut IndexMap<String, MailCounts>, mail: &MailChange) -> Outcome
     ensures { let before = contents_of OfMail mailboxes.old.entries in
-        (result, contents_of OfMail mailboxes.new.entries) ≡ mail_at before mail.now (held before mail.now.mailbox) }
+        (result, contents_of OfMail mailboxes.new.entries) ≡ mail_at finite_maps before mail.now (held before mail.now.mailbox) }
 {
     let name = mail.mailbox();
     let Some(found) = mailboxes.get(name).copied() else {

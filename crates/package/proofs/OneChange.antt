@@ -14,7 +14,7 @@ use Rattle.package.specs.declared.change.Change.TheVariants.{Mail, Begin, Step, 
 use Rattle.package.specs.declared.change.Outcome.{Outcome}
 use Rattle.package.specs.declared.change.Outcome.TheVariants.{Changed, Same, Unknown}
 use Rattle.package.specs.Values.{MailChange, Progress}
-use Rattle.package.specs.Content.{Content, OfMail, OfStatus, Contents, held, with_held, without_held, Seen, is_final, SuitsPackage, KeepsKind, mail_package, refer_package}
+use Rattle.package.specs.Content.{finite_maps, Content, OfMail, OfStatus, Contents, held, with_held, without_held, Seen, is_final, SuitsPackage, KeepsKind, mail_package, refer_package}
 use Rattle.package.specs.Changes.{counts_of, with_counts, same_counts, mail_at, begin_at, step_at, forget_at, applied, event_of_change, resource_of, change_of, with_contents}
 
 pub and_true : (a b : Bool) → (a && b) ≡ true → (a ≡ true) × (b ≡ true)
@@ -69,7 +69,7 @@ with_counts-same Pager n m e = ap (λ x. record m { pager = x }) e
 with_counts-same Multimedia n m e = ap (λ x. record m { multimedia = x }) e
 with_counts-same Text n m e = ap (λ x. record m { text = x }) e
 
-mail_held : (m : Contents) (c : MailChange) (q : List ℕ) (o : Option Content) → held m c.mailbox ≡ o → held (mail_at m c o).1 q ≡ cond (bytes_eq q c.mailbox) (new_content (Mail c) o) (held m q)
+mail_held : (m : Contents) (c : MailChange) (q : List ℕ) (o : Option Content) → held m c.mailbox ≡ o → held (mail_at finite_maps m c o).1 q ≡ cond (bytes_eq q c.mailbox) (new_content (Mail c) o) (held m q)
 mail_held m c q None e = seen_from m c.mailbox q None e
 mail_held m c q (Some (OfStatus code reason)) e = seen_from m c.mailbox q (Some (OfStatus code reason)) e
 mail_held m c q (Some (OfMail n)) e = by (same_counts (counts_of c.class n) (Some c.counts)) refl
@@ -78,11 +78,11 @@ mail_held m c q (Some (OfMail n)) e = by (same_counts (counts_of c.class n) (Som
     by true p = seen_from m c.mailbox q _ (e ∙ ap (λ x. Some (OfMail x)) (with_counts-same c.class c.counts n (same_counts-true _ _ p)))
     by false p = held-with m c.mailbox q _
 
-begin_held : (m : Contents) (tag q : List ℕ) (o : Option Content) → held m tag ≡ o → held (begin_at m tag o).1 q ≡ cond (bytes_eq q tag) (new_content (Begin tag) o) (held m q)
+begin_held : (m : Contents) (tag q : List ℕ) (o : Option Content) → held m tag ≡ o → held (begin_at finite_maps m tag o).1 q ≡ cond (bytes_eq q tag) (new_content (Begin tag) o) (held m q)
 begin_held m tag q None e = held-with m tag q _
 begin_held m tag q (Some x) e = seen_from m tag q (Some x) e
 
-step_held : (m : Contents) (p : Progress) (q : List ℕ) (o : Option Content) → held m p.tag ≡ o → held (step_at m p o).1 q ≡ cond (bytes_eq q p.tag) (new_content (Step p) o) (held m q)
+step_held : (m : Contents) (p : Progress) (q : List ℕ) (o : Option Content) → held m p.tag ≡ o → held (step_at finite_maps m p o).1 q ≡ cond (bytes_eq q p.tag) (new_content (Step p) o) (held m q)
 step_held m p q None e = seen_from m p.tag q None e
 step_held m p q (Some (OfMail n)) e = seen_from m p.tag q (Some (OfMail n)) e
 step_held m p q (Some (OfStatus code reason)) e = by (is_final code) ((code == p.code) && bytes_eq reason p.reason) refl
@@ -96,7 +96,7 @@ step_held m p q (Some (OfStatus code reason)) e = by (is_final code) ((code == p
         seen_from m p.tag q _ (e ∙ (λ i. Some (OfStatus (a i) (b i))))
     by false false t = held-with m p.tag q _
 
-forget_held : (m : Contents) (tag q : List ℕ) (o : Option Content) → held m tag ≡ o → held (forget_at m tag o).1 q ≡ cond (bytes_eq q tag) None (held m q)
+forget_held : (m : Contents) (tag q : List ℕ) (o : Option Content) → held m tag ≡ o → held (forget_at finite_maps m tag o).1 q ≡ cond (bytes_eq q tag) None (held m q)
 forget_held m tag q None e = seen_from m tag q None e
 forget_held m tag q (Some x) e = held-without m tag q
 
@@ -108,7 +108,7 @@ by_own m c q r = by (bytes_eq q r) refl
     by true p = ap (λ x. new_content c (held m x)) (sym ((bytes_eq-Decides q r).0 p))
     by false p = refl
 
-pub applied_held : (m : Contents) (c : Change) (q : List ℕ) → held (applied m c).1 q ≡ cond (bytes_eq q (resource_of c)) (new_content c (held m q)) (held m q)
+pub applied_held : (m : Contents) (c : Change) (q : List ℕ) → held (applied finite_maps m c).1 q ≡ cond (bytes_eq q (resource_of c)) (new_content c (held m q)) (held m q)
 applied_held m (Mail c) q = mail_held m c q (held m c.mailbox) refl ∙ by_own m (Mail c) q c.mailbox
 applied_held m (Begin tag) q = begin_held m tag q (held m tag) refl ∙ by_own m (Begin tag) q tag
 applied_held m (Step p) q = step_held m p q (held m p.tag) refl ∙ by_own m (Step p) q p.tag
@@ -122,21 +122,21 @@ step_on name c q o = cond (bytes_eq name (event_of_change c)) (cond (bytes_eq q 
 pub change_held : (box : Seen) (c : Change) (q : List ℕ) → held (change_of box c).1.contents q ≡ step_on box.name c q (held box.contents q)
 change_held box c q = by (bytes_eq box.name (event_of_change c))
   where
-    by : (b : Bool) → held (cond b (with_contents box (applied box.contents c)) (Unknown, box)).1.contents q ≡ cond b (cond (bytes_eq q (resource_of c)) (new_content c (held box.contents q)) (held box.contents q)) (held box.contents q)
+    by : (b : Bool) → held (cond b (with_contents box (applied finite_maps box.contents c)) (Unknown, box)).1.contents q ≡ cond b (cond (bytes_eq q (resource_of c)) (new_content c (held box.contents q)) (held box.contents q)) (held box.contents q)
     by true = applied_held box.contents c q
     by false = refl
 
 pub change_name : (box : Seen) (c : Change) → (change_of box c).1.name ≡ box.name
 change_name box c = by (bytes_eq box.name (event_of_change c))
   where
-    by : (b : Bool) → (cond b (with_contents box (applied box.contents c)) (Unknown, box)).1.name ≡ box.name
+    by : (b : Bool) → (cond b (with_contents box (applied finite_maps box.contents c)) (Unknown, box)).1.name ≡ box.name
     by true = refl
     by false = refl
 
 pub change_type : (box : Seen) (c : Change) → (change_of box c).1.content_type ≡ box.content_type
 change_type box c = by (bytes_eq box.name (event_of_change c))
   where
-    by : (b : Bool) → (cond b (with_contents box (applied box.contents c)) (Unknown, box)).1.content_type ≡ box.content_type
+    by : (b : Bool) → (cond b (with_contents box (applied finite_maps box.contents c)) (Unknown, box)).1.content_type ≡ box.content_type
     by true = refl
     by false = refl
 

@@ -9,7 +9,7 @@ use Rattle.package.specs.declared.change.Change.TheVariants.{Mail, Begin, Step, 
 use Rattle.package.specs.declared.change.Outcome.{Outcome}
 use Rattle.package.specs.declared.change.Outcome.TheVariants.{Changed, Same, Unknown}
 use Rattle.package.specs.Values.{MailChange, Progress}
-use Rattle.package.specs.Content.{Content, OfMail, OfStatus, Contents, held, with_held, without_held, Seen, mail_package, refer_package, is_final}
+use Rattle.package.specs.Content.{Content, OfMail, OfStatus, Maps, SeenBy, mail_package, refer_package, is_final}
 
 -- ---- counts
 
@@ -39,31 +39,32 @@ same_counts (Some m) (Some n) =
     (m.new_count == n.new_count)
     && ((m.old_count == n.old_count) && ((m.urgent_new == n.urgent_new) && (m.urgent_old == n.urgent_old)))
 
--- ---- each change, by what is held of its resource
+-- ---- each change of a map, by what is held of its resource
 
-abbrev pub mail_at : Contents → MailChange → Option Content → Outcome × Contents
-mail_at contents c None = (Unknown, contents)
-mail_at contents c (Some (OfStatus code reason)) = (Unknown, contents)
-mail_at contents c (Some (OfMail m)) =
-    if same_counts (counts_of c.class m) (Some c.counts) then (Same, contents)
-    else (Changed, with_held contents c.mailbox (OfMail (with_counts c.class c.counts m)))
+module _ (maps : Maps) where
+  abbrev pub mail_at : maps.Map → MailChange → Option Content → Outcome × maps.Map
+  mail_at contents c None = (Unknown, contents)
+  mail_at contents c (Some (OfStatus code reason)) = (Unknown, contents)
+  mail_at contents c (Some (OfMail m)) =
+      if same_counts (counts_of c.class m) (Some c.counts) then (Same, contents)
+      else (Changed, maps.with_held contents c.mailbox (OfMail (with_counts c.class c.counts m)))
 
--- a transfer begins with `100 Trying` (RFC 3515 section 2.4.5)
-abbrev pub begin_at : Contents → List ℕ → Option Content → Outcome × Contents
-begin_at contents tag None = (Changed, with_held contents tag (OfStatus 100 (codes "Trying")))
-begin_at contents tag (Some content) = (Same, contents)
+  -- a transfer begins with `100 Trying` (RFC 3515 section 2.4.5)
+  abbrev pub begin_at : maps.Map → List ℕ → Option Content → Outcome × maps.Map
+  begin_at contents tag None = (Changed, maps.with_held contents tag (OfStatus 100 (codes "Trying")))
+  begin_at contents tag (Some content) = (Same, contents)
 
--- a final status isn't left
-abbrev pub step_at : Contents → Progress → Option Content → Outcome × Contents
-step_at contents p None = (Unknown, contents)
-step_at contents p (Some (OfMail m)) = (Unknown, contents)
-step_at contents p (Some (OfStatus code reason)) =
-    if is_final code || ((code == p.code) && bytes_eq reason p.reason) then (Same, contents)
-    else (Changed, with_held contents p.tag (OfStatus p.code p.reason))
+  -- a final status isn't left
+  abbrev pub step_at : maps.Map → Progress → Option Content → Outcome × maps.Map
+  step_at contents p None = (Unknown, contents)
+  step_at contents p (Some (OfMail m)) = (Unknown, contents)
+  step_at contents p (Some (OfStatus code reason)) =
+      if is_final code || ((code == p.code) && bytes_eq reason p.reason) then (Same, contents)
+      else (Changed, maps.with_held contents p.tag (OfStatus p.code p.reason))
 
-abbrev pub forget_at : Contents → List ℕ → Option Content → Outcome × Contents
-forget_at contents tag None = (Unknown, contents)
-forget_at contents tag (Some content) = (Changed, without_held contents tag)
+  abbrev pub forget_at : maps.Map → List ℕ → Option Content → Outcome × maps.Map
+  forget_at contents tag None = (Unknown, contents)
+  forget_at contents tag (Some content) = (Changed, maps.without_held contents tag)
 
 -- ---- a change of a package
 
@@ -87,17 +88,19 @@ is_forget (Begin tag) = false
 is_forget (Step p) = false
 is_forget (Forget tag) = true
 
-abbrev pub applied : Contents → Change → Outcome × Contents
-applied contents (Mail c) = mail_at contents c (held contents c.mailbox)
-applied contents (Begin tag) = begin_at contents tag (held contents tag)
-applied contents (Step p) = step_at contents p (held contents p.tag)
-applied contents (Forget tag) = forget_at contents tag (held contents tag)
+module _ (maps : Maps) where
+  abbrev pub applied : maps.Map → Change → Outcome × maps.Map
+  applied contents (Mail c) = mail_at maps contents c (maps.held contents c.mailbox)
+  applied contents (Begin tag) = begin_at maps contents tag (maps.held contents tag)
+  applied contents (Step p) = step_at maps contents p (maps.held contents p.tag)
+  applied contents (Forget tag) = forget_at maps contents tag (maps.held contents tag)
 
-abbrev pub with_contents : Seen → Outcome × Contents → Outcome × Seen
-with_contents box r = (r.0, record box { contents = r.1 })
+module _ {maps : Maps} where
+  abbrev pub with_contents : SeenBy maps → Outcome × maps.Map → Outcome × SeenBy maps
+  with_contents box r = (r.0, record box { contents = r.1 })
 
--- what a package answers to a change, and what it is then
-abbrev pub change_of : Seen → Change → Outcome × Seen
-change_of box c =
-    if bytes_eq box.name (event_of_change c) then with_contents box (applied box.contents c)
-    else (Unknown, box)
+  -- what a package answers to a change, and what it is then
+  abbrev pub change_of : SeenBy maps → Change → Outcome × SeenBy maps
+  change_of box c =
+      if bytes_eq box.name (event_of_change c) then with_contents box (applied maps box.contents c)
+      else (Unknown, box)

@@ -30,13 +30,30 @@ abbrev pub contents_of : {V Y : Type 0} → (V → Content) → List (String Y �
 contents_of content_of entries =
     finite.from_entries (map {B = List ℕ × Content} (λ entry. (string_bytes entry.0, content_of entry.1)) entries)
 
+-- ---- kinds of maps
+
+-- What can be asked of a map from resource to content, and done with it. The definitions range over the kind of maps: the
+-- calls are proved over the finite maps of std, two of which are equal where they hold the same, and worked examples are
+-- computed over lists.
+pub record Maps : Type 1 where
+  pub Map : Type 0
+  pub held : Map → List ℕ → Option Content
+  pub with_held : Map → List ℕ → Content → Map
+  pub without_held : Map → List ℕ → Map
+
+abbrev pub finite_maps : Maps
+finite_maps = record { Map = Contents; held = held; with_held = with_held; without_held = without_held }
+
 -- ---- a package
 
 -- its name, its content type, and what it holds
-pub record Seen : Type 0 where
+pub record SeenBy (maps : Maps) : Type 0 where
   pub name : List ℕ
   pub content_type : List ℕ
-  pub contents : Contents
+  pub contents : maps.Map
+
+abbrev pub Seen : Type 0
+Seen = SeenBy finite_maps
 
 -- RFC 3842 section 3.1
 abbrev pub mail_package : List ℕ

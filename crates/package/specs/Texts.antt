@@ -1,7 +1,6 @@
--- Which texts may name a resource, stand in a status line, or name a package. A text is the list of its bytes.
-use Rattle.std.specs.Prelude.{ℕ, Bool, not, ◌&&◌, ◌||◌, ◌==◌, nat_lt, List, length, codes}
-use Rattle.std.specs.List.{list_all, list_any}
-use Rattle.std.specs.Char.{is_ascii_alphanumeric}
+-- Which texts may name a resource or stand in a status line. A text is the list of its bytes.
+use Rattle.std.specs.Prelude.{ℕ, Bool, not, ◌&&◌, ◌||◌, ◌==◌, nat_lt, List, length}
+use Rattle.std.specs.List.{list_all}
 
 -- a byte 0 to 31, or 127
 abbrev pub is_control : ℕ → Bool
@@ -18,11 +17,3 @@ is_unbroken text = list_all (λ byte. nat_lt 32 byte && not (byte == 127)) text
 -- one or more bytes, none of them a space or a control character
 abbrev pub is_word : List ℕ → Bool
 is_word text = nat_lt 0 (length text) && is_unbroken text
-
--- alphanum / "-" / "." / "!" / "%" / "*" / "_" / "+" / "`" / "'" / "~"
-abbrev pub is_token_byte : ℕ → Bool
-is_token_byte byte = is_ascii_alphanumeric byte || list_any (λ mark. byte == mark) (codes "-.!%*_+`'~")
-
--- token = 1*(alphanum / "-" / "." / "!" / "%" / "*" / "_" / "+" / "`" / "'" / "~")      (RFC 3261 section 25.1)
-abbrev pub is_token : List ℕ → Bool
-is_token text = nat_lt 0 (length text) && list_all is_token_byte text

@@ -1,6 +1,7 @@
 //! What a notifier sees of an event package.
 ghost use Rattle.std.specs.Prelude.{◌≡◌, ℕ, List, IfOk, OnErr, option_map, is_some, IsOk, IsTrue};
-ghost use Rattle.package.specs.Texts.{is_token, is_printable};
+ghost use Rattle.event_headers.specs.Tokens.{is_token};
+ghost use Rattle.package.specs.Texts.{is_printable};
 ghost use Rattle.package.specs.Content.{Seen, KeepsKind, held, is_finished};
 ghost use Rattle.package.specs.Changes.{change_of, is_forget};
 ghost use Rattle.package.specs.Bodies.{body_of};

@@ -1,7 +1,7 @@
 //! A set of transfers as an event package.
 ghost use Rattle.std.specs.Prelude.{◌≡◌, IfOk, IsOk, OnErr, IsSome, IsTrue};
 ghost use Rattle.indexmap.specs.IndexMap.{get_by_text};
-ghost use Rattle.package.specs.Content.{contents_of, held, with_held, refer_package};
+ghost use Rattle.package.specs.Content.{finite_maps, contents_of, held, with_held, refer_package};
 ghost use Rattle.package.specs.Changes.{begin_at, step_at, forget_at, is_forget};
 ghost use Rattle.package.specs.Closings.{counted};
 ghost use Rattle.refer.specs.Transfers.{refer_type, new_transfers, content_of, transfer_change};
@@ -61,7 +61,7 @@ fn begin(
 ) -> Result<Outcome, NoMemory>
     ensures ok { let before = contents_of content_of transfers.old.entries in
         IfOk result (λ outcome.
-        (outcome, contents_of content_of transfers.new.entries) ≡ begin_at before tag.now (held before tag.now)) }
+        (outcome, contents_of content_of transfers.new.entries) ≡ begin_at finite_maps before tag.now (held before tag.now)) }
     ensures err { OnErr result (contents_of content_of transfers.new.entries ≡ contents_of content_of transfers.old.entries) }
 {
     let name = tag.as_str();
@@ -94,7 +94,7 @@ fn step(
     ensures ok { let before = contents_of content_of transfers.old.entries in
         IfOk result (λ outcome.
         (outcome, contents_of content_of transfers.new.entries)
-        ≡ step_at before progress.now (held before progress.now.tag)) }
+        ≡ step_at finite_maps before progress.now (held before progress.now.tag)) }
     ensures err { OnErr result (contents_of content_of transfers.new.entries ≡ contents_of content_of transfers.old.entries) }
 {
     let tag = progress.tag();
@@ -112,7 +112,7 @@ fn step(
 /// Lets a transfer go.
 fn forget(transfers: &mut IndexMap<String, Status>, tag: &Text) -> Outcome
     ensures { let before = contents_of content_of transfers.old.entries in
-        (result, contents_of content_of transfers.new.entries) ≡ forget_at before tag.now (held before tag.now) }
+        (result, contents_of content_of transfers.new.entries) ≡ forget_at finite_maps before tag.now (held before tag.now) }
 {
     let Some(_gone) = transfers.swap_remove(tag.as_str()) else {
         return Outcome::Unknown;

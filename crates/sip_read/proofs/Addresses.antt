@@ -7,7 +7,7 @@ use Rattle.event_headers.specs.declared.scan.Class.{Class}
 use Rattle.event_headers.specs.declared.scan.Class.TheVariants as class
 use Rattle.event_headers.specs.Bytes.{is_in, is_letter, is_space}
 use Rattle.event_headers.specs.Reading.{◌>>=◌, span_at, after_byte, after_spaces, begins, quoted_at}
-use Rattle.event_headers.specs.Grammar.{AllPassing, AreSpaces, IsQuoted}
+use Rattle.event_headers.specs.Grammar.{AllPassing, AreSpaces}
 use Rattle.sip_read.specs.Addresses.{IsDisplay, IsUri}
 use Rattle.sip_read.specs.AddressesComputed.{colon_then_some, has_scheme, angle_at, after_display, address_at}
 use Rattle.event_headers.proofs.Pieces.{bind_some, some_is, and_both, span_takes, span_again, byte_taken, prefix_passes, prefix_again, spaces_again, apart, which_space}

@@ -1,5 +1,5 @@
 -- What the reader computes is what the bytes are.
-use Rattle.std.proofs.Common.{◌≡◌, ◌≢◌, ℕ, ◌≤◌, ◌<◌, ◌^◌, Bool, true, false, eqb, ltb, cond, List, [], ◌∷◌, ◌++◌, length, take, Option, Some, None, option_map, Result, Ok, Err, refl, sym, ap, subst, ◌∙◌, arith, map, min, inl, inr}
+use Rattle.std.proofs.Common.{◌≡◌, ℕ, ◌≤◌, ◌<◌, Bool, true, false, eqb, ltb, cond, List, [], ◌∷◌, length, take, Option, Some, None, option_map, Result, Ok, Err, refl, sym, ap, subst, ◌∙◌, arith, map, inl, inr}
 use Rattle.std.specs.Prelude.{◌⊎◌}
 use Rattle.std.specs.List.{filter_map}
 use Rattle.std.proofs.lemmas.Bool.{ltb-true, lt-ltb, ltb-false, le-ltb, ne_eqb}
@@ -29,14 +29,14 @@ use Rattle.sip_read.specs.declared.message.Via.{Via}
 use Rattle.event_headers.specs.Values.{EventValue, Range}
 use Rattle.sip_read.specs.Addresses.{IsContact}
 use Rattle.sip_read.specs.AddressesComputed.{contact_of}
-use Rattle.sip_read.specs.FieldsComputed.{kept, event_kept, expires_kept, accept_kept}
+use Rattle.sip_read.specs.FieldsComputed.{event_kept, expires_kept, accept_kept}
 use Rattle.sip_read.specs.FirstLine.{First, request, status}
 use Rattle.sip_read.specs.FirstLineComputed.{first_at}
-use Rattle.sip_read.specs.GatheredComputed.{Fields, Gathered, nothing, with_items, gather}
+use Rattle.sip_read.specs.GatheredComputed.{Gathered, nothing, with_items, gather}
 use Rattle.sip_read.specs.Items.{Item}
 use Rattle.sip_read.specs.ItemsComputed.{section_of, items_of}
 use Rattle.sip_read.specs.LinesComputed.{lines_of}
-use Rattle.sip_read.specs.Message.{HasFirst, HasItems, HasHead, HasSingle, via_in, from_in, to_in, call_id_in, cseq_in, length_in, contact_in, event_in, expires_in, accept_in, refer_to_in, doubled, absent, joined_lines, with_commas, IsHead, IsBody, IsField, IsKept, IsRequest, IsResponse, Reads, Wrong, Says, Answers, IsReading}
+use Rattle.sip_read.specs.Message.{HasItems, HasHead, via_in, from_in, to_in, call_id_in, cseq_in, length_in, contact_in, event_in, expires_in, accept_in, refer_to_in, doubled, joined_lines, with_commas, IsHead, IsBody, IsField, IsKept, IsRequest, IsResponse, Reads, Wrong, Says, Answers, IsReading}
 use Rattle.sip_read.specs.MessageComputed.{◌then◌, or_else, refused, head_of, body_of, value_or_bad, accept_field, request_of, finished, message_of, read_of}
 use Rattle.sip_read.specs.MessageComputed as computed
 use Rattle.sip_read.specs.OnceComputed.{is_several, field_of}

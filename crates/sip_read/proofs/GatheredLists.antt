@@ -1,34 +1,17 @@
 -- What is gathered from a list of values, header by header.
-use Rattle.std.proofs.Common.{◌≡◌, ◌≢◌, ℕ, ◌≤◌, ◌^◌, ◌<◌, Bool, true, false, eqb, ltb, cond, List, [], ◌∷◌, ◌++◌, length, take, Option, Some, None, option_map, Result, Ok, Err, refl, sym, ap, subst, ◌∙◌, append_assoc, arith, map, min, inl, inr}
-use Rattle.std.specs.Prelude.{◌⊎◌}
+use Rattle.std.proofs.Common.{◌≡◌, ℕ, ◌^◌, List, [], ◌∷◌, ◌++◌, Option, Some, None, refl, ◌∙◌, append_assoc, map, min}
 use Rattle.std.specs.List.{filter_map}
-use Rattle.std.proofs.lemmas.Bool.{ltb-true, lt-ltb, ltb-false, le-ltb, ne_eqb}
-use Rattle.std.proofs.lemmas.List.{nil_from_length, append-nil}
-use Rattle.event_headers.specs.declared.field.Field.{Field}
-use Rattle.event_headers.specs.declared.field.Field.TheVariants as field
+use Rattle.std.proofs.lemmas.List.{append-nil}
 use Rattle.event_headers.specs.Grammar.{number_of}
-use Rattle.event_headers.specs.Values.{EventValue, Range}
-use Rattle.sip_read.specs.declared.call.Sequence.{Sequence}
-use Rattle.sip_read.specs.declared.error.HeaderName.{HeaderName}
-use Rattle.sip_read.specs.declared.error.HeaderName.TheVariants as names
-use Rattle.sip_read.specs.declared.error.ReadError.{ReadError}
-use Rattle.sip_read.specs.declared.error.ReadError.TheVariants as errors
-use Rattle.sip_read.specs.declared.message.Head.{Head}
-use Rattle.sip_read.specs.declared.message.Message.{Message}
-use Rattle.sip_read.specs.declared.message.Message.TheVariants as messages
-use Rattle.sip_read.specs.declared.message.Party.{Party}
-use Rattle.sip_read.specs.declared.message.Request.{Request}
 use Rattle.sip_read.specs.declared.message.Via.{Via}
 use Rattle.sip_read.specs.declared.once.Once.{Once}
 use Rattle.sip_read.specs.declared.once.Once.TheVariants as once
 use Rattle.sip_read.specs.AddressesComputed.{contact_of}
 use Rattle.sip_read.specs.FieldsComputed.{event_kept, expires_kept}
-use Rattle.sip_read.specs.FirstLine.{First, request, status}
-use Rattle.sip_read.specs.FirstLineComputed.{first_at}
-use Rattle.sip_read.specs.GatheredComputed.{Fields, Gathered, nothing, fields_nothing, accept_more, first_or, with_item, with_items, gather}
+use Rattle.sip_read.specs.GatheredComputed.{Fields, Gathered, nothing, accept_more, first_or, with_item, with_items}
 use Rattle.sip_read.specs.Items.{Item, via, from, to, call_id, cseq, content_length, contact, event, expires, accept, refer_to, require, record_route}
-use Rattle.sip_read.specs.Message.{via_in, from_in, to_in, call_id_in, cseq_in, length_in, contact_in, event_in, expires_in, accept_in, refer_to_in, require_in, route_in, with_commas, joined_lines}
-use Rattle.sip_read.specs.OnceComputed.{once_more, once_all, is_several, required, field_of}
+use Rattle.sip_read.specs.Message.{via_in, from_in, to_in, call_id_in, cseq_in, length_in, contact_in, event_in, expires_in, accept_in, refer_to_in, require_in, route_in, with_commas}
+use Rattle.sip_read.specs.OnceComputed.{once_all}
 use Rattle.sip_read.specs.Vias.{Hop, via_of}
 
 -- ---- what is gathered, header by header

@@ -1,7 +1,5 @@
 -- What the loops over elements and over lines gather.
-use Rattle.std.proofs.Common.{◌≡◌, ◌≢◌, ℕ, zero, suc, ◌≤◌, ◌<◌, Bool, true, false, eqb, cond, List, [], ◌∷◌, ◌++◌, length, Option, Some, None, option_map, refl, sym, ap, subst, ◌∙◌, arith}
-use Rattle.std.proofs.lemmas.Bool.{eqb-true}
-use Rattle.std.proofs.lemmas.List.{nil_from_length}
+use Rattle.std.proofs.Common.{◌≡◌, ℕ, zero, suc, ◌≤◌, ◌<◌, true, false, eqb, cond, List, [], ◌∷◌, ◌++◌, length, Option, Some, None, option_map, refl, sym, ap, subst, ◌∙◌, arith}
 use Rattle.event_headers.specs.Reading.{◌>>=◌, after_comma, elements_at, elements_of}
 use Rattle.event_headers.proofs.Pieces.{bind_same, some_is}
 use Rattle.event_headers.proofs.CommaLists.{comma_shortens}
@@ -12,7 +10,6 @@ use Rattle.sip_read.specs.GatheredComputed.{Gathered, with_item, with_items, gat
 use Rattle.sip_read.specs.LinesComputed.{line_at, unfolded_of, lines_at, lines_of}
 use Rattle.sip_read.proofs.Continuations.{unfolded_shortens}
 use Rattle.sip_read.proofs.Elements.{element_shortens}
-use Rattle.sip_read.proofs.Lines.{line_shortens}
 use Rattle.sip_read.proofs.Sections.{step_of, no_lines, enough}
 
 -- ---- elements

@@ -1,5 +1,5 @@
 -- Header lines one after the other.
-use Rattle.std.proofs.Common.{◌≡◌, ℕ, Bool, true, false, eqb, cond, List, [], ◌∷◌, ◌++◌, length, Option, Some, None, option_map, refl, sym, ap, subst, ◌∙◌, arith}
+use Rattle.std.proofs.Common.{◌≡◌, ℕ, Bool, true, false, eqb, cond, List, [], ◌∷◌, ◌++◌, Option, Some, None, option_map, refl, sym, ap, subst, ◌∙◌, arith}
 use Rattle.std.specs.List.{list_all}
 use Rattle.std.specs.Str.{IsUtf8, is_utf8}
 use Rattle.std.proofs.lemmas.Str.{IsUtf8-from_is_utf8, is_utf8-from_IsUtf8}
@@ -7,16 +7,14 @@ use Rattle.std.proofs.lemmas.Bool.{eqb-true}
 use Rattle.std.proofs.lemmas.List.{append-nil}
 use Rattle.event_headers.specs.declared.scan.Class.TheVariants as class
 use Rattle.event_headers.specs.Bytes.{is_in, is_space}
-use Rattle.event_headers.specs.Reading.{◌>>=◌, all_of, elements_of}
-use Rattle.event_headers.specs.Grammar.{AreSpaces, IsWord, IsTrimmed}
+use Rattle.event_headers.specs.Reading.{◌>>=◌, all_of}
+use Rattle.event_headers.specs.Grammar.{AreSpaces, IsTrimmed}
 use Rattle.event_headers.proofs.Pieces.{bind_some, some_is, and_both}
 use Rattle.event_headers.proofs.Utf8.{text_after_ascii, text_before_ascii, token_small, space_small}
 use Rattle.event_headers.proofs.Words.{all_takes, all_again}
-use Rattle.sip_read.specs.declared.call.Sequence.{Sequence}
 use Rattle.sip_read.specs.declared.header.Header.{Header}
 use Rattle.sip_read.specs.declared.header.Header.TheVariants as headers
 use Rattle.sip_read.specs.declared.item.Listed.TheVariants as listed
-use Rattle.sip_read.specs.declared.message.Party.{Party}
 use Rattle.sip_read.specs.AddressesComputed.{party_of}
 use Rattle.sip_read.specs.Headers.{header_named}
 use Rattle.sip_read.specs.Items.{Item, from, to, call_id, cseq, content_length, contact, event, expires, accept, refer_to, AreValues, IsLine, AreItems}

@@ -1,5 +1,5 @@
 -- What is kept of a header that may stand.
-use Rattle.std.proofs.Common.{◌≡◌, ℕ, Bool, true, false, cond, List, Option, Some, None, Result, Ok, Err, refl, sym, ap, subst, ◌∙◌}
+use Rattle.std.proofs.Common.{◌≡◌, ℕ, Bool, true, false, cond, List, Option, Some, None, Result, Ok, Err, refl, sym, subst}
 use Rattle.std.specs.Prelude.{IfOk}
 use Rattle.event_headers.specs.declared.error.HeaderError.{HeaderError}
 use Rattle.event_headers.specs.declared.error.HeaderError.TheVariants as header_errors

@@ -1,12 +1,12 @@
 -- A line at the front, and a header's name and value.
-use Rattle.std.proofs.Common.{◌≡◌, ℕ, ◌+◌, ◌-◌, Bool, List, [], ◌∷◌, ◌++◌, length, take, drop, reverse, Some, refl, sym, ap, subst, ◌∙◌, arith, one-add, inl, inr}
+use Rattle.std.proofs.Common.{◌≡◌, ℕ, ◌+◌, List, ◌∷◌, ◌++◌, length, take, drop, Some, refl, sym, ap, subst, ◌∙◌, arith}
 use Rattle.std.specs.List.{prefix_len}
-use Rattle.std.proofs.lemmas.List.{take-append-drop, take_at, drop_at, length-append, append-nil, reverse-append, reverse-reverse, length-reverse, length-drop}
+use Rattle.std.proofs.lemmas.List.{take-append-drop, take_at, drop_at, length-append}
 use Rattle.event_headers.specs.declared.scan.Class.TheVariants as class
-use Rattle.event_headers.specs.Bytes.{is_in, is_space}
-use Rattle.event_headers.specs.Reading.{◌>>=◌, span_at, after_byte, after_spaces, trimmed, trim_end}
+use Rattle.event_headers.specs.Bytes.{is_in}
+use Rattle.event_headers.specs.Reading.{◌>>=◌, span_at, after_byte, after_spaces, trimmed}
 use Rattle.sip_read.specs.LinesComputed.{line_at, header_of}
-use Rattle.event_headers.specs.Grammar.{Stops, AllPassing, AreSpaces, IsWord, IsTrimmed}
+use Rattle.event_headers.specs.Grammar.{AllPassing, AreSpaces, IsWord}
 use Rattle.event_headers.proofs.Pieces.{bind_some, some_is, span_takes, span_again, spaces_taken, spaces_again, byte_taken, NoSpace, stops_at_spaces, prefix_passes, prefix_again}
 use Rattle.event_headers.proofs.Trims.{Trims, trimmed_taken, trimmed_again}
 

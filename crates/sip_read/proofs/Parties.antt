@@ -2,9 +2,8 @@
 use Rattle.std.proofs.Common.{◌≡◌, ℕ, ◌<◌, Bool, true, false, eqb, cond, List, [], ◌∷◌, ◌++◌, length, drop, Option, Some, None, refl, sym, ap, subst, ◌∙◌, append_assoc, arith, one-add, inl, inr}
 use Rattle.std.specs.List.{list_all, prefix_len}
 use Rattle.std.specs.Str.{IsUtf8}
-use Rattle.std.proofs.lemmas.Bool.{eqb-true}
 use Rattle.std.proofs.lemmas.Bool.Decides.{nat_tests}
-use Rattle.std.proofs.lemmas.List.{append-nil, length-append, nil_from_length, drop_at}
+use Rattle.std.proofs.lemmas.List.{drop_at}
 use Rattle.event_headers.specs.declared.scan.Class.TheVariants as class
 use Rattle.event_headers.specs.Bytes.{is_in, is_letter}
 use Rattle.event_headers.specs.Reading.{◌>>=◌, span_at, after_byte, after_spaces, begins, text_of, parameters_of, word_named}

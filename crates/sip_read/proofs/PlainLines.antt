@@ -1,10 +1,10 @@
 -- Messages whose header lines stand in one piece each, as a writer lays them out: from the pieces to the relation.
-use Rattle.std.proofs.Common.{◌≡◌, ◌≢◌, ℕ, ◌≤◌, true, List, [], ◌∷◌, ◌++◌, length, refl, sym, ap, subst, ◌∙◌, append_assoc}
+use Rattle.std.proofs.Common.{◌≡◌, ℕ, ◌≤◌, List, [], ◌∷◌, ◌++◌, length, refl, sym, ap}
 use Rattle.std.specs.List.{list_all}
 use Rattle.std.specs.Str.{IsUtf8}
 use Rattle.std.proofs.lemmas.List.{append-nil}
 use Rattle.event_headers.specs.declared.scan.Class.TheVariants as class
-use Rattle.event_headers.specs.Bytes.{is_in, is_space}
+use Rattle.event_headers.specs.Bytes.{is_in}
 use Rattle.event_headers.specs.Grammar.{AllPassing, IsWord, IsTrimmed}
 use Rattle.event_headers.proofs.Pieces.{NoSpace, no_space, and_both}
 use Rattle.sip_read.specs.FirstLine.{First, IsFirstLine}

@@ -1,7 +1,7 @@
 -- Unfolded lines one after the other.
 use Rattle.std.proofs.Common.{◌≡◌, ℕ, zero, suc, ◌+◌, ◌≤◌, Bool, true, false, eqb, cond, List, [], ◌∷◌, ◌++◌, length, Option, Some, None, refl, sym, ap, subst, ◌∙◌, append_assoc, arith}
 use Rattle.std.proofs.lemmas.Bool.{eqb-true, eqb-false, ne_eqb}
-use Rattle.std.proofs.lemmas.List.{append-nil, length-append, nil_from_length}
+use Rattle.std.proofs.lemmas.List.{length-append, nil_from_length}
 use Rattle.event_headers.specs.Reading.{◌>>=◌}
 use Rattle.sip_read.specs.LinesComputed.{line_at, begins_space, unfolded_of, lines_at, lines_of}
 use Rattle.sip_read.specs.Folding.{BeginsLine, AreLines, HasLines}

@@ -1,5 +1,5 @@
 -- What the reader computes of the first line, as functions on lists. The relation (FirstLine) is what they come to.
-use Rattle.std.specs.Prelude.{ℕ, Bool, ◌&&◌, List, length, nat_le, ◌==◌, if◌then◌else◌, Option, Some, None, codes}
+use Rattle.std.specs.Prelude.{ℕ, ◌&&◌, List, length, nat_le, ◌==◌, if◌then◌else◌, Option, Some, None, codes}
 use Rattle.std.specs.List.{list_all}
 use Rattle.std.specs.Str.{str_eq_ignore_ascii_case}
 use Rattle.event_headers.specs.declared.scan.Class.TheVariants as class

@@ -1,5 +1,5 @@
 -- Which datagrams are which message, and which are none (RFC 3261 sections 7, 18 and 20). Each relation says that there is some way to cut the bytes.
-use Rattle.std.specs.Prelude.{◌≡◌, ◌≢◌, ℕ, ◌<◌, ◌≤◌, List, [], ◌∷◌, ◌++◌, map, length, take, nat_lt, ◌==◌, Option, Some, None, Result, Ok, Err, find}
+use Rattle.std.specs.Prelude.{◌≡◌, ℕ, ◌<◌, ◌≤◌, List, [], ◌∷◌, ◌++◌, map, length, take, nat_lt, ◌==◌, Option, Some, None, Result, Ok, Err, find}
 use Rattle.std.specs.List.{filter_map}
 use Rattle.event_headers.specs.declared.field.Field.{Field}
 use Rattle.event_headers.specs.declared.field.Field.TheVariants as field

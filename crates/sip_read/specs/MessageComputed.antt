@@ -1,5 +1,5 @@
 -- What the reader computes of a datagram, as a function on lists. The relation (Message) is what it comes to.
-use Rattle.std.specs.Prelude.{◌≡◌, ℕ, List, length, take, nat_lt, if◌then◌else◌, Option, Some, None, Result, Ok, Err}
+use Rattle.std.specs.Prelude.{ℕ, List, length, take, nat_lt, if◌then◌else◌, Option, Some, None, Result, Ok, Err}
 use Rattle.event_headers.specs.declared.field.Field.{Field}
 use Rattle.event_headers.specs.declared.field.Field.TheVariants as field
 use Rattle.event_headers.specs.Values.{Range}

@@ -1,5 +1,5 @@
 -- Values that may stand once.
-use Rattle.std.specs.Prelude.{◌≡◌, Bool, true, false, List, [], ◌∷◌, Option, Some, None, Result, Ok, Err}
+use Rattle.std.specs.Prelude.{Bool, true, false, List, [], ◌∷◌, Option, Some, None, Result, Ok, Err}
 use Rattle.event_headers.specs.declared.field.Field.{Field}
 use Rattle.event_headers.specs.declared.field.Field.TheVariants as field
 use Rattle.sip_read.specs.declared.error.HeaderName.{HeaderName}

@@ -1,5 +1,5 @@
 -- What the reader computes of a Call-ID and a CSeq, as functions on lists. The relation (Calls) is what they come to.
-use Rattle.std.specs.Prelude.{ℕ, ◌^◌, List, length, nat_lt, ◌==◌, if◌then◌else◌, Option, Some, None}
+use Rattle.std.specs.Prelude.{ℕ, ◌^◌, List, nat_lt, if◌then◌else◌, Option, Some, None}
 use Rattle.event_headers.specs.declared.scan.Class.TheVariants as class
 use Rattle.event_headers.specs.Bytes.{is_in}
 use Rattle.event_headers.specs.Grammar.{number_of}

@@ -1,5 +1,5 @@
 -- What contracts see of the code's values.
-use Rattle.std.specs.Prelude.{ℕ, List, Option, option_map}
+use Rattle.std.specs.Prelude.{ℕ, List, option_map}
 use Rattle.std.specs.Borrow.{Bor}
 use Rattle.sip_read.specs.declared.call.CSeq.{CSeq}
 use Rattle.sip_read.specs.declared.call.Sequence.{Sequence}

@@ -25,6 +25,8 @@ mod line;
 pub mod message;
 mod once;
 mod party;
+#[cfg(test)]
+mod tests;
 mod value;
 mod via;
 

@@ -1,5 +1,5 @@
 -- Where a Via value is cut.
-use Rattle.std.proofs.Common.{◌≡◌, ◌≢◌, ℕ, suc, ◌+◌, ◌-◌, ◌<◌, ◌≤◌, Bool, true, false, eqb, cond, List, [], ◌∷◌, ◌++◌, length, take, drop, reverse, refl, sym, ap, subst, ◌∙◌, append_assoc, arith, codes, one-add, inl, inr, length-append, drop_of_length-le}
+use Rattle.std.proofs.Common.{◌≡◌, ◌≢◌, ℕ, suc, ◌+◌, ◌-◌, ◌<◌, ◌≤◌, Bool, true, false, eqb, cond, List, [], ◌∷◌, ◌++◌, length, take, drop, reverse, refl, sym, ap, subst, ◌∙◌, append_assoc, arith, codes, inl, inr, length-append, drop_of_length-le}
 use Rattle.std.specs.List.{prefix_len, suffix_len, flat_map}
 use Rattle.std.proofs.lemmas.List.{take_at, drop_at, length-take, reverse-append}
 use Rattle.std.proofs.lemmas.List.Sums.{suffix_len-le-length}
@@ -9,14 +9,14 @@ use Rattle.std.proofs.Math.Seq.{take-length}
 use Rattle.std.specs.Prelude.{◌⊎◌}
 use Rattle.event_headers.specs.Bytes.{is_space}
 use Rattle.event_headers.specs.Reading.{trim_end}
-use Rattle.event_headers.specs.Grammar.{AllPassing, AreSpaces, Stops}
+use Rattle.event_headers.specs.Grammar.{AreSpaces, Stops}
 use Rattle.event_headers.proofs.Pieces.{which_space, prefix_again, and_both}
 use Rattle.event_headers.proofs.Trims.{trim_end_parts, stops_front}
 use Rattle.sip_write.specs.declared.quoting.Quoting.{Quoting}
 use Rattle.sip_write.specs.declared.quoting.Quoting.TheVariants.{Outside, Inside, Escaped}
 use Rattle.sip_read.specs.declared.message.Addr.{Addr}
 use Rattle.sip_write.specs.Lines.{ip_text}
-use Rattle.sip_write.specs.Via.{marked_parameter, marked_parts, Parts, quoting_after, begins_parameter, with_blank, with_character, parts_from, parts_of}
+use Rattle.sip_write.specs.Via.{marked_parameter, marked_parts, Parts, quoting_after, begins_parameter, with_character, parts_from, parts_of}
 use Rattle.sip_write.specs.Cutting.{first_cut}
 
 -- ---- one character in front

@@ -3,3 +3,9 @@ pub mod ViaLines
 pub mod Cuts
 pub mod ViaPieces
 pub mod ViaNames
+pub mod FieldTexts
+pub mod NotifyRead
+pub mod NotifyFixed
+pub mod TopVia
+pub mod TopViaText
+pub mod AnswerRead

@@ -4,22 +4,21 @@ use Rattle.std.specs.Prelude.{◌&&◌, ◌||◌, not, bytes_eq, is_some}
 use Rattle.std.specs.List.{list_all, prefix_len, before_first}
 use Rattle.std.specs.Str.{str_eq_ignore_ascii_case, str_to_ascii_lowercase}
 use Rattle.std.proofs.lemmas.List.{take_at, drop_at}
-use Rattle.event_headers.specs.declared.scan.Class.TheVariants as class
 use Rattle.event_headers.specs.Bytes.{is_space, is_token_byte}
-use Rattle.event_headers.specs.Grammar.{AllPassing, AreSpaces, IsWord, Stops, IsAssigned, Parameter, IsParameter, has_name}
+use Rattle.event_headers.specs.Grammar.{AllPassing, AreSpaces, Stops, IsAssigned, Parameter, IsParameter, has_name}
 use Rattle.event_headers.proofs.Pieces.{and_both, no_space, NoSpace, apart, prefix_again}
 use Rattle.event_headers.proofs.Trims.{all-append}
-use Rattle.sip_write.specs.Via.{is_lead, behind_lead, is_received, is_bare_rport}
+use Rattle.sip_write.specs.Via.{is_lead, behind_lead, is_received}
 use Rattle.sip_write.specs.Laws.{TellsItsParameter}
 
 token_no_space : NoSpace is_token_byte
 token_no_space = record { sp = refl; ht = refl }
 
-spaces_lead : (x : List ℕ) → AreSpaces x → AllPassing is_lead x
+pub spaces_lead : (x : List ℕ) → AreSpaces x → AllPassing is_lead x
 spaces_lead [] all = refl
 spaces_lead (c ∷ x) all = let both = and_both (is_space c) (list_all is_space x) all in rw both.0 (spaces_lead x both.1)
 
-token_ends_lead : (name rest : List ℕ) → AllPassing is_token_byte name → name ≢ [] → Stops is_lead (name ++ rest)
+pub token_ends_lead : (name rest : List ℕ) → AllPassing is_token_byte name → name ≢ [] → Stops is_lead (name ++ rest)
 token_ends_lead [] rest all some = absurd (some refl)
 token_ends_lead (c ∷ name) rest all some =
     let token = (and_both (is_token_byte c) (list_all is_token_byte name) all).0 in

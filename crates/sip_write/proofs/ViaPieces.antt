@@ -1,17 +1,17 @@
 -- The parameters of a Via value are the pieces that it is cut into.
 use Rattle.std.proofs.Common.{◌≡◌, ◌≢◌, ℕ, Bool, true, false, eqb, List, [], ◌∷◌, ◌++◌, reverse, Option, Some, None, refl, sym, ap, subst, ◌∙◌, append_assoc, inl, inr}
-use Rattle.std.specs.Prelude.{◌&&◌, not, ◌⊎◌}
+use Rattle.std.specs.Prelude.{not}
 use Rattle.std.specs.List.{list_all}
 use Rattle.std.proofs.lemmas.List.{reverse-append, reverse-reverse, append-nil}
 use Rattle.std.proofs.lemmas.Bool.{ne_eqb}
 use Rattle.event_headers.specs.declared.scan.Class.TheVariants as class
-use Rattle.event_headers.specs.Bytes.{is_in, is_space, is_token_byte, is_value_byte}
-use Rattle.event_headers.specs.Grammar.{AllPassing, AreSpaces, IsWord, Stops, IsInside, nothing, plain, escaped, IsQuoted, IsValue, IsAssigned, Parameter, IsParameter, AreParameters}
+use Rattle.event_headers.specs.Bytes.{is_space, is_token_byte, is_value_byte}
+use Rattle.event_headers.specs.Grammar.{AllPassing, AreSpaces, IsWord, Stops, IsInside, nothing, plain, escaped, IsQuoted, IsValue, IsAssigned, Parameter, AreParameters}
 use Rattle.event_headers.proofs.Pieces.{and_both, no_space, NoSpace, apart}
 use Rattle.sip_write.specs.declared.quoting.Quoting.{Quoting}
-use Rattle.sip_write.specs.declared.quoting.Quoting.TheVariants.{Outside, Inside, Escaped}
-use Rattle.sip_write.specs.Via.{Parts, parts_of, quoting_after, begins_parameter}
-use Rattle.sip_write.specs.Laws.{is_front_byte, IsViaFront, ArePieces, CutsIntoParameters}
+use Rattle.sip_write.specs.declared.quoting.Quoting.TheVariants.{Outside, Inside}
+use Rattle.sip_write.specs.Via.{Parts, parts_of, quoting_after}
+use Rattle.sip_write.specs.Laws.{is_front_byte, ArePieces, CutsIntoParameters}
 use Rattle.sip_write.proofs.Cuts.{IsUncut, leads, leads-append, uncut-append, whole_front, cut_front}
 
 -- a text that is read outside quoted strings from its front to its end, without a cut
@@ -65,7 +65,7 @@ quoted_open text q =
 
 -- ---- classes
 
-of_class : (p : ℕ → Bool) → p 34 ≡ false → p 59 ≡ false → (x : List ℕ) → AllPassing p x → AllPassing is_front_byte x
+pub of_class : (p : ℕ → Bool) → p 34 ≡ false → p 59 ≡ false → (x : List ℕ) → AllPassing p x → AllPassing is_front_byte x
 of_class p h k [] all = refl
 of_class p h k (c ∷ x) all =
     let both = and_both (p c) (list_all p x) all in
@@ -76,20 +76,20 @@ class_open p h k x all = front_open x (of_class p h k x all)
 
 -- ---- the end of a text
 
-nonempty_reverse : (x : List ℕ) → x ≢ [] → reverse x ≢ []
+pub nonempty_reverse : (x : List ℕ) → x ≢ [] → reverse x ≢ []
 nonempty_reverse x some e = some (sym (reverse-reverse x) ∙ ap (λ (l : List ℕ). reverse l) e)
 
-stops_more : (p : ℕ → Bool) (x y : List ℕ) → x ≢ [] → Stops p x → Stops p (x ++ y)
+pub stops_more : (p : ℕ → Bool) (x y : List ℕ) → x ≢ [] → Stops p x → Stops p (x ++ y)
 stops_more p [] y some h = absurd (some refl)
 stops_more p (c ∷ x) y some h = h
 
-ends_more : (x y : List ℕ) → y ≢ [] → Stops is_space (reverse y) → Stops is_space (reverse (x ++ y))
+pub ends_more : (x y : List ℕ) → y ≢ [] → Stops is_space (reverse y) → Stops is_space (reverse (x ++ y))
 ends_more x y some h = subst (Stops is_space) (sym (reverse-append x y)) (stops_more is_space (reverse y) (reverse x) (nonempty_reverse y some) h)
 
-cons_some : (c : ℕ) (x : List ℕ) → (c ∷ x) ≢ []
+pub cons_some : (c : ℕ) (x : List ℕ) → (c ∷ x) ≢ []
 cons_some c x e = cc
 
-word_ends : (p : ℕ → Bool) → NoSpace p → (x : List ℕ) → AllPassing p x → x ≢ [] → Stops is_space (reverse x)
+pub word_ends : (p : ℕ → Bool) → NoSpace p → (x : List ℕ) → AllPassing p x → x ≢ [] → Stops is_space (reverse x)
 word_ends p none [] all some = absurd (some refl)
 word_ends p none (c ∷ []) all some = no_space p none c (and_both (p c) true all).0
 word_ends p none (c ∷ d ∷ x) all some =

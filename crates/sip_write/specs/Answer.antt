@@ -3,7 +3,6 @@ use Rattle.std.specs.Prelude.{ℕ, List, [], ◌∷◌, ◌++◌, map, Option, S
 use Rattle.event_headers.specs.Written.{comma_joined, parameter_text}
 use Rattle.sip_read.specs.declared.message.Addr.{Addr}
 use Rattle.sip_read.specs.declared.message.Head.{Head}
-use Rattle.sip_read.specs.declared.message.Party.{Party}
 use Rattle.sip_read.specs.declared.message.Via.{Via}
 use Rattle.sip_write.specs.declared.status.Status.{Status}
 use Rattle.sip_write.specs.Lines.{joined, header, header_of, contact_text, call_lines}

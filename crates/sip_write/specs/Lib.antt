@@ -6,3 +6,5 @@ pub mod Answer
 pub mod Notify
 pub mod Views
 pub mod Laws
+pub mod ReadAgain
+pub mod AnswerAgain

@@ -1,4 +1,6 @@
 //! What holds of the written texts.
+ghost use Rattle.sip_write.specs.AnswerAgain.{AnswerIsReadAgain};
+ghost use Rattle.sip_write.specs.ReadAgain.{NotifyIsReadAgain, NotifyFixesItsValues, TopViaIsReadAgain};
 ghost use Rattle.sip_write.specs.Laws.{CutsIntoParameters, TellsItsParameter};
 
 /// A Via value in its grammar (RFC 3261 section 20.42) is cut into its parameters: the pieces that
@@ -10,4 +12,25 @@ pub fn via_values_are_cut_into_their_parameters()
 /// A piece of a Via value is left out, or gets the source port, by the name and the value of the parameter that a reader finds there.
 pub fn pieces_tell_the_names_of_their_parameters()
     ensures { TellsItsParameter }
+{}
+
+/// A written NOTIFY that fits in a datagram is read as the request with its values.
+pub fn a_notify_is_read_again()
+    ensures { NotifyIsReadAgain }
+{}
+
+/// The bytes of a NOTIFY in whose values no CR stands fix its number, its event, its state and its body.
+pub fn a_notify_fixes_its_values()
+    ensures { NotifyFixesItsValues }
+{}
+
+/// The top Via of an answer is read as a Via value with the sent-by and the branch of the request's.
+pub fn a_top_via_is_read_again()
+    ensures { TopViaIsReadAgain }
+{}
+
+/// A written answer that fits in a datagram is read as a response with the same status and the request's head, in which the top Via says the
+/// source and a To without a tag has got one.
+pub fn an_answer_is_read_again()
+    ensures { AnswerIsReadAgain }
 {}

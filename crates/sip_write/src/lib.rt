@@ -6,7 +6,8 @@
 //! [`NoMemory`](event_headers::NoMemory) the bytes are as they were.
 //!
 //! Begin with [`Answer`] and [`NotifyText`], which borrow what is written; contracts see them as the plain records `AnswerText` and
-//! `NotifyText` of the definitions. [`laws`] holds what is proved of the definitions themselves.
+//! `NotifyText` of the definitions. [`laws`] holds what is proved of the definitions themselves: what is written of values in their grammars
+//! is read, by the definition of reading in `sip_read`, as the same message (`specs/ReadAgain.antt`, `specs/AnswerAgain.antt`).
 #![tactic(auto)]
 
 pub mod answer;
@@ -15,6 +16,8 @@ mod line;
 pub mod notify;
 pub mod quoting;
 pub mod status;
+#[cfg(test)]
+mod tests;
 mod via;
 
 pub use answer::{Answer, write_response};

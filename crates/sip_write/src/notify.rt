@@ -1,6 +1,6 @@
 //! NOTIFYs.
 ghost use Rattle.std.specs.Prelude.{◌≡◌, ◌++◌, ◌∷◌, [], map, codes, decimal, OnOk, OnErr, IfOk, length, option_map, string_bytes};
-ghost use Rattle.event_headers.specs.Written.{event_text, state_text, parameter_text};
+ghost use Rattle.event_headers.specs.Written.{event_text, state_text};
 ghost use Rattle.sip_write.specs.Lines.{joined, header};
 ghost use Rattle.sip_write.specs.Notify.{notify_text, request_line, via_text, opening_lines, dialog_lines, event_lines, body_lines};
 ghost use Rattle.sip_write.specs.Views.{notify_view};
@@ -8,7 +8,7 @@ ghost use Rattle.sip_write.specs.Views.{notify_view};
 use crate::line::{
     addr_string, put_call, put_contact, put_header, put_headers, put_line, put_number, put_party,
 };
-use event_headers::{EventValue, NoMemory, StateValue, Text};
+use event_headers::{EventValue, NoMemory, StateValue, Text, write_event, write_state};
 use sip_read::Addr;
 use std::alloc::Global;
 
@@ -39,51 +39,6 @@ pub struct NotifyText<'a> {
     pub content_type: &'a str,
     /// The body.
     pub body: &'a [u8],
-}
-
-fn put_parameter(out: &mut Vec<u8>, name: &str, value: Option<&str>) -> Result<(), NoMemory>
-    ensures { OnOk result (out.new.items ≡ out.old.items ++ parameter_text name.now (option_map (λ v. v.now) value.entry)) }
-{
-    if let Some(value) = value {
-        out.extend_from_slice(b";")?;
-        out.extend_from_slice(name.as_bytes())?;
-        out.extend_from_slice(b"=")?;
-        out.extend_from_slice(value.as_bytes())?;
-    }
-    Ok(())
-}
-
-fn put_parameter_number(
-    alloc: Global,
-    out: &mut Vec<u8>,
-    name: &str,
-    number: Option<u32>,
-) -> Result<(), NoMemory>
-    ensures { OnOk result (out.new.items ≡ out.old.items ++ parameter_text name.now (option_map decimal number)) }
-{
-    if let Some(number) = number {
-        let text = format!(in alloc; ";{name}={number}")?;
-        out.extend_from_slice(text.as_bytes())?;
-    }
-    Ok(())
-}
-
-fn put_event(out: &mut Vec<u8>, event: &EventValue) -> Result<(), NoMemory>
-    ensures { OnOk result (out.new.items ≡ out.old.items ++ event_text event.now) }
-{
-    out.extend_from_slice(event.package().as_bytes())?;
-    put_parameter(out, "id", event.id())?;
-    Ok(())
-}
-
-fn put_state(alloc: Global, out: &mut Vec<u8>, state: &StateValue) -> Result<(), NoMemory>
-    ensures { OnOk result (out.new.items ≡ out.old.items ++ state_text state.now) }
-{
-    out.extend_from_slice(state.word().as_bytes())?;
-    put_parameter_number(alloc, out, "expires", state.expires())?;
-    put_parameter(out, "reason", state.reason())?;
-    put_parameter_number(alloc, out, "retry-after", state.retry_after())?;
-    Ok(())
 }
 
 /// Puts the request line.
@@ -136,11 +91,11 @@ fn put_dialog(alloc: Global, out: &mut Vec<u8>, n: &NotifyText<'_>) -> Result<()
     Ok(())
 }
 
-fn put_event_line(out: &mut Vec<u8>, event: &EventValue) -> Result<(), NoMemory>
+fn put_event_line(alloc: Global, out: &mut Vec<u8>, event: &EventValue) -> Result<(), NoMemory>
     ensures { OnOk result (out.new.items ≡ out.old.items ++ joined (header (codes "Event") (event_text event.now) ∷ [])) }
 {
     out.extend_from_slice(b"Event: ")?;
-    put_event(out, event)?;
+    write_event(alloc, event, out)?;
     out.extend_from_slice(b"\r\n")?;
     Ok(())
 }
@@ -149,7 +104,7 @@ fn put_state_line(alloc: Global, out: &mut Vec<u8>, state: &StateValue) -> Resul
     ensures { OnOk result (out.new.items ≡ out.old.items ++ joined (header (codes "Subscription-State") (state_text state.now) ∷ [])) }
 {
     out.extend_from_slice(b"Subscription-State: ")?;
-    put_state(alloc, out, state)?;
+    write_state(alloc, state, out)?;
     out.extend_from_slice(b"\r\n")?;
     Ok(())
 }
@@ -158,7 +113,7 @@ fn put_state_line(alloc: Global, out: &mut Vec<u8>, state: &StateValue) -> Resul
 fn put_event_lines(alloc: Global, out: &mut Vec<u8>, n: &NotifyText<'_>) -> Result<(), NoMemory>
     ensures { OnOk result (out.new.items ≡ out.old.items ++ joined (event_lines (notify_view n.now))) }
 {
-    put_event_line(out, n.event)?;
+    put_event_line(alloc, out, n.event)?;
     put_state_line(alloc, out, n.state)?;
     Ok(())
 }

@@ -1,5 +1,6 @@
 //! What a NOTIFY tells of its subscription (RFC 6665 section 4.1.3).
-ghost use Rattle.std.specs.Prelude.{◌≡◌, option_map};
+ghost use Rattle.std.specs.Prelude.{◌≡◌, option_map, IsTrue};
+ghost use Rattle.event_headers.specs.Tokens.{is_small_token};
 ghost use Rattle.subscription.specs.Written.{state_of, reason_text, is_terminated};
 
 /// Why a subscription ended.
@@ -52,9 +53,10 @@ impl Notice {
 }
 
 impl Reason {
-    /// The reason's word.
+    /// The reason's word, a token in small letters.
     pub fn word(self) -> &'static str
-        ensures { result.now ≡ reason_text self }
+        ensures word { result.now ≡ reason_text self }
+        ensures token { IsTrue (is_small_token result.now) }
     {
         match self {
             Reason::Timeout => "timeout",

@@ -1,5 +1,5 @@
-use Rattle.std.proofs.Common.{◌≡◌, ◌∷◌, [], ap, sym, ◌∙◌, append_assoc, arith, length, string_bytes, rules, add-one}
-use Rattle.std.specs.Vec.Iter.{into_iter_items, into_iter_len}
+use Rattle.std.proofs.Common.{◌≡◌, ◌∷◌, [], ap, sym, ◌∙◌, append_assoc, arith, length, string_bytes}
+use Rattle.std.specs.Vec.Iter.{into_iter_items}
 use Rattle.std.specs.FinMap.{insert}
 use Rattle.std.proofs.lemmas.Map.Text.{hash_map_updates_text}
 use Rattle.package.specs.Content.{OfMail, contents_of}

@@ -1,4 +1,4 @@
-use Rattle.std.proofs.Common.{◌≡◌, true, false, rules, sym, ap, ◌∙◌, string_bytes, codes}
+use Rattle.std.proofs.Common.{◌≡◌, rules, sym, ap, ◌∙◌, string_bytes, codes}
 use Rattle.std.proofs.lemmas.Map.Text.{hash_map_updates_text}
 use Rattle.package.specs.Content.{contents_of, with_held}
 use Rattle.package.proofs.Held.{held_insert}

@@ -1,4 +1,4 @@
-use Rattle.std.proofs.Common.{◌≡◌, ◌∙◌, ◌++◌, List, ℕ, map, length, drop, get_or}
+use Rattle.std.proofs.Common.{◌∙◌}
 use Rattle.sip_write.proofs.ViaLines.{no_vias, some_vias}
 use Rattle.sip_write.proofs.answer.put_vias.Goals as goal
 

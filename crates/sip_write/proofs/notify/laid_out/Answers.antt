@@ -1,4 +1,4 @@
-use Rattle.std.proofs.Common.{◌≡◌, ap, ◌∙◌, ◌++◌, List, ℕ}
+use Rattle.std.proofs.Common.{ap, ◌∙◌, ◌++◌, List, ℕ}
 use Rattle.sip_write.specs.Notify.{notify_text, notify_lines}
 use Rattle.sip_write.proofs.Joins.{after, from_nothing}
 use Rattle.sip_write.proofs.notify.laid_out.Goals as goal

@@ -3,4 +3,4 @@ use Rattle.sip_write.proofs.Joins.{in_pieces}
 use Rattle.sip_write.proofs.notify.put_state_line.Goals as goal
 
 pub returns : goal.returns
-returns c = in_pieces _ _ _ _ (codes "Subscription-State") _ c.in_ok-extend_from_slice.ensures.items c.in_ok-put_state.ensures c.in_ok-extend_from_slice-2.ensures.items
+returns c = in_pieces _ _ _ _ (codes "Subscription-State") _ c.in_ok-extend_from_slice.ensures.items c.in_ok-write_state.ensures.ok c.in_ok-extend_from_slice-2.ensures.items

@@ -1,4 +1,4 @@
-use Rattle.std.proofs.Common.{List, ℕ, subst, sym}
+use Rattle.std.proofs.Common.{List, ℕ, subst}
 use Rattle.sip_write.proofs.Cuts.{opened, lead_fits, lead_is, first_is, IsFront}
 use Rattle.sip_write.proofs.via.parameter_len.Goals as goal
 

@@ -1,0 +1,29 @@
+-- Which texts are tokens: those that pass the tests, and decimal numbers.
+use Rattle.std.proofs.Common.{◌≡◌, ◌<◌, ◌^◌, ℕ, true, List, [], ◌∷◌, refl, length, arith}
+use Rattle.std.specs.Prelude.{decimal, nat_lt}
+use Rattle.std.specs.List.{list_all}
+use Rattle.std.proofs.lemmas.Bool.Decides.{nat_tests}
+use Rattle.event_headers.specs.declared.scan.Class.TheVariants as class
+use Rattle.event_headers.specs.Bytes.{is_in}
+use Rattle.event_headers.specs.Grammar.{AllPassing}
+use Rattle.event_headers.specs.Headers.{IsToken, IsSmallToken}
+use Rattle.event_headers.specs.Tokens.{is_token, is_small_token}
+use Rattle.event_headers.proofs.Pieces.{and_both}
+use Rattle.event_headers.proofs.WrittenTexts.{spelled}
+
+pub token_tested : (text : List ℕ) → is_token text ≡ true → IsToken text
+token_tested [] e = absurd (cc)
+token_tested (x ∷ xs) e = ((and_both (nat_lt 0 (length (x ∷ xs))) (list_all (is_in class.Token) (x ∷ xs)) e).1, λ empty. absurd (cc))
+
+pub small_token_tested : (text : List ℕ) → is_small_token text ≡ true → IsSmallToken text
+small_token_tested text e = let both = and_both (is_token text) (list_all (is_in class.Small) text) e in (token_tested text both.0, both.1)
+
+digit_token : (x : ℕ) → is_in class.Digit x ≡ true → is_in class.Token x ≡ true
+digit_token x e = grind (arith, nat_tests)
+
+digits_token : (t : List ℕ) → AllPassing (is_in class.Digit) t → AllPassing (is_in class.Token) t
+digits_token [] all = refl
+digits_token (x ∷ xs) all = let b = and_both (is_in class.Digit x) (list_all (is_in class.Digit) xs) all in rw (digit_token x b.0) (digits_token xs b.1)
+
+pub decimal_is_token : (n : ℕ) → n < 2 ^ 64 → IsToken (decimal n)
+decimal_is_token n small = let s = (spelled n small).0 in (digits_token (decimal n) s.0, s.1)
