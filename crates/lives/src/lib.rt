@@ -1,0 +1,81 @@
+//! Lives: what a subscription's watcher is told follows from the subscription's own life.
+//!
+//! A notifier keeps a book and steps it by one event at a time. The life of a subscription is told of the whole list of
+//! events, without a book: when it was born, what it heard, what changed, and when it was over. [`life`] says that the
+//! NOTIFYs that go out to its watcher are those of its life, one for one: to its address, and in bytes the text of a NOTIFY
+//! with its number, state and body. The other laws say what a reader expects of a life: numbers that rise by one, and
+//! nothing after the end. No function here does anything: each is a theorem over the definitions alone.
+//!
+//! Begin with [`life`], then `specs/Life`, `specs/Lives` and `specs/Notices`. Worked lives are computed in
+//! `proofs/WorkedLives`.
+#![tactic(auto)]
+
+ghost use Rattle.lives.specs.Laws.{LifeLaw, NoOtherLaw, NoticesLaw, NumbersLaw, EndsLaw};
+ghost use Rattle.lives.specs.Sentences.{NowLaw, CountsLaw, BirthsLaw, GoneLaw, SilentLaw, TouchedLaw, AboveLaw, StatusLaw};
+
+/// The NOTIFYs that go out with a subscription's tag are those of its life, one for one and in order: each goes to the
+/// address, and is the text of a NOTIFY with the number, state and body, that the life says.
+pub fn life()
+    ensures { LifeLaw }
+{}
+
+/// No other NOTIFY goes out: each is that of a notice of some subscription's life.
+pub fn no_other()
+    ensures { NoOtherLaw }
+{}
+
+/// The same of the records that NOTIFYs are written from, as one equation, for the laws of crates above.
+pub fn told()
+    ensures { NoticesLaw }
+{}
+
+/// The numbers of a subscription's NOTIFYs are 1, 2, 3 and so on.
+pub fn numbered()
+    ensures { NumbersLaw }
+{}
+
+/// No NOTIFY of a subscription follows one that says that it is terminated.
+pub fn ends_once()
+    ensures { EndsLaw }
+{}
+
+/// The moment is the greatest Tick so far that is not above the last moment, or 0.
+pub fn moments()
+    ensures { NowLaw }
+{}
+
+/// The counts of a mailbox and a class are those of the last mail change to them, else those at first.
+pub fn counts()
+    ensures { CountsLaw }
+{}
+
+/// A subscription is born where a request fits, is outside a dialog, and finds a serial and a place. Births are counted, and
+/// a subscription has a life from its birth on.
+pub fn born()
+    ensures { BirthsLaw }
+{}
+
+/// A subscription that is gone, as it was terminated or a 481 came, stays gone.
+pub fn gone()
+    ensures { GoneLaw }
+{}
+
+/// No NOTIFY follows where a subscription is gone.
+pub fn silent()
+    ensures { SilentLaw }
+{}
+
+/// The number of a subscription rises by one exactly where something touches it.
+pub fn touched()
+    ensures { TouchedLaw }
+{}
+
+/// A CSeq is above all where it is above that of the birth and of each request that was heard.
+pub fn above()
+    ensures { AboveLaw }
+{}
+
+/// A transfer has come as far as the last Progress of its tag since its birth says, else to `100 Trying`.
+pub fn status()
+    ensures { StatusLaw }
+{}

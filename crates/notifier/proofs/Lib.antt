@@ -1,0 +1,10 @@
+pub mod Examples
+pub mod WorkedRuns
+pub mod Texts
+pub mod FirstBox
+pub mod Fitting
+pub mod RowLists
+pub mod Renewal
+pub mod Lives
+pub mod Steps
+pub mod Runs

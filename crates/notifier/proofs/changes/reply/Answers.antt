@@ -1,0 +1,14 @@
+use Rattle.std.proofs.Common.{[]}
+use Rattle.notifier.specs.Rows.{disowned}
+use Rattle.notifier.specs.Book.{replied}
+use Rattle.notifier.proofs.Lives.{sound_told, disowned_lives}
+use Rattle.notifier.proofs.changes.reply.Goals as goal
+
+pub returns-clause-step : goal.returns-clause-step
+unfolding replied
+returns-clause-step g c = c.in_ok-all_rows.ensures.step [] c.new-outs.ensures.items
+
+pub returns-clause-sound : goal.returns-clause-sound
+returns-clause-sound g c =
+    sound_told c.args.place.now.limits c.args.ledger.now c.all_rows.new.ledger (disowned c.args.response.now)
+    (disowned_lives c.args.ledger.now.clock c.args.response.now) c.requires c.in_ok-all_rows.ensures.rows c.in_ok-all_rows.ensures.same

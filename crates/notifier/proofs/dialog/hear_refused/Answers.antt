@@ -1,0 +1,19 @@
+use Rattle.notifier.specs.Ledger.{book_of}
+use Rattle.notifier.specs.Rows.{only, counted}
+use Rattle.notifier.specs.Book.{heard, refused}
+use Rattle.notifier.proofs.Lives.{sound_told, counted_lives}
+use Rattle.notifier.proofs.Steps.{from_book}
+use Rattle.notifier.proofs.dialog.hear_refused.Goals as goal
+
+pub returns-clause-step : goal.returns-clause-step
+unfolding heard
+returns-clause-step g c =
+    let first = c.in_ok-outs.ensures.step in
+    let stepped = refused c.args.place.now (book_of g.P.Package.seen c.args.ledger.now) c.args.source c.args.request.now c.args.refused in
+    from_book (λ b. only c.args.serial (counted c.args.request.now)) stepped.outs (book_of g.P.Package.seen c.refuse.new.ledger) stepped.book
+    (book_of g.P.Package.seen c.all_rows.new.ledger) c.all_rows.new.outs.items first.book_is (c.in_ok-all_rows.ensures.step stepped.outs first.outs_are)
+
+pub returns-clause-sound : goal.returns-clause-sound
+returns-clause-sound g c =
+    sound_told c.args.place.now.limits c.refuse.new.ledger c.all_rows.new.ledger (only c.args.serial (counted c.args.request.now))
+    (counted_lives c.refuse.new.ledger.clock c.args.serial c.args.request.now) c.in_ok-outs.ensures.sound c.in_ok-all_rows.ensures.rows c.in_ok-all_rows.ensures.same

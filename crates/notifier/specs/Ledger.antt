@@ -1,0 +1,32 @@
+-- The book that the stored parts of a desk stand for.
+use Rattle.std.specs.Prelude.{◌≡◌, ◌<◌, ◌≤◌, ◌^◌, List, map, All}
+use Rattle.package.specs.Content.{Seen, finite_maps}
+use Rattle.notifier.specs.declared.ledger.Ledger.{Ledger}
+use Rattle.notifier.specs.declared.event.Out.{Out}
+use Rattle.notifier.specs.Limits.{Limits}
+use Rattle.notifier.specs.Out.{out_of}
+use Rattle.notifier.specs.Book.{Book, SteppedBy}
+use Rattle.notifier.specs.Sound.{IsLive}
+
+module _ {P : Type 0} (seen : P → Seen) where
+  abbrev pub book_of : Ledger P → Book
+  book_of ledger = record {
+    clock = ledger.clock;
+    next = ledger.next;
+    rows = ledger.rows.items;
+    boxes = map seen ledger.boxes.items;
+    ring = ledger.ring.items;
+  }
+
+-- the book and the outs are those of the step
+pub record IsStep (stepped : SteppedBy finite_maps) (book : Book) (outs : List Out) : Type 0 where
+  pub book_is : book ≡ stepped.book
+  pub outs_are : outs ≡ map out_of stepped.outs
+
+-- the numbers stay within their types, and the ring has the room of the limits
+pub record IsSound {P : Type 0} (limits : Limits) (ledger : Ledger P) : Type 0 where
+  pub clock_fits : ledger.clock < 2 ^ 63
+  pub next_begins : 1 ≤ ledger.next
+  pub next_fits : ledger.next ≤ 2 ^ 32
+  pub rows_live : All (IsLive ledger.clock) ledger.rows.items
+  pub ring_fits : ledger.ring.capacity ≡ limits.kept

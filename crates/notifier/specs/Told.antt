@@ -1,0 +1,11 @@
+-- What the code tells of a row is what the rule says.
+use Rattle.std.specs.Prelude.{◌≡◌, map, option_to_list}
+use Rattle.notifier.specs.declared.row.Row.{Row}
+use Rattle.notifier.specs.declared.rules.After.{After}
+use Rattle.notifier.specs.Out.{out_of}
+use Rattle.notifier.specs.Rows.{Told, gone_at}
+
+pub record IsTold (rule : Row → Told) (row : Row) (after : After) : Type 0 where
+  pub stays : after.row ≡ (rule row).row
+  pub sends : option_to_list after.out ≡ map out_of (rule row).notifies
+  pub forgets : option_to_list after.gone ≡ gone_at rule row

@@ -1,0 +1,199 @@
+//! The answers of a desk, as bytes.
+#![tactic(auto, unfolding(crate::specs::Answers::refusal_answer, crate::specs::Answers::refusal_text, crate::specs::Answers::renewal_answer, crate::specs::Answers::birth_answer))]
+
+ghost use Rattle.std.specs.Prelude.{◌≡◌, map, option_map, IfOk};
+ghost use Rattle.sip_write.specs.Answer.{answer_text};
+ghost use Rattle.sip_write.specs.Views.{answer_view};
+ghost use Rattle.notifier.specs.Answers as spec;
+
+use crate::limits::Limits;
+use crate::place::Place;
+use crate::refusal::Refusal;
+use crate::request::{granted, is_refer};
+use crate::tag::refusal_tag;
+use event_headers::{NoMemory, Octets, Text};
+use package::Package;
+use sip_read::{Addr, Request};
+use sip_write::{Answer, Status, write_response};
+use std::alloc::Global;
+
+fn answer_bytes(alloc: Global, answer: &Answer<'_>) -> Result<Octets, NoMemory>
+    ensures { IfOk result (λ bytes. bytes ≡ answer_text (answer_view answer.now)) }
+{
+    let mut bytes = Vec::new(alloc);
+    write_response(alloc, answer, &mut bytes)?;
+    Ok(Octets::new(bytes))
+}
+
+/// The 200 to a SUBSCRIBE in a dialog.
+pub fn renewal_answer(
+    alloc: Global,
+    place: &Place,
+    source: Addr,
+    request: &Request,
+) -> Result<Octets, NoMemory>
+    ensures { IfOk result (λ bytes. bytes ≡ answer_text (spec.renewal_answer place.now source request.now)) }
+{
+    let answer = Answer {
+        head: &request.head,
+        source,
+        status: Status::Ok,
+        tag: None,
+        record_routes: &[],
+        contact: Some(place.me),
+        expires: Some(granted(&place.limits, request)),
+        min_expires: None,
+        allow: None,
+        allow_events: None,
+        unsupported: None,
+    };
+    answer_bytes(alloc, &answer)
+}
+
+/// The 200 or 202 that makes a dialog with this local tag.
+pub fn birth_answer<'a>(
+    alloc: Global,
+    place: &Place,
+    source: Addr,
+    request: &'a Request,
+    tag: &'a Text,
+) -> Result<Octets, NoMemory>
+    ensures { IfOk result (λ bytes. bytes ≡ answer_text (spec.birth_answer place.now source request.now tag.now)) }
+{
+    let by_refer = is_refer(request);
+    let answer = Answer {
+        head: &request.head,
+        source,
+        status: if by_refer {
+            Status::Accepted
+        } else {
+            Status::Ok
+        },
+        tag: Some(tag.as_str()),
+        record_routes: request.record_routes.as_slice(),
+        contact: Some(place.me),
+        expires: if by_refer {
+            None
+        } else {
+            Some(granted(&place.limits, request))
+        },
+        min_expires: None,
+        allow: None,
+        allow_events: None,
+        unsupported: None,
+    };
+    answer_bytes(alloc, &answer)
+}
+
+fn texts_of(alloc: Global, texts: &[Text]) -> Result<Vec<&str>, NoMemory>
+    ensures { IfOk result (λ names. map (λ n. n.now) names.items ≡ texts.now) }
+{
+    let mut names = Vec::with_capacity(alloc, texts.len())?;
+    for text in texts {
+        names.push(text.as_str())?;
+    }
+    Ok(names)
+}
+
+fn names_of<P: Package>(alloc: Global, boxes: &Vec<P>) -> Result<Vec<&str>, NoMemory>
+    ensures { IfOk result (λ names. map (λ n. n.now) names.items ≡ spec.names_of (map P.seen boxes.now.items)) }
+{
+    let mut names = Vec::with_capacity(alloc, boxes.len())?;
+    for found in boxes {
+        names.push(found.event())?;
+    }
+    Ok(names)
+}
+
+/// The answer to a refused request, with what its status asks for (RFC 3261 sections 20.5, 20.23 and 20.40, RFC 6665 section
+/// 8.2.2).
+pub fn refusal_answer<P: Package>(
+    alloc: Global,
+    place: &Place,
+    boxes: &Vec<P>,
+    source: Addr,
+    request: &Request,
+    refused: Refusal,
+) -> Result<Octets, NoMemory>
+    ensures { IfOk result (λ bytes. bytes ≡ answer_text (spec.refusal_answer place.now (map P.seen boxes.now.items) source request.now refused)) }
+{
+    let tag = refusal_tag(alloc, place.worker)?;
+    let names = names_of(alloc, boxes)?;
+    let required = texts_of(alloc, request.require.as_slice())?;
+    refusal_bytes(
+        alloc,
+        place,
+        source,
+        request,
+        refused,
+        tag.as_str(),
+        names.as_slice(),
+        required.as_slice(),
+    )
+}
+
+fn min_expires_of(limits: &Limits, refused: Refusal) -> Option<u32>
+    ensures { result ≡ spec.min_expires_of limits.now refused }
+{
+    match refused {
+        Refusal::TooBrief => Some(limits.min_time()),
+        _ => None,
+    }
+}
+
+fn allow_of(refused: Refusal) -> Option<&'static [&'static str]>
+    ensures { option_map (λ names. map (λ n. n.now) names.now) result ≡ spec.allow_of refused }
+{
+    match refused {
+        Refusal::OtherMethod => Some(&["SUBSCRIBE", "REFER"]),
+        _ => None,
+    }
+}
+
+fn allow_events_of<'a>(names: &'a [&'a str], refused: Refusal) -> Option<&'a [&'a str]>
+    ensures { option_map (λ texts. map (λ n. n.now) texts.now) result ≡ spec.allow_events_of (map (λ n. n.now) names.now) refused }
+{
+    match refused {
+        Refusal::NoPackage => Some(names),
+        _ => None,
+    }
+}
+
+fn unsupported_of<'a>(required: &'a [&'a str], refused: Refusal) -> Option<&'a [&'a str]>
+    ensures { option_map (λ texts. map (λ n. n.now) texts.now) result ≡ spec.unsupported_of (map (λ n. n.now) required.now) refused }
+{
+    match refused {
+        Refusal::UnmetRequire => Some(required),
+        _ => None,
+    }
+}
+
+/// The same, where the tag, the names of the packages and the required extensions are at hand.
+fn refusal_bytes<'a>(
+    alloc: Global,
+    place: &Place,
+    source: Addr,
+    request: &'a Request,
+    refused: Refusal,
+    tag: &'a str,
+    names: &'a [&'a str],
+    required: &'a [&'a str],
+) -> Result<Octets, NoMemory>
+    requires { map (λ n. n.now) required.now ≡ request.now.require }
+    ensures { IfOk result (λ bytes. bytes ≡ answer_text (spec.refusal_text place.now (map (λ n. n.now) names.now) tag.now source request.now refused)) }
+{
+    let answer = Answer {
+        head: &request.head,
+        source,
+        status: refused.status(),
+        tag: Some(tag),
+        record_routes: &[],
+        contact: None,
+        expires: None,
+        min_expires: min_expires_of(&place.limits, refused),
+        allow: allow_of(refused),
+        allow_events: allow_events_of(names, refused),
+        unsupported: unsupported_of(required, refused),
+    };
+    answer_bytes(alloc, &answer)
+}

@@ -1,0 +1,113 @@
+//! A request that makes a dialog, as a step of a ledger.
+#![tactic(auto, unfolding(crate::specs::Book::keeping, crate::specs::Book::born, crate::specs::Book::born_with, crate::specs::Book::first_told, crate::specs::Rows::forgetting, crate::specs::Out::out_of))]
+
+ghost use Rattle.std.specs.Prelude.{◌≡◌, ◌≤◌, ◌++◌, ◌∷◌, [], ◌&&◌, map, if◌then◌else◌, IfOk, OnOk, None};
+ghost use Rattle.notifier.specs.Book as spec;
+ghost use Rattle.notifier.specs.Fields as fields;
+ghost use Rattle.notifier.specs.Ledger.{book_of, IsStep, IsSound};
+ghost use Rattle.notifier.specs.Out.{Starts, out_of};
+ghost use Rattle.notifier.specs.Requests as requests;
+ghost use Rattle.notifier.specs.Rows as rows;
+
+use crate::answer::birth_answer;
+use crate::birth::{begin, first_told, value_or_empty};
+use crate::boxes::change_first;
+use crate::event::Out;
+use crate::ledger::Ledger;
+use crate::place::Place;
+use crate::request::is_refer;
+use crate::row::Key;
+use crate::rule::push_some;
+use crate::tag::local_tag;
+use crate::telling::answer;
+use event_headers::{NoMemory, Text};
+use package::{Change, Package};
+use sip_read::{Addr, Request};
+use std::alloc::Global;
+
+/// A transfer may start. Where its subscription has ended already it is forgotten.
+fn start<P: Package>(
+    alloc: Global,
+    boxes: &mut Vec<P>,
+    tag: Text,
+    request: &Request,
+    ends: bool,
+    outs: &mut Vec<Out>,
+) -> Result<(), NoMemory>
+    ensures boxes { OnOk result (map P.seen boxes.new.items ≡ rows.forgetting (if requests.is_refer request.now && ends then tag ∷ [] else []) (map P.seen boxes.old.items)) }
+    ensures outs { OnOk result (outs.new.items ≡ outs.old.items ++ map out_of (if requests.is_refer request.now then Starts tag (fields.or_empty (fields.value_of request.now.refer_to)) ∷ [] else [])) }
+{
+    if !is_refer(request) {
+        return Ok(());
+    }
+    if ends {
+        let change = Change::Forget(tag.copy(alloc)?);
+        change_first(alloc, boxes, &change)?;
+    }
+    let refer_to = Text::of(alloc, value_or_empty(&request.refer_to))?;
+    outs.push(Out::Start { tag, refer_to })?;
+    Ok(())
+}
+
+/// A request that makes the dialog with this serial and tag.
+fn bear_with<P: Package>(
+    alloc: Global,
+    place: &Place,
+    ledger: &mut Ledger<P>,
+    source: Addr,
+    request: &Request,
+    key: Option<Key>,
+    serial: u32,
+    tag: Text,
+) -> Result<Vec<Out>, NoMemory>
+    requires key { key ≡ requests.key_of_request request.now }
+    requires fits { requests.misfit request.now ≡ None }
+    requires sound { IsSound place.now.limits ledger.old }
+    requires serial { serial ≡ ledger.old.next }
+    requires room { ledger.old.next ≤ place.now.limits.serials }
+    ensures step { IfOk result (λ outs. IsStep (spec.born_with place.now (book_of P.seen ledger.old) source request.now tag (spec.first_told place.now (book_of P.seen ledger.old) source request.now tag)) (book_of P.seen ledger.new) outs.items) }
+    ensures sound { OnOk result (IsSound place.now.limits ledger.new) }
+{
+    place.limits.are_in_range();
+    let bytes = birth_answer(alloc, place, source, request, &tag)?;
+    let mut outs = answer(alloc, &place.limits, &mut ledger.ring, key, source, bytes)?;
+    begin(alloc, &mut ledger.boxes, &tag, request)?;
+    let after = first_told(
+        alloc,
+        place,
+        &ledger.boxes,
+        ledger.clock,
+        serial,
+        source,
+        request,
+        &tag,
+    )?;
+    let ends = after.row.is_none();
+    push_some(&mut ledger.rows, after.row)?;
+    push_some(&mut outs, after.out)?;
+    ledger.next += 1;
+    start(alloc, &mut ledger.boxes, tag, request, ends, &mut outs)?;
+    Ok(outs)
+}
+
+/// A request that makes a dialog.
+pub fn bear<P: Package>(
+    alloc: Global,
+    place: &Place,
+    ledger: &mut Ledger<P>,
+    source: Addr,
+    request: &Request,
+    key: Option<Key>,
+) -> Result<Vec<Out>, NoMemory>
+    requires key { key ≡ requests.key_of_request request.now }
+    requires fits { requests.misfit request.now ≡ None }
+    requires sound { IsSound place.now.limits ledger.old }
+    requires room { ledger.old.next ≤ place.now.limits.serials }
+    ensures step { IfOk result (λ outs. IsStep (spec.born place.now (book_of P.seen ledger.old) source request.now) (book_of P.seen ledger.new) outs.items) }
+    ensures sound { OnOk result (IsSound place.now.limits ledger.new) }
+{
+    place.limits.are_in_range();
+    let serial = ledger.next as u32;
+    let tag = local_tag(alloc, place, serial)?;
+    bear_with(alloc, place, ledger, source, request, key, serial, tag)
+}

@@ -1,0 +1,124 @@
+//! The desk.
+#![tactic(auto, unfolding(crate::specs::Run::empty))]
+
+ghost use Rattle.std.specs.Prelude.{◌≡◌, ◌↔◌, map, is_none, IfOk, OnErr, Some, None};
+ghost use Rattle.notifier.specs.Standing.{Standing, first_standing, IsHandled};
+ghost use Rattle.notifier.specs.Errors.{number_of};
+ghost use Rattle.notifier.specs.Start.{place_of};
+
+use crate::event::{Event, Out};
+use crate::event_steps::act;
+use crate::ledger::Ledger;
+use crate::place::{Place, Setup};
+use circular_buffer::HeapCircularBuffer;
+use event_headers::NoMemory;
+use package::Package;
+use std::alloc::Global;
+use std::marker::Model;
+use thiserror::Error;
+
+/// Why a desk gives no outs.
+#[derive(Clone, Copy, Debug, PartialEq, Eq, Error)]
+pub enum DeskError {
+    /// A growth was refused. The desk is spent.
+    #[error("out of memory")]
+    NoMemory,
+    /// A growth was refused at an earlier event.
+    #[error("the desk is spent")]
+    Spent,
+}
+
+impl DeskError {
+    /// 1 for NoMemory, 2 for Spent.
+    pub fn number(self) -> u8
+        ensures { result ≡ number_of self }
+    {
+        match self {
+            DeskError::NoMemory => 1,
+            DeskError::Spent => 2,
+        }
+    }
+}
+
+/// One thread's notifier. Contracts see its place and its book, or nothing where it is spent.
+#[derive(Drop)]
+pub struct Desk<P: Package> {
+    spent: bool,
+    place: Place,
+    ledger: Ledger<P>,
+}
+
+impl<P: Package> Model for Desk<P> {
+    ghost use Rattle.std.specs.Prelude.{◌≡◌, false, Option, None, Some, if◌then◌else◌};
+    ghost use Rattle.std.specs.Coded.{codes};
+    ghost use Rattle.package.specs.Code.{coded_contents};
+    ghost use Rattle.notifier.specs.Standing.{Standing};
+    ghost use Rattle.notifier.specs.Ledger.{book_of, IsSound};
+
+    ghost Value = { Option Standing };
+
+    ghost coded = { Prim.hlevel (codes, coded_contents) };
+
+    ghost view = { λ d. if d.spent then None else Some (record { place = d.place; book = book_of P.seen d.ledger }) };
+
+    ghost invariant = { λ d. d.spent ≡ false → IsSound d.place.limits d.ledger };
+}
+
+impl<P: Package> Desk<P> {
+    /// The desk of this worker, with nothing in its book but the boxes. Of two boxes with one name the first is used.
+    pub fn new(
+        alloc: Global,
+        setup: &Setup,
+        worker: u32,
+        boxes: Vec<P>,
+    ) -> Result<Desk<P>, NoMemory>
+        ensures { IfOk result (λ desk. desk ≡ Some (first_standing (record { place = place_of setup.now worker; boxes = map P.seen boxes.items }))) }
+    {
+        setup.limits.are_in_range();
+        let ring = HeapCircularBuffer::with_capacity(alloc, setup.limits.kept() as usize)?;
+        let place = Place {
+            limits: setup.limits,
+            seed: setup.seed,
+            me: setup.me,
+            worker,
+        };
+        let ledger = Ledger {
+            clock: 0,
+            next: 1,
+            rows: Vec::new(alloc),
+            boxes,
+            ring,
+        };
+        Ok(Desk {
+            spent: false,
+            place,
+            ledger,
+        })
+    }
+
+    /// Whether a growth was refused at an earlier event.
+    pub fn is_spent(&self) -> bool
+        ensures { result ≡ is_none self.now }
+    {
+        self.spent
+    }
+
+    /// Handles one event. After want of memory, which gives no outs, the desk is spent.
+    pub fn handle(&mut self, alloc: Global, event: &Event) -> Result<Vec<Out>, DeskError>
+        ensures ok { IfOk result (λ outs. (s : Standing) → self.old ≡ Some s → IsHandled s event.now self.new outs.items) }
+        ensures spent { result ≡ Err DeskError.Spent ↔ self.old ≡ None }
+        ensures err { OnErr result (self.new ≡ None) }
+    {
+        if self.spent {
+            return Err(DeskError::Spent);
+        }
+        self.spent = true;
+        match act(alloc, &self.place, &mut self.ledger, event) {
+            Err(_) => Err(DeskError::NoMemory),
+            Ok(outs) => {
+                self.spent = false;
+                Ok(outs)
+            }
+        }
+    }
+}

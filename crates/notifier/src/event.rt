@@ -1,0 +1,43 @@
+//! What comes to a desk, and what it sends.
+
+use event_headers::{Octets, Text};
+use package::{MailChange, Progress};
+use sip_read::{Addr, Request, Response};
+
+/// What comes to a desk.
+#[derive(Debug, Drop)]
+pub enum Event {
+    /// A request, with the address that it came from.
+    Request(Addr, Request),
+    /// A response.
+    Reply(Response),
+    /// A mailbox has new counts.
+    Mail(MailChange),
+    /// A transfer goes on.
+    Progress(Progress),
+    /// Time goes on to this second. Seconds are counted from the start.
+    Tick(u64),
+}
+
+/// What a desk sends.
+#[derive(Debug, Drop)]
+pub enum Out {
+    /// An answer to a request.
+    Answer {
+        to: Addr,
+        bytes: Octets,
+    },
+    /// A NOTIFY of the subscription with this local tag.
+    Notify {
+        tag: Text,
+        number: u32,
+        terminated: bool,
+        to: Addr,
+        bytes: Octets,
+    },
+    /// The transfer with this tag may start, to this URI.
+    Start {
+        tag: Text,
+        refer_to: Text,
+    },
+}

@@ -1,0 +1,95 @@
+//! NOTIFYs, each with the whole content (RFC 6665 section 4.2.2).
+#![tactic(auto, unfolding(crate::specs::Rows::notify, crate::specs::Out::out_of))]
+
+ghost use Rattle.std.specs.Prelude.{◌≡◌, map, IfOk};
+ghost use Rattle.event_headers.specs.Values.{StateValue as State};
+ghost use Rattle.subscription.specs.Written.{state_of};
+ghost use Rattle.sip_write.specs.Notify as layout;
+ghost use Rattle.sip_write.specs.Views.{notify_view};
+ghost use Rattle.notifier.specs.Out.{Notifies, out_of};
+ghost use Rattle.notifier.specs.Rows as spec;
+
+use crate::boxes::{body_of, type_of};
+use crate::event::Out;
+use crate::place::Place;
+use event_headers::{NoMemory, Octets, StateValue};
+use package::Package;
+use sip_read::Addr;
+use sip_write::{NotifyText, write_notify};
+use std::alloc::Global;
+use subscription::{Notice, Phase, Usage, Want};
+
+/// The same want once more.
+pub fn copy_want(alloc: Global, want: &Want) -> Result<Want, NoMemory>
+    ensures { IfOk result (λ w. w ≡ want.now) }
+{
+    let event = want.event.copy(alloc)?;
+    let resource = want.resource.copy(alloc)?;
+    Ok(Want {
+        event,
+        resource,
+        to: want.to,
+        max_cseq: want.max_cseq,
+    })
+}
+
+/// The Subscription-State of a phase (RFC 6665 section 4.1.3).
+fn state_value(alloc: Global, phase: Phase) -> Result<StateValue, NoMemory>
+    ensures { IfOk result (λ s. s ≡ state_of phase) }
+{
+    match phase {
+        Phase::Active(left) => StateValue::worded(alloc, "active", Some(left), None, None),
+        Phase::Terminated(reason) => {
+            StateValue::worded(alloc, "terminated", None, Some(reason.word()), None)
+        }
+    }
+}
+
+fn notify_bytes(alloc: Global, text: &NotifyText<'_>) -> Result<Octets, NoMemory>
+    ensures { IfOk result (λ bytes. bytes ≡ layout.notify_text (notify_view text.now)) }
+{
+    let mut bytes = Vec::new(alloc);
+    write_notify(alloc, text, &mut bytes)?;
+    Ok(Octets::new(bytes))
+}
+
+/// The NOTIFY that tells of a subscription.
+pub fn notice_out<'a, P: Package>(
+    alloc: Global,
+    place: &Place,
+    boxes: &'a Vec<P>,
+    to: Addr,
+    usage: &'a Usage,
+    want: &'a Want,
+    notice: Notice,
+) -> Result<Out, NoMemory>
+    ensures { IfOk result (λ out. out ≡ out_of (Notifies to (spec.notify place.now (map P.seen boxes.now.items) usage.now want.now notice))) }
+{
+    let package = want.event.package();
+    let body = body_of(alloc, boxes, package, want.resource.as_str())?;
+    let state = state_value(alloc, notice.phase)?;
+    let text = NotifyText {
+        target: usage.target.as_str(),
+        routes: usage.routes.as_slice(),
+        me: place.me,
+        local: usage.local.as_str(),
+        local_tag: usage.local_tag.as_str(),
+        remote: usage.remote.as_str(),
+        call_id: usage.call_id.as_str(),
+        number: notice.number,
+        event: &want.event,
+        state: &state,
+        content_type: type_of(boxes, package),
+        body: body.as_slice(),
+    };
+    let bytes = notify_bytes(alloc, &text)?;
+    let terminated = state.word() == "terminated";
+    let tag = usage.local_tag.copy(alloc)?;
+    Ok(Out::Notify {
+        tag,
+        number: notice.number,
+        terminated,
+        to,
+        bytes,
+    })
+}

@@ -1,0 +1,113 @@
+//! What a request makes of a ledger, in the order in which the cases are looked for.
+#![tactic(auto, unfolding(crate::specs::Book::nothing, crate::specs::Book::outside, crate::specs::Book::by_to_tag, crate::specs::Book::judged, crate::specs::Book::served, crate::specs::Book::asked_for, crate::specs::Book::born, crate::specs::Out::out_of))]
+
+ghost use Rattle.std.specs.Prelude.{◌≡◌, ◌≤◌, map, IfOk, OnOk, None};
+ghost use Rattle.notifier.specs.Book as spec;
+ghost use Rattle.notifier.specs.Ledger.{book_of, IsStep, IsSound};
+ghost use Rattle.notifier.specs.Requests as requests;
+
+use crate::birth_steps::bear;
+use crate::dialog::{refuse, serve_in_dialog};
+use crate::event::Out;
+use crate::kept::kept_answer;
+use crate::ledger::Ledger;
+use crate::place::Place;
+use crate::placing::misplaced;
+use crate::refusal::Refusal;
+use crate::request::{is_ack, is_full, key_of, misfit};
+use crate::row::Key;
+use crate::telling::copy_bytes;
+use event_headers::NoMemory;
+use package::Package;
+use sip_read::{Addr, Request};
+use std::alloc::Global;
+
+/// A request without a To tag.
+fn serve_outside<P: Package>(
+    alloc: Global,
+    place: &Place,
+    ledger: &mut Ledger<P>,
+    source: Addr,
+    request: &Request,
+    key: Option<Key>,
+) -> Result<Vec<Out>, NoMemory>
+    requires key { key ≡ requests.key_of_request request.now }
+    requires fits { requests.misfit request.now ≡ None }
+    requires sound { IsSound place.now.limits ledger.old }
+    ensures step { IfOk result (λ outs. IsStep (spec.outside place.now (book_of P.seen ledger.old) source request.now (requests.misplaced place.now.limits (map P.seen ledger.old.boxes.items) request.now)) (book_of P.seen ledger.new) outs.items) }
+    ensures sound { OnOk result (IsSound place.now.limits ledger.new) }
+{
+    if let Some(refused) = misplaced(&place.limits, &ledger.boxes, request) {
+        return refuse(alloc, place, ledger, source, request, key, refused);
+    }
+    if is_full(&place.limits, ledger.next, ledger.rows.len(), request) {
+        return refuse(alloc, place, ledger, source, request, key, Refusal::Full);
+    }
+    bear(alloc, place, ledger, source, request, key)
+}
+
+/// A request that fits, by its To tag.
+fn serve_fitting<P: Package>(
+    alloc: Global,
+    place: &Place,
+    ledger: &mut Ledger<P>,
+    source: Addr,
+    request: &Request,
+    key: Option<Key>,
+) -> Result<Vec<Out>, NoMemory>
+    requires key { key ≡ requests.key_of_request request.now }
+    requires fits { requests.misfit request.now ≡ None }
+    requires sound { IsSound place.now.limits ledger.old }
+    ensures step { IfOk result (λ outs. IsStep (spec.by_to_tag place.now (book_of P.seen ledger.old) source request.now request.now.head.to.tag) (book_of P.seen ledger.new) outs.items) }
+    ensures sound { OnOk result (IsSound place.now.limits ledger.new) }
+{
+    match &request.head.to.tag {
+        None => serve_outside(alloc, place, ledger, source, request, key),
+        Some(tag) => serve_in_dialog(alloc, place, ledger, source, request, key, tag),
+    }
+}
+
+/// A request that is no retransmission.
+fn serve_new<P: Package>(
+    alloc: Global,
+    place: &Place,
+    ledger: &mut Ledger<P>,
+    source: Addr,
+    request: &Request,
+    key: Option<Key>,
+) -> Result<Vec<Out>, NoMemory>
+    requires key { key ≡ requests.key_of_request request.now }
+    requires sound { IsSound place.now.limits ledger.old }
+    ensures step { IfOk result (λ outs. IsStep (spec.judged place.now (book_of P.seen ledger.old) source request.now (requests.misfit request.now)) (book_of P.seen ledger.new) outs.items) }
+    ensures sound { OnOk result (IsSound place.now.limits ledger.new) }
+{
+    match misfit(request) {
+        Some(refused) => refuse(alloc, place, ledger, source, request, key, refused),
+        None => serve_fitting(alloc, place, ledger, source, request, key),
+    }
+}
+
+/// A request, of which a retransmission is answered from the ring.
+pub fn serve<P: Package>(
+    alloc: Global,
+    place: &Place,
+    ledger: &mut Ledger<P>,
+    source: Addr,
+    request: &Request,
+) -> Result<Vec<Out>, NoMemory>
+    requires { IsSound place.now.limits ledger.old }
+    ensures step { IfOk result (λ outs. IsStep (spec.asked_for place.now (book_of P.seen ledger.old) source request.now) (book_of P.seen ledger.new) outs.items) }
+    ensures sound { OnOk result (IsSound place.now.limits ledger.new) }
+{
+    let mut outs = Vec::new(alloc);
+    if is_ack(request) {
+        return Ok(outs);
+    }
+    let key = key_of(alloc, request)?;
+    if let Some(bytes) = kept_answer(&ledger.ring, &key) {
+        let bytes = copy_bytes(alloc, bytes)?;
+        outs.push(Out::Answer { to: source, bytes })?;
+        return Ok(outs);
+    }
+    serve_new(alloc, place, ledger, source, request, key)
+}

@@ -1,0 +1,46 @@
+//! Local tags.
+#![tactic(auto, unfolding(crate::specs::Tag::local_tag, crate::specs::Tag::refusal_tag))]
+
+ghost use Rattle.std.specs.Prelude.{◌≡◌, ◌≤◌, IfOk};
+ghost use Rattle.notifier.specs.Start.{tag_of};
+ghost use Rattle.notifier.specs.Tag.{tag_bytes, refusal_tag as refusal_tag_of};
+
+use crate::place::Place;
+use event_headers::{NoMemory, Text};
+use rand_chacha::ChaCha20Rng;
+use rand_core::SeedableRng;
+use rand_core::utils::NextWord;
+use std::alloc::Global;
+
+/// The bytes whose digits stand in the tag.
+fn tag_bytes(place: &Place, serial: u32) -> [u8; 8]
+    requires { 1 ≤ serial }
+    ensures { result ≡ tag_bytes place.now.seed place.now.worker serial }
+{
+    let mut words = ChaCha20Rng::from_seed(place.seed);
+    words.set_stream(u64::from(place.worker));
+    words.set_word_pos(2 * (u128::from(serial) - 1));
+    let [a, b, c, d] = words.next_word().to_le_bytes();
+    let [e, f, g, h] = words.next_word().to_le_bytes();
+    [a, b, c, d, e, f, g, h]
+}
+
+/// The local tag of the subscription with this serial.
+pub fn local_tag(alloc: Global, place: &Place, serial: u32) -> Result<Text, NoMemory>
+    requires { 1 ≤ serial }
+    ensures { IfOk result (λ tag. tag ≡ tag_of place.now serial) }
+{
+    let digits = hex::encode(alloc, tag_bytes(place, serial))?;
+    let digits = digits.as_str();
+    let worker = place.worker;
+    let tag = format!(in alloc; "w{worker}-{serial}-{digits}")?;
+    Ok(Text::new(tag))
+}
+
+/// The tag that a refusal adds where no dialog is made.
+pub fn refusal_tag(alloc: Global, worker: u32) -> Result<Text, NoMemory>
+    ensures { IfOk result (λ tag. tag ≡ refusal_tag_of worker) }
+{
+    let tag = format!(in alloc; "w{worker}-0")?;
+    Ok(Text::new(tag))
+}

@@ -1,0 +1,61 @@
+//! Whole runs of one desk.
+#![tactic(auto, unfolding(crate::specs::Run::run, crate::specs::Run::made))]
+
+ghost use Rattle.std.specs.Prelude.{◌≡◌, List, map, IfOk, OnOk, Some};
+ghost use Rattle.package.specs.Content.{Seen};
+ghost use Rattle.notifier.specs.Out.{out_of};
+ghost use Rattle.notifier.specs.Run.{made, run_from, made_from};
+ghost use Rattle.notifier.specs.Standing.{Standing};
+ghost use Rattle.notifier.specs.Start.{place_of};
+
+use crate::desk::Desk;
+use crate::event::{Event, Out};
+use crate::place::Setup;
+use event_headers::NoMemory;
+use package::Package;
+use std::alloc::Global;
+
+/// Handles these events, one by one, and gathers what they send.
+fn handle_all<P: Package>(
+    alloc: Global,
+    desk: &mut Desk<P>,
+    events: &[Event],
+) -> Result<Vec<Out>, NoMemory>
+    ensures { IfOk result (λ outs. (s : Standing) → desk.old ≡ Some s → outs.items ≡ map out_of (made_from s.place s.book events.now)) }
+{
+    let mut outs = Vec::new(alloc);
+    for event in events {
+        let Ok(mut told) = desk.handle(alloc, event) else {
+            return Err(NoMemory);
+        };
+        outs.append(&mut told)?;
+    }
+    Ok(outs)
+}
+
+/// All that a new desk of this worker sends for these events (RFC 6665 section 4.2).
+pub fn play<P: Package>(
+    alloc: Global,
+    setup: &Setup,
+    worker: u32,
+    boxes: Vec<P>,
+    events: &[Event],
+) -> Result<Vec<Out>, NoMemory>
+    ensures { IfOk result (λ outs. outs.items ≡ map out_of (made (record { place = place_of setup.now worker; boxes = map P.seen boxes.items }) events.now)) }
+{
+    let mut desk = Desk::new(alloc, setup, worker, boxes)?;
+    handle_all(alloc, &mut desk, events)
+}
+
+/// The same over packages of different types.
+pub fn play_boxes(
+    alloc: Global,
+    setup: &Setup,
+    worker: u32,
+    boxes: Vec<Box<dyn Package>>,
+    events: &[Event],
+) -> Result<Vec<Out>, NoMemory>
+    ensures { IfOk result (λ outs. outs.items ≡ map out_of (made (record { place = place_of setup.now worker; boxes = map {B = Seen} (λ b. seen b) boxes.items }) events.now)) }
+{
+    play(alloc, setup, worker, boxes, events)
+}

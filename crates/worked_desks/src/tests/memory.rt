@@ -1,0 +1,76 @@
+//! Want of memory, told by a desk. The gate runs this with ample memory; with `rt try --test --fail-alloc N` the Nth growth is
+//! refused.
+use crate::tests::cue::{ASKED, Cue, events_of};
+use crate::tests::packages::{limits, mailboxes, setup, transfers};
+use notifier::{Desk, DeskError, Event, Setup};
+use package::Package;
+use std::alloc::Global;
+use std::process::Abort;
+
+/// From the first refusal on each event is refused, and the desk says that it is spent.
+fn stays_spent<P: Package>(rt: &impl Abort, alloc: Global, desk: &mut Desk<P>, events: &[Event]) {
+    assert!(rt; desk.is_spent());
+    for event in events {
+        let Err(error) = desk.handle(alloc, event) else {
+            panic!(rt; "a spent desk handled an event");
+        };
+        assert_eq!(rt; error, DeskError::Spent);
+        assert!(rt; desk.is_spent());
+    }
+}
+
+/// Handles all events, or up to the first refusal.
+fn handles<P: Package>(rt: &impl Abort, alloc: Global, desk: &mut Desk<P>, events: &[Event]) {
+    for event in events {
+        assert!(rt; !desk.is_spent());
+        if let Err(error) = desk.handle(alloc, event) {
+            assert_eq!(rt; error, DeskError::NoMemory);
+            return stays_spent(rt, alloc, desk, events);
+        }
+    }
+}
+
+/// Plays the cues on a desk with this package.
+fn plays<P: Package>(rt: &impl Abort, alloc: Global, setup: &Setup, package: P, cues: &[Cue]) {
+    let mut boxes = Vec::new(alloc);
+    if boxes.push(package).is_err() {
+        return;
+    }
+    let Some(events) = events_of(alloc, cues) else {
+        return;
+    };
+    if let Ok(mut desk) = Desk::new(alloc, setup, 0, boxes) {
+        handles(rt, alloc, &mut desk, events.as_slice());
+    }
+}
+
+#[test]
+fn mail_without_memory_spends_the_desk(rt: HostRuntime) {
+    let alloc = rt.alloc();
+    let cues = [
+        Cue::Subscribe(ASKED),
+        Cue::Voice(2),
+        Cue::Voice(2),
+        Cue::Voice(1),
+        Cue::Tick(3600),
+    ];
+    if let Ok(package) = mailboxes(alloc) {
+        let setup = setup(limits(&rt, 2147483647, 1024, 4294967295, 64));
+        plays(&rt, alloc, &setup, package, &cues);
+    }
+}
+
+#[test]
+fn a_transfer_without_memory_spends_the_desk(rt: HostRuntime) {
+    let alloc = rt.alloc();
+    let tag = "w0-1-76b8e0ada0f13d90";
+    let cues = [
+        Cue::Refer(93),
+        Cue::Step(tag, 180, "Ringing"),
+        Cue::Step(tag, 200, "OK"),
+    ];
+    if let Ok(package) = transfers(alloc) {
+        let setup = setup(limits(&rt, 2147483647, 1024, 4294967295, 64));
+        plays(&rt, alloc, &setup, package, &cues);
+    }
+}
