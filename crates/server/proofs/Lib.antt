@@ -1,0 +1,4 @@
+pub mod Heard
+pub mod Printed
+pub mod Started
+pub mod Asked

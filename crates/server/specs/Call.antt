@@ -1,0 +1,89 @@
+-- What the program starts from, and how it ends.
+--
+--   status   line on standard error     cause
+--   0        none                       done
+--   1        notifyd: bad arguments     the arguments don't ask for one worker that runs a script
+--   2        notifyd: bad script        the bytes are no script
+--   3        notifyd: device fault      a read or a write failed
+--   4        notifyd: out of memory     a growth was refused
+use Rattle.std.specs.Prelude.{◌≡◌, ℕ, List, [], ◌∷◌, map, codes, Option, Some, None}
+use Rattle.std.specs.FinMap.{from_entries}
+use Rattle.sip_read.specs.declared.message.Addr.{Addr}
+use Rattle.scripts.specs.declared.arguments.Arguments.{Arguments}
+use Rattle.scripts.specs.Arguments.{AreArguments}
+use Rattle.package.specs.Content.{Content, OfMail, Seen, mail_package}
+use Rattle.package.specs.Changes.{unset}
+use Rattle.message_summary.specs.Mailboxes.{mail_type}
+use Rattle.refer.specs.Transfers.{new_transfers}
+use Rattle.notifier.specs.Limits.{Limits}
+use Rattle.notifier.specs.declared.place.Place.{Place}
+use Rattle.notifier.specs.Start.{Start}
+use Rattle.server.specs.declared.program.Status.{Status}
+use Rattle.server.specs.declared.program.Status.TheVariants as status
+
+abbrev pub code_of : Status → ℕ
+code_of status.Done = 0
+code_of status.BadArguments = 1
+code_of status.BadScript = 2
+code_of status.DeviceFault = 3
+code_of status.OutOfMemory = 4
+
+abbrev pub line_of : Status → Option (List ℕ)
+line_of status.Done = None
+line_of status.BadArguments = Some (codes "notifyd: bad arguments")
+line_of status.BadScript = Some (codes "notifyd: bad script")
+line_of status.DeviceFault = Some (codes "notifyd: device fault")
+line_of status.OutOfMemory = Some (codes "notifyd: out of memory")
+
+-- times in seconds
+abbrev pub program_limits : Limits
+program_limits = record {
+  min_time = 60;
+  max_time = 86400;
+  default_time = 3600;
+  refer_time = 180;
+  max_cseq = 2147483647;
+  table = 1024;
+  serials = 4294967295;
+  kept = 64;
+  inbox = 64;
+  outbox = 64;
+}
+
+-- 127.0.0.1:5060
+abbrev pub program_addr : Addr
+program_addr = record { ip = 127 ∷ 0 ∷ 0 ∷ 1 ∷ []; port = 5060 }
+
+-- mailboxes of these names with no class set
+abbrev pub mailboxes_named : List (List ℕ) → Seen
+mailboxes_named names = record {
+  name = mail_package;
+  content_type = mail_type;
+  contents = from_entries (map {B = List ℕ × Content} (λ name. (name, OfMail unset)) names);
+}
+
+-- worker 0 with this seed
+abbrev pub place_for : List ℕ → Place
+place_for seed = record { limits = program_limits; seed = seed; me = program_addr; worker = 0 }
+
+-- two packages: the mailboxes, then the transfers
+abbrev pub start_with : List ℕ → List (List ℕ) → Start
+start_with seed names = record { place = place_for seed; boxes = mailboxes_named names ∷ new_transfers ∷ [] }
+
+abbrev pub start_for : Arguments → Start
+start_for a = start_with a.seed a.mailboxes
+
+-- the words ask for one worker that runs a script, with these arguments
+pub record AskForOne (words : List (List ℕ)) (a : Arguments) : Type 0 where
+  pub are_arguments : AreArguments words a
+  pub one : a.workers ≡ 1
+
+-- the words ask for a run from a start of which P holds
+pub record AsksFor (words : List (List ℕ)) (P : Start → Type 0) : Type 0 where
+  pub arguments : Arguments
+  pub are_arguments : AskForOne words arguments
+  pub holds : P (start_for arguments)
+
+-- the words ask for nothing that the program does
+abbrev pub AsksForNone : List (List ℕ) → Type 0
+AsksForNone words = (a : Arguments) → AskForOne words a → ⊥

@@ -1,0 +1,5 @@
+pub mod Page
+pub mod Runs
+pub mod Either
+pub mod Call
+pub mod Hearing

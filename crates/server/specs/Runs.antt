@@ -1,0 +1,46 @@
+-- What a run reads and writes. Readers and writers are seen as the bytes that they have left and hold, where those are known.
+use Rattle.std.specs.Prelude.{◌≡◌, ℕ, ◌<◌, List, length, map, Option, ◌⊎◌}
+use Rattle.std.specs.Io.KnownBytes.{Consumes, Appends, IsAtEnd}
+use Rattle.scripts.specs.declared.script.Block.{Block}
+use Rattle.scripts.specs.declared.device.Source.{Source}
+use Rattle.scripts.specs.declared.device.Sink.{Sink}
+use Rattle.scripts.specs.Devices.{one_more, AppendsFront}
+use Rattle.package.specs.Content.{Seen}
+use Rattle.notifier.specs.declared.place.Setup.{Setup}
+use Rattle.notifier.specs.Start.{Start, place_of}
+use Rattle.server.specs.Page.{most_bytes, IsShortScript, IsPage}
+
+-- one worker, of number 0, with these boxes
+abbrev pub start_of : {P : Type 0} → (P → Seen) → Setup → List P → Start
+start_of seen setup boxes = record { place = place_of setup 0; boxes = map seen boxes }
+
+-- what was read is too long, or it is all there was and no script
+pub record ReadsNoScript {R : Type 0} (remaining : R → Option (List ℕ)) (before after : Source R) : Type 0 where
+  pub bytes : List ℕ
+  pub was_read : Consumes (remaining before.reader) (remaining after.reader) bytes
+  pub is_none : (most_bytes < length bytes) ⊎ (IsAtEnd (remaining after.reader) × ((blocks : List Block) → IsShortScript bytes blocks → ⊥))
+
+module _ {R W : Type 0} (remaining : R → Option (List ℕ)) (contents : W → Option (List ℕ)) where
+  -- all was read, and what was written is its page
+  pub record WritesPage (start : Start) (source source' : Source R) (sink sink' : Sink W) : Type 0 where
+    pub bytes : List ℕ
+    pub page : List ℕ
+    pub was_read : Consumes (remaining source.reader) (remaining source'.reader) bytes
+    pub is_all : IsAtEnd (remaining source'.reader)
+    pub is_page : IsPage start bytes page
+    pub was_written : Appends (contents sink.writer) (contents sink'.writer) page
+
+  -- all was read, and what was written is a front of its page
+  pub record WritesFront (start : Start) (source source' : Source R) (sink sink' : Sink W) : Type 0 where
+    pub bytes : List ℕ
+    pub page : List ℕ
+    pub was_read : Consumes (remaining source.reader) (remaining source'.reader) bytes
+    pub is_all : IsAtEnd (remaining source'.reader)
+    pub is_page : IsPage start bytes page
+    pub was_written : AppendsFront (contents sink.writer) (contents sink'.writer) page
+
+  -- a read failed and nothing was written, or a write failed
+  abbrev pub MeetsFault : Start → Source R → Source R → Sink W → Sink W → Type 0
+  MeetsFault start source source' sink sink' =
+      ((source'.failures ≡ one_more source.failures) × (sink' ≡ sink))
+      ⊎ ((source'.failures ≡ source.failures) × (sink'.failures ≡ one_more sink.failures) × WritesFront start source source' sink sink')

@@ -1,0 +1,22 @@
+//! The server of a SIP notifier that runs scripts.
+//!
+//! [`script_one`] reads a script, has one worker handle its events, and writes the page of what it sent. [`run`] is the
+//! program over any reader and writer: it looks at the arguments and answers a [`Status`].
+//!
+//! Begin with `specs/Page`: it says, short enough to be read aloud, which page a script has, by the reader's relation for
+//! its datagrams and the notifier's definition for its events. What is written is that page, or a front of it after a
+//! failed write; only bytes that are no script are a bad script; a device fault comes only where a read or a write failed
+//! in that call. `specs/Runs` says what is read and written, `specs/Call` what the program starts from and how it ends.
+#![tactic(auto)]
+
+pub mod either;
+mod hearing;
+mod printing;
+pub mod program;
+pub mod script;
+#[cfg(test)]
+mod tests;
+
+pub use either::EitherPackage;
+pub use program::{Status, run};
+pub use script::script_one;

@@ -1,0 +1,143 @@
+//! The worked runs: scripts, and the pages that they are to have.
+//!
+//! Each run NAME has its script in `data/NAME.script` and its page in `data/NAME.page`, both with the line ends of SIP. The
+//! pages were put together from the layouts of `docs/FORMATS.md`, and not by the program. For each run a line says
+//! whether the notifier writes its page. The runs of `data/runs` are the program's without arguments.
+#![tactic(auto)]
+
+use event_headers::{NoMemory, Text};
+use message_summary::Mailboxes;
+use notifier::{Limits, Setup};
+use package::ClosingCell;
+use refer::Transfers;
+use scripts::{ScriptError, Sink, Source};
+use server::{EitherPackage, Status, run, script_one};
+use sip_read::Addr;
+use std::alloc::Global;
+use std::rt::Files;
+use std::{fs, io};
+
+/// Whether the program with these words writes this page of this script.
+fn writes(alloc: Global, words: &[Text], script: &[u8], page: &[u8]) -> bool {
+    let mut source = Source::new(script);
+    let mut sink = Sink::new(Vec::new(alloc));
+    let status = run(alloc, words, &mut source, &mut sink);
+    status == Status::Done && sink.writer.as_slice() == page
+}
+
+/// The limits of a run: the last number, the room of the table, the last serial, the room of the ring.
+type Bounds = (u32, u32, u32, u32);
+
+/// Whether a worker with these limits and the mailbox alice writes this page of this script.
+fn writes_within(
+    alloc: Global,
+    bounds: Bounds,
+    script: &[u8],
+    page: &[u8],
+) -> Result<bool, ScriptError> {
+    let (max_cseq, table, serials, kept) = bounds;
+    let Some(limits) = Limits::new(60, 86400, 3600, 180, max_cseq, table, serials, kept, 64, 64)
+    else {
+        return Ok(false);
+    };
+    let setup = Setup {
+        limits,
+        seed: [0; 32],
+        me: Addr {
+            ip: [127, 0, 0, 1],
+            port: 5060,
+        },
+    };
+    let mut names = Vec::new(alloc);
+    names.push(String::from_str(alloc, "alice")?)?;
+    let mailboxes = Mailboxes::new(alloc, names, ClosingCell::new(alloc)?)?;
+    let mut boxes = Vec::new(alloc);
+    boxes.push(EitherPackage::First(mailboxes))?;
+    boxes.push(EitherPackage::Second(Transfers::new(alloc, ClosingCell::new(alloc)?)?))?;
+    let mut source = Source::new(script);
+    let mut sink = Sink::new(Vec::new(alloc));
+    script_one(alloc, &mut source, &mut sink, &setup, boxes)?;
+    Ok(sink.writer.as_slice() == page)
+}
+
+/// The script and the page of a run.
+fn files_of(rt: &(impl Files + AllocGlobal), name: &str) -> io::Result<(Vec<u8>, Vec<u8>)> {
+    let script = fs::read(rt, format!(in rt.alloc(); "{name}.script")?)?;
+    let page = fs::read(rt, format!(in rt.alloc(); "{name}.page")?)?;
+    Ok((script, page))
+}
+
+fn tell(rt: &impl Print, name: &str, is_page: bool) -> io::Result<()> {
+    let outcome = if is_page { "its page" } else { "ANOTHER PAGE" };
+    println!(rt; "{name}: {outcome}")
+}
+
+/// The runs of the program without arguments.
+fn plain_runs(rt: &(impl Files + Print + AllocGlobal)) -> io::Result<()> {
+    let names = fs::read_to_string(rt, "runs")?;
+    for name in names.lines() {
+        let (script, page) = files_of(rt, name)?;
+        let is_page = writes(rt.alloc(), &[], script.as_slice(), page.as_slice());
+        tell(rt, name, is_page)?;
+    }
+    Ok(())
+}
+
+/// The runs with other limits.
+const LIMITED: [(&str, Bounds); 5] = [
+    (
+        "the_last_number_ends_a_subscription",
+        (3, 1024, 4294967295, 64),
+    ),
+    (
+        "a_refresh_may_be_the_last_number",
+        (2, 1024, 4294967295, 64),
+    ),
+    (
+        "a_full_table_takes_fetches_alone",
+        (2147483647, 1, 4294967295, 64),
+    ),
+    ("used_up_serials_refuse_fetches_too", (2147483647, 1, 1, 64)),
+    ("a_ring_of_one_forgets", (2147483647, 1024, 4294967295, 1)),
+];
+
+fn limited_runs(rt: &(impl Files + Print + AllocGlobal)) -> io::Result<()> {
+    for (name, bounds) in LIMITED {
+        let (script, page) = files_of(rt, name)?;
+        let outcome = writes_within(rt.alloc(), bounds, script.as_slice(), page.as_slice());
+        tell(rt, name, outcome == Ok(true))?;
+    }
+    Ok(())
+}
+
+const SEED: &str = "00112233445566778899aabbccddeeffFFEEDDCCBBAA99887766554433221100";
+
+/// The run with a seed and two mailboxes.
+fn seeded_run(rt: &(impl Files + Print + AllocGlobal)) -> io::Result<()> {
+    let name = "another_seed_gives_other_tags";
+    let (script, page) = files_of(rt, name)?;
+    let words = words_of(rt.alloc(), &["script", "--seed", SEED, "1", "alice", "bob"]);
+    let is_page = words.is_ok_and(|words| {
+        writes(
+            rt.alloc(),
+            words.as_slice(),
+            script.as_slice(),
+            page.as_slice(),
+        )
+    });
+    tell(rt, name, is_page)
+}
+
+fn words_of(alloc: Global, words: &[&str]) -> Result<Vec<Text>, NoMemory> {
+    let mut texts = Vec::new(alloc);
+    for word in words {
+        texts.push(Text::of(alloc, word)?)?;
+    }
+    Ok(texts)
+}
+
+fn main(rt: HostRuntime) -> io::Result<()> {
+    plain_runs(&rt)?;
+    limited_runs(&rt)?;
+    seeded_run(&rt)
+}
