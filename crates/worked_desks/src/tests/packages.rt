@@ -60,7 +60,7 @@ pub(crate) fn tells(rt: &impl Abort, alloc: Global, setup: &Setup, cues: &[Cue],
         .push(Box::new(alloc, refer).expect(rt, "memory"))
         .expect(rt, "memory");
     boxes
-        .push(Box::new(alloc, Presence { refused: 0 }).expect(rt, "memory"))
+        .push(Box::new(alloc, Presence).expect(rt, "memory"))
         .expect(rt, "memory");
     let outs = play_boxes(alloc, setup, 0, boxes, events.as_slice()).expect(rt, "memory");
     let told = brief(rt, alloc, outs.as_slice());

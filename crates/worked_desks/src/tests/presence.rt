@@ -7,9 +7,7 @@ use package::{Change, Outcome, Package};
 use std::alloc::Global;
 
 #[derive(Drop)]
-pub(crate) struct Presence {
-    pub refused: u32,
-}
+pub(crate) struct Presence;
 
 impl Package for Presence {
     ghost seen = { λ p. record { name = codes "presence"; content_type = codes "application/pidf+xml"; contents = empty } };
