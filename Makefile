@@ -1,9 +1,16 @@
 # `make gate` proves and tests everything from nothing. `make run` proves and builds the program `notifyd`, leaves it at
-# crates/notifyd/out/notifyd, and runs it on its stored example, one SUBSCRIBE.
-.PHONY: gate run
+# crates/notifyd/out/notifyd, and runs it on its stored example, one SUBSCRIBE. `make try` runs that example without a proof,
+# in about a minute. `make wrong` tries the wrong bodies that the gate leaves to releases (`make wrong CRATES="scripts refer"`).
+.PHONY: gate run try wrong
 
 gate:
 	@rt ci
 
 run:
 	@cd crates/notifyd && rt run < stdin
+
+try:
+	@cd crates/notifyd && rt try < stdin
+
+wrong:
+	@.ci/wrong $(CRATES)
