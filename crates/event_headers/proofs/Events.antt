@@ -1,17 +1,19 @@
 -- An Event value.
 use Rattle.std.proofs.Common.{◌≡◌, ℕ, true, false, List, Option, Some, None, refl, subst}
 use Rattle.std.specs.Prelude.{codes, IfSome}
-use Rattle.event_headers.specs.declared.scan.Class.TheVariants as class
-use Rattle.event_headers.specs.Bytes.{is_in}
+use Rattle.sip_text.specs.declared.scan.Class.TheVariants as class
+use Rattle.sip_text.specs.Bytes.{is_in}
 use Rattle.event_headers.specs.Values.{EventValue}
-use Rattle.event_headers.specs.Reading.{◌>>=◌, word_named}
-use Rattle.event_headers.specs.HeaderReading.{token_with, event_of, event_fits}
-use Rattle.event_headers.specs.Grammar.{IsWordNamed, Parameter}
-use Rattle.event_headers.specs.Headers.{IsEvent, EventFits, IsEventValue, IsToken}
-use Rattle.event_headers.proofs.Pieces.{bind_some, some_is}
-use Rattle.event_headers.proofs.Utf8.{token_small}
-use Rattle.event_headers.proofs.Words.{named_takes, named_again}
-use Rattle.event_headers.proofs.Framing.{token_with_takes, token_with_again}
+use Rattle.sip_text.specs.Reading.{◌>>=◌, word_named}
+use Rattle.sip_text.specs.Reading.{token_with}
+use Rattle.event_headers.specs.HeaderReading.{event_of, event_fits}
+use Rattle.sip_text.specs.Grammar.{IsWordNamed, Parameter}
+use Rattle.sip_text.specs.Grammar.{IsToken}
+use Rattle.event_headers.specs.Headers.{IsEvent, EventFits, IsEventValue}
+use Rattle.sip_text.proofs.Pieces.{bind_some, some_is}
+use Rattle.sip_text.proofs.Utf8.{token_small}
+use Rattle.sip_text.proofs.Words.{named_takes, named_again}
+use Rattle.sip_text.proofs.Framing.{token_with_takes, token_with_again}
 
 pub event_takes : (t : List ℕ) (e : EventValue) → event_of t ≡ Some e → IsEvent t e
 unfolding event_of

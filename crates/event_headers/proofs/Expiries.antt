@@ -1,11 +1,12 @@
 -- An Expires value.
 use Rattle.std.proofs.Common.{◌≡◌, ◌^◌, ℕ, true, false, List, Some, refl, sym}
 use Rattle.std.proofs.lemmas.Bool.{ltb-true, lt-ltb}
-use Rattle.event_headers.specs.HeaderReading.{digits_of, expires_of, expires_fits}
-use Rattle.event_headers.specs.Grammar.{number_of}
+use Rattle.sip_text.specs.Reading.{digits_of}
+use Rattle.event_headers.specs.HeaderReading.{expires_of, expires_fits}
+use Rattle.sip_text.specs.Grammar.{number_of}
 use Rattle.event_headers.specs.Headers.{IsExpires, Fits}
-use Rattle.event_headers.proofs.Pieces.{bind_some, some_is}
-use Rattle.event_headers.proofs.Framing.{digits_take, digits_again}
+use Rattle.sip_text.proofs.Pieces.{bind_some, some_is}
+use Rattle.sip_text.proofs.Framing.{digits_take, digits_again}
 
 pub expires_takes : (t : List ℕ) (n : ℕ) → expires_of t ≡ Some n → IsExpires t n
 unfolding expires_of

@@ -2,19 +2,19 @@
 use Rattle.std.proofs.Common.{◌≡◌, ◌≤◌, ◌<◌, ℕ, suc, true, false, List, [], ◌∷◌, ◌++◌, length, Some, refl, sym, ap, subst, ◌∙◌, append_assoc, arith}
 use Rattle.std.proofs.lemmas.List.{length-append}
 use Rattle.std.specs.Str.{str_to_ascii_lowercase}
-use Rattle.event_headers.specs.declared.scan.Class.TheVariants as class
-use Rattle.event_headers.specs.Bytes.{is_in, is_space}
+use Rattle.sip_text.specs.declared.scan.Class.TheVariants as class
+use Rattle.sip_text.specs.Bytes.{is_in, is_space}
 use Rattle.event_headers.specs.Values.{Range}
-use Rattle.event_headers.specs.Reading.{◌>>=◌, after_byte, after_spaces, trimmed, word_at, some_of}
+use Rattle.sip_text.specs.Reading.{◌>>=◌, after_byte, after_spaces, trimmed, word_at, some_of}
 use Rattle.event_headers.specs.HeaderReading.{pair_at, range_at, ranges_of, accept_of, ranges_fit}
-use Rattle.event_headers.specs.Grammar.{AreSpaces, IsWord, Stops, AreElements}
+use Rattle.sip_text.specs.Grammar.{AreSpaces, IsWord, Stops, AreElements}
 use Rattle.event_headers.specs.Headers.{IsRange, AreRanges, IsAccept, RangesFit}
-use Rattle.event_headers.proofs.Pieces.{Takes, bind_some, some_is, spaces_taken, spaces_again, byte_taken, NoSpace, stops_at_spaces, word_stops_spaces}
-use Rattle.event_headers.proofs.Utf8.{token_small}
-use Rattle.event_headers.proofs.Words.{word_at_takes, word_at_again}
-use Rattle.event_headers.proofs.CommaLists.{Tail, tail_ends, elements_take, elements_again}
-use Rattle.event_headers.proofs.Trims.{trimmed_taken, trimmed_again}
-use Rattle.event_headers.proofs.Groups.{Ends, group_takes, group_again, group_follows}
+use Rattle.sip_text.proofs.Pieces.{Takes, bind_some, some_is, spaces_taken, spaces_again, byte_taken, NoSpace, stops_at_spaces, word_stops_spaces}
+use Rattle.sip_text.proofs.Utf8.{token_small}
+use Rattle.sip_text.proofs.Words.{word_at_takes, word_at_again}
+use Rattle.sip_text.proofs.CommaLists.{Tail, tail_ends, elements_take, elements_again}
+use Rattle.sip_text.proofs.Trims.{trimmed_taken, trimmed_again}
+use Rattle.sip_text.proofs.Groups.{Ends, group_takes, group_again, group_follows}
 
 -- a range without its parameters
 record TakesPair (t : List ℕ) (x : Range) (r : List ℕ) : Type 0 where

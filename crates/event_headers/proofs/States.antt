@@ -7,17 +7,19 @@ use Rattle.std.specs.List.{list_all}
 use Rattle.std.proofs.Common.{arith}
 use Rattle.std.proofs.lemmas.Bool.{ltb-true, ltb-false, lt-ltb, le-leb}
 use Rattle.std.proofs.lemmas.Bool.Decides.{nat_tests}
-use Rattle.event_headers.specs.declared.scan.Class.TheVariants as class
-use Rattle.event_headers.specs.Bytes.{is_in, is_within, is_digit}
+use Rattle.sip_text.specs.declared.scan.Class.TheVariants as class
+use Rattle.sip_text.specs.Bytes.{is_in, is_within, is_digit}
 use Rattle.event_headers.specs.Values.{StateValue}
-use Rattle.event_headers.specs.Reading.{◌>>=◌, word_named}
-use Rattle.event_headers.specs.HeaderReading.{token_with, state_with, state_of, state_fits, seconds_fit, kept_seconds, is_in_range}
-use Rattle.event_headers.specs.Grammar.{IsWordNamed, Parameter, number_of, AllPassing}
-use Rattle.event_headers.specs.Headers.{IsState, StateFits, Fits, IsStateValue, IsToken, IsSmallToken}
-use Rattle.event_headers.proofs.Pieces.{bind_some, some_is, and_both}
-use Rattle.event_headers.proofs.Utf8.{token_small}
-use Rattle.event_headers.proofs.Words.{named_takes, named_again, digit_small}
-use Rattle.event_headers.proofs.Framing.{token_with_takes, token_with_again}
+use Rattle.sip_text.specs.Reading.{◌>>=◌, word_named}
+use Rattle.sip_text.specs.Reading.{token_with, is_in_range}
+use Rattle.event_headers.specs.HeaderReading.{state_with, state_of, state_fits, seconds_fit, kept_seconds}
+use Rattle.sip_text.specs.Grammar.{IsWordNamed, Parameter, number_of, AllPassing}
+use Rattle.sip_text.specs.Grammar.{IsToken, IsSmallToken}
+use Rattle.event_headers.specs.Headers.{IsState, StateFits, Fits, IsStateValue}
+use Rattle.sip_text.proofs.Pieces.{bind_some, some_is, and_both}
+use Rattle.sip_text.proofs.Utf8.{token_small}
+use Rattle.sip_text.proofs.Words.{named_takes, named_again, digit_small}
+use Rattle.sip_text.proofs.Framing.{token_with_takes, token_with_again}
 
 abbrev kept : List ℕ → Option (List ℕ) → Option (List ℕ) → Option (List ℕ) → StateValue
 kept word expires reason retry_after = record { word = str_to_ascii_lowercase word; expires = option_map number_of expires; reason = option_map str_to_ascii_lowercase reason; retry_after = option_map number_of retry_after }

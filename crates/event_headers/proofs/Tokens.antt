@@ -3,12 +3,12 @@ use Rattle.std.proofs.Common.{◌≡◌, ◌<◌, ◌^◌, ℕ, true, List, [], 
 use Rattle.std.specs.Prelude.{decimal, nat_lt}
 use Rattle.std.specs.List.{list_all}
 use Rattle.std.proofs.lemmas.Bool.Decides.{nat_tests}
-use Rattle.event_headers.specs.declared.scan.Class.TheVariants as class
-use Rattle.event_headers.specs.Bytes.{is_in}
-use Rattle.event_headers.specs.Grammar.{AllPassing}
-use Rattle.event_headers.specs.Headers.{IsToken, IsSmallToken}
-use Rattle.event_headers.specs.Tokens.{is_token, is_small_token}
-use Rattle.event_headers.proofs.Pieces.{and_both}
+use Rattle.sip_text.specs.declared.scan.Class.TheVariants as class
+use Rattle.sip_text.specs.Bytes.{is_in}
+use Rattle.sip_text.specs.Grammar.{AllPassing}
+use Rattle.sip_text.specs.Grammar.{IsToken, IsSmallToken}
+use Rattle.sip_text.specs.Tokens.{is_token, is_small_token}
+use Rattle.sip_text.proofs.Pieces.{and_both}
 use Rattle.event_headers.proofs.WrittenTexts.{spelled}
 
 pub token_tested : (text : List ℕ) → is_token text ≡ true → IsToken text

@@ -9,16 +9,17 @@ use Rattle.std.proofs.lemmas.Bool.Decides.{nat_tests}
 use Rattle.std.proofs.lemmas.Fmt.{decimal_by_steps}
 use Rattle.std.proofs.lemmas.List.{append-nil, reverse-append, length-reverse, take_more, take_all}
 use Rattle.std.proofs.lemmas.List.Sums.{fold-append}
-use Rattle.event_headers.specs.declared.scan.Class.{Class}
-use Rattle.event_headers.specs.declared.scan.Class.TheVariants as class
-use Rattle.event_headers.specs.Bytes.{is_in, is_space}
+use Rattle.sip_text.specs.declared.scan.Class.{Class}
+use Rattle.sip_text.specs.declared.scan.Class.TheVariants as class
+use Rattle.sip_text.specs.Bytes.{is_in, is_space}
 use Rattle.event_headers.specs.Values.{EventValue, StateValue, Range}
-use Rattle.event_headers.specs.Grammar.{AllPassing, IsWord, Stops, IsValue, Parameter, IsParameter, AreParameters, values_named, IsWordNamed, AreElements, number_of}
-use Rattle.event_headers.specs.Headers.{IsToken, IsSmallToken, IsEvent, IsEventValue, IsState, IsStateValue, IsExpires, Fits, IsRange, IsAccept, IsRangeValue}
+use Rattle.sip_text.specs.Grammar.{AllPassing, IsWord, Stops, IsValue, Parameter, IsParameter, AreParameters, values_named, IsWordNamed, AreElements, number_of}
+use Rattle.sip_text.specs.Grammar.{IsToken, IsSmallToken}
+use Rattle.event_headers.specs.Headers.{IsEvent, IsEventValue, IsState, IsStateValue, IsExpires, Fits, IsRange, IsAccept, IsRangeValue}
 use Rattle.event_headers.specs.Written.{parameter_text, comma_joined, event_text, state_text, expires_text, range_text, next_ranges, accept_text}
 use Rattle.event_headers.specs.Laws.{EventIsReadAgain, StateIsReadAgain, ExpiresIsReadAgain, AcceptIsReadAgain}
-use Rattle.event_headers.proofs.Pieces.{and_both, NoSpace, word_stops_spaces}
-use Rattle.event_headers.proofs.Trims.{all-append, all-reverse}
+use Rattle.sip_text.proofs.Pieces.{and_both, NoSpace, word_stops_spaces}
+use Rattle.sip_text.proofs.Trims.{all-append, all-reverse}
 
 -- ---- what stands in a value
 

@@ -1,21 +1,13 @@
 -- What the readers of the four headers compute, as functions on lists. The grammars (Headers) are what they come to.
-use Rattle.std.specs.Prelude.{ℕ, Bool, true, ◌&&◌, ◌^◌, nat_lt, List, [], ◌∷◌, Option, Some, None, option_map, Result, Ok, Err, if◌then◌else◌, codes}
+use Rattle.std.specs.Prelude.{ℕ, Bool, true, ◌&&◌, List, [], ◌∷◌, Option, Some, None, option_map, Result, Ok, Err, if◌then◌else◌, codes}
 use Rattle.event_headers.specs.declared.error.HeaderError.{HeaderError}
 use Rattle.event_headers.specs.declared.error.HeaderError.TheVariants as errors
-use Rattle.std.specs.List.{list_all}
 use Rattle.std.specs.Str.{str_to_ascii_lowercase}
-use Rattle.event_headers.specs.declared.scan.Class.TheVariants as class
-use Rattle.event_headers.specs.Bytes.{is_in, is_space}
+use Rattle.sip_text.specs.declared.scan.Class.TheVariants as class
+use Rattle.sip_text.specs.Bytes.{is_in}
 use Rattle.event_headers.specs.Values.{EventValue, StateValue, Range}
-use Rattle.event_headers.specs.Grammar.{Parameter, number_of}
-use Rattle.event_headers.specs.Reading.{◌>>=◌, span_at, after_byte, after_spaces, trimmed, word_at, word_named, some_of, elements_of}
-
--- a token with parameters, and spaces around them
-unfoldable pub token_with : List ℕ → Option (List ℕ × List Parameter)
-token_with t = do
-  token ← word_at (is_in class.Token) (after_spaces t)
-  ps ← some_of token.1
-  if list_all is_space ps.1 then Some (token.0, ps.0) else None
+use Rattle.sip_text.specs.Grammar.{Parameter, number_of}
+use Rattle.sip_text.specs.Reading.{◌>>=◌, after_byte, after_spaces, trimmed, word_at, word_named, some_of, elements_of, token_with, digits_of, is_in_range}
 
 unfoldable pub event_of : List ℕ → Option EventValue
 event_of t = do
@@ -35,12 +27,6 @@ unfoldable pub state_of : List ℕ → Option StateValue
 state_of t = do
   x ← token_with t
   state_with x.0 x.1
-
--- digits with spaces around them
-unfoldable pub digits_of : List ℕ → Option (List ℕ)
-digits_of t = do
-  digits ← span_at (is_in class.Digit) (after_spaces t)
-  if list_all is_space digits.1 then Some digits.0 else None
 
 unfoldable pub expires_of : List ℕ → Option ℕ
 expires_of t = do
@@ -70,9 +56,6 @@ abbrev pub accept_of : List ℕ → Option (List Range)
 accept_of t = ranges_of (trimmed t)
 
 -- ---- what a reader answers
-
-abbrev pub is_in_range : ℕ → Bool
-is_in_range n = nat_lt n (2 ^ 32)
 
 abbrev pub seconds_fit : Option ℕ → Bool
 seconds_fit None = true

@@ -4,7 +4,7 @@ use Rattle.std.specs.Str.{str_to_ascii_lowercase}
 use Rattle.event_headers.specs.declared.written_range.WrittenRange.{WrittenRange}
 use Rattle.event_headers.specs.declared.event.WrittenEvent.{WrittenEvent}
 use Rattle.event_headers.specs.declared.state.WrittenState.{WrittenState}
-use Rattle.event_headers.specs.Grammar.{number_of}
+use Rattle.sip_text.specs.Grammar.{number_of}
 use Rattle.event_headers.specs.Values.{EventValue, StateValue, Range}
 
 abbrev pub event_seen : WrittenEvent → EventValue

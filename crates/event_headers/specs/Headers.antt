@@ -4,24 +4,11 @@ use Rattle.std.specs.Prelude.{◌≡◌, ◌<◌, ◌^◌, ℕ, List, [], ◌∷
 use Rattle.std.specs.Str.{str_to_ascii_lowercase}
 use Rattle.event_headers.specs.declared.error.HeaderError.{HeaderError}
 use Rattle.event_headers.specs.declared.error.HeaderError.TheVariants as errors
-use Rattle.event_headers.specs.declared.scan.Class.TheVariants as class
+use Rattle.sip_text.specs.declared.scan.Class.TheVariants as class
 use Rattle.event_headers.specs.Values.{EventValue, StateValue, Range}
-use Rattle.event_headers.specs.Bytes.{is_in}
-use Rattle.event_headers.specs.Grammar.{AllPassing, AreSpaces, IsWord, IsTrimmed, Parameter, AreParameters, IsWordNamed, AreElements, number_of}
+use Rattle.sip_text.specs.Grammar.{AreSpaces, IsWord, IsTrimmed, Parameter, AreParameters, IsWordNamed, AreElements, number_of, IsTokenWith, IsToken, IsSmallToken}
 
 -- ---- Event and Subscription-State
-
--- a token with parameters:
---   WS token *param WS
-pub record IsTokenWith (text token : List ℕ) (parameters : List Parameter) : Type 0 where
-  pub left : List ℕ
-  pub behind : List ℕ
-  pub right : List ℕ
-  pub spaces_left : AreSpaces left
-  pub spaces_right : AreSpaces right
-  pub is_token : IsWord class.Token token
-  pub are : AreParameters behind parameters
-  pub whole : text ≡ left ++ (token ++ (behind ++ right))
 
 -- Event (RFC 6665 section 8.4): the package, and the id, which is a token, if a parameter has this name. At most one has it. The others are
 -- dropped. Names of parameters ignore case.
@@ -139,13 +126,6 @@ abbrev pub IsExact : {V : Type 0} → (List ℕ → V → Type 0) → (V → Typ
 IsExact {V} Is Fits = (text : List ℕ) → (r : Result V HeaderError) × Says Is Fits text r × ((q : Result V HeaderError) → Says Is Fits text q → q ≡ r)
 
 -- ---- which values there are
-
-abbrev pub IsToken : List ℕ → Type 0
-IsToken text = IsWord class.Token text
-
--- a token in small letters
-abbrev pub IsSmallToken : List ℕ → Type 0
-IsSmallToken text = IsToken text × AllPassing (is_in class.Small) text
 
 abbrev pub IsEventValue : EventValue → Type 0
 IsEventValue e = IsToken e.package × IfSome e.id IsToken

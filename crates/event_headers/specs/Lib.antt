@@ -1,13 +1,8 @@
 pub mod Values
 pub mod Written
-pub mod Bytes
-pub mod Grammar
-pub mod Reading
-pub mod Views
 pub mod Headers
 pub mod HeaderReading
 pub mod HeaderViews
 pub mod Codes
 pub mod Covering
 pub mod Laws
-pub mod Tokens

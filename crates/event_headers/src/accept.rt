@@ -7,19 +7,18 @@ ghost use Rattle.event_headers.specs.Headers.{IsAccept, RangesFit, Says, IsSaid,
 ghost use Rattle.event_headers.specs.Values as values;
 ghost use Rattle.event_headers.specs.Written.{range_text, next_ranges, accept_text};
 ghost use Rattle.event_headers.specs.Covering.{is_slash, ends_type, bare_type, type_of, subtype_of, is_matched, covers};
-ghost use Rattle.event_headers.specs.Bytes.{Finds, Gives};
+ghost use Rattle.sip_text.specs.Bytes.{Finds, Gives};
 ghost use Rattle.event_headers.specs.HeaderReading.{pair_at, ranges_of, accept_of, ranges_fit, outcome};
 ghost use Rattle.event_headers.specs.HeaderViews.{range_seen};
 
 use crate::append::append_text;
-use crate::element::{Element, elements_of};
-use crate::error::{HeaderError, NoMemory};
-use crate::parameter::some_of;
-use crate::scan::{Class, after_byte, skip_spaces, trim};
-use crate::text::{Text, Values};
+use crate::error::HeaderError;
 use crate::values::Range;
-use crate::word::word_at;
 use crate::written_range::WrittenRange;
+use sip_text::{
+    Class, Element, NoMemory, Text, Values, after_byte, elements_of, skip_spaces, some_of, trim,
+    word_at,
+};
 use std::alloc::Global;
 
 /// A range at the front without its parameters, and the rest.

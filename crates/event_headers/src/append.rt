@@ -2,7 +2,7 @@
 ghost use Rattle.std.specs.Prelude.{◌≡◌, ◌++◌, option_map, decimal, OnOk, OnErr, string_bytes};
 ghost use Rattle.event_headers.specs.Written.{parameter_text};
 
-use crate::error::NoMemory;
+use sip_text::NoMemory;
 
 /// Appends `;name=value`, where there is a value.
 pub fn append_parameter(name: &str, value: Option<&str>, out: &mut String) -> Result<(), NoMemory>

@@ -4,25 +4,9 @@ ghost use Rattle.std.specs.Prelude.{◌≡◌};
 ghost use Rattle.event_headers.specs.Codes.{header_number};
 ghost use Rattle.event_headers.specs.declared.error.HeaderError.TheVariants as errors;
 
+use sip_text::NoMemory;
 use std::alloc::{AllocError, AllocFailed};
 use thiserror::Error;
-
-/// A growth was refused: there is no memory.
-#[derive(Clone, Copy, Debug, PartialEq, Eq, Error)]
-#[error("out of memory")]
-pub struct NoMemory;
-
-impl From<AllocError> for NoMemory {
-    fn from(_refused: AllocError) -> NoMemory {
-        NoMemory
-    }
-}
-
-impl<T: Drop> From<AllocFailed<T>> for NoMemory {
-    fn from(_refused: AllocFailed<T>) -> NoMemory {
-        NoMemory
-    }
-}
 
 /// Why the value of a header isn't read.
 #[derive(Clone, Copy, Debug, PartialEq, Eq, Error)]

@@ -1,7 +1,7 @@
 //! Event (RFC 6665 section 8.2.1).
 ghost use Rattle.std.specs.Prelude.{◌≡◌, ◌++◌, ℕ, List, option_map, string_bytes, Result, IfOk, OnOk, OnErr};
 ghost use Rattle.event_headers.specs.declared.error.HeaderError.{HeaderError};
-ghost use Rattle.event_headers.specs.Bytes.{Gives};
+ghost use Rattle.sip_text.specs.Bytes.{Gives};
 ghost use Rattle.event_headers.specs.Headers.{IsEvent, EventFits, Says, IsSaid, Answers};
 ghost use Rattle.event_headers.specs.HeaderReading.{event_of, event_fits, outcome};
 ghost use Rattle.event_headers.specs.HeaderViews.{event_seen};
@@ -9,12 +9,9 @@ ghost use Rattle.event_headers.specs.Values as values;
 ghost use Rattle.event_headers.specs.Written.{event_text};
 
 use crate::append::{append_parameter, append_text};
-use crate::error::{HeaderError, NoMemory};
-use crate::framed::token_with;
-use crate::parameter::word_named;
-use crate::scan::Class;
-use crate::text::{Text, some_copy};
+use crate::error::HeaderError;
 use crate::values::EventValue;
+use sip_text::{Class, NoMemory, Text, some_copy, token_with, word_named};
 use std::alloc::Global;
 
 /// An Event value as it stands in the text.
@@ -61,7 +58,7 @@ pub fn read_event(alloc: Global, text: &[u8]) -> Result<EventValue, HeaderError>
 }
 
 /// Appends the written form of an Event value: `package` or `package;id=x`. After an error a part of it may stand there.
-pub fn append_event(event: &EventValue, out: &mut String) -> Result<(), NoMemory>
+fn append_event(event: &EventValue, out: &mut String) -> Result<(), NoMemory>
     ensures { OnOk result (string_bytes out.new ≡ string_bytes out.old ++ event_text event.now) }
 {
     out.push_str(event.package())?;

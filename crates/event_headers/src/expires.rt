@@ -6,8 +6,8 @@ ghost use Rattle.event_headers.specs.HeaderReading.{expires_of, expires_fits, ou
 ghost use Rattle.event_headers.specs.Written.{expires_text};
 
 use crate::append::append_text;
-use crate::error::{HeaderError, NoMemory};
-use crate::framed::{digits_of, seconds_of};
+use crate::error::HeaderError;
+use sip_text::{NoMemory, digits_of, seconds_of};
 use std::alloc::Global;
 
 /// What the text says as an Expires value.

@@ -1,9 +1,6 @@
 //! Laws of the four headers, each the contract of a function that does nothing.
-ghost use Rattle.std.specs.Prelude.{All};
-ghost use Rattle.event_headers.specs.Headers.{IsEvent, EventFits, IsState, StateFits, IsExpires, Fits, IsAccept, RangesFit, IsRangeValue, IsExact};
+ghost use Rattle.event_headers.specs.Headers.{IsEvent, EventFits, IsState, StateFits, IsExpires, Fits, IsAccept, RangesFit, IsExact};
 ghost use Rattle.event_headers.specs.Laws.{EventIsReadAgain, StateIsReadAgain, ExpiresIsReadAgain, AcceptIsReadAgain};
-
-use crate::values::Range;
 
 /// Each text says exactly one Event value, or Grammar.
 pub fn event_says_one()
@@ -44,12 +41,3 @@ pub fn expires_is_read_again()
 pub fn accept_is_read_again()
     ensures { AcceptIsReadAgain }
 {}
-
-/// The parts of each of these ranges are tokens in small letters.
-pub fn ranges_keep_grammar(ranges: &[Range])
-    ensures { All IsRangeValue ranges.now }
-{
-    for range in ranges {
-        range.keeps_grammar();
-    }
-}

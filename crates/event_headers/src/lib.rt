@@ -4,36 +4,27 @@
 //! reader answers just that, want of memory apart. Each writer appends the one text of a value (`specs/Written`), and what is written is read as
 //! the same value (`laws`). A value's texts are tokens by its type, so no reader of a value asks again.
 //!
-//! Begin with [`EventValue`], [`StateValue`] and [`Range`], then [`read_event`] and [`write_event`]. The levels of the grammar, which a reader of
-//! whole messages shares, stand in `scan` (bytes of a class), `word`, `parameter` and `element` (lists at commas); their relations are in
-//! `specs/Grammar`, and what the code computes, as functions on lists, in `specs/Reading` and `specs/HeaderReading`.
-//! [`Text`], [`Octets`] and [`Values`] are texts, bytes and lists that contracts see as lists; [`Field`] is a header that may stand once.
+//! Begin with [`EventValue`], [`StateValue`] and [`Range`], then [`read_event`] and [`write_event`]. The pieces of a header's value, which a reader
+//! of whole messages shares, stand in `sip_text`, and so do the types of texts and lists; what the code computes of a header, as functions on
+//! lists, is in `specs/HeaderReading`.
 #![tactic(auto)]
 
-pub mod accept;
+mod accept;
 mod append;
-pub mod element;
-pub mod error;
-pub mod event;
-pub mod expires;
-pub mod field;
-mod framed;
+mod error;
+mod event;
+mod expires;
 pub mod laws;
-pub mod parameter;
-pub mod scan;
-pub mod state;
+mod state;
 #[cfg(test)]
 mod tests;
-pub mod text;
-pub mod values;
-pub mod word;
-pub mod written_range;
+mod values;
+mod written_range;
 
 pub use accept::{covers, read_accept, write_accept};
-pub use error::{HeaderError, NoMemory};
-pub use event::{append_event, read_event, write_event};
+pub use error::HeaderError;
+pub use event::{read_event, write_event};
 pub use expires::{read_expires, write_expires};
-pub use field::Field;
-pub use state::{append_state, read_state, write_state};
-pub use text::{Octets, Text, Values};
+pub use sip_text::{Field, NoMemory};
+pub use state::{read_state, write_state};
 pub use values::{EventValue, Range, StateValue};

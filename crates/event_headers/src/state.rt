@@ -1,23 +1,20 @@
 //! Subscription-State (RFC 6665 section 8.2.3).
 ghost use Rattle.std.specs.Prelude.{◌≡◌, ◌++◌, ℕ, List, option_map, string_bytes, Result, IfOk, OnOk, OnErr};
 ghost use Rattle.std.specs.Str.{str_to_ascii_lowercase};
-ghost use Rattle.event_headers.specs.Grammar.{number_of};
+ghost use Rattle.sip_text.specs.Grammar.{number_of};
 ghost use Rattle.event_headers.specs.Headers.{IsState, StateFits, Says, IsSaid, Answers, IsStateValue};
 ghost use Rattle.event_headers.specs.Values as values;
 ghost use Rattle.event_headers.specs.Written.{state_text};
 ghost use Rattle.event_headers.specs.declared.error.HeaderError.{HeaderError};
-ghost use Rattle.event_headers.specs.Bytes.{Finds, Gives};
-ghost use Rattle.event_headers.specs.Views.{views};
+ghost use Rattle.sip_text.specs.Bytes.{Finds, Gives};
+ghost use Rattle.sip_text.specs.Views.{views};
 ghost use Rattle.event_headers.specs.HeaderReading.{state_of, state_with, state_fits, kept_seconds, outcome};
 ghost use Rattle.event_headers.specs.HeaderViews.{state_seen};
 
 use crate::append::{append_parameter, append_seconds, append_text};
-use crate::error::{HeaderError, NoMemory};
-use crate::framed::{seconds_of, token_with};
-use crate::parameter::{Parameter, word_named};
-use crate::scan::Class;
-use crate::text::Text;
+use crate::error::HeaderError;
 use crate::values::StateValue;
+use sip_text::{Class, NoMemory, Parameter, Text, seconds_of, token_with, word_named};
 use std::alloc::Global;
 
 /// A Subscription-State value as it stands in the text.
@@ -109,7 +106,7 @@ pub fn read_state(alloc: Global, text: &[u8]) -> Result<StateValue, HeaderError>
 
 /// Appends the written form of a Subscription-State value: the word, then `;expires=n`, `;reason=x`, `;retry-after=n` as far as present. After
 /// an error a part of it may stand there.
-pub fn append_state(state: &StateValue, out: &mut String) -> Result<(), NoMemory>
+fn append_state(state: &StateValue, out: &mut String) -> Result<(), NoMemory>
     ensures { OnOk result (string_bytes out.new ≡ string_bytes out.old ++ state_text state.now) }
 {
     out.push_str(state.word())?;

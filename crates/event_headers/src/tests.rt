@@ -1,10 +1,11 @@
 //! Worked examples of the four headers.
 use crate::accept::{covers, read_accept, write_accept};
-use crate::error::{HeaderError, NoMemory};
+use crate::error::HeaderError;
 use crate::event::{read_event, write_event};
 use crate::expires::{read_expires, write_expires};
 use crate::state::{read_state, write_state};
 use crate::values::{EventValue, Range, StateValue};
+use sip_text::NoMemory;
 use std::alloc::Global;
 use std::test::*;
 

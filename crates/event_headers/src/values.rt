@@ -1,13 +1,11 @@
 //! What the event headers say, as values.
 ghost use Rattle.std.specs.Prelude.{◌≡◌, ℕ, List, Some, decimal, option_map, string_bytes, IfOk, IfSome, IsSome, IsTrue, ◌↔◌};
-ghost use Rattle.event_headers.specs.Headers.{IsToken, IsSmallToken, IsEventValue, IsStateValue, IsRangeValue};
-ghost use Rattle.event_headers.specs.Tokens.{is_token, is_small_token};
+ghost use Rattle.sip_text.specs.Grammar.{IsToken, IsSmallToken};
+ghost use Rattle.event_headers.specs.Headers.{IsEventValue, IsStateValue, IsRangeValue};
+ghost use Rattle.sip_text.specs.Tokens.{is_token, is_small_token};
 ghost use Rattle.event_headers.specs.Values as values;
 
-use crate::error::NoMemory;
-use crate::scan::Class;
-use crate::text::{Text, some_copy};
-use crate::word::all_in;
+use sip_text::{Class, NoMemory, Text, all_in, some_copy};
 use std::alloc::Global;
 use std::marker::Model;
 
@@ -113,13 +111,6 @@ impl EventValue {
         Ok(EventValue { package, id })
     }
 
-    /// It does nothing. Its contract tells a caller that the package and the id are tokens.
-    pub fn keeps_grammar(&self)
-        ensures { IsEventValue self.now }
-    {
-        let _package = &self.package;
-    }
-
     /// The event package.
     pub fn package(&self) -> &str
         ensures { result.now ≡ self.now.package }
@@ -222,13 +213,6 @@ impl StateValue {
         })
     }
 
-    /// It does nothing. Its contract tells a caller that the word and the reason are tokens in small letters.
-    pub fn keeps_grammar(&self)
-        ensures { IsStateValue self.now }
-    {
-        let _word = &self.word;
-    }
-
     /// The state of the subscription, in small letters.
     pub fn word(&self) -> &str
         ensures { result.now ≡ self.now.word }
@@ -297,13 +281,6 @@ impl Range {
         ensures { result ≡ record { main = main; sub = sub } }
     {
         Range { main, sub }
-    }
-
-    /// It does nothing. Its contract tells a caller that both parts are tokens in small letters.
-    pub fn keeps_grammar(&self)
-        ensures { IsRangeValue self.now }
-    {
-        let _main = &self.main;
     }
 
     /// The type, or `*`.

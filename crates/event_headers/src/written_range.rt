@@ -1,5 +1,5 @@
 //! A range of Accept that borrows from the text.
-ghost use Rattle.event_headers.specs.Headers.{IsToken};
+ghost use Rattle.sip_text.specs.Grammar.{IsToken};
 
 /// A range as it stands in the text: two tokens.
 #[derive(Clone, Copy)]

@@ -7,7 +7,7 @@ use Rattle.notifier.specs.Limits.{Limits}
 use Rattle.notifier.specs.Start.{Start}
 use Rattle.notifier.specs.declared.event.Event.{Event}
 use Rattle.notifier.specs.Out.{Notification, is_last}
-use Rattle.lives.specs.Life.{Life, is_touched, terminated, is_disowned, is_gone}
+use Rattle.lives.specs.Life.{Life, is_touched, terminated, is_removed, is_gone}
 use Rattle.lives.specs.Lives.{lived, befalls, or_before, births, life, birth_at, befell}
 use Rattle.lives.specs.Notices.{phase, notice_of, notices_at, notices}
 use Rattle.lives.specs.Laws.{ends_once, EndsLaw}
@@ -59,7 +59,7 @@ active_at : (start : Start) (es : List Event) (m : Life) → is_gone start.place
 unfolding all_active notices_at notice_of is_gone
 active_at start es m alive = by_reason (terminated start.place.limits m) refl alive
   where
-    by_reason : (o : Option Reason) → terminated start.place.limits m ≡ o → (is_some o || is_disowned m) ≡ false → all_active (if is_touched start.place.limits m then notice_of start es m ∷ [] else []) ≡ true
+    by_reason : (o : Option Reason) → terminated start.place.limits m ≡ o → (is_some o || is_removed m) ≡ false → all_active (if is_touched start.place.limits m then notice_of start es m ∷ [] else []) ≡ true
     by_reason (Some reason) e f = absurd (cc)
     by_reason None e f = if_is (λ (ns : List Notification). all_active ns ≡ true) (is_touched start.place.limits m) (notice_of start es m ∷ []) [] (λ t. unfold all_active notice_of phase in (rw e refl)) (λ t. refl)
 

@@ -2,8 +2,9 @@
 use Rattle.std.proofs.Common.{◌≡◌, ℕ, ◌+◌, ◌-◌, List, [], ◌∷◌, Option, Some, None, Bool, true, false, not, ◌&&◌, refl, sym, ◌∙◌, ap, ◌⊎◌, inl, inr, arith, subst}
 use Rattle.std.specs.Prelude.{if◌then◌else◌, ◌==◌, find, nat_lt, is_none, unwrap_or}
 use Rattle.std.proofs.lemmas.Bool.Decides.{nat_tests}
+use Rattle.std.proofs.lemmas.List.{append-nil}
 use Rattle.lives.proofs.Texts.{Bytes, not_true, and-false, if_is}
-use Rattle.sip_read.specs.declared.message.Addr.{Addr}
+use Rattle.sip_text.specs.declared.address.Addr.{Addr}
 use Rattle.sip_read.specs.declared.message.Request.{Request}
 use Rattle.notifier.specs.Fields.{value_of, same_event}
 use Rattle.package.specs.Content.{Seen}
@@ -21,29 +22,37 @@ use Rattle.notifier.specs.declared.refusal.Refusal.TheVariants.{NoDialog, OldCse
 use Rattle.notifier.specs.Requests.{is_refer, event_of, asked, granted, asks_nothing, is_too_brief, misfit, unheard}
 use Rattle.sip_write.specs.Answer.{answer_text}
 use Rattle.notifier.specs.declared.row.Row.{Row}
-use Rattle.notifier.specs.Book.{Book, keeping, refused, heard, in_dialog}
-use Rattle.notifier.specs.Rows.{renewed_sub, stays, turned, only, is_dialog, counted, renewed}
+use Rattle.notifier.specs.Book.{Book, Refused, keeping, refused, denied, accepted, served, unless_denied, in_dialog}
+use Rattle.notifier.specs.Rows.{renewed_sub, stays, opened, with_sub, turned, only, is_dialog, counted, renewed}
 use Rattle.notifier.specs.Answers.{refusal_answer, renewal_answer}
 use Rattle.notifier.specs.Out.{Answers, notifications}
-use Rattle.lives.specs.Past.{now, is_fresh, fits}
-use Rattle.lives.specs.Life.{Life, Heard, birth, is_accepted, is_above, end_of_grant, address, status, is_touched, number, is_timed_out, is_over, terminated, is_disowned, is_gone}
+use Rattle.lives.specs.Past.{now, is_fresh}
+use Rattle.lives.specs.Life.{Life, Then, Heard, birth, last_heard, is_accepted, is_above, end_of_grant, address, status, is_touched, number, just_made, unanswered, ended, terminated, is_removed, is_gone}
 use Rattle.lives.specs.Lives.{births, life, birth_at}
 use Rattle.lives.specs.Notices.{notices_at, body}
-use Rattle.lives.proofs.Rows.{last_cseq, target_of, accepted_cseq, usage_of, want_of, sub_of, row_of, live_row, rows_to}
+use Rattle.lives.proofs.Rows.{last_cseq, target_of, usage_of, want_of, sub_of, row_of, live_row, rows_to}
+use Rattle.lives.proofs.Deeds.{address-accepted, address-refused, cseq-accepted, cseq-refused, end-granted, end-not_granted}
 use Rattle.lives.proofs.NextLives.{Ranges}
 use Rattle.lives.proofs.SoundLives.{sound_of}
 use Rattle.lives.proofs.Turns.{Follows, over_follows, told_follows}
 use Rattle.lives.proofs.Invariant.{Holdings, Holds, Goes, life_small}
 use Rattle.lives.proofs.RepliesAndTicks.{by_all_rows, holdings_quiet, body-is}
-use Rattle.lives.proofs.RefusedRequests.{Nobody_hears, ring_goes, refused_goes, Somebody, Nobody, look_up, others_not, fits-dialog, no_birth, heard-is, range_of, dialog_rules}
+use Rattle.lives.proofs.RefusedRequests.{Nobody_hears, ring_goes, refused_goes, Somebody, Nobody, look_up, others_not, no_birth, heard-is, range_of, dialog_rules}
 
 -- ---- what the rule does is what the life says
 
 -- a refused request that was heard moves the CSeq alone
-counted_follows : (start : Start) (past : List Event) (source : Addr) (r : Request) (s : ℕ) (l : Life) → is_gone start.place.limits l ≡ false → is_accepted start.place.limits (birth l) r ≡ false → Follows start s (Comes source r ∷ past) (counted r (row_of start s l)) (Heard (now past) source r l)
-unfolding counted stays notices_at notifications live_row is_gone terminated is_timed_out is_over is_touched is_disowned row_of sub_of usage_of want_of target_of accepted_cseq number address end_of_grant birth last_cseq
+counted_follows : (start : Start) (past : List Event) (source : Addr) (r : Request) (s : ℕ) (l : Life) → is_gone start.place.limits l ≡ false → is_accepted start.place.limits (birth l) r ≡ false → Follows start s (Comes source r ∷ past) (counted r (row_of start s l)) (Then (now past) (Heard source r) l)
+unfolding counted stays notices_at notifications live_row is_gone terminated is_touched is_removed row_of sub_of usage_of want_of target_of number birth last_cseq unanswered just_made
 counted_follows start past source r s l alive refused_one = record {
-  row = rw (refused_one, zero_more (number start.place.limits l)) refl;
+  row = rw (
+    address-refused start.place.limits (now past) source r l refused_one,
+    cseq-refused start.place.limits (now past) source r l refused_one,
+    end-not_granted start.place.limits (now past) source r l (ap (λ (d : Bool). d && nat_lt 0 (asked start.place.limits r)) refused_one),
+    refused_one,
+    zero_more (number start.place.limits l),
+    append-nil (unanswered start.place.limits l),
+  ) refl;
   own = rw refused_one refl;
   others = λ tag f. refl;
 }
@@ -52,8 +61,8 @@ counted_follows start past source r s l alive refused_one = record {
     zero_more n = omega arith
 
 heard_body : (start : Start) (past : List Event) (source : Addr) (r : Request) (boxes : List Seen) (s : ℕ) (l : Life) → Ranges start.place.limits → birth_at start past (Comes source r) ≡ None → Holdings start past boxes → life start past s ≡ Some l → is_gone start.place.limits l ≡ false
-    → body_of_held (content_in boxes (want_of start s l).event.package (want_of start s l).resource) ≡ body start (Comes source r ∷ past) (Heard (now past) source r l)
-unfolding body birth status want_of address
+    → body_of_held (content_in boxes (want_of start s l).event.package (want_of start s l).resource) ≡ body start (Comes source r ∷ past) (Then (now past) (Heard source r) l)
+unfolding body birth status want_of address last_heard
 heard_body start past source r boxes s l ok none hold is alive =
     body-is start (Comes source r ∷ past) boxes s l (sound_of start past s l ok is).plain (holdings_quiet start past (Comes source r) boxes none refl hold).contents (hold.transfers s l is alive)
 
@@ -81,35 +90,35 @@ asks-more limits r plain h = positive (asked limits r) (subst (λ (d : Bool). (n
 
 -- asked 0: it ends
 renewed_over : (start : Start) (past : List Event) (b : Book) (source : Addr) (r : Request) (s : ℕ) (l : Life) → is_accepted start.place.limits (birth l) r ≡ true → asks_nothing start.place.limits r ≡ true
-    → body_of_held (content_in b.boxes (want_of start s l).event.package (want_of start s l).resource) ≡ body start (Comes source r ∷ past) (Heard (now past) source r l)
-    → Follows start s (Comes source r ∷ past) (turned start.place b.boxes source (row_of start s l).sub.want (row_of start s l).serial r.head.cseq (over (end (row_of start s l).sub Timeout))) (Heard (now past) source r l)
+    → body_of_held (content_in b.boxes (want_of start s l).event.package (want_of start s l).resource) ≡ body start (Comes source r ∷ past) (Then (now past) (Heard source r) l)
+    → Follows start s (Comes source r ∷ past) (turned start.place b.boxes b.clock source (row_of start s l).sub.want (with_sub (record (row_of start s l) { last_cseq = r.head.cseq })) (over (end (row_of start s l).sub Timeout))) (Then (now past) (Heard source r) l)
 unfolding end row_of sub_of usage_of
 renewed_over start past b source r s l accepted zero_asked same_body =
-    over_follows start b.boxes source (want_of start s l) (r.head.cseq) (usage_of start s l) (number start.place.limits l + 1) Timeout s (Comes source r ∷ past) (Heard (now past) source r l)
-    refl (unfold number in (rw accepted refl)) (unfold address in (rw accepted refl)) same_body (unfold is_touched in accepted) (unfold terminated is_timed_out in (rw (accepted, zero_asked) refl))
+    over_follows start b.boxes b.clock source (want_of start s l) (with_sub (record (row_of start s l) { last_cseq = r.head.cseq })) (usage_of start s l) (number start.place.limits l + 1) Timeout s (Comes source r ∷ past) (Then (now past) (Heard source r) l)
+    refl (unfold number is_touched in (rw accepted refl)) (sym (address-accepted start.place.limits (now past) source r l accepted)) same_body (unfold is_touched in accepted) (unfold terminated is_touched ended in (rw (accepted, zero_asked) refl))
 
 -- or goes on
 renewed_on : (start : Start) (past : List Event) (b : Book) (source : Addr) (r : Request) (s : ℕ) (l : Life) → b.clock ≡ now past → is_accepted start.place.limits (birth l) r ≡ true → asks_nothing start.place.limits r ≡ false
-    → body_of_held (content_in b.boxes (want_of start s l).event.package (want_of start s l).resource) ≡ body start (Comes source r ∷ past) (Heard (now past) source r l)
-    → Follows start s (Comes source r ∷ past) (turned start.place b.boxes source (row_of start s l).sub.want (row_of start s l).serial r.head.cseq (refresh (row_of start s l).sub r.head.cseq (value_of r.contact) source b.clock (granted start.place.limits r))) (Heard (now past) source r l)
+    → body_of_held (content_in b.boxes (want_of start s l).event.package (want_of start s l).resource) ≡ body start (Comes source r ∷ past) (Then (now past) (Heard source r) l)
+    → Follows start s (Comes source r ∷ past) (turned start.place b.boxes b.clock source (row_of start s l).sub.want (with_sub (record (row_of start s l) { last_cseq = r.head.cseq })) (refresh (row_of start s l).sub r.head.cseq (value_of r.contact) source b.clock (granted start.place.limits r))) (Then (now past) (Heard source r) l)
 unfolding refresh row_of
 renewed_on start past b source r s l clock accepted some_asked same_body =
-    told_follows start b.boxes source (sub_of start s l).want (r.head.cseq)
+    told_follows start b.boxes b.clock source (sub_of start s l).want (with_sub (record (row_of start s l) { last_cseq = r.head.cseq }))
     (record {
       usage = record (sub_of start s l).usage { target = unwrap_or (value_of r.contact) (sub_of start s l).usage.target; remote_cseq = r.head.cseq };
       want = record (sub_of start s l).want { to = source };
       count = (sub_of start s l).count + 1;
       due = b.clock + granted start.place.limits r;
-    }) (granted start.place.limits r) s (Comes source r ∷ past) (Heard (now past) source r l)
-    next_sub (unfold address in (rw accepted refl)) (unfold sub_of in same_body) (unfold row_of last_cseq in refl) time (unfold is_touched in accepted) (unfold is_timed_out in (rw (accepted, some_asked) refl)) (unfold is_over in refl) (unfold is_disowned in refl)
+    }) (granted start.place.limits r) s (Comes source r ∷ past) (Then (now past) (Heard source r) l)
+    next_sub (sym (address-accepted start.place.limits (now past) source r l accepted)) (unfold sub_of in same_body) (unfold opened row_of last_cseq unanswered just_made is_touched in (rw (accepted, clock) refl)) time (unfold is_touched in accepted) (unfold ended in (rw some_asked refl)) (unfold is_removed in refl)
   where
     asks : nat_lt 0 (asked start.place.limits r) ≡ true
     asks = asks-more start.place.limits r (accepted-plain start.place.limits (birth l) r accepted) some_asked
 
-    due_is : end_of_grant start.place.limits (Heard (now past) source r l) ≡ now past + granted start.place.limits r
-    due_is = unfold end_of_grant in (rw (accepted, asks) refl)
+    due_is : end_of_grant start.place.limits (Then (now past) (Heard source r) l) ≡ now past + granted start.place.limits r
+    due_is = end-granted start.place.limits (now past) source r l (rw (accepted, asks) refl)
 
-    time : granted start.place.limits r ≡ end_of_grant start.place.limits (Heard (now past) source r l) - now (Comes source r ∷ past)
+    time : granted start.place.limits r ≡ end_of_grant start.place.limits (Then (now past) (Heard source r) l) - now (Comes source r ∷ past)
     time = rw due_is (unfold now in (omega arith))
 
     next_sub : (record {
@@ -117,14 +126,14 @@ renewed_on start past b source r s l clock accepted some_asked same_body =
       want = record (sub_of start s l).want { to = source };
       count = (sub_of start s l).count + 1;
       due = b.clock + granted start.place.limits r;
-    }) ≡ sub_of start s (Heard (now past) source r l)
-    next_sub = unfold sub_of usage_of want_of target_of accepted_cseq number address birth in rw (accepted, due_is, clock) refl
+    }) ≡ sub_of start s (Then (now past) (Heard source r) l)
+    next_sub = unfold sub_of usage_of want_of target_of number is_touched birth in rw (address-accepted start.place.limits (now past) source r l accepted, cseq-accepted start.place.limits (now past) source r l accepted, accepted, due_is, clock) refl
 
 -- ---- the step
 
-heard_goes : (start : Start) (past : List Event) (b : Book) (source : Addr) (r : Request) (tag : Bytes) (k : ℕ) (who : Life) → Ranges start.place.limits → Holds start past b → is_fresh start.place.limits past r ≡ true → fits start past r ≡ true → r.head.to.tag ≡ Some tag → life start past k ≡ Some who → is_gone start.place.limits who ≡ false → is_dialog r tag (row_of start k who) ≡ true → is_above who r.head.cseq ≡ true
-    → Goes start past (Comes source r) (heard start.place b source r k (unheard start.place.limits (event_of (birth who)) r))
-heard_goes start past b source r tag k who ok h fresh fitting to lives alive dialog above = by_cause (unheard start.place.limits (event_of (birth who)) r) refl
+heard_goes : (start : Start) (past : List Event) (b : Book) (source : Addr) (r : Request) (tag : Bytes) (k : ℕ) (who : Life) → Ranges start.place.limits → Holds start past b → is_fresh start.place.limits past r ≡ true → is_none (misfit r) ≡ true → r.head.to.tag ≡ Some tag → life start past k ≡ Some who → is_gone start.place.limits who ≡ false → is_dialog r tag (row_of start k who) ≡ true → is_above who r.head.cseq ≡ true
+    → Goes start past (Comes source r) (served start.place b source r (unless_denied k (unheard start.place.limits (event_of (birth who)) r)))
+heard_goes start past b source r tag k who ok h fresh good to lives alive dialog above = by_cause (unheard start.place.limits (event_of (birth who)) r) refl
   where
     none : birth_at start past (Comes source r) ≡ None
     none = no_birth start past source r tag to
@@ -135,28 +144,28 @@ heard_goes start past b source r tag k who ok h fresh fitting to lives alive dia
     clock : b.clock ≡ now (Comes source r ∷ past)
     clock = unfold now in h.clock_is
 
-    same_body : body_of_held (content_in b.boxes (want_of start k who).event.package (want_of start k who).resource) ≡ body start (Comes source r ∷ past) (Heard (now past) source r who)
+    same_body : body_of_held (content_in b.boxes (want_of start k who).event.package (want_of start k who).resource) ≡ body start (Comes source r ∷ past) (Then (now past) (Heard source r) who)
     same_body = heard_body start past source r b.boxes k who ok none h.boxes_hold lives alive
 
-    renewed_is : is_accepted start.place.limits (birth who) r ≡ true → Follows start k (Comes source r ∷ past) (renewed start.place b.boxes b.clock source r (row_of start k who)) (Heard (now past) source r who)
-    renewed_is accepted = unfold renewed renewed_sub in if_is (λ (turn : Turn). Follows start k (Comes source r ∷ past) (turned start.place b.boxes source (row_of start k who).sub.want (row_of start k who).serial r.head.cseq turn) (Heard (now past) source r who)) (asks_nothing start.place.limits r)
+    renewed_is : is_accepted start.place.limits (birth who) r ≡ true → Follows start k (Comes source r ∷ past) (renewed start.place b.boxes b.clock source r (row_of start k who)) (Then (now past) (Heard source r) who)
+    renewed_is accepted = unfold renewed renewed_sub in if_is (λ (turn : Turn). Follows start k (Comes source r ∷ past) (turned start.place b.boxes b.clock source (row_of start k who).sub.want (with_sub (record (row_of start k who) { last_cseq = r.head.cseq })) turn) (Then (now past) (Heard source r) who)) (asks_nothing start.place.limits r)
         (over (end (row_of start k who).sub Timeout)) (refresh (row_of start k who).sub r.head.cseq (value_of r.contact) source b.clock (granted start.place.limits r))
         (λ e. renewed_over start past b source r k who accepted e same_body)
         (λ e. renewed_on start past b source r k who h.clock_is accepted e same_body)
 
-    by_cause : (o : Option Refusal) → unheard start.place.limits (event_of (birth who)) r ≡ o → Goes start past (Comes source r) (heard start.place b source r k o)
-    by_cause (Some cause) e = unfold heard refused keeping row_of in
+    by_cause : (o : Option Refusal) → unheard start.place.limits (event_of (birth who)) r ≡ o → Goes start past (Comes source r) (served start.place b source r (unless_denied k o))
+    by_cause (Some cause) e = unfold unless_denied served denied refused keeping row_of in
         by_all_rows start past (Comes source r) (keeping start.place b r (refusal_answer start.place b.boxes source r cause)) (only k (counted r)) (Answers source (answer_text (refusal_answer start.place b.boxes source r cause)) ∷ []) ok none
         (unfold keeping in clock) (unfold keeping in h.next_is) (unfold keeping in h.rows_are) (unfold keeping in after) (unfold keeping in (ring_goes start past source b.ring r (answer_text (refusal_answer start.place b.boxes source r cause)) h.ring_is fresh)) (λ t more. unfold notifications in refl)
-        (dialog_rules start past source r tag k who (counted r) ok fitting to lives dialog above (counted_follows start past source r k who alive (unfold is_accepted in (ap is_none e))))
-    by_cause None e = unfold heard row_of in
+        (dialog_rules start past source r tag k who (counted r) ok fresh good to lives dialog above (counted_follows start past source r k who alive (unfold is_accepted in (ap is_none e))))
+    by_cause None e = unfold unless_denied served accepted row_of in
         by_all_rows start past (Comes source r) (keeping start.place b r (renewal_answer start.place source r)) (only k (renewed start.place b.boxes b.clock source r)) (Answers source (answer_text (renewal_answer start.place source r)) ∷ []) ok none
         (unfold keeping in clock) (unfold keeping in h.next_is) (unfold keeping in h.rows_are) (unfold keeping in after) (unfold keeping in (ring_goes start past source b.ring r (answer_text (renewal_answer start.place source r)) h.ring_is fresh)) (λ t more. unfold notifications in refl)
-        (dialog_rules start past source r tag k who (renewed start.place b.boxes b.clock source r) ok fitting to lives dialog above (renewed_is (unfold is_accepted in (ap is_none e))))
+        (dialog_rules start past source r tag k who (renewed start.place b.boxes b.clock source r) ok fresh good to lives dialog above (renewed_is (unfold is_accepted in (ap is_none e))))
 
 -- an old CSeq is heard by no one
-too_old_unheard : (start : Start) (past : List Event) (r : Request) (tag : Bytes) (k : ℕ) (who : Life) → Ranges start.place.limits → fits start past r ≡ true → r.head.to.tag ≡ Some tag → life start past k ≡ Some who → is_dialog r tag (row_of start k who) ≡ true → is_above who r.head.cseq ≡ false → Nobody_hears start past r
-too_old_unheard start past r tag k who ok fitting to lives dialog below s l is alive = heard-is start past r tag s l fitting to ∙ by_serial (s == k) refl
+too_old_unheard : (start : Start) (past : List Event) (r : Request) (tag : Bytes) (k : ℕ) (who : Life) → Ranges start.place.limits → is_fresh start.place.limits past r ≡ true → is_none (misfit r) ≡ true → r.head.to.tag ≡ Some tag → life start past k ≡ Some who → is_dialog r tag (row_of start k who) ≡ true → is_above who r.head.cseq ≡ false → Nobody_hears start past r
+too_old_unheard start past r tag k who ok fresh good to lives dialog below s l is alive = heard-is start past r tag s l fresh good to ∙ by_serial (s == k) refl
   where
     by_serial : (d : Bool) → (s == k) ≡ d → (is_dialog r tag (row_of start s l) && is_above l r.head.cseq) ≡ false
     by_serial true e =
@@ -166,33 +175,30 @@ too_old_unheard start past r tag k who ok fitting to lives dialog below s l is a
         rw (subst (λ (x : Life). is_above x r.head.cseq ≡ false) same below) (and-false (is_dialog r tag (row_of start s l)))
     by_serial false e = rw (others_not start r tag k s who l (life_small start past k who ok lives) (life_small start past s l ok is) dialog (λ at. absurd (grind (arith, nat_tests)))) refl
 
-somebody_goes : (start : Start) (past : List Event) (b : Book) (source : Addr) (r : Request) (tag : Bytes) (rows : List Row) → Ranges start.place.limits → Holds start past b → is_fresh start.place.limits past r ≡ true → fits start past r ≡ true → r.head.to.tag ≡ Some tag → (one : Somebody start past (is_dialog r tag) rows) → Goes start past (Comes source r) (in_dialog start.place b source r (Some (row_of start one.serial one.who)))
+somebody_goes : (start : Start) (past : List Event) (b : Book) (source : Addr) (r : Request) (tag : Bytes) (rows : List Row) → Ranges start.place.limits → Holds start past b → is_fresh start.place.limits past r ≡ true → is_none (misfit r) ≡ true → r.head.to.tag ≡ Some tag → (one : Somebody start past (is_dialog r tag) rows) → Goes start past (Comes source r) (served start.place b source r (in_dialog start.place.limits r (Some (row_of start one.serial one.who))))
 unfolding in_dialog
-somebody_goes start past b source r tag rows ok h fresh fitting to one = by_last (nat_lt (row_of start one.serial one.who).last_cseq r.head.cseq) refl
+somebody_goes start past b source r tag rows ok h fresh good to one = by_last (nat_lt (row_of start one.serial one.who).last_cseq r.head.cseq) refl
   where
     above-is : is_above one.who r.head.cseq ≡ nat_lt (row_of start one.serial one.who).last_cseq r.head.cseq
     above-is = unfold row_of in (sound_of start past one.serial one.who ok one.lives).above r.head.cseq
 
     by_last : (d : Bool) → nat_lt (row_of start one.serial one.who).last_cseq r.head.cseq ≡ d → Goes start past (Comes source r)
-        (if d then heard start.place b source r (row_of start one.serial one.who).serial (unheard start.place.limits (row_of start one.serial one.who).sub.want.event r) else refused start.place b source r OldCseq)
-    by_last true e = unfold row_of sub_of want_of in (heard_goes start past b source r tag one.serial one.who ok h fresh fitting to one.lives one.alive one.dialog (above-is ∙ e))
-    by_last false e = refused_goes start past b source r OldCseq ok h fresh (no_birth start past source r tag to) (too_old_unheard start past r tag one.serial one.who ok fitting to one.lives one.dialog (above-is ∙ e))
+        (served start.place b source r (if d then unless_denied (row_of start one.serial one.who).serial (unheard start.place.limits (row_of start one.serial one.who).sub.want.event r) else Refused OldCseq))
+    by_last true e = unfold row_of sub_of want_of in (heard_goes start past b source r tag one.serial one.who ok h fresh good to one.lives one.alive one.dialog (above-is ∙ e))
+    by_last false e = unfold served in refused_goes start past b source r OldCseq ok h fresh (no_birth start past source r tag to) (too_old_unheard start past r tag one.serial one.who ok fresh good to one.lives one.dialog (above-is ∙ e))
 
 -- nobody is that dialog
-nobody_goes : (start : Start) (past : List Event) (b : Book) (source : Addr) (r : Request) (tag : Bytes) (rows : List Row) → Ranges start.place.limits → Holds start past b → is_fresh start.place.limits past r ≡ true → fits start past r ≡ true → r.head.to.tag ≡ Some tag → Nobody start past (is_dialog r tag) (births start past) rows → Goes start past (Comes source r) (refused start.place b source r NoDialog)
-nobody_goes start past b source r tag rows ok h fresh fitting to none = refused_goes start past b source r NoDialog ok h fresh (no_birth start past source r tag to) nobody
+nobody_goes : (start : Start) (past : List Event) (b : Book) (source : Addr) (r : Request) (tag : Bytes) (rows : List Row) → Ranges start.place.limits → Holds start past b → is_fresh start.place.limits past r ≡ true → is_none (misfit r) ≡ true → r.head.to.tag ≡ Some tag → Nobody start past (is_dialog r tag) (births start past) rows → Goes start past (Comes source r) (refused start.place b source r NoDialog)
+nobody_goes start past b source r tag rows ok h fresh good to none = refused_goes start past b source r NoDialog ok h fresh (no_birth start past source r tag to) nobody
   where
     nobody : Nobody_hears start past r
-    nobody s l is alive = let range = range_of start past s l is in heard-is start past r tag s l fitting to ∙ rw (none.others s l range.0 range.1 is alive) refl
+    nobody s l is alive = let range = range_of start past s l is in heard-is start past r tag s l fresh good to ∙ rw (none.others s l range.0 range.1 is alive) refl
 
 -- a request in a dialog
-pub dialog_goes : (start : Start) (past : List Event) (b : Book) (source : Addr) (r : Request) (tag : Bytes) → Ranges start.place.limits → Holds start past b → is_fresh start.place.limits past r ≡ true → is_none (misfit r) ≡ true → r.head.to.tag ≡ Some tag → Goes start past (Comes source r) (in_dialog start.place b source r (find (is_dialog r tag) b.rows))
+pub dialog_goes : (start : Start) (past : List Event) (b : Book) (source : Addr) (r : Request) (tag : Bytes) → Ranges start.place.limits → Holds start past b → is_fresh start.place.limits past r ≡ true → is_none (misfit r) ≡ true → r.head.to.tag ≡ Some tag → Goes start past (Comes source r) (served start.place b source r (in_dialog start.place.limits r (find (is_dialog r tag) b.rows)))
 dialog_goes start past b source r tag ok h fresh good to =
-    subst (λ (rows : List Row). Goes start past (Comes source r) (in_dialog start.place b source r (find (is_dialog r tag) rows))) (sym h.rows_are) (by_who (look_up start past (is_dialog r tag) (births start past)))
+    subst (λ (rows : List Row). Goes start past (Comes source r) (served start.place b source r (in_dialog start.place.limits r (find (is_dialog r tag) rows)))) (sym h.rows_are) (by_who (look_up start past (is_dialog r tag) (births start past)))
   where
-    fitting : fits start past r ≡ true
-    fitting = fits-dialog start past r tag fresh good to
-
-    by_who : Somebody start past (is_dialog r tag) (rows_to start (life start past) (births start past)) ⊎ Nobody start past (is_dialog r tag) (births start past) (rows_to start (life start past) (births start past)) → Goes start past (Comes source r) (in_dialog start.place b source r (find (is_dialog r tag) (rows_to start (life start past) (births start past))))
-    by_who (inr none) = subst (λ (found : Option Row). Goes start past (Comes source r) (in_dialog start.place b source r found)) (sym none.found) (unfold in_dialog in (nobody_goes start past b source r tag (rows_to start (life start past) (births start past)) ok h fresh fitting to none))
-    by_who (inl one) = subst (λ (found : Option Row). Goes start past (Comes source r) (in_dialog start.place b source r found)) (sym one.found) (somebody_goes start past b source r tag (rows_to start (life start past) (births start past)) ok h fresh fitting to one)
+    by_who : Somebody start past (is_dialog r tag) (rows_to start (life start past) (births start past)) ⊎ Nobody start past (is_dialog r tag) (births start past) (rows_to start (life start past) (births start past)) → Goes start past (Comes source r) (served start.place b source r (in_dialog start.place.limits r (find (is_dialog r tag) (rows_to start (life start past) (births start past)))))
+    by_who (inr none) = subst (λ (found : Option Row). Goes start past (Comes source r) (served start.place b source r (in_dialog start.place.limits r found))) (sym none.found) (unfold in_dialog served in (nobody_goes start past b source r tag (rows_to start (life start past) (births start past)) ok h fresh good to none))
+    by_who (inl one) = subst (λ (found : Option Row). Goes start past (Comes source r) (served start.place b source r (in_dialog start.place.limits r found))) (sym one.found) (somebody_goes start past b source r tag (rows_to start (life start past) (births start past)) ok h fresh good to one)

@@ -11,16 +11,16 @@ use Rattle.std.proofs.lemmas.List.{append-nil}
 use Rattle.std.specs.Prelude.{if◌then◌else◌, take, is_none, bytes_eq}
 use Rattle.package.specs.Content.{Content, OfMail, OfStatus, mail_package}
 use Rattle.lives.proofs.Texts.{Bytes, and-false, if_is}
-use Rattle.sip_read.specs.declared.message.Addr.{Addr}
+use Rattle.sip_text.specs.declared.address.Addr.{Addr}
 use Rattle.sip_read.specs.declared.message.Request.{Request}
 use Rattle.package.specs.Boxes.{content_in}
 use Rattle.notifier.specs.Start.{Start, tag_of}
 use Rattle.notifier.specs.declared.event.Event.{Event}
-use Rattle.notifier.specs.declared.event.Event.TheVariants.{Request as Comes, Reply as Replies, Mail as Mails, Progress as Progresses, Tick as Ticks}
+use Rattle.notifier.specs.declared.event.Event.TheVariants.{Request as Comes, Reply as Replies, Mail as Mails, Progress as Progresses, Tick as Ticks, Shut as Shuts}
 use Rattle.notifier.specs.declared.refusal.Refusal.{Refusal}
 use Rattle.notifier.specs.Requests.{is_ack, key_of_request, misfit}
 use Rattle.notifier.specs.declared.row.Key.{Key}
-use Rattle.notifier.specs.Book.{asked_for, Book, nothing, step, served, judged, asked_for, by_to_tag, refused}
+use Rattle.notifier.specs.Book.{Book, Silent, nothing, step, served, unless, by_kept as by_kept_answer, by_to_tag, verdict, refused}
 use Rattle.notifier.specs.Answers.{kept_answer}
 use Rattle.notifier.specs.Out.{Answers, notifications}
 use Rattle.notifier.specs.Run.{made, made_from, empty}
@@ -31,7 +31,7 @@ use Rattle.lives.specs.Laws.{IsStart, NoticesLaw}
 use Rattle.lives.proofs.Rows.{rows_to, notifications-append}
 use Rattle.lives.proofs.NextLives.{Ranges, ranges}
 use Rattle.lives.proofs.Invariant.{Holds, Goes}
-use Rattle.lives.proofs.RepliesAndTicks.{reply_goes, tick_goes}
+use Rattle.lives.proofs.RepliesAndTicks.{reply_goes, shut_goes, tick_goes}
 use Rattle.lives.proofs.MailChanges.{mail_goes}
 use Rattle.lives.proofs.Progresses.{progress_goes}
 use Rattle.lives.proofs.RefusedRequests.{refused_goes, stale_goes, fresh-kept, birth-unfit, unfit-unheard}
@@ -40,29 +40,32 @@ use Rattle.lives.proofs.OutsideDialogs.{outside_goes}
 
 -- one that doesn't fit, whatever else holds
 misfit_goes : (start : Start) (past : List Event) (b : Book) (source : Addr) (r : Request) (cause : Refusal) → Ranges start.place.limits → Holds start past b → is_fresh start.place.limits past r ≡ true → is_none (misfit r) ≡ false → Goes start past (Comes source r) (refused start.place b source r cause)
-misfit_goes start past b source r cause ok h fresh bad = refused_goes start past b source r cause ok h fresh (birth-unfit start past source r unfit) (unfit-unheard start past r unfit)
+misfit_goes start past b source r cause ok h fresh bad = refused_goes start past b source r cause ok h fresh (birth-unfit start past source r unfit) (unfit-unheard start past r unheard)
   where
+    unheard : (is_fresh start.place.limits past r && is_none (misfit r)) ≡ false
+    unheard = rw bad (and-false (is_fresh start.place.limits past r))
+
     unfit : fits start past r ≡ false
     unfit = unfold fits in (ap (λ (d : Bool). is_fresh start.place.limits past r && (d && is_placed start r r.head.to.tag)) bad ∙ and-false (is_fresh start.place.limits past r))
 
 request_goes : (start : Start) (past : List Event) (source : Addr) (r : Request) (b : Book) → Ranges start.place.limits → Holds start past b → Goes start past (Comes source r) (step start.place b (Comes source r))
-unfolding step asked_for nothing
+unfolding step verdict
 request_goes start past source r b ok h = by_ack (is_ack r) refl
   where
-    by_tag : is_fresh start.place.limits past r ≡ true → is_none (misfit r) ≡ true → (o : Option Bytes) → r.head.to.tag ≡ o → Goes start past (Comes source r) (by_to_tag start.place b source r o)
+    by_tag : is_fresh start.place.limits past r ≡ true → is_none (misfit r) ≡ true → (o : Option Bytes) → r.head.to.tag ≡ o → Goes start past (Comes source r) (served start.place b source r (by_to_tag start.place.limits b r o))
     by_tag fresh good None e = unfold by_to_tag in outside_goes start past b source r ok h fresh good e
     by_tag fresh good (Some tag) e = unfold by_to_tag in dialog_goes start past b source r tag ok h fresh good e
 
-    by_misfit : is_fresh start.place.limits past r ≡ true → (o : Option Refusal) → misfit r ≡ o → Goes start past (Comes source r) (judged start.place b source r o)
-    by_misfit fresh (Some cause) e = unfold judged in misfit_goes start past b source r cause ok h fresh (ap is_none e)
-    by_misfit fresh None e = unfold judged in by_tag fresh (ap is_none e) r.head.to.tag refl
+    by_misfit : is_fresh start.place.limits past r ≡ true → (o : Option Refusal) → misfit r ≡ o → Goes start past (Comes source r) (served start.place b source r (unless o (by_to_tag start.place.limits b r r.head.to.tag)))
+    by_misfit fresh (Some cause) e = unfold unless served in misfit_goes start past b source r cause ok h fresh (ap is_none e)
+    by_misfit fresh None e = unfold unless in by_tag fresh (ap is_none e) r.head.to.tag refl
 
-    by_kept : (o : Option Bytes) → is_fresh start.place.limits past r ≡ is_none o → Goes start past (Comes source r) (served start.place b source r o)
-    by_kept (Some bytes) e = unfold served in stale_goes start past b source r (Answers source bytes ∷ []) ok h e (λ tag. unfold notifications in refl)
-    by_kept None e = unfold served in by_misfit e (misfit r) refl
+    by_kept : (o : Option Bytes) → is_fresh start.place.limits past r ≡ is_none o → Goes start past (Comes source r) (served start.place b source r (by_kept_answer start.place.limits b r o))
+    by_kept (Some bytes) e = unfold by_kept_answer served in stale_goes start past b source r (Answers source bytes ∷ []) ok h e (λ tag. unfold notifications in refl)
+    by_kept None e = unfold by_kept_answer in by_misfit e (misfit r) refl
 
-    by_ack : (d : Bool) → is_ack r ≡ d → Goes start past (Comes source r) (if d then record { book = b; outs = [] } else served start.place b source r (kept_answer b.ring (key_of_request r)))
-    by_ack true e = stale_goes start past b source r [] ok h (unfold is_fresh in (rw e refl)) (λ tag. unfold notifications in refl)
+    by_ack : (d : Bool) → is_ack r ≡ d → Goes start past (Comes source r) (served start.place b source r (if d then Silent else by_kept_answer start.place.limits b r (kept_answer b.ring (key_of_request r))))
+    by_ack true e = unfold served nothing in stale_goes start past b source r [] ok h (unfold is_fresh in (rw e refl)) (λ tag. unfold notifications in refl)
     by_ack false e = by_kept (kept_answer b.ring (key_of_request r)) (fresh-kept start past b r h e)
 
 pub step_goes : (start : Start) (past : List Event) (e : Event) (b : Book) → Ranges start.place.limits → Holds start past b → Goes start past e (step start.place b e)
@@ -71,6 +74,7 @@ step_goes start past (Replies r) b ok h = reply_goes start past r b ok h
 step_goes start past (Mails m) b ok h = mail_goes start past m b ok h
 step_goes start past (Progresses p) b ok h = progress_goes start past p b ok h
 step_goes start past (Ticks t) b ok h = tick_goes start past t b ok h
+step_goes start past Shuts b ok h = shut_goes start past b ok h
 
 -- at first a package holds what it holds in the start
 content-first : (start : Start) (name resource : Bytes) → content_in start.boxes name resource ≡ content start [] name resource

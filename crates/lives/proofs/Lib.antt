@@ -3,6 +3,7 @@ pub mod Maps
 pub mod Boxes
 pub mod Tags
 pub mod Rows
+pub mod Deeds
 pub mod NextLives
 pub mod SoundLives
 pub mod Turns
@@ -20,5 +21,9 @@ pub mod Owners
 pub mod Numbers
 pub mod Ends
 pub mod Sentences
+pub mod Mailboxes
+pub mod Freshness
+pub mod Fates
+pub mod Words
 pub mod UsualStart
 pub mod WorkedLives

@@ -23,14 +23,15 @@ use Rattle.notifier.specs.declared.event.Event.TheVariants.{Mail as Mails}
 use Rattle.notifier.specs.Requests.{is_refer, user_part, event_of}
 use Rattle.notifier.specs.declared.row.Row.{Row}
 use Rattle.notifier.specs.Book.{Book, nothing, content_changed, step}
-use Rattle.notifier.specs.Rows.{stays, tells, tells_watcher}
+use Rattle.notifier.specs.Rows.{stays, wherever, opened, with_sub, tells, tells_change, tells_watcher}
 use Rattle.notifier.specs.Out.{notifications}
 use Rattle.lives.specs.Past.{now, same_class, last_counts, mail_content, content, keys}
-use Rattle.lives.specs.Life.{Life, Changed as LifeChanged, birth, address, number, end_of_grant, status, is_touched, is_timed_out, is_over, is_disowned, is_gone, event_of_life}
-use Rattle.lives.specs.Lives.{same_content, is_changed, when, lived, life, birth_at, birth_here}
+use Rattle.lives.specs.Life.{Life, Then, MailChanged, birth, last_heard, address, number, end_of_grant, status, is_touched, just_made, unanswered, ended, is_removed, is_gone}
+use Rattle.lives.specs.Lives.{same_content, is_changed, when, life, birth_at, birth_here}
 use Rattle.lives.specs.Notices.{body}
 use Rattle.lives.proofs.Boxes.{mailed, mail_outcome, mail-after, mail-outcome, types-stay, content-other, same_counts-own}
 use Rattle.lives.proofs.Rows.{row_of, sub_of, want_of, usage_of, target_of, accepted_cseq, last_cseq}
+use Rattle.lives.proofs.Deeds.{lived-mails}
 use Rattle.lives.proofs.NextLives.{Ranges, births-of_none}
 use Rattle.lives.proofs.SoundLives.{sound_of}
 use Rattle.lives.proofs.Turns.{Follows, told_follows}
@@ -54,7 +55,7 @@ set_one Pager n v f p m t = refl
 set_one Multimedia n v f p m t = refl
 set_one Text n v f p m t = refl
 
-same_way : (a b : Bytes) (d : Bool) → bytes_eq a b ≡ d → bytes_eq b a ≡ d
+pub same_way : (a b : Bytes) (d : Bool) → bytes_eq a b ≡ d → bytes_eq b a ≡ d
 same_way a b true e = subst (λ (x : Bytes). bytes_eq x a ≡ true) (bytes_same a b e) (bytes_own a)
 same_way a b false e = bytes_other_way a b e
 
@@ -137,39 +138,39 @@ changed-is start past m boxes hold =
 -- ---- the step
 
 mail_nothing : (start : Start) (past : List Event) (m : MailChange) (boxes : List Seen) → Holdings start past boxes → is_change (change_first boxes (Mail m)).0 ≡ false → Rules start past (Mails m) stays
-unfolding lived is_changed
+unfolding is_changed
 mail_nothing start past m boxes hold e s l is alive =
-    rw (changed-is start past m boxes hold, e) (drop (bytes_eq (event_of_life l).package mail_package) (bytes_eq (user_part (birth l).uri) m.mailbox))
+    rw (lived-mails start s past m l, changed-is start past m boxes hold, e) (drop (bytes_eq (event_of (birth l)).package mail_package) (bytes_eq (user_part (birth l).uri) m.mailbox))
   where
-    drop : (a b : Bool) → Turned start s (Mails m ∷ past) (stays (row_of start s l)) l (when (a && (b && false)) (LifeChanged (now past) l))
+    drop : (a b : Bool) → Turned start s (Mails m ∷ past) (stays (row_of start s l)) l (when ((a && b) && false) (Then (now past) MailChanged l))
     drop true true = refl
     drop true false = refl
     drop false b = refl
 
 changed_follows : (start : Start) (past : List Event) (m : MailChange) (b : Book) (s : ℕ) (l : Life) → Ranges start.place.limits → b.clock ≡ now past → Holdings start past b.boxes → life start past s ≡ Some l → is_gone start.place.limits l ≡ false
-    → Follows start s (Mails m ∷ past) (tells start.place (change_first b.boxes (Mail m)).1 (row_of start s l) (changed (row_of start s l).sub b.clock false)) (LifeChanged (now past) l)
-unfolding tells changed row_of sub_of usage_of want_of target_of accepted_cseq number address end_of_grant birth last_cseq now is_touched is_timed_out is_over is_disowned
+    → Follows start s (Mails m ∷ past) (tells start.place (change_first b.boxes (Mail m)).1 b.clock (row_of start s l) (changed (row_of start s l).sub b.clock false)) (Then (now past) MailChanged l)
+unfolding tells changed opened unanswered just_made row_of sub_of usage_of want_of target_of accepted_cseq number address end_of_grant last_heard birth last_cseq now is_touched ended is_removed
 changed_follows start past m b s l ok clock hold is alive =
-    told_follows start (change_first b.boxes (Mail m)).1 (address start.place.limits l) (want_of start s l) (last_cseq l) (sub_of start s (LifeChanged (now past) l)) (end_of_grant start.place.limits l - b.clock) s (Mails m ∷ past) (LifeChanged (now past) l)
-    refl refl same_body refl (ap (λ (n : ℕ). end_of_grant start.place.limits l - n) clock) refl refl refl refl
+    told_follows start (change_first b.boxes (Mail m)).1 b.clock (address start.place.limits l) (want_of start s l) (with_sub (row_of start s l)) (sub_of start s (Then (now past) MailChanged l)) (end_of_grant start.place.limits l - b.clock) s (Mails m ∷ past) (Then (now past) MailChanged l)
+    refl refl same_body (rw clock refl) (ap (λ (n : ℕ). end_of_grant start.place.limits l - n) clock) refl refl refl
   where
-    same_body : body_of_held (content_in (change_first b.boxes (Mail m)).1 (want_of start s l).event.package (want_of start s l).resource) ≡ body start (Mails m ∷ past) (LifeChanged (now past) l)
-    same_body = unfold body birth status want_of address in body-is start (Mails m ∷ past) (change_first b.boxes (Mail m)).1 s l (sound_of start past s l ok is).plain (mail_holdings start past m b.boxes hold).contents
+    same_body : body_of_held (content_in (change_first b.boxes (Mail m)).1 (want_of start s l).event.package (want_of start s l).resource) ≡ body start (Mails m ∷ past) (Then (now past) MailChanged l)
+    same_body = unfold body birth status want_of address last_heard in body-is start (Mails m ∷ past) (change_first b.boxes (Mail m)).1 s l (sound_of start past s l ok is).plain (mail_holdings start past m b.boxes hold).contents
         (λ refers. content-other b.boxes (Mail m) refer_package (tag_of start.place s) refl ∙ hold.transfers s l is alive refers)
 
 mail_turns : (start : Start) (past : List Event) (m : MailChange) (b : Book) → Ranges start.place.limits → b.clock ≡ now past → Holdings start past b.boxes → is_change (change_first b.boxes (Mail m)).0 ≡ true → Rules start past (Mails m) (tells_watcher start.place (change_first b.boxes (Mail m)).1 b.clock mail_package m.mailbox false)
-unfolding lived is_changed tells_watcher
-mail_turns start past m b ok clock hold e s l is alive = rw (changed-is start past m b.boxes hold, e) (unfold row_of sub_of want_of in by_refer (is_refer (birth l)) refl)
+unfolding is_changed tells_watcher tells_change wherever
+mail_turns start past m b ok clock hold e s l is alive = rw (lived-mails start s past m l, changed-is start past m b.boxes hold, e) (unfold row_of sub_of want_of in by_refer (is_refer (birth l)) refl)
   where
     row : Row
     row = row_of start s l
 
-    by_tests : (a c : Bool) → Turned start s (Mails m ∷ past) (if a && c then tells start.place (change_first b.boxes (Mail m)).1 (row_of start s l) (changed (row_of start s l).sub b.clock false) else stays (row_of start s l)) l (when (a && (c && true)) (LifeChanged (now past) l))
+    by_tests : (a c : Bool) → Turned start s (Mails m ∷ past) (if a && c then tells start.place (change_first b.boxes (Mail m)).1 b.clock (row_of start s l) (changed (row_of start s l).sub b.clock false) else stays (row_of start s l)) l (when ((a && c) && true) (Then (now past) MailChanged l))
     by_tests true true = changed_follows start past m b s l ok clock hold is alive
     by_tests true false = refl
     by_tests false c = refl
 
-    by_refer : (d : Bool) → is_refer (birth l) ≡ d → Turned start s (Mails m ∷ past) (if bytes_eq (event_of (birth l)).package mail_package && bytes_eq (if d then tag_of start.place s else user_part (birth l).uri) m.mailbox then tells start.place (change_first b.boxes (Mail m)).1 (row_of start s l) (changed (row_of start s l).sub b.clock false) else stays (row_of start s l)) l (when (bytes_eq (event_of (birth l)).package mail_package && (bytes_eq (user_part (birth l).uri) m.mailbox && true)) (LifeChanged (now past) l))
+    by_refer : (d : Bool) → is_refer (birth l) ≡ d → Turned start s (Mails m ∷ past) (if bytes_eq (event_of (birth l)).package mail_package && bytes_eq (if d then tag_of start.place s else user_part (birth l).uri) m.mailbox then tells start.place (change_first b.boxes (Mail m)).1 b.clock (row_of start s l) (changed (row_of start s l).sub b.clock false) else stays (row_of start s l)) l (when ((bytes_eq (event_of (birth l)).package mail_package && bytes_eq (user_part (birth l).uri) m.mailbox) && true) (Then (now past) MailChanged l))
     by_refer true g =
         let other : bytes_eq (event_of (birth l)).package mail_package ≡ false = unfold event_of in (rw g refl) in
         rw other refl

@@ -3,13 +3,13 @@ use Rattle.std.proofs.Common.{◌≡◌, ℕ, ◌+◌, ◌<◌, ◌≤◌, List,
 use Rattle.std.specs.Prelude.{◌==◌, ◌||◌, nat_lt, nat_le, is_some}
 use Rattle.std.proofs.lemmas.Bool.Decides.{nat_tests}
 use Rattle.lives.proofs.Texts.{Bytes}
-use Rattle.sip_read.specs.declared.message.Addr.{Addr}
+use Rattle.sip_text.specs.declared.address.Addr.{Addr}
 use Rattle.sip_read.specs.declared.message.Request.{Request}
 use Rattle.notifier.specs.Limits.{Limits, AreLimits}
 use Rattle.notifier.specs.Start.{Start}
 use Rattle.notifier.specs.declared.event.Event.{Event}
-use Rattle.notifier.specs.declared.event.Event.TheVariants.{Request as Comes, Reply as Replies, Mail as Mails, Progress as Progresses, Tick as Ticks}
-use Rattle.notifier.specs.Requests.{asks_nothing, is_full}
+use Rattle.notifier.specs.declared.event.Event.TheVariants.{Request as Comes, Reply as Replies, Mail as Mails, Progress as Progresses, Tick as Ticks, Shut as Shuts}
+use Rattle.notifier.specs.Requests.{birth_of as birth_of_request, needs_place, is_full}
 use Rattle.lives.specs.Past.{now, fits}
 use Rattle.lives.specs.Life.{Life, Born, one_if}
 use Rattle.lives.specs.Lives.{when, count_alive, is_birth, birth_of, birth_here, befalls, or_before, lives_on, births, life, birth_at, befell}
@@ -89,13 +89,14 @@ birth_of_some start past (Replies r) l h = absurd (cc)
 birth_of_some start past (Mails m) l h = absurd (cc)
 birth_of_some start past (Progresses p) l h = absurd (cc)
 birth_of_some start past (Ticks t) l h = absurd (cc)
+birth_of_some start past Shuts l h = absurd (cc)
 
 -- no more serials than there may be
 full_above : (limits : Limits) (n alive : ℕ) (r : Request) → is_full limits n alive r ≡ false → n ≤ limits.serials
 unfolding is_full
 full_above limits n alive r h = not_above (nat_lt limits.serials n) refl h
   where
-    not_above : (d : Bool) → nat_lt limits.serials n ≡ d → (d || (nat_le limits.table alive && not (asks_nothing limits r))) ≡ false → n ≤ limits.serials
+    not_above : (d : Bool) → nat_lt limits.serials n ≡ d → (d || (nat_le limits.table alive && needs_place (birth_of_request limits r))) ≡ false → n ≤ limits.serials
     not_above true e h = absurd (cc)
     not_above false e h = grind (arith, nat_tests)
 

@@ -6,15 +6,14 @@ use Rattle.std.proofs.lemmas.List.{append-nil}
 use Rattle.notifier.specs.Limits.{Limits}
 use Rattle.notifier.specs.Start.{Start}
 use Rattle.notifier.specs.declared.event.Event.{Event}
-use Rattle.notifier.specs.declared.event.Event.TheVariants.{Request as Comes, Reply as Replies, Mail as Mails, Progress as Progresses, Tick as Ticks}
 use Rattle.notifier.specs.Out.{Notification}
-use Rattle.lives.specs.Past.{now}
-use Rattle.lives.specs.Life.{Life, Heard, Changed, Progressed, Due, Disowned, is_touched, one_if, number, is_gone}
-use Rattle.lives.specs.Lives.{is_heard, is_changed, is_progressed, is_due, is_refused, lived, befalls, or_before, births, life, birth_at, befell}
+use Rattle.lives.specs.Life.{Life, is_touched, one_if, number, is_gone}
+use Rattle.lives.specs.Lives.{lived, befalls, or_before, births, life, birth_at, befell}
 use Rattle.lives.specs.Notices.{notice_of, notices_at, notices}
 use Rattle.lives.specs.Laws.{up_to, NumbersLaw}
 use Rattle.lives.specs.Sentences.{number_of, is_touch}
-use Rattle.lives.proofs.Texts.{if_is, when_is}
+use Rattle.lives.proofs.Texts.{if_is}
+use Rattle.lives.proofs.Deeds.{lived_is}
 use Rattle.lives.proofs.NextLives.{life-next, birth_of_some}
 
 abbrev Counts : Limits → Life → Option Life → Type 0
@@ -22,12 +21,8 @@ Counts limits l None = Unit {0}
 Counts limits l (Some m) = number limits m ≡ number limits l + one_if (is_touched limits m)
 
 lived-counts : (start : Start) (s : ℕ) (past : List Event) (e : Event) (l : Life) → Counts start.place.limits l (lived start s past e l)
-unfolding lived number is_touched
-lived-counts start s past (Comes source r) l = when_is (Counts start.place.limits l) (is_heard start s past r l) (Heard (now past) source r l) (λ h. refl) (λ h. tt)
-lived-counts start s past (Replies r) l = when_is (Counts start.place.limits l) (is_refused start s r l) (Disowned (now past) l) (λ h. omega arith) (λ h. tt)
-lived-counts start s past (Mails m) l = when_is (Counts start.place.limits l) (is_changed start past m l) (Changed (now past) l) (λ h. refl) (λ h. tt)
-lived-counts start s past (Progresses p) l = when_is (Counts start.place.limits l) (is_progressed start s p l) (Progressed (now past) p l) (λ h. refl) (λ h. tt)
-lived-counts start s past (Ticks t) l = when_is (Counts start.place.limits l) (is_due start.place.limits past t l) (Due (now (Ticks t ∷ past)) l) (λ h. refl) (λ h. tt)
+unfolding number
+lived-counts start s past e l = lived_is start s past e l (Counts start.place.limits l) tt (λ d. refl)
 
 number-or : (limits : Limits) (l : Life) (o : Option Life) → Counts limits l o → number_of limits (or_before o (Some l)) ≡ number limits l + one_if (is_touch limits o)
 number-or limits l None c = omega arith
@@ -36,7 +31,7 @@ number-or limits l (Some m) c = c
 -- a birth is number 1
 number-born : (start : Start) (past : List Event) (e : Event) (l : Life) → birth_at start past e ≡ Some l → number start.place.limits l ≡ 0 + one_if (is_touched start.place.limits l)
 unfolding number is_touched
-number-born start past e l is = let b = birth_of_some start past e l is in subst (λ (x : Life). number start.place.limits x ≡ 0 + one_if (is_touched start.place.limits x)) (sym b.is) refl
+number-born start past e l is = let b = birth_of_some start past e l is in subst (λ (x : Life). number start.place.limits x ≡ 0 + one_if (is_touched start.place.limits x)) (sym b.is) (unfold number in (omega arith))
 
 number-after : (start : Start) (s : ℕ) (past : List Event) (e : Event) (d : Bool) (begun : Option Life) (o : Option Life) → ((l : Life) → begun ≡ Some l → number start.place.limits l ≡ 0 + one_if (is_touched start.place.limits l)) → number_of start.place.limits (or_before (befalls start s past e d begun o) o) ≡ number_of start.place.limits o + one_if (is_touch start.place.limits (befalls start s past e d begun o))
 unfolding befalls

@@ -1,7 +1,7 @@
 -- What goes out with a tag are the NOTIFYs of the records that they are written from.
 use Rattle.std.proofs.Common.{◌≡◌, List, [], ◌∷◌, map, Bool, true, false, refl, ap, subst}
 use Rattle.std.specs.Prelude.{if◌then◌else◌, bytes_eq}
-use Rattle.sip_read.specs.declared.message.Addr.{Addr}
+use Rattle.sip_text.specs.declared.address.Addr.{Addr}
 use Rattle.sip_write.specs.Notify.{NotifyText, notify_text}
 use Rattle.notifier.specs.declared.event.Out.TheVariants.{Notify}
 use Rattle.notifier.specs.Start.{tag_of}

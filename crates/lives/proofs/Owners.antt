@@ -1,19 +1,20 @@
 -- Each NOTIFY that goes out has the tag of a serial, and so is that of a notice of its life.
 use Rattle.std.proofs.Common.{◌≡◌, ℕ, ◌+◌, ◌<◌, ◌≤◌, ◌^◌, List, [], ◌∷◌, ◌++◌, map, Option, Some, None, Bool, true, false, refl, sym, ◌∙◌, subst, arith, append_assoc}
 use Prim.Native.Nat.{zero, suc}
-use Rattle.std.specs.Prelude.{if◌then◌else◌, max, nat_lt, nat_le, ◌==◌, bytes_eq, option_to_list}
+use Rattle.std.specs.Prelude.{if◌then◌else◌, max, nat_lt, ◌==◌, bytes_eq, option_to_list}
 use Rattle.std.specs.List.{Contains}
 use Rattle.std.proofs.lemmas.List.Elements.{Contains-append_right}
-use Rattle.sip_read.specs.declared.message.Addr.{Addr}
+use Rattle.sip_text.specs.declared.address.Addr.{Addr}
 use Rattle.sip_read.specs.declared.message.Request.{Request}
 use Rattle.sip_read.specs.declared.message.Response.{Response}
 use Rattle.sip_write.specs.Notify.{NotifyText}
 use Rattle.subscription.specs.declared.terms.Want.{Want}
-use Rattle.subscription.specs.declared.notify.Reason.TheVariants.{Timeout}
+use Rattle.subscription.specs.declared.notify.Reason.{Reason}
+use Rattle.subscription.specs.declared.notify.Reason.TheVariants.{Timeout, Deactivated}
 use Rattle.subscription.specs.declared.life.Step.{Step}
 use Rattle.subscription.specs.declared.life.Step.TheVariants.{Live, Over}
 use Rattle.subscription.specs.State.{State}
-use Rattle.subscription.specs.Table.{told, accept, fetch, refresh, end, over, changed, is_refusal_of}
+use Rattle.subscription.specs.Table.{told, accept, fetch, refresh, end, over, changed, refuses}
 use Rattle.package.specs.declared.change.Outcome.{Outcome}
 use Rattle.package.specs.declared.change.Outcome.TheVariants.{Changed, Same, Unknown}
 use Rattle.package.specs.Content.{Seen, is_final, mail_package, refer_package}
@@ -21,16 +22,16 @@ use Rattle.package.specs.Boxes.{change_first}
 use Rattle.package.specs.declared.change.Change.TheVariants.{Mail as MailTo, Step as StepOf}
 use Rattle.notifier.specs.declared.place.Place.{Place}
 use Rattle.notifier.specs.declared.event.Event.{Event}
-use Rattle.notifier.specs.declared.event.Event.TheVariants.{Request as Comes, Reply as Replies, Mail as Mails, Progress as Progresses, Tick as Ticks}
-use Rattle.notifier.specs.declared.refusal.Refusal.{Refusal}
+use Rattle.notifier.specs.declared.event.Event.TheVariants.{Request as Comes, Reply as Replies, Mail as Mails, Progress as Progresses, Tick as Ticks, Shut as Shuts}
 use Rattle.notifier.specs.declared.row.Row.{Row}
 use Rattle.notifier.specs.Start.{Start, tag_of, last_moment}
-use Rattle.notifier.specs.Requests.{is_ack, is_refer, asks_nothing, misfit, misplaced, is_full, unheard, key_of_request}
-use Rattle.notifier.specs.Answers.{kept_answer}
+use Rattle.notifier.specs.Requests.{is_refer, asks_nothing}
 use Rattle.notifier.specs.Fields.{value_of, or_empty}
 use Rattle.notifier.specs.Out.{Send, Answers, Notifies, Starts, out_of, notification, notifications}
-use Rattle.notifier.specs.Rows.{Told, notify, stays, goes, turned, tells, usage_after, said, only, counted, renewed, renewed_sub, watches, tells_watcher, times_out, disowned}
-use Rattle.notifier.specs.Book.{Book, new_usage, new_want, first_step, nothing, keeping, refused, all_rows, heard, in_dialog, first_boxes, first_told, born_with, born, outside, by_to_tag, judged, served, asked_for, content_changed, replied, ticked, step}
+use Rattle.notifier.specs.Rows.{Told, notify, stays, goes, wherever, with_sub, turned, tells, ends, usage_after, said, has_serial, only, counted, renewed, renewed_sub, watches, tells_change, tells_watcher, is_due, is_overdue, times_out, stops, is_answered_by, takes_answer, answered}
+use Rattle.notifier.specs.declared.request.Birth.{Birth}
+use Rattle.notifier.specs.declared.request.Birth.TheVariants.{Watch, Fetch, Transfer, Unwatched}
+use Rattle.notifier.specs.Book.{Book, Verdict, Silent, Repeated, Refused, Denied, Renewed, Born as Makes, new_usage, new_want, new_row, first_step, first_word, nothing, keeping, refused, denied, accepted, all_rows, first_boxes, first_told, born_with, born, verdict, served, content_changed, replied, ticked, shut, step}
 use Rattle.notifier.specs.Run.{made, made_from, empty}
 use Rattle.lives.specs.Life.{Life, is_gone}
 use Rattle.lives.specs.Lives.{births}
@@ -61,10 +62,10 @@ tags-append P (Notifies to n ∷ xs) ys p q = (p.0, tags-append P xs ys p.1 q)
 abbrev Own : (Bytes → Type 0) → (Row → Told) → Type 0
 Own P rule = (row : Row) → P row.sub.usage.local_tag → AllTags P (rule row).notifies
 
-turned-own : (place : Place) (boxes : List Seen) (to : Addr) (want : Want) (serial cseq : ℕ) (next : Step) (P : Bytes → Type 0) → P (usage_after next).local_tag → AllTags P (turned place boxes to want serial cseq next).notifies
+turned-own : (place : Place) (boxes : List Seen) (clock : ℕ) (to : Addr) (want : Want) (mk : State → Row) (next : Step) (P : Bytes → Type 0) → P (usage_after next).local_tag → AllTags P (turned place boxes clock to want mk next).notifies
 unfolding turned notify
-turned-own place boxes to want serial cseq (Live sub notice) P p = (p, tt)
-turned-own place boxes to want serial cseq (Over usage notice) P p = (p, tt)
+turned-own place boxes clock to want mk (Live sub notice) P p = (p, tt)
+turned-own place boxes clock to want mk (Over usage notice) P p = (p, tt)
 
 told-own : (s : State) (left : ℕ) (P : Bytes → Type 0) → P s.usage.local_tag → P (usage_after (told s left)).local_tag
 unfolding told
@@ -78,14 +79,32 @@ counted-own : (P : Bytes → Type 0) (r : Request) → Own P (counted r)
 unfolding counted stays
 counted-own P r row p = tt
 
-disowned-own : (P : Bytes → Type 0) (response : Response) → Own P (disowned response)
-unfolding disowned stays goes
-disowned-own P response row p = if_is (λ (t : Told). AllTags P t.notifies) (is_refusal_of row.sub response) _ _ (λ e. tt) (λ e. tt)
+wherever-own : (P : Bytes → Type 0) (test : Row → Bool) (rule : Row → Told) → Own P rule → Own P (wherever test rule)
+unfolding wherever stays
+wherever-own P test rule own row p = if_is (λ (t : Told). AllTags P t.notifies) (test row) (rule row) (stays row) (λ e. own row p) (λ e. tt)
+
+takes_answer-own : (P : Bytes → Type 0) (response : Response) → Own P (takes_answer response)
+unfolding takes_answer stays goes
+takes_answer-own P response row p =
+    if_is (λ (t : Told). AllTags P t.notifies) (refuses response) _ _ (λ e. tt) (λ e. if_is (λ (t : Told). AllTags P t.notifies) (is_final response.status) _ _ (λ e. tt) (λ e. tt))
+
+answered-own : (P : Bytes → Type 0) (response : Response) → Own P (answered response)
+unfolding answered
+answered-own P response = wherever-own P (is_answered_by response) (takes_answer response) (takes_answer-own P response)
+
+ends-own : (P : Bytes → Type 0) (place : Place) (boxes : List Seen) (clock : ℕ) (reason : Reason) → Own P (ends place boxes clock reason)
+unfolding ends tells end
+ends-own P place boxes clock reason row p = turned-own place boxes clock row.sub.want.to row.sub.want (with_sub row) (over (end row.sub reason)) P p
+
+stops-own : (P : Bytes → Type 0) (place : Place) (boxes : List Seen) (clock : ℕ) → Own P (stops place boxes clock)
+unfolding stops
+stops-own P place boxes clock = ends-own P place boxes clock Deactivated
 
 times_out-own : (P : Bytes → Type 0) (place : Place) (boxes : List Seen) (clock : ℕ) → Own P (times_out place boxes clock)
-unfolding times_out tells stays end
+unfolding times_out goes
 times_out-own P place boxes clock row p =
-    if_is (λ (t : Told). AllTags P t.notifies) (nat_le row.sub.due clock) _ _ (λ e. turned-own place boxes row.sub.want.to row.sub.want row.serial row.last_cseq (over (end row.sub Timeout)) P p) (λ e. tt)
+    if_is (λ (t : Told). AllTags P t.notifies) (is_overdue clock row) goes (wherever (is_due clock) (ends place boxes clock Timeout) row)
+    (λ e. tt) (λ e. wherever-own P (is_due clock) (ends place boxes clock Timeout) (ends-own P place boxes clock Timeout) row p)
 
 changed-own : (s : State) (clock : ℕ) (is_over : Bool) (P : Bytes → Type 0) → P s.usage.local_tag → P (usage_after (changed s clock is_over)).local_tag
 unfolding changed end
@@ -93,21 +112,23 @@ changed-own s clock true P p = p
 changed-own s clock false P p = told-own (record s { count = s.count + 1 }) _ P p
 
 tells_watcher-own : (P : Bytes → Type 0) (place : Place) (boxes : List Seen) (clock : ℕ) (name resource : Bytes) (is_over : Bool) → Own P (tells_watcher place boxes clock name resource is_over)
-unfolding tells_watcher tells stays
-tells_watcher-own P place boxes clock name resource is_over row p =
-    if_is (λ (t : Told). AllTags P t.notifies) (watches name resource row) _ _ (λ e. turned-own place boxes row.sub.want.to row.sub.want row.serial row.last_cseq (changed row.sub clock is_over) P (changed-own row.sub clock is_over P p)) (λ e. tt)
+unfolding tells_watcher
+tells_watcher-own P place boxes clock name resource is_over = wherever-own P (watches name resource) (tells_change place boxes clock is_over) change-own
+  where
+    change-own : Own P (tells_change place boxes clock is_over)
+    change-own row p = unfold tells_change tells in turned-own place boxes clock row.sub.want.to row.sub.want (with_sub row) (changed row.sub clock is_over) P (changed-own row.sub clock is_over P p)
 
 renewed-own : (P : Bytes → Type 0) (place : Place) (boxes : List Seen) (clock : ℕ) (source : Addr) (r : Request) → Own P (renewed place boxes clock source r)
 unfolding renewed
 renewed-own P place boxes clock source r row p =
-    turned-own place boxes source row.sub.want row.serial r.head.cseq (renewed_sub place clock source r row.sub) P by_time
+    turned-own place boxes clock source row.sub.want (with_sub (record row { last_cseq = r.head.cseq })) (renewed_sub place clock source r row.sub) P by_time
   where
     by_time : P (usage_after (renewed_sub place clock source r row.sub)).local_tag
     by_time = unfold renewed_sub refresh end in if_is (λ (next : Step). P (usage_after next).local_tag) (asks_nothing place.limits r) _ _ (λ e. p) (λ e. told-own _ _ P p)
 
 only-own : (P : Bytes → Type 0) (serial : ℕ) (rule : Row → Told) → Own P rule → Own P (only serial rule)
-unfolding only stays
-only-own P serial rule own row p = if_is (λ (t : Told). AllTags P t.notifies) (row.serial == serial) _ _ (λ e. own row p) (λ e. tt)
+unfolding only
+only-own P serial rule own = wherever-own P (has_serial serial) rule own
 
 -- ---- all rows
 
@@ -147,54 +168,33 @@ Tagged start stepped = AllTags (IsTag start) stepped.outs
 abbrev Tags : Start → Book → Type 0
 Tags start b = RowTags (IsTag start) b.rows
 
-heard-tags : (start : Start) (b : Book) (source : Addr) (r : Request) (serial : ℕ) (o : Option Refusal) → Tags start b → Tagged start (heard start.place b source r serial o)
-unfolding heard all_rows refused keeping
-heard-tags start b source r serial (Some cause) p = said-own (IsTag start) (only serial (counted r)) (only-own (IsTag start) serial (counted r) (counted-own (IsTag start) r)) b.rows p
-heard-tags start b source r serial None p =
+first-tag : (place : Place) (boxes : List Seen) (clock : ℕ) (tag : Bytes) (source : Addr) (r : Request) (serial : ℕ) (kind : Birth) (P : Bytes → Type 0) → P tag → AllTags P (first_told place boxes clock tag source r serial (first_step place.limits clock (new_usage tag r) (new_want place tag source r) r kind)).notifies
+unfolding first_told first_step goes
+first-tag place boxes clock tag source r serial Watch P p = turned-own place boxes clock source (new_want place tag source r) (new_row serial r) _ P (unfold accept new_usage in told-own _ _ P p)
+first-tag place boxes clock tag source r serial Fetch P p = turned-own place boxes clock source (new_want place tag source r) (new_row serial r) _ P (unfold fetch new_usage in p)
+first-tag place boxes clock tag source r serial Transfer P p = turned-own place boxes clock source (new_want place tag source r) (new_row serial r) _ P (unfold accept new_usage in told-own _ _ P p)
+first-tag place boxes clock tag source r serial Unwatched P p = tt
+
+no_tags : (P : Bytes → Type 0) (tag : Bytes) (r : Request) → AllTags P (first_word tag r)
+unfolding first_word
+no_tags P tag r = if_is (AllTags P) (is_refer r) (Starts tag (or_empty (value_of r.refer_to)) ∷ []) [] (λ e. tt) (λ e. tt)
+
+born-tags : (start : Start) (b : Book) (source : Addr) (r : Request) (kind : Birth) → b.next < 2 ^ 64 → Tagged start (born start.place b source r kind)
+unfolding born born_with
+born-tags start b source r kind small =
+    tags-append (IsTag start) (first_told start.place (first_boxes b.boxes (tag_of start.place b.next) kind) b.clock (tag_of start.place b.next) source r b.next (first_step start.place.limits b.clock (new_usage (tag_of start.place b.next) r) (new_want start.place (tag_of start.place b.next) source r) r kind)).notifies (first_word (tag_of start.place b.next) r)
+    (first-tag start.place (first_boxes b.boxes (tag_of start.place b.next) kind) b.clock (tag_of start.place b.next) source r b.next kind (IsTag start) (b.next, small, refl))
+    (no_tags (IsTag start) (tag_of start.place b.next) r)
+
+served-tags : (start : Start) (b : Book) (source : Addr) (r : Request) (v : Verdict) → b.next < 2 ^ 64 → Tags start b → Tagged start (served start.place b source r v)
+unfolding served nothing refused denied accepted all_rows keeping
+served-tags start b source r Silent small p = tt
+served-tags start b source r (Repeated bytes) small p = tt
+served-tags start b source r (Refused cause) small p = tt
+served-tags start b source r (Denied serial cause) small p = said-own (IsTag start) (only serial (counted r)) (only-own (IsTag start) serial (counted r) (counted-own (IsTag start) r)) b.rows p
+served-tags start b source r (Renewed serial) small p =
     said-own (IsTag start) (only serial (renewed start.place b.boxes b.clock source r)) (only-own (IsTag start) serial (renewed start.place b.boxes b.clock source r) (renewed-own (IsTag start) start.place b.boxes b.clock source r)) b.rows p
-
-in_dialog-tags : (start : Start) (b : Book) (source : Addr) (r : Request) (o : Option Row) → Tags start b → Tagged start (in_dialog start.place b source r o)
-unfolding in_dialog refused
-in_dialog-tags start b source r None p = tt
-in_dialog-tags start b source r (Some row) p =
-    if_is (Tagged start) (nat_lt row.last_cseq r.head.cseq) _ _ (λ e. heard-tags start b source r row.serial (unheard start.place.limits row.sub.want.event r) p) (λ e. tt)
-
-first-tag : (place : Place) (clock : ℕ) (tag : Bytes) (source : Addr) (r : Request) (P : Bytes → Type 0) → P tag → P (usage_after (first_step place clock tag source r)).local_tag
-unfolding first_step fetch accept new_usage
-first-tag place clock tag source r P p = if_is (λ (next : Step). P (usage_after next).local_tag) (asks_nothing place.limits r) _ _ (λ e. p) (λ e. told-own _ _ P p)
-
-no_tags : (P : Bytes → Type 0) (d : Bool) (tag refer_to : Bytes) → AllTags P (if d then Starts tag refer_to ∷ [] else [])
-no_tags P true tag refer_to = tt
-no_tags P false tag refer_to = tt
-
-born-tags : (start : Start) (b : Book) (source : Addr) (r : Request) → b.next < 2 ^ 64 → Tagged start (born start.place b source r)
-unfolding born born_with first_told
-born-tags start b source r small =
-    tags-append (IsTag start) (first_told start.place b source r (tag_of start.place b.next)).notifies (if is_refer r then Starts (tag_of start.place b.next) (or_empty (value_of r.refer_to)) ∷ [] else [])
-    (turned-own start.place (first_boxes b.boxes (tag_of start.place b.next) r) source (new_want start.place (tag_of start.place b.next) source r) b.next r.head.cseq (first_step start.place b.clock (tag_of start.place b.next) source r) (IsTag start)
-    (first-tag start.place b.clock (tag_of start.place b.next) source r (IsTag start) (b.next, small, refl)))
-    (no_tags (IsTag start) (is_refer r) (tag_of start.place b.next) (or_empty (value_of r.refer_to)))
-
-outside-tags : (start : Start) (b : Book) (source : Addr) (r : Request) (o : Option Refusal) → b.next < 2 ^ 64 → Tagged start (outside start.place b source r o)
-unfolding outside refused
-outside-tags start b source r (Some cause) small = tt
-outside-tags start b source r None small = if_is (Tagged start) (is_full start.place.limits b.next _ r) _ _ (λ e. tt) (λ e. born-tags start b source r small)
-
-request-tags : (start : Start) (b : Book) (source : Addr) (r : Request) → b.next < 2 ^ 64 → Tags start b → Tagged start (asked_for start.place b source r)
-unfolding asked_for nothing
-request-tags start b source r small p = if_is (Tagged start) (is_ack r) _ _ (λ e. tt) (λ e. by_kept (kept_answer b.ring (key_of_request r)))
-  where
-    by_tag : (o : Option Bytes) → Tagged start (by_to_tag start.place b source r o)
-    by_tag None = unfold by_to_tag in outside-tags start b source r (misplaced start.place.limits b.boxes r) small
-    by_tag (Some tag) = unfold by_to_tag in in_dialog-tags start b source r _ p
-
-    by_misfit : (o : Option Refusal) → Tagged start (judged start.place b source r o)
-    by_misfit (Some cause) = unfold judged refused in tt
-    by_misfit None = unfold judged in by_tag r.head.to.tag
-
-    by_kept : (o : Option Bytes) → Tagged start (served start.place b source r o)
-    by_kept (Some bytes) = unfold served in tt
-    by_kept None = unfold served in by_misfit (misfit r)
+served-tags start b source r (Makes kind) small p = born-tags start b source r kind small
 
 content-tags : (start : Start) (b : Book) (name resource : Bytes) (is_over : Bool) (changed : Outcome × List Seen) → Tags start b → Tagged start (content_changed start.place b name resource is_over changed)
 unfolding content_changed all_rows nothing
@@ -204,13 +204,14 @@ content-tags start b name resource is_over (Unknown, boxes) p = tt
 
 step-tags : (start : Start) (b : Book) (e : Event) → b.next < 2 ^ 64 → Tags start b → Tagged start (step start.place b e)
 unfolding step
-step-tags start b (Comes source r) small p = request-tags start b source r small p
-step-tags start b (Replies r) small p = unfold replied all_rows in said-own (IsTag start) (disowned r) (disowned-own (IsTag start) r) b.rows p
+step-tags start b (Comes source r) small p = served-tags start b source r (verdict start.place.limits b r) small p
+step-tags start b (Replies r) small p = unfold replied all_rows in said-own (IsTag start) (answered r) (answered-own (IsTag start) r) b.rows p
 step-tags start b (Mails m) small p = content-tags start b mail_package m.mailbox false (change_first b.boxes (MailTo m)) p
 step-tags start b (Progresses q) small p = content-tags start b refer_package q.tag (is_final q.code) (change_first b.boxes (StepOf q)) p
 step-tags start b (Ticks t) small p =
     if_is (Tagged start) (nat_lt last_moment t) _ _ (λ e. unfold nothing in tt)
     (λ e. unfold ticked all_rows in said-own (IsTag start) (times_out start.place b.boxes (max b.clock t)) (times_out-own (IsTag start) start.place b.boxes (max b.clock t)) b.rows p)
+step-tags start b Shuts small p = unfold shut all_rows in said-own (IsTag start) (stops start.place b.boxes b.clock) (stops-own (IsTag start) start.place b.boxes b.clock) b.rows p
 
 -- ---- a run
 

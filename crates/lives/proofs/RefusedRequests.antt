@@ -5,7 +5,7 @@ use Rattle.std.specs.Prelude.{if◌then◌else◌, ◌==◌, ◌||◌, find, opt
 use Rattle.std.proofs.lemmas.Bool.Decides.{nat_tests}
 use Rattle.std.proofs.lemmas.List.Folds.{find-append}
 use Rattle.lives.proofs.Texts.{Bytes, never_both, bytes_same, and-left, and-right, and-false}
-use Rattle.sip_read.specs.declared.message.Addr.{Addr}
+use Rattle.sip_text.specs.declared.address.Addr.{Addr}
 use Rattle.sip_read.specs.declared.message.Request.{Request}
 use Rattle.notifier.specs.Fields.{or_empty, same_text}
 use Rattle.notifier.specs.Start.{Start, tag_of}
@@ -18,13 +18,14 @@ use Rattle.sip_write.specs.Answer.{answer_text}
 use Rattle.notifier.specs.declared.row.Row.{Row}
 use Rattle.notifier.specs.declared.row.Kept.{Kept}
 use Rattle.notifier.specs.Book.{Book, keeping, refused}
-use Rattle.notifier.specs.Rows.{Told, stays, only, is_dialog}
+use Rattle.notifier.specs.Rows.{Told, stays, wherever, only, is_dialog}
 use Rattle.notifier.specs.Answers.{has_key, kept_answer, ring_with, refusal_answer}
 use Rattle.notifier.specs.Out.{Send, Answers, notifications}
-use Rattle.lives.specs.Past.{now, is_among, is_new, with_key, keys_with, keys, is_fresh, is_placed, fits}
-use Rattle.lives.specs.Life.{Life, Heard, birth, is_above, is_gone}
-use Rattle.lives.specs.Lives.{when, is_heard, lived, is_birth, birth_of, birth_here, births, life, birth_at}
+use Rattle.lives.specs.Past.{now, is_among, is_new, with_key, keys_with, keys, is_fresh, fits}
+use Rattle.lives.specs.Life.{Life, Then, Heard, birth, is_above, is_gone}
+use Rattle.lives.specs.Lives.{when, is_in_dialog, may_hear, is_birth, birth_of, birth_here, births, life, birth_at}
 use Rattle.lives.proofs.Rows.{usage_of, sub_of, row_of, live_row, rows_to}
+use Rattle.lives.proofs.Deeds.{hears, lived-comes}
 use Rattle.lives.proofs.NextLives.{no_life, Ranges}
 use Rattle.lives.proofs.Turns.{Follows}
 use Rattle.lives.proofs.AllRows.{Turned, Rules, apart}
@@ -76,13 +77,13 @@ ring_goes start past source ring r bytes e fresh = rw fresh (by_key (key_of_requ
 -- ---- a request that is answered and befalls no one
 
 abbrev pub Nobody_hears : Start → List Event → Request → Type 0
-Nobody_hears start past r = (s : ℕ) (l : Life) → life start past s ≡ Some l → is_gone start.place.limits l ≡ false → is_heard start s past r l ≡ false
+Nobody_hears start past r = (s : ℕ) (l : Life) → life start past s ≡ Some l → is_gone start.place.limits l ≡ false → hears start s past r l ≡ false
 
 pub refused_goes : (start : Start) (past : List Event) (b : Book) (source : Addr) (r : Request) (cause : Refusal) → Ranges start.place.limits → Holds start past b → is_fresh start.place.limits past r ≡ true → birth_at start past (Comes source r) ≡ None → Nobody_hears start past r → Goes start past (Comes source r) (refused start.place b source r cause)
-unfolding refused keeping now notifications lived
+unfolding refused keeping now notifications
 refused_goes start past b source r cause ok h fresh none nobody =
     by_nothing start past (Comes source r) (keeping start.place b r (refusal_answer start.place b.boxes source r cause)) (Answers source (answer_text (refusal_answer start.place b.boxes source r cause)) ∷ []) ok none h.clock_is h.next_is h.rows_are (holdings_quiet start past (Comes source r) b.boxes none refl h.boxes_hold)
-    (ring_goes start past source b.ring r (answer_text (refusal_answer start.place b.boxes source r cause)) h.ring_is fresh) (λ tag. refl) (λ s l is alive. rw (nobody s l is alive) refl)
+    (ring_goes start past source b.ring r (answer_text (refusal_answer start.place b.boxes source r cause)) h.ring_is fresh) (λ tag. refl) (λ s l is alive. rw (lived-comes start s past source r l, nobody s l is alive) refl)
 
 -- what doesn't fit
 pub birth-unfit : (start : Start) (past : List Event) (source : Addr) (r : Request) → fits start past r ≡ false → birth_at start past (Comes source r) ≡ None
@@ -93,17 +94,23 @@ birth-unfit start past source r unfit = by_tag r.head.to.tag
     by_tag None = unfold birth_of is_birth in (rw unfit refl)
     by_tag (Some tag) = unfold birth_of in refl
 
-pub unfit-unheard : (start : Start) (past : List Event) (r : Request) → fits start past r ≡ false → Nobody_hears start past r
-unfolding is_heard
-unfit-unheard start past r unfit s l is alive = rw unfit refl
+pub unfit-unheard : (start : Start) (past : List Event) (r : Request) → (is_fresh start.place.limits past r && is_none (misfit r)) ≡ false → Nobody_hears start past r
+unfolding hears may_hear
+unfit-unheard start past r unfit s l is alive = by_tests (is_in_dialog (tag_of start.place s) (birth l) r) (is_fresh start.place.limits past r) (is_none (misfit r)) (is_above l r.head.cseq) unfit
+  where
+    by_tests : (a b c d : Bool) → (b && c) ≡ false → (a && (b && (c && d))) ≡ false
+    by_tests a true true d e = absurd (cc)
+    by_tests a true false d e = and-false a
+    by_tests a false c d e = and-false a
 
 -- an ACK, or a repeat
 pub stale_goes : (start : Start) (past : List Event) (b : Book) (source : Addr) (r : Request) (outs : List Send) → Ranges start.place.limits → Holds start past b → is_fresh start.place.limits past r ≡ false → ((tag : Bytes) → notifications tag outs ≡ []) → Goes start past (Comes source r) (record { book = b; outs = outs })
-unfolding now lived
+unfolding now
 stale_goes start past b source r outs ok h stale silent =
     let unfit : fits start past r ≡ false = unfold fits in (rw stale refl) in
     let none = birth-unfit start past source r unfit in
-    by_nothing start past (Comes source r) b outs ok none h.clock_is h.next_is h.rows_are (holdings_quiet start past (Comes source r) b.boxes none refl h.boxes_hold) (h.ring_is ∙ sym same_keys) silent (λ s l is alive. rw (unfit-unheard start past r unfit s l is alive) refl)
+    let unheard : (is_fresh start.place.limits past r && is_none (misfit r)) ≡ false = rw stale refl in
+    by_nothing start past (Comes source r) b outs ok none h.clock_is h.next_is h.rows_are (holdings_quiet start past (Comes source r) b.boxes none refl h.boxes_hold) (h.ring_is ∙ sym same_keys) silent (λ s l is alive. rw (lived-comes start s past source r l, unfit-unheard start past r unheard s l is alive) refl)
   where
     same_keys : take start.place.limits.kept (keys start.place.limits (Comes source r ∷ past)) ≡ take start.place.limits.kept (keys start.place.limits past)
     same_keys = unfold keys keys_with is_fresh in (let e : (not (is_ack r) && is_new (key_of_request r) (take start.place.limits.kept (keys start.place.limits past))) ≡ false = stale in rw e refl)
@@ -174,21 +181,17 @@ others_not start r tag k s l m small_k small_s e differ =
     other : bytes_eq (tag_of start.place s) tag ≡ false
     other = subst (λ (t : Bytes). bytes_eq (tag_of start.place s) t ≡ false) mine (apart start s k small_s small_k differ)
 
--- a request with a To tag that is fresh and well formed fits, and makes no dialog
-pub fits-dialog : (start : Start) (past : List Event) (r : Request) (tag : Bytes) → is_fresh start.place.limits past r ≡ true → is_none (misfit r) ≡ true → r.head.to.tag ≡ Some tag → fits start past r ≡ true
-unfolding fits
-fits-dialog start past r tag fresh good to =
-    ap (λ (d : Bool). d && (is_none (misfit r) && is_placed start r r.head.to.tag)) fresh ∙ (ap (λ (d : Bool). d && is_placed start r r.head.to.tag) good ∙ ap (is_placed start r) to)
-
+-- a request with a To tag makes no dialog
 pub no_birth : (start : Start) (past : List Event) (source : Addr) (r : Request) (tag : Bytes) → r.head.to.tag ≡ Some tag → birth_at start past (Comes source r) ≡ None
 unfolding birth_at birth_here birth_of
 no_birth start past source r tag to = ap (birth_of start past (births start past) (life start past) source r) to
 
-pub heard-is : (start : Start) (past : List Event) (r : Request) (tag : Bytes) (s : ℕ) (l : Life) → fits start past r ≡ true → r.head.to.tag ≡ Some tag → is_heard start s past r l ≡ (is_dialog r tag (row_of start s l) && is_above l r.head.cseq)
-unfolding is_heard is_dialog row_of sub_of usage_of
-heard-is start past r tag s l fitting to =
-    ap (λ (d : Bool). d && ((bytes_eq (birth l).head.call_id r.head.call_id && (same_text (Some (tag_of start.place s)) r.head.to.tag && bytes_eq (or_empty (birth l).head.from.tag) (or_empty r.head.from.tag))) && is_above l r.head.cseq)) fitting
-    ∙ ap (λ (t : Option Bytes). (bytes_eq (birth l).head.call_id r.head.call_id && (same_text (Some (tag_of start.place s)) t && bytes_eq (or_empty (birth l).head.from.tag) (or_empty r.head.from.tag))) && is_above l r.head.cseq) to
+pub heard-is : (start : Start) (past : List Event) (r : Request) (tag : Bytes) (s : ℕ) (l : Life) → is_fresh start.place.limits past r ≡ true → is_none (misfit r) ≡ true → r.head.to.tag ≡ Some tag → hears start s past r l ≡ (is_dialog r tag (row_of start s l) && is_above l r.head.cseq)
+unfolding hears may_hear is_in_dialog is_dialog row_of sub_of usage_of
+heard-is start past r tag s l fresh good to =
+    ap (λ (d : Bool). (bytes_eq (birth l).head.call_id r.head.call_id && (same_text (Some (tag_of start.place s)) r.head.to.tag && bytes_eq (or_empty (birth l).head.from.tag) (or_empty r.head.from.tag))) && (d && (is_none (misfit r) && is_above l r.head.cseq))) fresh
+    ∙ (ap (λ (d : Bool). (bytes_eq (birth l).head.call_id r.head.call_id && (same_text (Some (tag_of start.place s)) r.head.to.tag && bytes_eq (or_empty (birth l).head.from.tag) (or_empty r.head.from.tag))) && (true && (d && is_above l r.head.cseq))) good
+    ∙ ap (λ (t : Option Bytes). (bytes_eq (birth l).head.call_id r.head.call_id && (same_text (Some (tag_of start.place s)) t && bytes_eq (or_empty (birth l).head.from.tag) (or_empty r.head.from.tag))) && is_above l r.head.cseq) to)
 
 pub range_of : (start : Start) (past : List Event) (s : ℕ) (l : Life) → life start past s ≡ Some l → (0 < s) × (s ≤ births start past)
 range_of start past s l is = by_place (where_is s (births start past))
@@ -201,22 +204,22 @@ range_of start past s l is = by_place (where_is s (births start past))
     by_place (inr inside) = inside
 
 -- the rule for the dialog's row alone
-pub dialog_rules : (start : Start) (past : List Event) (source : Addr) (r : Request) (tag : Bytes) (k : ℕ) (who : Life) (rule : Row → Told) → Ranges start.place.limits → fits start past r ≡ true → r.head.to.tag ≡ Some tag → life start past k ≡ Some who → is_dialog r tag (row_of start k who) ≡ true → is_above who r.head.cseq ≡ true
-    → Follows start k (Comes source r ∷ past) (rule (row_of start k who)) (Heard (now past) source r who) → Rules start past (Comes source r) (only k rule)
-unfolding only lived row_of
-dialog_rules start past source r tag k who rule ok fitting to lives dialog above follows s l is alive = by_serial (s == k) refl
+pub dialog_rules : (start : Start) (past : List Event) (source : Addr) (r : Request) (tag : Bytes) (k : ℕ) (who : Life) (rule : Row → Told) → Ranges start.place.limits → is_fresh start.place.limits past r ≡ true → is_none (misfit r) ≡ true → r.head.to.tag ≡ Some tag → life start past k ≡ Some who → is_dialog r tag (row_of start k who) ≡ true → is_above who r.head.cseq ≡ true
+    → Follows start k (Comes source r ∷ past) (rule (row_of start k who)) (Then (now past) (Heard source r) who) → Rules start past (Comes source r) (only k rule)
+unfolding only wherever row_of
+dialog_rules start past source r tag k who rule ok fresh good to lives dialog above follows s l is alive = rw (lived-comes start s past source r l) (by_serial (s == k) refl)
   where
-    here : k ≡ s → who ≡ l → Turned start s (Comes source r ∷ past) (rule (row_of start s l)) l (when (is_heard start s past r l) (Heard (now past) source r l))
+    here : k ≡ s → who ≡ l → Turned start s (Comes source r ∷ past) (rule (row_of start s l)) l (when (hears start s past r l) (Then (now past) (Heard source r) l))
     here at same =
-        subst (λ (x : ℕ). Turned start x (Comes source r ∷ past) (rule (row_of start x l)) l (when (is_heard start x past r l) (Heard (now past) source r l))) at
-        (subst (λ (x : Life). Turned start k (Comes source r ∷ past) (rule (row_of start k x)) x (when (is_heard start k past r x) (Heard (now past) source r x))) same
-        (let heard_here : is_heard start k past r who ≡ true = heard-is start past r tag k who fitting to ∙ rw (dialog, above) refl in rw heard_here follows))
+        subst (λ (x : ℕ). Turned start x (Comes source r ∷ past) (rule (row_of start x l)) l (when (hears start x past r l) (Then (now past) (Heard source r) l))) at
+        (subst (λ (x : Life). Turned start k (Comes source r ∷ past) (rule (row_of start k x)) x (when (hears start k past r x) (Then (now past) (Heard source r) x))) same
+        (let heard_here : hears start k past r who ≡ true = heard-is start past r tag k who fresh good to ∙ rw (dialog, above) refl in rw heard_here follows))
 
-    by_serial : (d : Bool) → (s == k) ≡ d → Turned start s (Comes source r ∷ past) (if d then rule (row_of start s l) else stays (row_of start s l)) l (when (is_heard start s past r l) (Heard (now past) source r l))
+    by_serial : (d : Bool) → (s == k) ≡ d → Turned start s (Comes source r ∷ past) (if d then rule (row_of start s l) else stays (row_of start s l)) l (when (hears start s past r l) (Then (now past) (Heard source r) l))
     by_serial true e =
         let at : s ≡ k = grind (arith, nat_tests) in
         let is_k : life start past k ≡ Some l = subst (λ (x : ℕ). life start past x ≡ Some l) at is in
         here (sym at) (let same : who ≡ l = cc in same)
     by_serial false e =
-        let unheard_here : is_heard start s past r l ≡ false = heard-is start past r tag s l fitting to ∙ rw (others_not start r tag k s who l (life_small start past k who ok lives) (life_small start past s l ok is) dialog (λ at. absurd (grind (arith, nat_tests)))) refl in
+        let unheard_here : hears start s past r l ≡ false = heard-is start past r tag s l fresh good to ∙ rw (others_not start r tag k s who l (life_small start past k who ok lives) (life_small start past s l ok is) dialog (λ at. absurd (grind (arith, nat_tests)))) refl in
         rw unheard_here refl

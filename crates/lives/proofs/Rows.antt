@@ -15,34 +15,23 @@ use Rattle.notifier.specs.Requests.{is_refer, user_part, event_of}
 use Rattle.notifier.specs.declared.row.Row.{Row}
 use Rattle.notifier.specs.Rows.{Told, left, said}
 use Rattle.notifier.specs.Out.{Send, Answers, Notifies, Starts, Notification, notification, notifications}
-use Rattle.lives.specs.Life.{Life, Born, Heard, Changed, Progressed, Due, Disowned, birth, address, number, end_of_grant, is_accepted, is_gone, one_if}
+use Rattle.lives.specs.Life.{Life, Born, Then, Heard, birth, address, number, end_of_grant, is_accepted, is_gone, last_heard, one_if, unanswered}
 use Rattle.lives.specs.Lives.{is_alive, count_alive}
 
 -- the CSeq that was heard last
 unfoldable pub last_cseq : Life → ℕ
 last_cseq (Born t source r) = r.head.cseq
-last_cseq (Heard t source r l) = r.head.cseq
-last_cseq (Changed t l) = last_cseq l
-last_cseq (Progressed t p l) = last_cseq l
-last_cseq (Due t l) = last_cseq l
-last_cseq (Disowned t l) = last_cseq l
+last_cseq (Then t (Heard source r) l) = r.head.cseq
+last_cseq (Then t deed l) = last_cseq l
 
 -- the target and the CSeq of the last accepted request, the birth included
 unfoldable pub target_of : Limits → Life → Bytes
 target_of limits (Born t source r) = or_empty (value_of r.contact)
-target_of limits (Heard t source r l) = if is_accepted limits (birth l) r then unwrap_or (value_of r.contact) (target_of limits l) else target_of limits l
-target_of limits (Changed t l) = target_of limits l
-target_of limits (Progressed t p l) = target_of limits l
-target_of limits (Due t l) = target_of limits l
-target_of limits (Disowned t l) = target_of limits l
+target_of limits (Then t (Heard source r) l) = if is_accepted limits (birth l) r then unwrap_or (value_of r.contact) (target_of limits l) else target_of limits l
+target_of limits (Then t deed l) = target_of limits l
 
 unfoldable pub accepted_cseq : Limits → Life → ℕ
-accepted_cseq limits (Born t source r) = r.head.cseq
-accepted_cseq limits (Heard t source r l) = if is_accepted limits (birth l) r then r.head.cseq else accepted_cseq limits l
-accepted_cseq limits (Changed t l) = accepted_cseq limits l
-accepted_cseq limits (Progressed t p l) = accepted_cseq limits l
-accepted_cseq limits (Due t l) = accepted_cseq limits l
-accepted_cseq limits (Disowned t l) = accepted_cseq limits l
+accepted_cseq limits l = (last_heard (is_accepted limits (birth l)) l).request.head.cseq
 
 unfoldable pub usage_of : Start → ℕ → Life → Usage
 usage_of start serial l = record {
@@ -74,7 +63,12 @@ sub_of start serial l = record {
 
 -- the row of a life
 unfoldable pub row_of : Start → ℕ → Life → Row
-row_of start serial l = record { serial = serial; sub = sub_of start serial l; last_cseq = last_cseq l }
+row_of start serial l = record {
+  serial = serial;
+  sub = sub_of start serial l;
+  last_cseq = last_cseq l;
+  unanswered = unanswered start.place.limits l;
+}
 
 unfoldable pub live_row : Start → ℕ → Option Life → Option Row
 live_row start serial None = None

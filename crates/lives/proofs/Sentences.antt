@@ -1,25 +1,30 @@
 -- The sentences on a life.
 use Rattle.std.proofs.Common.{◌≡◌, ℕ, ◌+◌, ◌<◌, ◌≤◌, List, [], ◌∷◌, ◌++◌, Option, Some, None, Bool, true, false, not, ◌&&◌, refl, sym, ◌∙◌, ap, subst, arith, ◌⊎◌, inl, inr}
-use Rattle.std.specs.Prelude.{if◌then◌else◌, ◌==◌, ◌||◌, nat_lt, nat_le, max, is_some, bytes_eq, codes}
+use Rattle.std.specs.Prelude.{if◌then◌else◌, ◌==◌, ◌||◌, nat_lt, nat_le, max, is_some, bytes_eq, codes, option_map}
 use Rattle.std.proofs.lemmas.Bool.Decides.{nat_tests}
 use Rattle.std.proofs.lemmas.List.{append-nil}
-use Rattle.std.proofs.Math.Bool.{and-true}
 use Rattle.package.specs.declared.counts.Counts.{Counts}
-use Rattle.lives.proofs.Texts.{Bytes, never_both, not_true, and-right, and-false, when_is}
-use Rattle.sip_read.specs.declared.message.Addr.{Addr}
+use Rattle.lives.proofs.Texts.{Bytes, never_both, not_true, and-left, and-right, and-false, if_is, when_is}
+use Rattle.sip_text.specs.declared.address.Addr.{Addr}
 use Rattle.sip_read.specs.declared.message.Request.{Request}
 use Rattle.package.specs.declared.counts.Class.{Class}
 use Rattle.package.specs.Values.{MailChange}
 use Rattle.notifier.specs.Limits.{Limits}
 use Rattle.notifier.specs.Start.{Start, tag_of, last_moment}
 use Rattle.notifier.specs.declared.event.Event.{Event}
-use Rattle.notifier.specs.declared.event.Event.TheVariants.{Request as Comes, Reply as Replies, Mail as Mails, Progress as Progresses, Tick as Ticks}
-use Rattle.notifier.specs.Requests.{is_refer, asks_nothing, is_full}
-use Rattle.lives.specs.Past.{now, last_counts}
-use Rattle.lives.specs.Life.{Life, Born, Heard, Changed, Progressed, Due, Disowned, birth, status, is_above, is_gone}
-use Rattle.lives.specs.Lives.{is_heard, is_changed, is_progressed, is_due, is_refused, lived, count_alive, is_birth, birth_of, birth_here, befalls, or_before, births, life, birth_at, befell}
+use Rattle.notifier.specs.declared.event.Event.TheVariants.{Request as Comes, Reply as Replies, Mail as Mails, Progress as Progresses, Tick as Ticks, Shut as Shuts}
+use Rattle.notifier.specs.declared.request.Birth.TheVariants.{Watch, Fetch, Transfer, Unwatched}
+use Rattle.notifier.specs.Fields.{value_of}
+use Rattle.subscription.specs.Table.{refuses}
+use Rattle.package.specs.Content.{is_final}
+use Rattle.sip_read.specs.declared.message.Response.{Response}
+use Rattle.notifier.specs.Requests.{is_refer, is_no, is_unwatched, asked, asks_nothing, birth_of as birth_of_request, needs_place, is_full}
+use Rattle.lives.specs.Past.{now, last_counts, is_fresh}
+use Rattle.lives.specs.Life.{Life, Then, Heard, MailChanged, Progressed, Due, Answered, Disowned, Lost, is_overdue, birth, status, cseqs, is_above, is_gone}
+use Rattle.lives.specs.Lives.{when, is_answer_in_dialog, is_to_notify, answer_deed, tick_deed, is_due, may_hear, lived, count_alive, is_birth, birth_of, birth_here, befalls, or_before, births, life, birth_at, befell}
 use Rattle.lives.specs.Notices.{notices, notices_at}
-use Rattle.lives.specs.Sentences.{Came, IsNow, NowLaw, sets, CountsLaw, IsBirth, BirthsLaw, is_gone_by, GoneLaw, SilentLaw, AboveLaw, status_after, last_status, StatusLaw, TouchedLaw}
+use Rattle.lives.specs.Sentences.{Came, IsNow, NowLaw, sets, CountsLaw, IsBirth, BirthsLaw, is_gone_by, GoneLaw, SilentLaw, rise, RisingLaw, status_after, last_status, StatusLaw, TouchedLaw}
+use Rattle.lives.proofs.Deeds.{hears, lived-comes, lived-replies, lived-mails, lived-progresses, lived-ticks, lived-shuts}
 use Rattle.lives.proofs.NextLives.{births-next, life-next, no_life, birth_of_some}
 use Rattle.lives.proofs.Numbers.{number-next}
 
@@ -83,6 +88,7 @@ now_law (Replies r ∷ past) = now_more (Replies r) past (λ t e. absurd (cc)) (
 now_law (Mails m ∷ past) = now_more (Mails m) past (λ t e. absurd (cc)) (now_law past) refl
 now_law (Progresses p ∷ past) = now_more (Progresses p) past (λ t e. absurd (cc)) (now_law past) refl
 now_law (Ticks t ∷ past) = now_tick t past (now_law past) (nat_le t last_moment) refl refl
+now_law (Shuts ∷ past) = now_more Shuts past (λ t e. absurd (cc)) (now_law past) refl
 
 -- ---- the counts
 
@@ -93,6 +99,7 @@ counts-skip mailbox class first (Replies r) past h = refl
 counts-skip mailbox class first (Mails m) past h = rw h refl
 counts-skip mailbox class first (Progresses p) past h = refl
 counts-skip mailbox class first (Ticks t) past h = refl
+counts-skip mailbox class first Shuts past h = refl
 
 last_one : (mailbox : Bytes) (class : Class) (first : Option Counts) (later past : List Event) (m : MailChange) → ((e : Event) → Came later e → sets mailbox class e ≡ false) → sets mailbox class (Mails m) ≡ true → last_counts mailbox class first (later ++ Mails m ∷ past) ≡ Some m.counts
 last_one mailbox class first [] past m none here = unfold last_counts in (rw here refl)
@@ -107,21 +114,32 @@ counts_law mailbox class first = record { last = last_one mailbox class first; a
 
 -- ---- births
 
-room-is : (limits : Limits) (n alive : ℕ) (r : Request) → is_full limits n alive r ≡ false → (n ≤ limits.serials) × ((asks_nothing limits r ≡ true) ⊎ (alive < limits.table))
-unfolding is_full
-room-is limits n alive r h = by_tests (nat_lt limits.serials n) (nat_le limits.table alive) (asks_nothing limits r) refl refl refl h
+-- who needs no place
+needs-is : (limits : Limits) (r : Request) → needs_place (birth_of_request limits r) ≡ not (asks_nothing limits r || is_unwatched r)
+unfolding birth_of_request asks_nothing is_unwatched
+needs-is limits r = by_tests (is_refer r) (is_no (value_of r.refer_sub)) (asked limits r == 0)
   where
-    by_tests : (a b c : Bool) → nat_lt limits.serials n ≡ a → nat_le limits.table alive ≡ b → asks_nothing limits r ≡ c → (a || (b && not c)) ≡ false → (n ≤ limits.serials) × ((c ≡ true) ⊎ (alive < limits.table))
+    by_tests : (a b c : Bool) → needs_place (if a then (if a && b then Unwatched else Transfer) else if not a && c then Fetch else Watch) ≡ not ((not a && c) || (a && b))
+    by_tests true true c = refl
+    by_tests true false c = refl
+    by_tests false b true = refl
+    by_tests false b false = refl
+
+room-is : (limits : Limits) (n alive : ℕ) (r : Request) → is_full limits n alive r ≡ false → (n ≤ limits.serials) × (((asks_nothing limits r || is_unwatched r) ≡ true) ⊎ (alive < limits.table))
+unfolding is_full
+room-is limits n alive r h = by_tests (nat_lt limits.serials n) (nat_le limits.table alive) (asks_nothing limits r || is_unwatched r) refl refl refl (rw (← needs-is limits r) h)
+  where
+    by_tests : (a b c : Bool) → nat_lt limits.serials n ≡ a → nat_le limits.table alive ≡ b → (asks_nothing limits r || is_unwatched r) ≡ c → (a || (b && not c)) ≡ false → (n ≤ limits.serials) × ((c ≡ true) ⊎ (alive < limits.table))
     by_tests true b c e f g h = absurd (cc)
     by_tests false true true e f g h = (grind (arith, nat_tests), inl refl)
     by_tests false true false e f g h = absurd (cc)
     by_tests false false c e f g h = (grind (arith, nat_tests), inr (grind (arith, nat_tests)))
 
-is-room : (limits : Limits) (n alive : ℕ) (r : Request) → n ≤ limits.serials → (asks_nothing limits r ≡ true) ⊎ (alive < limits.table) → is_full limits n alive r ≡ false
+is-room : (limits : Limits) (n alive : ℕ) (r : Request) → n ≤ limits.serials → ((asks_nothing limits r || is_unwatched r) ≡ true) ⊎ (alive < limits.table) → is_full limits n alive r ≡ false
 unfolding is_full
-is-room limits n alive r le p = let e : nat_lt limits.serials n ≡ false = grind (arith, nat_tests) in rw e (by_place p)
+is-room limits n alive r le p = let e : nat_lt limits.serials n ≡ false = grind (arith, nat_tests) in rw (e, needs-is limits r) (by_place p)
   where
-    by_place : (asks_nothing limits r ≡ true) ⊎ (alive < limits.table) → (nat_le limits.table alive && not (asks_nothing limits r)) ≡ false
+    by_place : ((asks_nothing limits r || is_unwatched r) ≡ true) ⊎ (alive < limits.table) → (nat_le limits.table alive && not (asks_nothing limits r || is_unwatched r)) ≡ false
     by_place (inl a) = rw a (and-false (nat_le limits.table alive))
     by_place (inr lt) = let f : nat_le limits.table alive ≡ false = grind (arith, nat_tests) in rw f refl
 
@@ -201,16 +219,71 @@ silent_law start past e s h =
 pub touched_law : TouchedLaw
 touched_law = number-next
 
--- ---- above
+-- ---- the CSeqs that it heard
 
-pub above_law : AboveLaw
-unfolding is_above
-above_law (Born t source r) c = sym (and-true (nat_lt r.head.cseq c))
-above_law (Heard t source r l) c = ap (λ (d : Bool). nat_lt r.head.cseq c && d) (above_law l c)
-above_law (Changed t l) c = above_law l c
-above_law (Progressed t p l) c = above_law l c
-above_law (Due t l) c = above_law l c
-above_law (Disowned t l) c = above_law l c
+-- what an answer, or a Tick, is to a life
+by_answer : (P : Option Life → Type 0) (limits : Limits) (moment : ℕ) (r : Response) (l : Life) → P (Some (Then moment Disowned l)) → P (Some (Then moment (Answered r.head.cseq) l)) → P None → P (option_map (λ d. Then moment d l) (answer_deed r))
+unfolding answer_deed
+by_answer P limits moment r l disowned answered none = by_tests (refuses r) (is_final r.status)
+  where
+    by_tests : (a b : Bool) → P (option_map (λ d. Then moment d l) (if a then Some Disowned else when b (Answered r.head.cseq)))
+    by_tests true b = disowned
+    by_tests false true = answered
+    by_tests false false = none
+
+by_tick : (P : Option Life → Type 0) (limits : Limits) (moment : ℕ) (l : Life) → P (Some (Then moment Lost l)) → P (Some (Then moment Due l)) → P None → P (option_map (λ d. Then moment d l) (tick_deed limits moment l))
+unfolding tick_deed
+by_tick P limits moment l lost due none = by_tests (is_overdue limits moment l) (is_due limits moment l)
+  where
+    by_tests : (a b : Bool) → P (option_map (λ d. Then moment d l) (if a then Some Lost else when b Due))
+    by_tests true b = lost
+    by_tests false true = due
+    by_tests false false = none
+
+abbrev Rises : Option Life → Type 0
+Rises None = Unit {0}
+Rises (Some l) = rise (cseqs l) ≡ true
+
+rising-lived : (start : Start) (s : ℕ) (past : List Event) (e : Event) (l : Life) → rise (cseqs l) ≡ true → Rises (lived start s past e l)
+unfolding cseqs is_above
+rising-lived start s past (Comes source r) l h = rw (lived-comes start s past source r l)
+    (when_is Rises (hears start s past r l) (Then (now past) (Heard source r) l) (λ heard. rw (above heard) h) (λ g. tt))
+  where
+    above : hears start s past r l ≡ true → is_above l r.head.cseq ≡ true
+    above heard = unfold hears may_hear in and-right _ (is_above l r.head.cseq) (and-right (is_fresh start.place.limits past r) _ (and-right _ _ (unfold hears may_hear in heard)))
+rising-lived start s past (Replies r) l h = rw (lived-replies start s past r l) (if_is Rises (is_answer_in_dialog (tag_of start.place s) (birth l) r && is_to_notify start.place.limits r l) (option_map (λ d. Then (now past) d l) (answer_deed r)) None (λ g. by_answer Rises start.place.limits (now past) r l h h tt) (λ g. tt))
+rising-lived start s past (Mails m) l h = rw (lived-mails start s past m l) (when_is Rises _ (Then (now past) MailChanged l) (λ g. h) (λ g. tt))
+rising-lived start s past (Progresses p) l h = rw (lived-progresses start s past p l) (when_is Rises _ (Then (now past) (Progressed p) l) (λ g. h) (λ g. tt))
+rising-lived start s past (Ticks t) l h = rw (lived-ticks start s past t l) (by_tick Rises start.place.limits (now (Ticks t ∷ past)) l h h tt)
+rising-lived start s past Shuts l h = rw (lived-shuts start s past l) h
+
+rising-after : (start : Start) (s : ℕ) (past : List Event) (e : Event) (d : Bool) (begun o : Option Life) → Rises begun → Rises o → Rises (or_before (befalls start s past e d begun o) o)
+unfolding befalls
+rising-after start s past e true None None b h = tt
+rising-after start s past e true (Some m) None b h = b
+rising-after start s past e false begun None b h = tt
+rising-after start s past e d begun (Some l) b h = by_gone (is_gone start.place.limits l)
+  where
+    by_lived : (o : Option Life) → Rises o → Rises (or_before o (Some l))
+    by_lived None r = h
+    by_lived (Some m) r = r
+
+    by_gone : (c : Bool) → Rises (or_before (if c then None else lived start s past e l) (Some l))
+    by_gone true = h
+    by_gone false = by_lived (lived start s past e l) (rising-lived start s past e l h)
+
+rising_born : (start : Start) (past : List Event) (e : Event) (o : Option Life) → birth_at start past e ≡ o → Rises o
+unfolding cseqs
+rising_born start past e None is = tt
+rising_born start past e (Some l) is = let b = birth_of_some start past e l is in subst (λ (x : Life). rise (cseqs x) ≡ true) (sym b.is) refl
+
+rises : (start : Start) (past : List Event) (s : ℕ) → Rises (life start past s)
+unfolding befell
+rises start [] s = unfold births life in tt
+rises start (e ∷ past) s = subst Rises (sym (life-next start past e s)) (rising-after start s past e (s == births start past + 1) (birth_at start past e) (life start past s) (rising_born start past e (birth_at start past e) refl) (rises start past s))
+
+pub rising_law : RisingLaw
+rising_law start past s l is = subst Rises is (rises start past s)
 
 -- ---- how far a transfer has come
 
@@ -224,18 +297,20 @@ StatusAt start s past e l None = is_refer (birth l) ≡ true → status l ≡ st
 StatusAt start s past e l (Some m) = is_refer (birth m) ≡ true → (is_refer (birth l) ≡ true) × (status m ≡ status_after (tag_of start.place s) e (status l))
 
 lived-status_after : (start : Start) (s : ℕ) (past : List Event) (e : Event) (l : Life) → StatusAt start s past e l (lived start s past e l)
-unfolding lived is_progressed status birth
-lived-status_after start s past (Comes source r) l = when_is (StatusAt start s past (Comes source r) l) (is_heard start s past r l) (Heard (now past) source r l) (λ h f. (f, refl)) (λ h f. refl)
-lived-status_after start s past (Replies r) l = when_is (StatusAt start s past (Replies r) l) (is_refused start s r l) (Disowned (now past) l) (λ h f. (f, refl)) (λ h f. refl)
-lived-status_after start s past (Mails m) l = when_is (StatusAt start s past (Mails m) l) (is_changed start past m l) (Changed (now past) l) (λ h f. (f, refl)) (λ h f. refl)
-lived-status_after start s past (Ticks t) l = when_is (StatusAt start s past (Ticks t) l) (is_due start.place.limits past t l) (Due (now (Ticks t ∷ past)) l) (λ h f. (f, refl)) (λ h f. refl)
-lived-status_after start s past (Progresses p) l = when_is (StatusAt start s past (Progresses p) l) (is_refer (birth l) && bytes_eq (tag_of start.place s) p.tag) (Progressed (now past) p l)
-    (λ h f. (f, rw (and-right (is_refer (birth l)) (bytes_eq (tag_of start.place s) p.tag) h) refl))
-    (λ h f. let e : bytes_eq (tag_of start.place s) p.tag ≡ false = right_false (is_refer (birth l)) (bytes_eq (tag_of start.place s) p.tag) f h in rw e refl)
+unfolding status birth
+lived-status_after start s past (Comes source r) l = rw (lived-comes start s past source r l) (when_is (StatusAt start s past (Comes source r) l) (hears start s past r l) (Then (now past) (Heard source r) l) (λ h f. (f, refl)) (λ h f. refl))
+lived-status_after start s past (Replies r) l = rw (lived-replies start s past r l) (if_is (StatusAt start s past (Replies r) l) (is_answer_in_dialog (tag_of start.place s) (birth l) r && is_to_notify start.place.limits r l) (option_map (λ d. Then (now past) d l) (answer_deed r)) None
+    (λ g. by_answer (StatusAt start s past (Replies r) l) start.place.limits (now past) r l (λ f. (f, refl)) (λ f. (f, refl)) (λ f. refl)) (λ g f. refl))
+lived-status_after start s past (Mails m) l = rw (lived-mails start s past m l) (when_is (StatusAt start s past (Mails m) l) _ (Then (now past) MailChanged l) (λ h f. (f, refl)) (λ h f. refl))
+lived-status_after start s past (Ticks t) l = rw (lived-ticks start s past t l) (by_tick (StatusAt start s past (Ticks t) l) start.place.limits (now (Ticks t ∷ past)) l (λ f. (f, refl)) (λ f. (f, refl)) (λ f. refl))
+lived-status_after start s past Shuts l = rw (lived-shuts start s past l) (λ f. (f, refl))
+lived-status_after start s past (Progresses p) l = rw (lived-progresses start s past p l) (when_is (StatusAt start s past (Progresses p) l) (bytes_eq (tag_of start.place s) p.tag && is_refer (birth l)) (Then (now past) (Progressed p) l)
+    (λ h f. (f, rw (and-left (bytes_eq (tag_of start.place s) p.tag) (is_refer (birth l)) h) refl))
+    (λ h f. let e : bytes_eq (tag_of start.place s) p.tag ≡ false = left_false (bytes_eq (tag_of start.place s) p.tag) (is_refer (birth l)) f h in rw e refl))
   where
-    right_false : (a b : Bool) → a ≡ true → (a && b) ≡ false → b ≡ false
-    right_false true b e h = h
-    right_false false b e h = absurd (cc)
+    left_false : (a b : Bool) → b ≡ true → (a && b) ≡ false → a ≡ false
+    left_false true b e h = sym e ∙ h
+    left_false false b e h = refl
 
 -- the status of one that isn't gone
 abbrev Stands : Start → ℕ → List Event → Option Life → Type 0

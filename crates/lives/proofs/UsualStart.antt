@@ -1,5 +1,5 @@
 -- There is a start of which the laws speak: usual limits, and a package for transfers that holds nothing.
-use Rattle.std.proofs.Common.{[], ◌∷◌, arith}
+use Rattle.std.proofs.Common.{[], ◌∷◌, false, arith}
 use Rattle.std.specs.Prelude.{codes, replicate}
 use Rattle.std.specs.FinMap.{empty, get-empty}
 use Rattle.std.specs.Ordering.{nat_cmp}
@@ -13,7 +13,7 @@ usual = record { min_time = 60; max_time = 86400; default_time = 3600; refer_tim
 
 abbrev usual_start : Start
 usual_start = record {
-  place = record { limits = usual; seed = replicate 32 0; me = record { ip = 127 ∷ 0 ∷ 0 ∷ 1 ∷ []; port = 5060 }; worker = 0 };
+  place = record { limits = usual; seed = replicate 32 0; me = record { ip = 127 ∷ 0 ∷ 0 ∷ 1 ∷ []; port = 5060 }; stop = false; worker = 0 };
   boxes = record { name = codes "refer"; content_type = codes "message/sipfrag;version=2.0"; contents = empty } ∷ [];
 }
 

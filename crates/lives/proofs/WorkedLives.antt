@@ -1,13 +1,13 @@
 -- Lives worked out by computing: what the watcher is told in each.
 use Rattle.std.specs.Prelude.{refl, ◌≡◌, ℕ, true, List, [], ◌∷◌, ◌++◌, map, Option, Some, None, codes}
-use Rattle.event_headers.specs.declared.field.Field.TheVariants.{Absent, Bad, Value}
+use Rattle.sip_text.specs.declared.field.Field.TheVariants.{Absent, Bad, Value}
 use Rattle.event_headers.specs.Written.{state_text}
 use Rattle.sip_read.specs.declared.message.Request.{Request}
 use Rattle.package.specs.declared.counts.Class.TheVariants.{Voice, Fax, Text as TextMessages}
 use Rattle.notifier.specs.declared.event.Event.{Event}
-use Rattle.notifier.specs.declared.event.Event.TheVariants.{Request as Comes, Tick as Ticks}
+use Rattle.notifier.specs.declared.event.Event.TheVariants.{Request as Comes, Tick as Ticks, Shut}
 use Rattle.notifier.specs.Out.{Notification}
-use Rattle.notifier.proofs.Examples.{Start, Bytes, port, usual, mail_box, refer_box, presence_box, start_with, start, tag_1, subscribe, subscribe_1, subscribe_2, subscribe_3, refer, refer_1, for_time, for_event, to_uri, of_call, with_method, within, comes, reply_from, reply, mail_for, mail, voice, progress}
+use Rattle.notifier.proofs.Examples.{Start, Bytes, port, usual, mail_box, refer_box, presence_box, start_with, start, tag_1, tag_2, subscribe, subscribe_1, subscribe_2, subscribe_3, refer, refer_1, unwatched, for_time, for_event, to_uri, of_call, with_method, within, comes, reply_from, reply, mail_for, mail, voice, progress}
 use Rattle.notifier.specs.Tag
 use Rattle.notifier.specs.Requests
 use Rattle.subscription.specs.Table
@@ -15,7 +15,7 @@ use Rattle.lives.specs.Past
 use Rattle.lives.specs.Life
 use Rattle.lives.specs.Lives
 use Rattle.lives.specs.Notices
-use Rattle.lives.specs.Life.{Life, Born, Heard, Changed, Due}
+use Rattle.lives.specs.Life.{Life, Born, Then, Heard, MailChanged, Due, Answered, Lost, Stopped}
 use Rattle.lives.specs.Lives.{life}
 use Rattle.lives.specs.Notices.{notices, newest_first}
 use Rattle.rand_chacha.specs.Block
@@ -33,12 +33,12 @@ shown n = Told n.number (state_text n.state) n.body n.to.port
 
 -- what the watcher of this subscription is told of these events
 unfoldable told : Start → ℕ → List Event → List Shown
-unfolding Tag.local_tag Tag.refusal_tag Requests.key_of_request Requests.is_sip_uri Requests.user_part Requests.event_of Requests.asked Requests.granted Requests.asks_nothing Requests.is_malformed Requests.misfit Requests.covers Requests.misplaced_at Requests.is_full Requests.unheard Table.told Table.accept Table.fetch Table.refresh Table.end Table.changed Table.is_refusal_of Table.refused_by Block.block_word Block.double_rounds Block.diagonal_round Block.column_round Block.quarter_round Steps.u32_at Hex.encode_with Fmt.digits Past.now Past.last_counts Past.mail_content Past.content Past.is_among Past.keys_with Past.keys Past.is_fresh Past.fits Life.birth Life.is_accepted Life.is_above Life.end_of_grant Life.address Life.status Life.is_touched Life.number Life.is_timed_out Life.is_over Life.terminated Life.is_disowned Life.is_gone Lives.is_heard Lives.is_changed Lives.is_progressed Lives.is_due Lives.is_refused Lives.lived Lives.is_alive Lives.count_alive Lives.is_birth Lives.birth_of Lives.birth_here Lives.befalls Lives.lives_on Lives.birth_at Lives.befell Notices.phase Notices.body Notices.notice_of Notices.notices_at Notices.notices Lives.births
+unfolding Tag.local_tag Tag.refusal_tag Requests.key_of_request Requests.is_sip_uri Requests.user_part Requests.event_of Requests.asked Requests.granted Requests.asks_nothing Requests.is_unwatched Requests.birth_of Requests.is_malformed Requests.misfit Requests.covers Requests.misplaced_at Requests.is_full Requests.unheard Table.told Table.accept Table.fetch Table.refresh Table.end Table.changed Table.is_answer_to Block.block_word Block.double_rounds Block.diagonal_round Block.column_round Block.quarter_round Steps.u32_at Hex.encode_with Fmt.digits Past.now Past.last_counts Past.mail_content Past.content Past.is_among Past.keys_with Past.keys Past.is_fresh Past.fits Life.birth Life.last_heard Life.cseqs Life.is_above Life.is_accepted Life.address Life.end_of_grant Life.status Life.is_touched Life.number Life.just_made Life.unanswered Life.is_overdue Life.ended Life.terminated Life.is_removed Life.is_gone Lives.is_in_dialog Lives.is_answer_in_dialog Lives.concerns Lives.may_hear Lives.is_to_notify Lives.answer_deed Lives.is_due Lives.tick_deed Lives.is_changed Lives.deed_at Lives.lived Lives.is_alive Lives.count_alive Lives.is_birth Lives.birth_of Lives.birth_here Lives.befalls Lives.lives_on Lives.birth_at Lives.befell Notices.phase Notices.body Notices.notice_of Notices.notices_at Notices.notices Lives.births
 told start serial es = map shown (notices start serial (newest_first es))
 
 -- what befell it
 unfoldable life_of : Start → ℕ → List Event → Option Life
-unfolding Tag.local_tag Tag.refusal_tag Requests.key_of_request Requests.is_sip_uri Requests.user_part Requests.event_of Requests.asked Requests.granted Requests.asks_nothing Requests.is_malformed Requests.misfit Requests.covers Requests.misplaced_at Requests.is_full Requests.unheard Table.told Table.accept Table.fetch Table.refresh Table.end Table.changed Table.is_refusal_of Table.refused_by Block.block_word Block.double_rounds Block.diagonal_round Block.column_round Block.quarter_round Steps.u32_at Hex.encode_with Fmt.digits Past.now Past.last_counts Past.mail_content Past.content Past.is_among Past.keys_with Past.keys Past.is_fresh Past.fits Life.birth Life.is_accepted Life.is_above Life.end_of_grant Life.address Life.status Life.is_touched Life.number Life.is_timed_out Life.is_over Life.terminated Life.is_disowned Life.is_gone Lives.is_heard Lives.is_changed Lives.is_progressed Lives.is_due Lives.is_refused Lives.lived Lives.is_alive Lives.count_alive Lives.is_birth Lives.birth_of Lives.birth_here Lives.befalls Lives.lives_on Lives.birth_at Lives.befell Notices.phase Notices.body Notices.notice_of Notices.notices_at Notices.notices Lives.births
+unfolding Tag.local_tag Tag.refusal_tag Requests.key_of_request Requests.is_sip_uri Requests.user_part Requests.event_of Requests.asked Requests.granted Requests.asks_nothing Requests.is_unwatched Requests.birth_of Requests.is_malformed Requests.misfit Requests.covers Requests.misplaced_at Requests.is_full Requests.unheard Table.told Table.accept Table.fetch Table.refresh Table.end Table.changed Table.is_answer_to Block.block_word Block.double_rounds Block.diagonal_round Block.column_round Block.quarter_round Steps.u32_at Hex.encode_with Fmt.digits Past.now Past.last_counts Past.mail_content Past.content Past.is_among Past.keys_with Past.keys Past.is_fresh Past.fits Life.birth Life.last_heard Life.cseqs Life.is_above Life.is_accepted Life.address Life.end_of_grant Life.status Life.is_touched Life.number Life.just_made Life.unanswered Life.is_overdue Life.ended Life.terminated Life.is_removed Life.is_gone Lives.is_in_dialog Lives.is_answer_in_dialog Lives.concerns Lives.may_hear Lives.is_to_notify Lives.answer_deed Lives.is_due Lives.tick_deed Lives.is_changed Lives.deed_at Lives.lived Lives.is_alive Lives.count_alive Lives.is_birth Lives.birth_of Lives.birth_here Lives.befalls Lives.lives_on Lives.birth_at Lives.befell Notices.phase Notices.body Notices.notice_of Notices.notices_at Notices.notices Lives.births
 life_of start serial es = life start (newest_first es) serial
 
 -- ---- bodies and messages
@@ -83,21 +83,25 @@ behind = record subscribe_1 {
 
 -- ---- a whole life
 
--- A SUBSCRIBE; mail, and the same again; time goes on; a refresh that asks too little; one from another address that asks for
--- a minute; the minute is over; mail
+-- A SUBSCRIBE; mail, and the same again; the watcher answers; time goes on; a refresh that asks too little; one from another
+-- address that asks for a minute; the watcher answers; the minute is over; mail
 abbrev events_whole_life : List Event
 events_whole_life = comes subscribe_1
     ∷ voice 1
     ∷ voice 1
+    ∷ reply 200 1
+    ∷ reply 200 2
     ∷ Ticks 100
     ∷ comes too_brief
     ∷ Comes (port 5080) for_a_minute
+    ∷ reply 200 3
     ∷ Ticks 160
     ∷ voice 2 ∷ []
 
 -- what befell it, newest first
 whole_life : life_of start 1 events_whole_life ≡
-    Some (Due 160 (Heard 100 (port 5080) for_a_minute (Heard 100 (port 5070) too_brief (Changed 0 (Born 0 (port 5070) subscribe_1)))))
+    Some (Then 160 Due (Then 100 (Answered 3) (Then 100 (Heard (port 5080) for_a_minute) (Then 100 (Heard (port 5070) too_brief)
+    (Then 0 (Answered 2) (Then 0 (Answered 1) (Then 0 MailChanged (Born 0 (port 5070) subscribe_1))))))))
 unfolding life_of
 whole_life = refl
 
@@ -207,6 +211,7 @@ same_mail = refl
 -- The time granted is over
 abbrev events_expired : List Event
 events_expired = comes (for_time 60 subscribe_1)
+    ∷ reply 200 1
     ∷ Ticks 59
     ∷ Ticks 60
     ∷ voice 1 ∷ []
@@ -232,6 +237,7 @@ tick_too_late = refl
 -- The time that is left
 abbrev events_time_left : List Event
 events_time_left = comes subscribe_1
+    ∷ reply 200 1
     ∷ Ticks 100
     ∷ voice 1 ∷ []
 
@@ -528,6 +534,10 @@ abbrev events_two_end : List Event
 events_two_end = comes (for_time 120 subscribe_1)
     ∷ comes (for_time 60 (of_call (codes "c2") subscribe_2))
     ∷ voice 1
+    ∷ reply 200 1
+    ∷ reply 200 2
+    ∷ reply_from tag_2 (codes "c2") 200 1
+    ∷ reply_from tag_2 (codes "c2") 200 2
     ∷ Ticks 120 ∷ []
 
 two_end_1 : told start 1 events_two_end ≡
@@ -562,3 +572,159 @@ refreshed_too_late : told start 1 events_refreshed_too_late ≡
     Told 1 (codes "active;expires=3600") none 5070 ∷ []
 unfolding told
 refreshed_too_late = refl
+
+-- ---- the planned stop
+
+-- It ends each subscription with a last NOTIFY; what comes after tells nobody
+abbrev events_stopped : List Event
+events_stopped = comes subscribe_1
+    ∷ Shut
+    ∷ Shut
+    ∷ voice 1 ∷ []
+
+stopped : life_of start 1 events_stopped ≡ Some (Then 0 Stopped (Born 0 (port 5070) subscribe_1))
+unfolding life_of
+stopped = refl
+
+stopped_told : told start 1 events_stopped ≡
+    Told 1 (codes "active;expires=3600") none 5070
+    ∷ Told 2 (codes "terminated;reason=deactivated") none 5070 ∷ []
+unfolding told
+stopped_told = refl
+
+-- ---- unanswered NOTIFYs
+
+-- A NOTIFY may be unanswered for 31 seconds
+abbrev events_patient : List Event
+events_patient = comes subscribe_1
+    ∷ Ticks 31
+    ∷ voice 1 ∷ []
+
+patient : told start 1 events_patient ≡
+    Told 1 (codes "active;expires=3600") none 5070
+    ∷ Told 2 (codes "active;expires=3569") one_new 5070 ∷ []
+unfolding told
+patient = refl
+
+-- After 32 its subscription is gone, untold
+abbrev events_lost : List Event
+events_lost = comes subscribe_1
+    ∷ Ticks 32
+    ∷ voice 1 ∷ []
+
+lost : life_of start 1 events_lost ≡ Some (Then 32 Lost (Born 0 (port 5070) subscribe_1))
+unfolding life_of
+lost = refl
+
+lost_told : told start 1 events_lost ≡ Told 1 (codes "active;expires=3600") none 5070 ∷ []
+unfolding told
+lost_told = refl
+
+-- An answer keeps it
+abbrev events_answered : ℕ → List Event
+events_answered status = comes subscribe_1
+    ∷ reply status 1
+    ∷ Ticks 32
+    ∷ voice 1 ∷ []
+
+kept_by_an_answer : told start 1 (events_answered 200) ≡
+    Told 1 (codes "active;expires=3600") none 5070
+    ∷ Told 2 (codes "active;expires=3568") one_new 5070 ∷ []
+unfolding told
+kept_by_an_answer = refl
+
+-- so does a refusal that is no 481
+kept_by_a_refusal : told start 1 (events_answered 500) ≡
+    Told 1 (codes "active;expires=3600") none 5070
+    ∷ Told 2 (codes "active;expires=3568") one_new 5070 ∷ []
+unfolding told
+kept_by_a_refusal = refl
+
+-- but not a provisional answer
+lost_in_spite_of_a_100 : told start 1 (events_answered 100) ≡ Told 1 (codes "active;expires=3600") none 5070 ∷ []
+unfolding told
+lost_in_spite_of_a_100 = refl
+
+-- nor an answer to another of its NOTIFYs
+abbrev events_second_answered : List Event
+events_second_answered = comes subscribe_1
+    ∷ voice 1
+    ∷ reply 200 2
+    ∷ Ticks 32
+    ∷ voice 2 ∷ []
+
+lost_by_the_first : told start 1 events_second_answered ≡
+    Told 1 (codes "active;expires=3600") none 5070
+    ∷ Told 2 (codes "active;expires=3600") one_new 5070 ∷ []
+unfolding told
+lost_by_the_first = refl
+
+-- nor one in another dialog, nor one that came before the NOTIFY was made
+abbrev events_answered_elsewhere : List Event
+events_answered_elsewhere = comes subscribe_1
+    ∷ reply_from tag_2 (codes "c1") 200 1
+    ∷ reply_from tag_1 (codes "c2") 200 1
+    ∷ reply 200 2
+    ∷ reply 200 1
+    ∷ voice 1
+    ∷ Ticks 32
+    ∷ voice 2 ∷ []
+
+lost_by_the_second : told start 1 events_answered_elsewhere ≡
+    Told 1 (codes "active;expires=3600") none 5070
+    ∷ Told 2 (codes "active;expires=3600") one_new 5070 ∷ []
+unfolding told
+lost_by_the_second = refl
+
+-- it is looked at before the time granted
+abbrev events_lost_and_due : List Event
+events_lost_and_due = comes (for_time 60 subscribe_1)
+    ∷ Ticks 60 ∷ []
+
+lost_and_due : told start 1 events_lost_and_due ≡ Told 1 (codes "active;expires=60") none 5070 ∷ []
+unfolding told
+lost_and_due = refl
+
+-- ---- transfers that nobody watches
+
+-- they take serials, and nobody is told of them
+abbrev events_unwatched : List Event
+events_unwatched = comes (unwatched refer_1)
+    ∷ progress 200 (codes "OK")
+    ∷ comes (unwatched (of_call (codes "c8") (refer (codes "z9hG4bKr2"))))
+    ∷ comes subscribe_1 ∷ []
+
+unwatched_1 : life_of start 1 events_unwatched ≡ Some (Born 0 (port 5070) (unwatched refer_1))
+unfolding life_of
+unwatched_1 = refl
+
+unwatched_told : told start 1 events_unwatched ≡ []
+unfolding told
+unwatched_told = refl
+
+after_unwatched : told start 3 events_unwatched ≡ Told 1 (codes "active;expires=3600") none 5070 ∷ []
+unfolding told
+after_unwatched = refl
+
+-- `Refer-Sub: true` asks for nothing else than no such line does
+watched_told : told start 1 (comes (record refer_1 { refer_sub = Value true }) ∷ []) ≡ Told 1 (codes "active;expires=180") (lines (codes "SIP/2.0 100 Trying" ∷ [])) 5070 ∷ []
+unfolding told
+watched_told = refl
+
+-- and one that can't be read makes nothing
+bad_wish : life_of start 1 (comes (record refer_1 { refer_sub = Bad }) ∷ []) ≡ None
+unfolding life_of
+bad_wish = refl
+
+-- they need no place in the table, but a serial
+abbrev events_full_unwatched : List Event
+events_full_unwatched = comes subscribe_1
+    ∷ comes (unwatched refer_1) ∷ []
+
+full_unwatched : life_of (start_with (record usual { table = 1 })) 2 events_full_unwatched ≡ Some (Born 0 (port 5070) (unwatched refer_1))
+unfolding life_of
+full_unwatched = refl
+
+no_serial_unwatched : life_of (start_with (record usual { serials = 1 })) 2 events_full_unwatched ≡ None
+unfolding life_of
+no_serial_unwatched = refl

@@ -1,21 +1,21 @@
 -- Which subscriptions there are after a list of events, and the life of each. Serials are given in the order of births, from
 -- 1. That depends on how many live, so births and lives are defined together; `Sentences` says of each what it comes to.
-use Rattle.std.specs.Prelude.{ℕ, zero, suc, ◌+◌, Bool, true, false, not, ◌&&◌, List, [], ◌∷◌, is_some, if◌then◌else◌, nat_le, ◌==◌, Some, None, codes, bytes_eq, Option}
-use Rattle.sip_read.specs.declared.message.Addr.{Addr}
+use Rattle.std.specs.Prelude.{ℕ, zero, suc, ◌+◌, Bool, true, false, not, ◌&&◌, List, [], ◌∷◌, is_none, is_some, if◌then◌else◌, nat_le, ◌==◌, Some, None, codes, bytes_eq, Option, option_map}
+use Rattle.sip_text.specs.declared.address.Addr.{Addr}
 use Rattle.sip_read.specs.declared.message.Request.{Request}
 use Rattle.sip_read.specs.declared.message.Response.{Response}
-use Rattle.package.specs.Content.{Content, OfMail, OfStatus, Maps, mail_package}
-use Rattle.package.specs.Values.{MailChange, Progress}
+use Rattle.package.specs.Content.{Content, OfMail, OfStatus, Maps, is_final, mail_package}
+use Rattle.package.specs.Values.{MailChange}
 use Rattle.package.specs.Changes.{same_counts}
 use Rattle.notifier.specs.declared.event.Event.{Event}
-use Rattle.notifier.specs.declared.event.Event.TheVariants.{Request as Comes, Reply as Replies, Mail as Mails, Progress as Progresses, Tick as Ticks}
+use Rattle.notifier.specs.declared.event.Event.TheVariants.{Request as Comes, Reply as Replies, Mail as Mails, Progress as Progresses, Tick as Ticks, Shut as Shuts}
 use Rattle.notifier.specs.Limits.{Limits}
 use Rattle.notifier.specs.Fields.{or_empty, same_text}
 use Rattle.notifier.specs.Start.{StartBy, tag_of}
-use Rattle.notifier.specs.Requests.{is_refer, user_part, is_full}
-use Rattle.subscription.specs.Table.{is_tag}
-use Rattle.lives.specs.Life.{Born, Changed, Disowned, Due, Heard, Life, Progressed, birth, end_of_grant, event_of_life, is_above, is_gone, number, one_if}
-use Rattle.lives.specs.Past.{content, fits, now}
+use Rattle.notifier.specs.Requests.{event_of, is_refer, user_part, misfit, is_full}
+use Rattle.subscription.specs.Table.{is_tag, refuses}
+use Rattle.lives.specs.Life.{Deed, Answered, Born, Disowned, Due, Heard, Life, Lost, MailChanged, Progressed, Stopped, Then, birth, end_of_grant, is_above, is_gone, is_overdue, number, one_if}
+use Rattle.lives.specs.Past.{content, fits, is_fresh, now}
 
 -- ---- words
 
@@ -42,44 +42,74 @@ same_content (Some (OfMail m)) (Some (OfMail n)) =
     && (same_counts m.fax n.fax
     && (same_counts m.pager n.pager && (same_counts m.multimedia n.multimedia && same_counts m.text n.text)))
 
--- ---- what an event is to a living subscription
+-- ---- which events concern a subscription
 
--- its time is up
-unfoldable pub is_due : Limits → List Event → ℕ → Life → Bool
-is_due limits past t l = nat_le (end_of_grant limits l) (now (Ticks t ∷ past))
+-- Does the request stand in the dialog that x made, with this local tag? (RFC 3261 section 12)
+unfoldable pub is_in_dialog : List ℕ → Request → Request → Bool
+is_in_dialog tag x r =
+    bytes_eq x.head.call_id r.head.call_id
+    && (same_text (Some tag) r.head.to.tag && bytes_eq (or_empty x.head.from.tag) (or_empty r.head.from.tag))
+
+-- Does the answer to a NOTIFY? It comes back with the local tag in From (RFC 3261 section 12.2.1.2).
+unfoldable pub is_answer_in_dialog : List ℕ → Request → Response → Bool
+is_answer_in_dialog tag x answer = bytes_eq answer.head.call_id x.head.call_id && is_tag answer.head.from.tag tag
+
+-- Does the event concern the subscription that was born of x and has this local tag? Requests and answers in its dialog do,
+-- changes of its mailbox, word of its transfer, each Tick, and the planned stop.
+unfoldable pub concerns : List ℕ → Request → Event → Bool
+concerns tag x (Comes source r) = is_in_dialog tag x r
+concerns tag x (Replies answer) = is_answer_in_dialog tag x answer
+concerns tag x (Mails m) = bytes_eq (event_of x).package mail_package && bytes_eq (user_part x.uri) m.mailbox
+concerns tag x (Progresses p) = bytes_eq tag p.tag
+concerns tag x (Ticks t) = true
+concerns tag x Shuts = true
+
+-- ---- what such an event is to it. No tag and no serial is looked at here
+
+-- May it hear this request, if that is fresh? Nothing stands against the request itself, and its CSeq is above all that it
+-- heard (RFC 3261 section 12.2.2).
+unfoldable pub may_hear : Request → Life → Bool
+may_hear r l = is_none (misfit r) && is_above l r.head.cseq
+
+-- is the answer one to a NOTIFY of it?
+unfoldable pub is_to_notify : Limits → Response → Life → Bool
+is_to_notify limits answer l =
+    bytes_eq answer.head.cseq_method (codes "NOTIFY")
+    && (nat_le 1 answer.head.cseq && nat_le answer.head.cseq (number limits l))
+
+-- What such an answer is to it: a 481 disowns it (RFC 6665 section 4.2.2), any other final one answers that NOTIFY (RFC 3261
+-- section 7.2).
+unfoldable pub answer_deed : Response → Option Deed
+answer_deed answer = if refuses answer then Some Disowned else when (is_final answer.status) (Answered answer.head.cseq)
+
+-- is its time up at this moment?
+unfoldable pub is_due : Limits → ℕ → Life → Bool
+is_due limits moment l = nat_le (end_of_grant limits l) moment
+
+-- what this moment is to it: first of all, a NOTIFY may be unanswered for too long
+unfoldable pub tick_deed : Limits → ℕ → Life → Option Deed
+tick_deed limits moment l = if is_overdue limits moment l then Some Lost else when (is_due limits moment l) Due
 
 module _ {maps : Maps} where
-  -- it hears a request: one that fits, in its dialog (RFC 3261 section 12), with a CSeq above all that it heard (section 12.2.2)
-  unfoldable pub is_heard : StartBy maps → ℕ → List Event → Request → Life → Bool
-  is_heard start serial past r l =
-      fits start past r && ((bytes_eq (birth l).head.call_id r.head.call_id
-      && (same_text (Some (tag_of start.place serial)) r.head.to.tag
-      && bytes_eq (or_empty (birth l).head.from.tag) (or_empty r.head.from.tag))) && is_above l r.head.cseq)
+  -- what the mailbox holds after the change differs from what it held before
+  unfoldable pub is_changed : StartBy maps → List Event → MailChange → Bool
+  is_changed start past m =
+      not (same_content (content start (Mails m ∷ past) mail_package m.mailbox) (content start past mail_package m.mailbox))
 
-  -- a change of its mailbox: what it holds after the event differs from what it held before
-  unfoldable pub is_changed : StartBy maps → List Event → MailChange → Life → Bool
-  is_changed start past m l =
-      bytes_eq (event_of_life l).package mail_package && (bytes_eq (user_part (birth l).uri) m.mailbox
-      && not (same_content (content start (Mails m ∷ past) mail_package m.mailbox) (content start past mail_package m.mailbox)))
-
-  -- word of its transfer
-  unfoldable pub is_progressed : StartBy maps → ℕ → Progress → Life → Bool
-  is_progressed start serial p l = is_refer (birth l) && bytes_eq (tag_of start.place serial) p.tag
-
-  -- a 481 to one of its NOTIFYs, which comes back in its dialog (RFC 3261 section 12.2.1.2)
-  unfoldable pub is_refused : StartBy maps → ℕ → Response → Life → Bool
-  is_refused start serial answer l =
-      answer.status == 481 && (bytes_eq answer.head.cseq_method (codes "NOTIFY")
-      && (bytes_eq answer.head.call_id (birth l).head.call_id && (is_tag answer.head.from.tag (tag_of start.place serial)
-      && (nat_le 1 answer.head.cseq && nat_le answer.head.cseq (number start.place.limits l)))))
+  -- what befalls it then, if anything does
+  unfoldable pub deed_at : StartBy maps → List Event → Event → Life → Option Deed
+  deed_at start past (Comes source r) l = when (is_fresh start.place.limits past r && may_hear r l) (Heard source r)
+  deed_at start past (Replies answer) l = if is_to_notify start.place.limits answer l then answer_deed answer else None
+  deed_at start past (Mails m) l = when (is_changed start past m) MailChanged
+  deed_at start past (Progresses p) l = when (is_refer (birth l)) (Progressed p)
+  deed_at start past (Ticks t) l = tick_deed start.place.limits (now (Ticks t ∷ past)) l
+  deed_at start past Shuts l = Some Stopped
 
   -- its life with this event, if the event is anything to it
   unfoldable pub lived : StartBy maps → ℕ → List Event → Event → Life → Option Life
-  lived start serial past (Comes source r) l = when (is_heard start serial past r l) (Heard (now past) source r l)
-  lived start serial past (Replies r) l = when (is_refused start serial r l) (Disowned (now past) l)
-  lived start serial past (Mails m) l = when (is_changed start past m l) (Changed (now past) l)
-  lived start serial past (Progresses p) l = when (is_progressed start serial p l) (Progressed (now past) p l)
-  lived start serial past (Ticks t) l = when (is_due start.place.limits past t l) (Due (now (Ticks t ∷ past)) l)
+  lived start serial past e l =
+      if concerns (tag_of start.place serial) (birth l) e
+      then option_map (λ deed. Then (now (e ∷ past)) deed l) (deed_at start past e l) else None
 
 -- ---- births
 
@@ -110,6 +140,7 @@ module _ {maps : Maps} where
   birth_here start past births life (Mails m) = None
   birth_here start past births life (Progresses p) = None
   birth_here start past births life (Ticks t) = None
+  birth_here start past births life Shuts = None
 
   -- ---- lives
 

@@ -2,15 +2,16 @@
 -- are fresh.
 --
 -- Here and in all that follows events stand newest first: in `e ∷ past` the event e comes after all of `past`.
-use Rattle.std.specs.Prelude.{ℕ, max, Bool, true, false, not, ◌&&◌, ◌||◌, List, [], ◌∷◌, take, is_none, if◌then◌else◌, nat_le, Some, None, bytes_eq, Option}
+use Rattle.std.specs.Prelude.{ℕ, max, Bool, true, false, not, ◌&&◌, ◌||◌, List, [], ◌∷◌, take, is_none, if◌then◌else◌, nat_le, ◌==◌, Some, None, bytes_eq, Option}
 use Rattle.sip_read.specs.declared.message.Request.{Request}
 use Rattle.package.specs.declared.counts.Class.{Class}
 use Rattle.package.specs.declared.counts.Class.TheVariants.{Voice, Fax, Pager, Multimedia, Text}
 use Rattle.package.specs.declared.counts.Counts.{Counts}
 use Rattle.package.specs.Content.{Content, OfMail, OfStatus, Maps, mail_package}
 use Rattle.package.specs.Boxes.{content_in}
+use Rattle.package.specs.Run.{place}
 use Rattle.notifier.specs.declared.event.Event.{Event}
-use Rattle.notifier.specs.declared.event.Event.TheVariants.{Request as Comes, Reply as Replies, Mail as Mails, Progress as Progresses, Tick as Ticks}
+use Rattle.notifier.specs.declared.event.Event.TheVariants.{Request as Comes, Reply as Replies, Mail as Mails, Progress as Progresses, Tick as Ticks, Shut as Shuts}
 use Rattle.notifier.specs.declared.row.Key.{Key}
 use Rattle.notifier.specs.Limits.{Limits}
 use Rattle.notifier.specs.Start.{StartBy, last_moment}
@@ -26,15 +27,12 @@ now (Comes source r ∷ past) = now past
 now (Replies r ∷ past) = now past
 now (Mails m ∷ past) = now past
 now (Progresses p ∷ past) = now past
+now (Shuts ∷ past) = now past
 
 -- ---- what is watched (RFC 6665 section 7)
 
 abbrev pub same_class : Class → Class → Bool
-same_class Voice c = elim c [ Voice ↦ true | Fax ↦ false | Pager ↦ false | Multimedia ↦ false | Text ↦ false ]
-same_class Fax c = elim c [ Voice ↦ false | Fax ↦ true | Pager ↦ false | Multimedia ↦ false | Text ↦ false ]
-same_class Pager c = elim c [ Voice ↦ false | Fax ↦ false | Pager ↦ true | Multimedia ↦ false | Text ↦ false ]
-same_class Multimedia c = elim c [ Voice ↦ false | Fax ↦ false | Pager ↦ false | Multimedia ↦ true | Text ↦ false ]
-same_class Text c = elim c [ Voice ↦ false | Fax ↦ false | Pager ↦ false | Multimedia ↦ false | Text ↦ true ]
+same_class c d = place c == place d
 
 -- the counts of the last mail change to this mailbox and class, else those at first
 unfoldable pub last_counts : List ℕ → Class → Option Counts → List Event → Option Counts
@@ -45,6 +43,7 @@ last_counts mailbox class first (Comes source r ∷ past) = last_counts mailbox 
 last_counts mailbox class first (Replies r ∷ past) = last_counts mailbox class first past
 last_counts mailbox class first (Progresses p ∷ past) = last_counts mailbox class first past
 last_counts mailbox class first (Ticks t ∷ past) = last_counts mailbox class first past
+last_counts mailbox class first (Shuts ∷ past) = last_counts mailbox class first past
 
 -- what a mailbox holds, by what it held at first: of each class the last counts (RFC 3842 section 3.1)
 unfoldable pub mail_content : List ℕ → List Event → Option Content → Option Content
@@ -93,6 +92,7 @@ keys limits (Replies r ∷ past) = keys limits past
 keys limits (Mails m ∷ past) = keys limits past
 keys limits (Progresses p ∷ past) = keys limits past
 keys limits (Ticks t ∷ past) = keys limits past
+keys limits (Shuts ∷ past) = keys limits past
 
 -- A request that is no ACK and no retransmission: it names no transaction, or not that of one of the last fresh requests.
 -- Of those as many count as answers are kept.

@@ -1,21 +1,27 @@
 -- The sentences that a reader expects of a life, each said of the events in its own words. They show that the definitions of
 -- `Life` and `Lives`, which are recursions, come to what they should.
-use Rattle.std.specs.Prelude.{ℕ, ◌≡◌, ◌<◌, ◌+◌, Bool, true, false, ◌&&◌, ◌||◌, List, [], ◌∷◌, ◌++◌, is_some, if◌then◌else◌, nat_lt, ◌==◌, Some, None, codes, bytes_eq, Option, ◌≤◌, ◌↔◌, ◌⊎◌}
-use Rattle.sip_read.specs.declared.message.Addr.{Addr}
+use Rattle.std.specs.Prelude.{ℕ, ◌≡◌, ◌<◌, ◌+◌, Bool, true, false, not, ◌&&◌, ◌||◌, List, [], ◌∷◌, ◌++◌, is_some, if◌then◌else◌, nat_lt, ◌==◌, Some, None, codes, bytes_eq, Option, ◌≤◌, ◌↔◌, ◌⊎◌}
+use Rattle.sip_text.specs.declared.address.Addr.{Addr}
 use Rattle.sip_read.specs.declared.message.Request.{Request}
 use Rattle.package.specs.declared.counts.Class.{Class}
 use Rattle.package.specs.declared.counts.Counts.{Counts}
+use Rattle.package.specs.declared.change.Change.{Change}
+use Rattle.package.specs.declared.change.Change.TheVariants.{Mail as MailTo}
+use Rattle.package.specs.Content.{Content}
+use Rattle.package.specs.Run.{mailbox_after, Status, furthest, trying}
 use Rattle.package.specs.Values.{MailChange}
 use Rattle.notifier.specs.declared.event.Event.{Event}
-use Rattle.notifier.specs.declared.event.Event.TheVariants.{Request as Comes, Reply as Replies, Mail as Mails, Progress as Progresses, Tick as Ticks}
+use Rattle.notifier.specs.declared.event.Event.TheVariants.{Request as Comes, Reply as Replies, Mail as Mails, Progress as Progresses, Tick as Ticks, Shut as Shuts}
 use Rattle.notifier.specs.Limits.{Limits}
 use Rattle.notifier.specs.Start.{Start, tag_of, last_moment}
-use Rattle.notifier.specs.Requests.{is_refer, asks_nothing}
-use Rattle.std.specs.List.{list_all}
-use Rattle.lives.specs.Life.{Born, Changed, Disowned, Due, Heard, Life, Progressed, birth, is_above, is_gone, is_touched, number, one_if, status}
+use Rattle.notifier.specs.Requests.{is_ack, is_refer, same_key, key_of_request, granted, asks_nothing, is_unwatched}
+use Rattle.notifier.specs.declared.row.Key.{Key}
+use Rattle.std.specs.List.{list_all, list_any}
+use Rattle.lives.specs.Life.{Answered, Born, Deed, Heard, Life, Progressed, Then, address, birth, cseqs, end_of_grant, ended, is_accepted, is_gone, is_grant, is_overdue, is_touched, number, one_if, status, terminated, unanswered}
 use Rattle.lives.specs.Lives.{befell, birth_at, births, count_alive, life}
-use Rattle.lives.specs.Past.{fits, last_counts, now, same_class}
+use Rattle.lives.specs.Past.{fits, is_fresh, last_counts, mail_content, now, same_class}
 use Rattle.lives.specs.Notices.{notices}
+use Rattle.lives.specs.Laws.{IsStart}
 
 -- did this event come?
 abbrev pub Came : List Event → Event → Type 0
@@ -40,6 +46,7 @@ sets mailbox class (Replies r) = false
 sets mailbox class (Mails m) = bytes_eq m.mailbox mailbox && same_class m.class class
 sets mailbox class (Progresses p) = false
 sets mailbox class (Ticks t) = false
+sets mailbox class Shuts = false
 
 pub record IsLast (mailbox : List ℕ) (class : Class) (first : Option Counts) : Type 0 where
   pub last : (later past : List Event) (m : MailChange) → ((e : Event) → Came later e → sets mailbox class e ≡ false) → sets mailbox class (Mails m) ≡ true →
@@ -49,15 +56,45 @@ pub record IsLast (mailbox : List ℕ) (class : Class) (first : Option Counts) :
 abbrev pub CountsLaw : Type 0
 CountsLaw = (mailbox : List ℕ) (class : Class) (first : Option Counts) → IsLast mailbox class first
 
+-- ---- So a mailbox holds what the packages' own law says of these mail changes.
+
+-- the mail changes among these events, as they came
+abbrev pub mail_changes : List Event → List Change
+mail_changes [] = []
+mail_changes (Comes source r ∷ past) = mail_changes past
+mail_changes (Replies r ∷ past) = mail_changes past
+mail_changes (Mails m ∷ past) = mail_changes past ++ MailTo m ∷ []
+mail_changes (Progresses p ∷ past) = mail_changes past
+mail_changes (Ticks t ∷ past) = mail_changes past
+mail_changes (Shuts ∷ past) = mail_changes past
+
+abbrev pub ContentsLaw : Type 0
+ContentsLaw = (mailbox : List ℕ) (past : List Event) (first : Option Content) → mail_content mailbox past first ≡ mailbox_after mailbox first (mail_changes past)
+
+-- ---- A request of a transaction that no request before was of is fresh, and the same again is not (RFC 3261 section 17.2.3).
+
+-- both name a transaction, and the same one
+abbrev pub same_transaction : Option Key → Option Key → Bool
+same_transaction None l = false
+same_transaction (Some k) None = false
+same_transaction (Some k) (Some l) = same_key k l
+
+pub record IsFreshLaw (limits : Limits) (past : List Event) (r : Request) : Type 0 where
+  pub first : is_ack r ≡ false → ((source : Addr) (q : Request) → Came past (Comes source q) → same_transaction (key_of_request q) (key_of_request r) ≡ false) → is_fresh limits past r ≡ true
+  pub again : (source : Addr) → is_some (key_of_request r) ≡ true → 1 ≤ limits.kept → is_fresh limits (Comes source r ∷ past) r ≡ false
+
+abbrev pub FreshLaw : Type 0
+FreshLaw = (limits : Limits) (past : List Event) (r : Request) → IsFreshLaw limits past r
+
 -- ---- A subscription is born at a request that fits, has no To tag, and finds a serial and a place. It lives from then on.
 
--- The request fits and is outside a dialog, the next serial is within the limit, and it is a fetch or there is a place in the
--- table.
+-- The request fits and is outside a dialog, the next serial is within the limit, and it is a fetch or a transfer that nobody
+-- watches, or there is a place in the table.
 pub record IsBirth (start : Start) (past : List Event) (r : Request) : Type 0 where
   pub fits : fits start past r ≡ true
   pub no_tag : r.head.to.tag ≡ None
   pub serial : births start past + 1 ≤ start.place.limits.serials
-  pub place : (asks_nothing start.place.limits r ≡ true) ⊎ (count_alive start.place.limits (life start past) (births start past) < start.place.limits.table)
+  pub place : ((asks_nothing start.place.limits r || is_unwatched r) ≡ true) ⊎ (count_alive start.place.limits (life start past) (births start past) < start.place.limits.table)
 
 -- is the subscription with this serial born at this event?
 abbrev pub is_born_at : Start → ℕ → List Event → Event → Bool
@@ -104,19 +141,72 @@ abbrev pub TouchedLaw : Type 0
 TouchedLaw = (start : Start) (past : List Event) (e : Event) (serial : ℕ) →
     number_of start.place.limits (life start (e ∷ past) serial) ≡ number_of start.place.limits (life start past serial) + one_if (is_touch start.place.limits (befell start past e serial))
 
--- ---- A CSeq is above all where it is above that of the birth and of each request that was heard.
+-- ---- Who lives has time left, and no NOTIFY of it is unanswered for too long.
 
--- those that it heard, the birth's the last
-abbrev pub cseqs : Life → List ℕ
-cseqs (Born t source r) = r.head.cseq ∷ []
-cseqs (Heard t source r l) = r.head.cseq ∷ cseqs l
-cseqs (Changed t l) = cseqs l
-cseqs (Progressed t p l) = cseqs l
-cseqs (Due t l) = cseqs l
-cseqs (Disowned t l) = cseqs l
+pub record IsInTime (limits : Limits) (moment : ℕ) (l : Life) : Type 0 where
+  pub has_time : moment < end_of_grant limits l
+  pub answered : is_overdue limits moment l ≡ false
 
-abbrev pub AboveLaw : Type 0
-AboveLaw = (l : Life) (cseq : ℕ) → is_above l cseq ≡ list_all (λ x. nat_lt x cseq) (cseqs l)
+abbrev pub InTimeLaw : Type 0
+InTimeLaw = (start : Start) (past : List Event) (serial : ℕ) (l : Life) → IsStart start → life start past serial ≡ Some l → is_gone start.place.limits l ≡ false →
+    IsInTime start.place.limits (now past) l
+
+-- ---- An accepted request moves the address to its source, and one that asks for time makes the time granted count from then.
+-- Nothing else moves either.
+
+abbrev pub is_hearing : Deed → Bool
+is_hearing (Heard source r) = true
+is_hearing _ = false
+
+pub record IsMoved (limits : Limits) (moment : ℕ) (l : Life) : Type 0 where
+  pub to_source : (source : Addr) (r : Request) → is_accepted limits (birth l) r ≡ true → address limits (Then moment (Heard source r) l) ≡ source
+  pub not_refused : (source : Addr) (r : Request) → is_accepted limits (birth l) r ≡ false → address limits (Then moment (Heard source r) l) ≡ address limits l
+  pub granted_anew : (source : Addr) (r : Request) → is_grant limits (birth l) r ≡ true → end_of_grant limits (Then moment (Heard source r) l) ≡ moment + granted limits r
+  pub not_granted : (source : Addr) (r : Request) → is_grant limits (birth l) r ≡ false → end_of_grant limits (Then moment (Heard source r) l) ≡ end_of_grant limits l
+  pub by_nothing_else : (deed : Deed) → is_hearing deed ≡ false → (address limits (Then moment deed l) ≡ address limits l) × (end_of_grant limits (Then moment deed l) ≡ end_of_grant limits l)
+
+abbrev pub MovedLaw : Type 0
+MovedLaw = (limits : Limits) (moment : ℕ) (l : Life) → IsMoved limits moment l
+
+-- ---- A NOTIFY says that it is terminated where what it tells of ends it, or its number is the last one. Nothing that is not
+-- told terminates it.
+
+abbrev pub TerminatedLaw : Type 0
+TerminatedLaw = (limits : Limits) (l : Life) →
+    is_some (terminated limits l) ≡ (is_touched limits l && (is_some (ended limits l) || number limits l == limits.max_cseq))
+
+-- ---- A NOTIFY is unanswered from when it is made. A final answer to its number closes it, and no other.
+
+-- is the NOTIFY with this number unanswered?
+abbrev pub is_open : Limits → Life → ℕ → Bool
+is_open limits l n = list_any (λ notify. notify.number == n) (unanswered limits l)
+
+pub record IsOpen (limits : Limits) (moment : ℕ) (l : Life) : Type 0 where
+  pub made : (deed : Deed) → is_touched limits (Then moment deed l) ≡ true →
+      unanswered limits (Then moment deed l) ≡ unanswered limits l ++ record { number = number limits (Then moment deed l); moment = moment } ∷ []
+  pub closed : (n m : ℕ) → is_open limits (Then moment (Answered n) l) m ≡ (is_open limits l m && not (m == n))
+
+abbrev pub UnansweredLaw : Type 0
+UnansweredLaw = (limits : Limits) (moment : ℕ) (l : Life) → IsOpen limits moment l
+
+-- ---- A transfer that nobody watches is gone from its birth on, and nobody is told of it (RFC 4488).
+
+pub record IsUnwatched (start : Start) (past : List Event) (serial : ℕ) (l : Life) : Type 0 where
+  pub gone : is_gone start.place.limits l ≡ true
+  pub untold : notices start serial past ≡ []
+
+abbrev pub UnwatchedLaw : Type 0
+UnwatchedLaw = (start : Start) (past : List Event) (serial : ℕ) (l : Life) → life start past serial ≡ Some l → is_unwatched (birth l) ≡ true → IsUnwatched start past serial l
+
+-- ---- The CSeqs that it heard rise (RFC 3261 section 12.2.2).
+
+-- newest first: each is above all before it
+abbrev pub rise : List ℕ → Bool
+rise [] = true
+rise (c ∷ before) = list_all (λ heard. nat_lt heard c) before && rise before
+
+abbrev pub RisingLaw : Type 0
+RisingLaw = (start : Start) (past : List Event) (serial : ℕ) (l : Life) → life start past serial ≡ Some l → rise (cseqs l) ≡ true
 
 -- ---- A transfer has come as far as the last Progress of its tag since its birth says, else to `100 Trying`.
 
@@ -127,6 +217,7 @@ status_after tag (Replies r) before = before
 status_after tag (Mails m) before = before
 status_after tag (Progresses p) before = if bytes_eq tag p.tag then (p.code, p.reason) else before
 status_after tag (Ticks t) before = before
+status_after tag Shuts before = before
 
 -- said of the events alone
 unfoldable pub last_status : Start → ℕ → List Event → ℕ × List ℕ
@@ -137,3 +228,15 @@ last_status start serial (e ∷ past) =
 abbrev pub StatusLaw : Type 0
 StatusLaw = (start : Start) (past : List Event) (e : Event) (serial : ℕ) (m : Life) →
     befell start past e serial ≡ Some m → is_refer (birth m) ≡ true → status m ≡ last_status start serial (e ∷ past)
+
+-- ---- So a living transfer has come as far as the packages' own law says of the words of it.
+
+-- the words of its transfer, as they came
+abbrev pub words : Life → List Status
+words (Born t source r) = []
+words (Then t (Progressed p) l) = words l ++ (p.code, p.reason) ∷ []
+words (Then t deed l) = words l
+
+abbrev pub TransferLaw : Type 0
+TransferLaw = (start : Start) (past : List Event) (serial : ℕ) (l : Life) → IsStart start → life start past serial ≡ Some l → is_gone start.place.limits l ≡ false →
+    status l ≡ furthest trying (words l)

@@ -11,7 +11,24 @@
 #![tactic(auto)]
 
 ghost use Rattle.lives.specs.Laws.{LifeLaw, NoOtherLaw, NoticesLaw, NumbersLaw, EndsLaw};
-ghost use Rattle.lives.specs.Sentences.{NowLaw, CountsLaw, BirthsLaw, GoneLaw, SilentLaw, TouchedLaw, AboveLaw, StatusLaw};
+ghost use Rattle.lives.specs.Sentences.{
+  NowLaw,
+  CountsLaw,
+  ContentsLaw,
+  FreshLaw,
+  BirthsLaw,
+  GoneLaw,
+  SilentLaw,
+  TouchedLaw,
+  RisingLaw,
+  InTimeLaw,
+  MovedLaw,
+  TerminatedLaw,
+  UnansweredLaw,
+  UnwatchedLaw,
+  StatusLaw,
+  TransferLaw,
+};
 
 /// The NOTIFYs that go out with a subscription's tag are those of its life, one for one and in order: each goes to the
 /// address, and is the text of a NOTIFY with the number, state and body, that the life says.
@@ -49,6 +66,16 @@ pub fn counts()
     ensures { CountsLaw }
 {}
 
+/// A mailbox holds what the law of the packages says of the mail changes that came.
+pub fn contents()
+    ensures { ContentsLaw }
+{}
+
+/// A request of a transaction that no request before was of is fresh; the same again, right after it, is not.
+pub fn fresh()
+    ensures { FreshLaw }
+{}
+
 /// A subscription is born where a request fits, is outside a dialog, and finds a serial and a place. Births are counted, and
 /// a subscription has a life from its birth on.
 pub fn born()
@@ -70,12 +97,43 @@ pub fn touched()
     ensures { TouchedLaw }
 {}
 
-/// A CSeq is above all where it is above that of the birth and of each request that was heard.
-pub fn above()
-    ensures { AboveLaw }
+/// The CSeqs of the birth and of the requests that a subscription heard rise.
+pub fn rising()
+    ensures { RisingLaw }
+{}
+
+/// A subscription that lives has time left, and no NOTIFY of it is unanswered for too long.
+pub fn in_time()
+    ensures { InTimeLaw }
+{}
+
+/// The address of a subscription moves with each accepted request, and its time with each that asks for some; nothing else
+/// moves them.
+pub fn moved()
+    ensures { MovedLaw }
+{}
+
+/// A NOTIFY says that it is terminated exactly where what it tells of ends the subscription or its number is the last one.
+pub fn terminated()
+    ensures { TerminatedLaw }
+{}
+
+/// A NOTIFY is unanswered from when it is made until a final answer to its number comes.
+pub fn unanswered()
+    ensures { UnansweredLaw }
+{}
+
+/// A transfer that nobody watches is gone from its birth on, and no NOTIFY tells of it.
+pub fn unwatched()
+    ensures { UnwatchedLaw }
 {}
 
 /// A transfer has come as far as the last Progress of its tag since its birth says, else to `100 Trying`.
 pub fn status()
     ensures { StatusLaw }
+{}
+
+/// A living transfer has come as far as the law of the packages says of the words that came of it.
+pub fn transfer()
+    ensures { TransferLaw }
 {}

@@ -3,8 +3,8 @@ ghost use Rattle.std.specs.Prelude.{◌≡◌, ◌++◌, IfOk, OnOk, string_byte
 ghost use Rattle.package.specs.Bodies as spec;
 ghost use Rattle.package.specs.Bodies.{class_line, mail_body};
 
-use event_headers::NoMemory;
 use package::{Counts, MailCounts};
+use sip_text::NoMemory;
 use std::alloc::Global;
 
 fn is_waiting(counts: Option<Counts>) -> bool

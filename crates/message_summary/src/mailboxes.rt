@@ -8,9 +8,9 @@ ghost use Rattle.package.specs.Closings.{counted};
 ghost use Rattle.message_summary.specs.Mailboxes.{mail_type, first_contents, new_mailboxes};
 
 use crate::body::write_body;
-use event_headers::NoMemory;
 use indexmap::IndexMap;
 use package::{Change, ClosingCell, Counts, Ending, MailChange, MailCounts, Outcome, Package};
+use sip_text::NoMemory;
 use std::alloc::Global;
 use std::sync::Arc;
 

@@ -1,7 +1,7 @@
 //! Worked examples of mailboxes and their bodies (RFC 3842).
 use crate::Mailboxes;
-use event_headers::{NoMemory, Text};
 use package::{Change, Class, Closing, ClosingCell, MailChange, Outcome, Package, Progress};
+use sip_text::{NoMemory, Text};
 use std::alloc::Global;
 use std::sync::Arc;
 use std::test::Fail;

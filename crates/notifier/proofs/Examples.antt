@@ -18,9 +18,9 @@ use Rattle.hex.specs.Hex
 use Rattle.std.specs.Fmt
 use Rattle.std.specs.Prelude.{ℕ, Bool, false, ◌||◌, List, [], ◌∷◌, ◌++◌, map, if◌then◌else◌, nat_eq, ◌==◌, Some, None, codes, Option, filter, replicate, bytes_eq}
 use Rattle.std.specs.List.{starts_with}
-use Rattle.event_headers.specs.declared.field.Field.TheVariants.{Absent, Value}
+use Rattle.sip_text.specs.declared.field.Field.TheVariants.{Absent, Value}
 use Rattle.event_headers.specs.Written.{state_text}
-use Rattle.sip_read.specs.declared.message.Addr.{Addr}
+use Rattle.sip_text.specs.declared.address.Addr.{Addr}
 use Rattle.sip_read.specs.declared.message.Via.{Via}
 use Rattle.sip_read.specs.declared.message.Head.{Head}
 use Rattle.sip_read.specs.declared.message.Request.{Request}
@@ -87,7 +87,7 @@ abbrev pub presence_box : Seen
 presence_box = record { name = codes "presence"; content_type = codes "text/plain"; contents = ((codes "alice", OfMail unset) ∷ []) }
 
 abbrev pub start_with : Limits → Start
-start_with limits = record { place = record { limits = limits; seed = replicate 32 0; me = port 5060; worker = 0 }; boxes = mail_box ∷ refer_box ∷ [] }
+start_with limits = record { place = record { limits = limits; seed = replicate 32 0; me = port 5060; stop = false; worker = 0 }; boxes = mail_box ∷ refer_box ∷ [] }
 
 abbrev pub start : Start
 start = start_with usual
@@ -99,6 +99,9 @@ tag_1 = codes "w0-1-76b8e0ada0f13d90"
 
 abbrev pub tag_2 : Bytes
 tag_2 = codes "w0-2-405d6ae55386bd28"
+
+abbrev pub tag_3 : Bytes
+tag_3 = codes "w0-3-bdd219b8a08ded1a"
 
 -- ---- requests
 
@@ -127,6 +130,7 @@ subscribe branch = record {
   accept = Absent;
   contact = Value (codes "sip:alice@127.0.0.1:5070");
   refer_to = Absent;
+  refer_sub = Absent;
   require = [];
   record_routes = [];
   body = [];
@@ -152,6 +156,7 @@ refer branch = record {
   accept = Absent;
   contact = Value (codes "sip:alice@127.0.0.1:5070");
   refer_to = Value (codes "sip:carol@127.0.0.1");
+  refer_sub = Absent;
   require = [];
   record_routes = [];
   body = [];
@@ -159,6 +164,10 @@ refer branch = record {
 
 abbrev pub refer_1 : Request
 refer_1 = refer (codes "z9hG4bKr1")
+
+-- a REFER without a subscription
+abbrev pub unwatched : Request → Request
+unwatched r = record r { refer_sub = Value false }
 
 abbrev pub for_time : ℕ → Request → Request
 for_time n r = record r { expires = Value n }
@@ -237,7 +246,7 @@ lines_of (c ∷ more) = line_with c (lines_of more)
 abbrev pub is_telling : Bytes → Bool
 is_telling line =
     starts_with nat_eq line (codes "SIP/2.0") || (starts_with nat_eq line (codes "To: ") || (starts_with nat_eq line (codes "Expires: ")
-    || (starts_with nat_eq line (codes "Min-Expires: ") || (starts_with nat_eq line (codes "Allow") || starts_with nat_eq line (codes "Unsupported: ")))))
+    || (starts_with nat_eq line (codes "Min-Expires: ") || (starts_with nat_eq line (codes "Allow") || (starts_with nat_eq line (codes "Unsupported: ") || starts_with nat_eq line (codes "Refer-Sub: "))))))
 
 abbrev pub brief : Send → Brief
 brief (Answers to bytes) = Answered (filter is_telling (lines_of bytes))
@@ -251,14 +260,14 @@ bytes_of_out (Begins tag refer_to) = []
 
 -- what the book makes of these events, in brief and in bytes
 unfoldable pub outs : Start → List Event → List Brief
-unfolding Tag.local_tag Tag.refusal_tag Requests.key_of_request Requests.is_sip_uri Requests.user_part Requests.event_of Requests.asked Requests.granted Requests.asks_nothing Requests.is_malformed Requests.misfit Requests.covers Requests.misplaced_at Requests.is_full Requests.unheard Answers.refusal_text Answers.refusal_answer Answers.renewal_answer Answers.birth_answer Answers.kept_answer Answers.ring_with Out.out_of Out.notifications Rows.notify Rows.stays Rows.goes Rows.turned Rows.tells Rows.left Rows.said Rows.gone_at Rows.gone Rows.forgetting Rows.only Rows.is_dialog Rows.counted Rows.renewed_sub Rows.renewed Rows.tells_watcher Rows.times_out Rows.disowned Book.new_usage Book.new_want Book.first_step Book.nothing Book.keeping Book.refused Book.all_rows Book.heard Book.in_dialog Book.first_boxes Book.first_told Book.born_with Book.born Book.outside Book.by_to_tag Book.judged Book.served Book.asked_for Book.content_changed Book.replied Book.ticked Book.step Run.empty Run.run_from Run.made_from Run.run Run.made Table.told Table.accept Table.fetch Table.refresh Table.end Table.changed Table.is_refusal_of Table.refused_by AnswerLayout.answer_lines AnswerLayout.answer_text NotifyLayout.notify_lines NotifyLayout.notify_text ViaLayout.with_character ViaLayout.parts_from ViaLayout.marked_parameter ViaLayout.marked_parts ViaLayout.top_via_text HeaderTexts.comma_joined Block.block_word Block.double_rounds Block.diagonal_round Block.column_round Block.quarter_round Steps.u32_at Hex.encode_with Fmt.digits
+unfolding Tag.local_tag Tag.refusal_tag Requests.key_of_request Requests.is_sip_uri Requests.user_part Requests.event_of Requests.asked Requests.granted Requests.asks_nothing Requests.is_unwatched Requests.birth_of Requests.is_malformed Requests.misfit Requests.covers Requests.misplaced_at Requests.is_full Requests.unheard Answers.refusal_text Answers.refusal_answer Answers.renewal_answer Answers.birth_answer Answers.kept_answer Answers.ring_with Out.out_of Out.notifications Rows.notify Rows.stays Rows.goes Rows.wherever Rows.opened Rows.turned Rows.tells Rows.left Rows.said Rows.gone_at Rows.gone Rows.forgetting Rows.only Rows.is_dialog Rows.counted Rows.renewed_sub Rows.renewed Rows.tells_change Rows.tells_watcher Rows.ends Rows.is_overdue Rows.times_out Rows.stops Rows.closed Rows.takes_answer Rows.answered Book.new_usage Book.new_want Book.first_step Book.nothing Book.keeping Book.refused Book.all_rows Book.denied Book.accepted Book.new_row Book.first_word Book.first_boxes Book.first_told Book.first_gone Book.born_with Book.born Book.unless Book.unless_denied Book.in_dialog Book.outside Book.by_to_tag Book.by_kept Book.verdict Book.served Book.content_changed Book.replied Book.ticked Book.shut Book.step Run.empty Run.run_from Run.made_from Run.run Run.made Table.told Table.accept Table.fetch Table.refresh Table.end Table.changed Table.is_answer_to Table.is_refusal_of Table.refused_by AnswerLayout.answer_lines AnswerLayout.answer_text NotifyLayout.notify_lines NotifyLayout.notify_text ViaLayout.with_character ViaLayout.parts_from ViaLayout.marked_parameter ViaLayout.marked_parts ViaLayout.top_via_text HeaderTexts.comma_joined Block.block_word Block.double_rounds Block.diagonal_round Block.column_round Block.quarter_round Steps.u32_at Hex.encode_with Fmt.digits
 outs start es = map brief (made start es)
 
 unfoldable pub texts : Start → List Event → List Bytes
-unfolding Tag.local_tag Tag.refusal_tag Requests.key_of_request Requests.is_sip_uri Requests.user_part Requests.event_of Requests.asked Requests.granted Requests.asks_nothing Requests.is_malformed Requests.misfit Requests.covers Requests.misplaced_at Requests.is_full Requests.unheard Answers.refusal_text Answers.refusal_answer Answers.renewal_answer Answers.birth_answer Answers.kept_answer Answers.ring_with Out.out_of Out.notifications Rows.notify Rows.stays Rows.goes Rows.turned Rows.tells Rows.left Rows.said Rows.gone_at Rows.gone Rows.forgetting Rows.only Rows.is_dialog Rows.counted Rows.renewed_sub Rows.renewed Rows.tells_watcher Rows.times_out Rows.disowned Book.new_usage Book.new_want Book.first_step Book.nothing Book.keeping Book.refused Book.all_rows Book.heard Book.in_dialog Book.first_boxes Book.first_told Book.born_with Book.born Book.outside Book.by_to_tag Book.judged Book.served Book.asked_for Book.content_changed Book.replied Book.ticked Book.step Run.empty Run.run_from Run.made_from Run.run Run.made Table.told Table.accept Table.fetch Table.refresh Table.end Table.changed Table.is_refusal_of Table.refused_by AnswerLayout.answer_lines AnswerLayout.answer_text NotifyLayout.notify_lines NotifyLayout.notify_text ViaLayout.with_character ViaLayout.parts_from ViaLayout.marked_parameter ViaLayout.marked_parts ViaLayout.top_via_text HeaderTexts.comma_joined Block.block_word Block.double_rounds Block.diagonal_round Block.column_round Block.quarter_round Steps.u32_at Hex.encode_with Fmt.digits
+unfolding Tag.local_tag Tag.refusal_tag Requests.key_of_request Requests.is_sip_uri Requests.user_part Requests.event_of Requests.asked Requests.granted Requests.asks_nothing Requests.is_unwatched Requests.birth_of Requests.is_malformed Requests.misfit Requests.covers Requests.misplaced_at Requests.is_full Requests.unheard Answers.refusal_text Answers.refusal_answer Answers.renewal_answer Answers.birth_answer Answers.kept_answer Answers.ring_with Out.out_of Out.notifications Rows.notify Rows.stays Rows.goes Rows.wherever Rows.opened Rows.turned Rows.tells Rows.left Rows.said Rows.gone_at Rows.gone Rows.forgetting Rows.only Rows.is_dialog Rows.counted Rows.renewed_sub Rows.renewed Rows.tells_change Rows.tells_watcher Rows.ends Rows.is_overdue Rows.times_out Rows.stops Rows.closed Rows.takes_answer Rows.answered Book.new_usage Book.new_want Book.first_step Book.nothing Book.keeping Book.refused Book.all_rows Book.denied Book.accepted Book.new_row Book.first_word Book.first_boxes Book.first_told Book.first_gone Book.born_with Book.born Book.unless Book.unless_denied Book.in_dialog Book.outside Book.by_to_tag Book.by_kept Book.verdict Book.served Book.content_changed Book.replied Book.ticked Book.shut Book.step Run.empty Run.run_from Run.made_from Run.run Run.made Table.told Table.accept Table.fetch Table.refresh Table.end Table.changed Table.is_answer_to Table.is_refusal_of Table.refused_by AnswerLayout.answer_lines AnswerLayout.answer_text NotifyLayout.notify_lines NotifyLayout.notify_text ViaLayout.with_character ViaLayout.parts_from ViaLayout.marked_parameter ViaLayout.marked_parts ViaLayout.top_via_text HeaderTexts.comma_joined Block.block_word Block.double_rounds Block.diagonal_round Block.column_round Block.quarter_round Steps.u32_at Hex.encode_with Fmt.digits
 texts start es = map (λ s. bytes_of_out (out_of s)) (made start es)
 
 -- what the book holds in the end of the first transfer
 unfoldable pub transfer_after : Start → List Event → Option Content
-unfolding Tag.local_tag Tag.refusal_tag Requests.key_of_request Requests.is_sip_uri Requests.user_part Requests.event_of Requests.asked Requests.granted Requests.asks_nothing Requests.is_malformed Requests.misfit Requests.covers Requests.misplaced_at Requests.is_full Requests.unheard Answers.refusal_text Answers.refusal_answer Answers.renewal_answer Answers.birth_answer Answers.kept_answer Answers.ring_with Out.out_of Out.notifications Rows.notify Rows.stays Rows.goes Rows.turned Rows.tells Rows.left Rows.said Rows.gone_at Rows.gone Rows.forgetting Rows.only Rows.is_dialog Rows.counted Rows.renewed_sub Rows.renewed Rows.tells_watcher Rows.times_out Rows.disowned Book.new_usage Book.new_want Book.first_step Book.nothing Book.keeping Book.refused Book.all_rows Book.heard Book.in_dialog Book.first_boxes Book.first_told Book.born_with Book.born Book.outside Book.by_to_tag Book.judged Book.served Book.asked_for Book.content_changed Book.replied Book.ticked Book.step Run.empty Run.run_from Run.made_from Run.run Run.made Table.told Table.accept Table.fetch Table.refresh Table.end Table.changed Table.is_refusal_of Table.refused_by AnswerLayout.answer_lines AnswerLayout.answer_text NotifyLayout.notify_lines NotifyLayout.notify_text ViaLayout.with_character ViaLayout.parts_from ViaLayout.marked_parameter ViaLayout.marked_parts ViaLayout.top_via_text HeaderTexts.comma_joined Block.block_word Block.double_rounds Block.diagonal_round Block.column_round Block.quarter_round Steps.u32_at Hex.encode_with Fmt.digits
+unfolding Tag.local_tag Tag.refusal_tag Requests.key_of_request Requests.is_sip_uri Requests.user_part Requests.event_of Requests.asked Requests.granted Requests.asks_nothing Requests.is_unwatched Requests.birth_of Requests.is_malformed Requests.misfit Requests.covers Requests.misplaced_at Requests.is_full Requests.unheard Answers.refusal_text Answers.refusal_answer Answers.renewal_answer Answers.birth_answer Answers.kept_answer Answers.ring_with Out.out_of Out.notifications Rows.notify Rows.stays Rows.goes Rows.wherever Rows.opened Rows.turned Rows.tells Rows.left Rows.said Rows.gone_at Rows.gone Rows.forgetting Rows.only Rows.is_dialog Rows.counted Rows.renewed_sub Rows.renewed Rows.tells_change Rows.tells_watcher Rows.ends Rows.is_overdue Rows.times_out Rows.stops Rows.closed Rows.takes_answer Rows.answered Book.new_usage Book.new_want Book.first_step Book.nothing Book.keeping Book.refused Book.all_rows Book.denied Book.accepted Book.new_row Book.first_word Book.first_boxes Book.first_told Book.first_gone Book.born_with Book.born Book.unless Book.unless_denied Book.in_dialog Book.outside Book.by_to_tag Book.by_kept Book.verdict Book.served Book.content_changed Book.replied Book.ticked Book.shut Book.step Run.empty Run.run_from Run.made_from Run.run Run.made Table.told Table.accept Table.fetch Table.refresh Table.end Table.changed Table.is_answer_to Table.is_refusal_of Table.refused_by AnswerLayout.answer_lines AnswerLayout.answer_text NotifyLayout.notify_lines NotifyLayout.notify_text ViaLayout.with_character ViaLayout.parts_from ViaLayout.marked_parameter ViaLayout.marked_parts ViaLayout.top_via_text HeaderTexts.comma_joined Block.block_word Block.double_rounds Block.diagonal_round Block.column_round Block.quarter_round Steps.u32_at Hex.encode_with Fmt.digits
 transfer_after start es = content_in (run start es).boxes refer_package tag_1

@@ -1,32 +1,33 @@
 -- A request that fits says for which event it is, or is a REFER.
-use Rattle.std.proofs.Common.{◌≡◌, Bool, true, false, not, ◌&&◌, ◌||◌, ◌==◌, Option, Some, None, if◌then◌else◌, length, refl, ap, sym, ◌∙◌, Result, Ok, Err}
+use Rattle.std.proofs.Common.{◌≡◌, Bool, true, false, not, ◌&&◌, ◌||◌, Option, Some, None, if◌then◌else◌, refl, ap, sym, ◌∙◌, Result, Ok, Err}
+use Rattle.std.specs.List.{list_any}
 use Rattle.std.specs.Prelude.{IfOk, bytes_eq, unwrap_or}
-use Rattle.event_headers.specs.declared.field.Field.{Field}
-use Rattle.event_headers.specs.declared.field.Field.TheVariants.{Absent, Bad, Value}
+use Rattle.sip_text.specs.declared.field.Field.{Field}
+use Rattle.sip_text.specs.declared.field.Field.TheVariants.{Absent, Bad, Value}
 use Rattle.event_headers.specs.Values.{EventValue}
 use Rattle.event_headers.specs.declared.values.EventValue.{EventValue as Stored}
 use Rattle.sip_read.specs.declared.message.Request.{Request}
 use Rattle.notifier.specs.declared.refusal.Refusal.{Refusal}
 use Rattle.notifier.specs.declared.refusal.Refusal.TheVariants.{OtherMethod, OtherScheme, UnmetRequire, Malformed}
 use Rattle.notifier.specs.Fields.{is_absent, is_bad, value_of}
-use Rattle.notifier.specs.Requests.{is_subscribe, is_refer, is_sip_uri, is_malformed, misfit, event_of, refer_event, no_event}
+use Rattle.notifier.specs.Requests.{is_subscribe, is_refer, is_sip_uri, is_strange, is_malformed, misfit, event_of, refer_event, no_event}
 
--- by the tests of a misfit: a method, a scheme, no demand, the same method again, an Event that isn't there or is bad
+-- by the tests of a misfit: a method, a scheme, a demand, the same method again, an Event that isn't there or is bad
 by_tests : (s f u q m a b c d : Bool)
-    → ◌≡◌ {A = Option Refusal} (if not (s || f) then Some OtherMethod else if not u then Some OtherScheme else if not q then Some UnmetRequire else if not m || ((s && (a || (b || c))) || d) then Some Malformed else None) None
+    → ◌≡◌ {A = Option Refusal} (if not (s || f) then Some OtherMethod else if not u then Some OtherScheme else if q then Some UnmetRequire else if not m || ((s && (a || (b || c))) || d) then Some Malformed else None) None
     → (a || b) ≡ true → f ≡ true
 by_tests s true u q m a b c d h k = refl
 by_tests false false u q m a b c d h k = absurd (cc)
 by_tests true false false q m a b c d h k = absurd (cc)
-by_tests true false true false m a b c d h k = absurd (cc)
-by_tests true false true true false a b c d h k = absurd (cc)
-by_tests true false true true true true b c d h k = absurd (cc)
-by_tests true false true true true false true c d h k = absurd (cc)
-by_tests true false true true true false false c d h k = absurd (cc)
+by_tests true false true true m a b c d h k = absurd (cc)
+by_tests true false true false false a b c d h k = absurd (cc)
+by_tests true false true false true true b c d h k = absurd (cc)
+by_tests true false true false true false true c d h k = absurd (cc)
+by_tests true false true false true false false c d h k = absurd (cc)
 
 pub is_refer_then : (r : Request) → misfit r ≡ None → (is_absent r.event || is_bad r.event) ≡ true → is_refer r ≡ true
 unfolding misfit is_malformed
-is_refer_then r fits unsaid = by_tests (is_subscribe r) (is_refer r) (is_sip_uri r.uri) (length r.require == 0) (bytes_eq r.head.cseq_method r.method) (is_absent r.event) (is_bad r.event) _ _ fits unsaid
+is_refer_then r fits unsaid = by_tests (is_subscribe r) (is_refer r) (is_sip_uri r.uri) (list_any is_strange r.require) (bytes_eq r.head.cseq_method r.method) (is_absent r.event) (is_bad r.event) _ _ fits unsaid
 
 -- the event that a REFER makes
 pub event_of_refer : (r : Request) → is_refer r ≡ true → event_of r ≡ refer_event r.head.cseq

@@ -3,8 +3,12 @@ pub mod WorkedRuns
 pub mod Texts
 pub mod FirstBox
 pub mod Fitting
+pub mod Births
+pub mod FirstTurns
 pub mod RowLists
 pub mod Renewal
 pub mod Lives
+pub mod Owned
+pub mod Soundness
 pub mod Steps
 pub mod Runs

@@ -1,28 +1,30 @@
 -- The rows that stay have time left, and no more than can be granted.
-use Rattle.std.proofs.Common.{◌≡◌, ℕ, zero, suc, ◌+◌, ◌<◌, ◌≤◌, min, List, [], ◌∷◌, ◌++◌, Bool, true, false, not, if◌then◌else◌, ◌==◌, nat_le, Option, Some, None, option_to_list, All, refl, sym, ap, subst, ◌∙◌, arith}
+use Rattle.std.proofs.Common.{◌≡◌, ℕ, zero, suc, ◌+◌, ◌<◌, ◌≤◌, min, List, [], ◌∷◌, ◌++◌, Bool, true, false, not, if◌then◌else◌, ◌==◌, nat_le, Option, Some, None, option_to_list, All, refl, sym, subst, arith}
 use Rattle.std.proofs.lemmas.Bool.Decides.{nat_tests}
-use Rattle.std.specs.Prelude.{IfSome, ◌&&◌, ◌^◌}
+use Rattle.std.specs.Prelude.{IfSome, ◌&&◌}
 use Rattle.std.proofs.lemmas.List.Elements.{All-nil, All-cons, All-head, All-tail, All-append, All-push}
-use Rattle.sip_read.specs.declared.message.Addr.{Addr}
+use Rattle.sip_text.specs.declared.address.Addr.{Addr}
 use Rattle.sip_read.specs.declared.message.Request.{Request}
 use Rattle.sip_read.specs.declared.message.Response.{Response}
+use Rattle.subscription.specs.declared.terms.Usage.{Usage}
 use Rattle.subscription.specs.declared.terms.Want.{Want}
 use Rattle.subscription.specs.declared.notify.Notice.{Notice}
 use Rattle.subscription.specs.declared.notify.Reason.TheVariants.{Timeout}
 use Rattle.subscription.specs.declared.life.Step.{Step}
 use Rattle.subscription.specs.declared.life.Step.TheVariants.{Live, Over}
 use Rattle.subscription.specs.State.{State}
-use Rattle.subscription.specs.Table.{told, accept, fetch, refresh, end, over, changed, is_refusal_of}
-use Rattle.package.specs.Content.{Maps, SeenBy}
+use Rattle.subscription.specs.Table.{told, accept, fetch, refresh, end, over, changed, is_answer_to, refuses}
+use Rattle.package.specs.Content.{Maps, SeenBy, is_final}
 use Rattle.notifier.specs.declared.place.Place.{Place}
 use Rattle.notifier.specs.declared.row.Row.{Row}
 use Rattle.notifier.specs.Limits.{Limits, AreLimits}
-use Rattle.notifier.specs.Requests.{is_refer, asked, granted, asks_nothing}
-use Rattle.notifier.specs.Rows.{Told, turned, tells, stays, goes, left, only, counted, disowned, renewed, renewed_sub, watches, tells_watcher, times_out}
+use Rattle.notifier.specs.Requests.{is_refer, asked, granted, asks_nothing, birth_of}
+use Rattle.notifier.specs.declared.request.Birth.{Birth}
+use Rattle.notifier.specs.declared.request.Birth.TheVariants.{Watch, Fetch, Transfer, Unwatched}
+use Rattle.notifier.proofs.Births.{watch_asks, transfer_asks}
+use Rattle.notifier.specs.Rows.{Told, wherever, opened, with_sub, turned, tells, stays, goes, left, only, counted, closed, takes_answer, answered, renewed, renewed_sub, watches, tells_change, tells_watcher, is_overdue, ends, times_out, stops}
 use Rattle.notifier.specs.Fields.{value_of}
-use Rattle.notifier.specs.declared.ledger.Ledger.{Ledger}
-use Rattle.notifier.specs.Book.{new_usage, new_want, first_step}
-use Rattle.notifier.specs.Ledger.{IsSound}
+use Rattle.notifier.specs.Book.{new_usage, new_want, new_row, first_step, first_told}
 use Rattle.notifier.specs.Sound.{IsLive}
 
 -- ---- all rows
@@ -43,7 +45,7 @@ all_more P rows (Some row) h s = All-push P rows row h s
 -- ---- one row
 
 only_keeps : (serial : ℕ) (rule : Row → Told) (P : Row → Type 0) (row : Row) → P row → IfSome (rule row).row P → IfSome (only serial rule row).row P
-unfolding only stays
+unfolding only wherever stays
 only_keeps serial rule P row h k = by (row.serial == serial)
   where
     by : (b : Bool) → IfSome (if b then rule row else stays row).row P
@@ -64,10 +66,14 @@ told_lives clock s time a b = by (s.count == s.want.max_cseq) _ _
     by false m n = (a, b)
 
 module _ {maps : Maps} where
-  pub turned_lives : (place : Place) (boxes : List (SeenBy maps)) (to : Addr) (want : Want) (serial cseq clock : ℕ) (next : Step) → StepLives clock next → IfSome (turned place boxes to want serial cseq next).row (IsLive clock)
-  unfolding turned
-  turned_lives place boxes to want serial cseq clock (Live s notice) h = record { has_time = h.0; time_fits = h.1 }
-  turned_lives place boxes to want serial cseq clock (Over usage notice) h = tt
+  pub turned_lives : (place : Place) (boxes : List (SeenBy maps)) (to : Addr) (want : Want) (row_of : State → Row) (clock : ℕ) (next : Step)
+      → ((s : State) → (row_of s).sub ≡ s) → StepLives clock next → IfSome (turned place boxes clock to want row_of next).row (IsLive clock)
+  unfolding turned opened
+  turned_lives place boxes to want row_of clock (Live s notice) same h = record {
+    has_time = subst (λ x. clock < x.due) (sym (same s)) h.0;
+    time_fits = subst (λ x. x.due ≤ clock + 4294967295) (sym (same s)) h.1;
+  }
+  turned_lives place boxes to want row_of clock (Over usage notice) same h = tt
 
 -- what is granted is some time, and a u32
 not_zero : (n : ℕ) → (n == 0) ≡ false → 1 ≤ n
@@ -88,13 +94,15 @@ pub counted_lives : (clock serial : ℕ) (r : Request) (row : Row) → IsLive cl
 unfolding counted stays
 counted_lives clock serial r row h = only_keeps serial (counted r) (IsLive clock) row h (record { has_time = h.has_time; time_fits = h.time_fits })
 
-pub disowned_lives : (clock : ℕ) (response : Response) (row : Row) → IsLive clock row → IfSome (disowned response row).row (IsLive clock)
-unfolding disowned stays goes
-disowned_lives clock response row h = by (is_refusal_of row.sub response)
+pub answered_lives : (clock : ℕ) (response : Response) (row : Row) → IsLive clock row → IfSome (answered response row).row (IsLive clock)
+unfolding answered wherever takes_answer closed stays goes
+answered_lives clock response row h = by (is_answer_to row.sub response) (refuses response) (is_final response.status)
   where
-    by : (b : Bool) → IfSome (if b then goes else stays row).row (IsLive clock)
-    by true = tt
-    by false = h
+    by : (a b c : Bool) → IfSome (if a then (if b then goes else if c then stays (closed response.head.cseq row) else stays row) else stays row).row (IsLive clock)
+    by true true c = tt
+    by true false true = record { has_time = h.has_time; time_fits = h.time_fits }
+    by true false false = h
+    by false b c = h
 
 -- what renews a row gives it time
 refreshed_lives : (place : Place) (clock : ℕ) (source : Addr) (r : Request) (s : State) → AreLimits place.limits → StepLives clock (renewed_sub place clock source r s)
@@ -109,63 +117,57 @@ module _ {maps : Maps} where
   pub renewed_lives : (place : Place) (boxes : List (SeenBy maps)) (clock serial : ℕ) (source : Addr) (r : Request) (row : Row) → AreLimits place.limits → IsLive clock row → IfSome (only serial (renewed place boxes clock source r) row).row (IsLive clock)
   unfolding renewed
   renewed_lives place boxes clock serial source r row l h =
-      only_keeps serial (renewed place boxes clock source r) (IsLive clock) row h (turned_lives place boxes source row.sub.want row.serial r.head.cseq clock _ (refreshed_lives place clock source r row.sub l))
+      only_keeps serial (renewed place boxes clock source r) (IsLive clock) row h (turned_lives place boxes source row.sub.want _ clock _ (λ s. refl) (refreshed_lives place clock source r row.sub l))
 
   pub watcher_lives : (place : Place) (boxes : List (SeenBy maps)) (clock : ℕ) (name resource : List ℕ) (is_over : Bool) (row : Row) → IsLive clock row → IfSome (tells_watcher place boxes clock name resource is_over row).row (IsLive clock)
-  unfolding tells_watcher tells stays changed end
+  unfolding tells_watcher wherever tells_change tells stays changed end
   watcher_lives place boxes clock name resource is_over row h = by (watches name resource row) is_over
     where
       step : (o : Bool) → StepLives clock (changed row.sub clock o)
       step true = tt
       step false = told_lives clock _ _ h.has_time h.time_fits
 
-      by : (b o : Bool) → IfSome (if b then tells place boxes row (changed row.sub clock o) else stays row).row (IsLive clock)
-      by true o = turned_lives place boxes row.sub.want.to row.sub.want row.serial row.last_cseq clock _ (step o)
+      by : (b o : Bool) → IfSome (if b then tells place boxes clock row (changed row.sub clock o) else stays row).row (IsLive clock)
+      by true o = turned_lives place boxes row.sub.want.to row.sub.want (with_sub row) clock _ (λ s. refl) (step o)
       by false o = h
 
   -- a row whose time may be up by now
   pub due_lives : (place : Place) (boxes : List (SeenBy maps)) (clock : ℕ) (row : Row) → row.sub.due ≤ clock + 4294967295 → IfSome (times_out place boxes clock row).row (IsLive clock)
-  unfolding times_out tells stays end
-  due_lives place boxes clock row h = by (nat_le row.sub.due clock) refl
+  unfolding times_out wherever ends tells stays goes end
+  due_lives place boxes clock row h = by (is_overdue clock row) (nat_le row.sub.due clock) refl
     where
-      by : (b : Bool) → nat_le row.sub.due clock ≡ b → IfSome (if b then tells place boxes row (over (end row.sub Timeout)) else stays row).row (IsLive clock)
-      by true e = turned_lives place boxes row.sub.want.to row.sub.want row.serial row.last_cseq clock _ tt
-      by false e = record { has_time = grind (arith, nat_tests); time_fits = h }
+      by : (a b : Bool) → nat_le row.sub.due clock ≡ b → IfSome (if a then goes else if b then ends place boxes clock Timeout row else stays row).row (IsLive clock)
+      by true b e = tt
+      by false true e = turned_lives place boxes row.sub.want.to row.sub.want (with_sub row) clock _ (λ s. refl) tt
+      by false false e = record { has_time = grind (arith, nat_tests); time_fits = h }
 
--- ---- a ledger whose rows were told
+  -- no row stays
+  pub stops_lives : (place : Place) (boxes : List (SeenBy maps)) (clock : ℕ) (row : Row) → IsLive clock row → IfSome (stops place boxes clock row).row (IsLive clock)
+  unfolding stops ends tells end
+  stops_lives place boxes clock row h = turned_lives place boxes row.sub.want.to row.sub.want (with_sub row) clock _ (λ s. refl) tt
 
-pub sound_told : {P : Type 0} (limits : Limits) (a b : Ledger P) (rule : Row → Told) → ((row : Row) → IsLive a.clock row → IfSome (rule row).row (IsLive a.clock)) → IsSound limits a
-    → b.rows.items ≡ left rule a.rows.items → (b.clock ≡ a.clock) × (b.next ≡ a.next) × (b.ring ≡ a.ring) → IsSound limits b
-sound_told limits a b rule keep s rows same = record {
-  clock_fits = subst (λ n. n < 2 ^ 63) (sym same.0) s.clock_fits;
-  next_begins = subst (λ n. 1 ≤ n) (sym same.1) s.next_begins;
-  next_fits = subst (λ n. n ≤ 2 ^ 32) (sym same.1) s.next_fits;
-  rows_live = subst (λ n. All (IsLive n) b.rows.items) (sym same.0) (subst (All (IsLive a.clock)) (sym rows) (all_left rule (IsLive a.clock) (IsLive a.clock) keep a.rows.items s.rows_live));
-  ring_fits = ap (λ r. r.capacity) same.2 ∙ s.ring_fits;
-}
+-- ---- a new row has the time that is granted
 
--- the clock went on to a moment before these rows were told of it
-pub sound_ticked : {maps : Maps} {P : Type 0} (limits : Limits) (a b : Ledger P) (place : Place) (boxes : List (SeenBy maps)) (clock : ℕ) → a.clock ≤ clock → clock < 2 ^ 63 → IsSound limits a
-    → b.rows.items ≡ left (times_out place boxes clock) a.rows.items → (b.clock ≡ clock) × (b.next ≡ a.next) × (b.ring ≡ a.ring) → IsSound limits b
-sound_ticked limits a b place boxes clock on fits s rows same = record {
-  clock_fits = subst (λ n. n < 2 ^ 63) (sym same.0) fits;
-  next_begins = subst (λ n. 1 ≤ n) (sym same.1) s.next_begins;
-  next_fits = subst (λ n. n ≤ 2 ^ 32) (sym same.1) s.next_fits;
-  rows_live = subst (λ n. All (IsLive n) b.rows.items) (sym same.0) (subst (All (IsLive clock)) (sym rows)
-      (all_left (times_out place boxes clock) (IsLive a.clock) (IsLive clock) (λ row h. due_lives place boxes clock row (let t : row.sub.due ≤ a.clock + 4294967295 = h.time_fits in omega arith)) a.rows.items s.rows_live));
-  ring_fits = ap (λ r. r.capacity) same.2 ∙ s.ring_fits;
-}
+abbrev pub FirstLives : ℕ → Option Step → Type 0
+FirstLives clock None = Unit {0}
+FirstLives clock (Some next) = StepLives clock next
 
--- a new row has the time that is granted
-first_lives : (place : Place) (clock : ℕ) (tag : List ℕ) (source : Addr) (r : Request) → AreLimits place.limits → StepLives clock (first_step place clock tag source r)
+first_lives : (limits : Limits) (clock : ℕ) (usage : Usage) (want : Want) (r : Request) (kind : Birth) → AreLimits limits → kind ≡ birth_of limits r
+    → FirstLives clock (first_step limits clock usage want r kind)
 unfolding first_step accept fetch
-first_lives place clock tag source r l = by (asks_nothing place.limits r) refl
-  where
-    by : (b : Bool) → asks_nothing place.limits r ≡ b → StepLives clock (if b then over (fetch (new_usage tag r) (new_want place tag source r)) else accept (new_usage tag r) (new_want place tag source r) clock (granted place.limits r))
-    by true e = tt
-    by false e = let g = granted_fits place.limits r l e in told_lives clock _ _ (omega arith) (omega arith)
+first_lives limits clock usage want r Watch l k = let g = granted_fits limits r l (watch_asks limits r k) in told_lives clock _ _ (omega arith) (omega arith)
+first_lives limits clock usage want r Fetch l k = tt
+first_lives limits clock usage want r Transfer l k = let g = granted_fits limits r l (transfer_asks limits r k) in told_lives clock _ _ (omega arith) (omega arith)
+first_lives limits clock usage want r Unwatched l k = tt
 
 module _ {maps : Maps} where
-  pub born_lives : (place : Place) (boxes : List (SeenBy maps)) (clock serial : ℕ) (tag : List ℕ) (source : Addr) (r : Request) → AreLimits place.limits
-      → IfSome (turned place boxes source (new_want place tag source r) serial r.head.cseq (first_step place clock tag source r)).row (IsLive clock)
-  born_lives place boxes clock serial tag source r l = turned_lives place boxes source (new_want place tag source r) serial r.head.cseq clock _ (first_lives place clock tag source r l)
+  first_row_lives : (place : Place) (boxes : List (SeenBy maps)) (clock serial : ℕ) (tag : List ℕ) (source : Addr) (r : Request) (next : Option Step) → FirstLives clock next
+      → IfSome (first_told place boxes clock tag source r serial next).row (IsLive clock)
+  unfolding first_told goes new_row
+  first_row_lives place boxes clock serial tag source r None h = tt
+  first_row_lives place boxes clock serial tag source r (Some next) h = turned_lives place boxes source (new_want place tag source r) (new_row serial r) clock next (λ s. refl) h
+
+  pub born_lives : (place : Place) (boxes : List (SeenBy maps)) (clock serial : ℕ) (tag : List ℕ) (source : Addr) (r : Request) (kind : Birth) → AreLimits place.limits → kind ≡ birth_of place.limits r
+      → IfSome (first_told place boxes clock tag source r serial (first_step place.limits clock (new_usage tag r) (new_want place tag source r) r kind)).row (IsLive clock)
+  born_lives place boxes clock serial tag source r kind l k =
+      first_row_lives place boxes clock serial tag source r (first_step place.limits clock (new_usage tag r) (new_want place tag source r) r kind) (first_lives place.limits clock _ _ r kind l k)

@@ -1,7 +1,7 @@
 -- A step of a subscription leaves its local tag.
 use Rattle.std.proofs.Common.{◌≡◌, ℕ, List, [], ◌∷◌, Bool, true, false, if◌then◌else◌, ◌==◌, ◌&&◌, is_none, map, option_to_list, Result, Ok, Err, refl, ap, ◌∙◌}
 use Rattle.std.specs.Prelude.{IfOk}
-use Rattle.sip_read.specs.declared.message.Addr.{Addr}
+use Rattle.sip_text.specs.declared.address.Addr.{Addr}
 use Rattle.sip_read.specs.declared.message.Request.{Request}
 use Rattle.subscription.specs.declared.life.Step.{Step}
 use Rattle.subscription.specs.State.{State}
@@ -13,14 +13,14 @@ use Rattle.notifier.specs.declared.row.Row.{Row}
 use Rattle.notifier.specs.declared.rules.After.{After}
 use Rattle.notifier.specs.Requests.{asks_nothing, is_of_refer}
 use Rattle.notifier.specs.Out.{out_of}
-use Rattle.notifier.specs.Rows.{Told, turned, usage_after, renewed, renewed_sub, gone_at}
+use Rattle.notifier.specs.Rows.{Told, with_sub, turned, usage_after, renewed, renewed_sub, gone_at}
 use Rattle.notifier.specs.Told.{IsTold}
 
 by_if : (b : Bool) (x y : Step) (tag : List ℕ) → (usage_after x).local_tag ≡ tag → (usage_after y).local_tag ≡ tag → (usage_after (if b then x else y)).local_tag ≡ tag
 by_if true x y tag p q = p
 by_if false x y tag p q = q
 
-tag_told : (s : State) (left : ℕ) → (usage_after (told s left)).local_tag ≡ s.usage.local_tag
+pub tag_told : (s : State) (left : ℕ) → (usage_after (told s left)).local_tag ≡ s.usage.local_tag
 unfolding told
 tag_told s left = by_if (s.count == s.want.max_cseq) _ _ s.usage.local_tag refl refl
 
@@ -34,7 +34,7 @@ if_ok_all (Err e) p q r f = p
 
 module _ {maps : Maps} (place : Place) (boxes : List (SeenBy maps)) (clock : ℕ) (source : Addr) (r : Request) (row : Row) where
   abbrev pub step_for : Want → Step → Told
-  step_for want next = turned place boxes source want row.serial r.head.cseq next
+  step_for want next = turned place boxes clock source want (with_sub (record row { last_cseq = r.head.cseq })) next
 
   abbrev pub gone_for : Want → Step → List (List ℕ)
   gone_for want next = if is_of_refer want.event && is_none (step_for want next).row then (usage_after next).local_tag ∷ [] else []

@@ -2,6 +2,7 @@
 use Rattle.std.proofs.Common.{◌≡◌, List, [], ◌∷◌, ◌++◌, refl, sym, ap, ◌∙◌, append_assoc, map, option_to_list, ℕ}
 use Rattle.std.proofs.lemmas.List.{append-nil, map-append}
 use Rattle.notifier.specs.declared.row.Row.{Row}
+use Rattle.notifier.specs.declared.event.Out.{Out}
 use Rattle.notifier.specs.Out.{out_of}
 use Rattle.package.specs.declared.change.Change.TheVariants.{Forget}
 use Rattle.package.specs.Content.{Maps, SeenBy}
@@ -27,6 +28,13 @@ module _ (rule : Row → Told) where
   -- the outs so far, with those of one row more
   pub outs-push : (rows : List Row) (row : Row) → map out_of (said rule (rows ++ row ∷ [])) ≡ map out_of (said rule rows) ++ map out_of (rule row).notifies
   outs-push rows row = ap (map out_of) (said-push rows row) ∙ map-append out_of (said rule rows) (rule row).notifies
+
+  -- the outs behind the first ones, as those of one row more come
+  pub outs-on : (first before told after : List Out) (rows : List Row) (row : Row) → before ≡ first ++ map out_of (said rule rows) → told ≡ map out_of (rule row).notifies
+      → after ≡ before ++ told → after ≡ first ++ map out_of (said rule (rows ++ row ∷ []))
+  outs-on first before told after rows row b t a =
+      a ∙ ap (λ l. l ++ told) b ∙ ap (λ l. (first ++ map out_of (said rule rows)) ++ l) t
+      ∙ append_assoc first (map out_of (said rule rows)) (map out_of (rule row).notifies) ∙ sym (ap (λ l. first ++ l) (outs-push rows row))
 
 -- one transfer more is forgotten last
 pub forgetting-push : {maps : Maps} (tags : List (List ℕ)) (tag : List ℕ) (boxes : List (SeenBy maps)) → forgetting (tags ++ tag ∷ []) boxes ≡ (change_first (forgetting tags boxes) (Forget tag)).1

@@ -1,13 +1,13 @@
 -- Whole runs of a notifier, worked out by computing.
 use Rattle.std.specs.Prelude.{refl, ◌≡◌, ℕ, true, List, [], ◌∷◌, ◌++◌, map, length, Some, None, codes}
-use Rattle.event_headers.specs.declared.field.Field.TheVariants.{Absent, Bad, Value}
+use Rattle.sip_text.specs.declared.field.Field.TheVariants.{Absent, Bad, Value}
 use Rattle.sip_read.specs.declared.message.Request.{Request}
 use Rattle.package.specs.declared.counts.Class.TheVariants.{Voice, Fax, Text as TextMessages}
 use Rattle.sip_write.specs.Lines.{joined}
 use Rattle.package.specs.Content.{OfStatus}
 use Rattle.notifier.specs.declared.event.Event.{Event}
-use Rattle.notifier.specs.declared.event.Event.TheVariants.{Request as Comes, Tick as Ticks}
-use Rattle.notifier.proofs.Examples.{port, usual, mail_box, refer_box, presence_box, start_with, start, tag_1, tag_2, subscribe, subscribe_1, subscribe_2, subscribe_3, refer, refer_1, for_time, for_event, to_uri, of_call, with_method, within, comes, reply_from, reply, mail_for, mail, voice, progress, Answered, Noticed, Started, lines_of, outs, texts, transfer_after, Bytes}
+use Rattle.notifier.specs.declared.event.Event.TheVariants.{Request as Comes, Tick as Ticks, Shut}
+use Rattle.notifier.proofs.Examples.{port, usual, mail_box, refer_box, presence_box, start_with, start, tag_1, tag_2, tag_3, subscribe, subscribe_1, subscribe_2, subscribe_3, refer, refer_1, unwatched, for_time, for_event, to_uri, of_call, with_method, within, comes, reply_from, reply, mail_for, mail, voice, progress, Answered, Noticed, Started, lines_of, outs, texts, transfer_after, Bytes}
 
 -- ---- a subscription, byte by byte
 
@@ -215,6 +215,7 @@ same_mail = refl
 -- The time granted is over
 abbrev events_expired : List Event
 events_expired = comes (for_time 60 subscribe_1)
+    ∷ reply 200 1
     ∷ Ticks 59
     ∷ Ticks 60
     ∷ voice 1 ∷ []
@@ -230,6 +231,7 @@ expired = refl
 -- A Tick above the latest moment changes nothing
 abbrev events_tick_too_late : List Event
 events_tick_too_late = comes subscribe_1
+    ∷ reply 200 1
     ∷ Ticks 9223372036854775808
     ∷ voice 1 ∷ []
 
@@ -244,6 +246,7 @@ tick_too_late = refl
 -- The time that is left
 abbrev events_time_left : List Event
 events_time_left = comes subscribe_1
+    ∷ reply 200 1
     ∷ Ticks 100
     ∷ voice 1 ∷ []
 
@@ -598,7 +601,11 @@ third_box = refl
 abbrev events_two_end : List Event
 events_two_end = comes (for_time 120 subscribe_1)
     ∷ comes (for_time 60 (of_call (codes "c2") subscribe_2))
+    ∷ reply 200 1
+    ∷ reply_from tag_2 (codes "c2") 200 1
     ∷ voice 1
+    ∷ reply 200 2
+    ∷ reply_from tag_2 (codes "c2") 200 2
     ∷ Ticks 120 ∷ []
 
 two_end : outs start events_two_end ≡
@@ -632,7 +639,7 @@ transfer_forgotten_3 : transfer_after (start_with (record usual { max_cseq = 1 }
 unfolding transfer_after
 transfer_forgotten_3 = refl
 
-transfer_forgotten_4 : transfer_after start (comes refer_1 ∷ Ticks 180 ∷ []) ≡ None
+transfer_forgotten_4 : transfer_after start (comes refer_1 ∷ reply_from tag_1 (codes "c7") 200 1 ∷ Ticks 180 ∷ []) ≡ None
 unfolding transfer_after
 transfer_forgotten_4 = refl
 
@@ -660,3 +667,327 @@ refreshed_too_late : outs start events_refreshed_too_late ≡
     ∷ []
 unfolding joined outs
 refreshed_too_late = refl
+
+-- The planned stop ends each subscription with a last NOTIFY, by rising serial. Nothing is left to be told
+abbrev events_shut : List Event
+events_shut = comes subscribe_1
+    ∷ comes (of_call (codes "c2") subscribe_2)
+    ∷ reply 481 1
+    ∷ comes (of_call (codes "c3") subscribe_3)
+    ∷ Shut
+    ∷ voice 1
+    ∷ Ticks 3600
+    ∷ Shut ∷ []
+
+shut_down : outs start events_shut ≡
+    Answered (codes "SIP/2.0 200 OK" ∷ (codes "To: <sip:alice@127.0.0.1>;tag=" ++ tag_1) ∷ codes "Expires: 3600" ∷ [])
+    ∷ Noticed 1 (codes "active;expires=3600") none
+    ∷ Answered (codes "SIP/2.0 200 OK" ∷ (codes "To: <sip:alice@127.0.0.1>;tag=" ++ tag_2) ∷ codes "Expires: 3600" ∷ [])
+    ∷ Noticed 1 (codes "active;expires=3600") none
+    ∷ Answered (codes "SIP/2.0 200 OK" ∷ (codes "To: <sip:alice@127.0.0.1>;tag=" ++ tag_3) ∷ codes "Expires: 3600" ∷ [])
+    ∷ Noticed 1 (codes "active;expires=3600") none
+    ∷ Noticed 2 (codes "terminated;reason=deactivated") none
+    ∷ Noticed 2 (codes "terminated;reason=deactivated") none
+    ∷ []
+unfolding joined outs
+shut_down = refl
+
+-- It doesn't move the time
+abbrev events_shut_early : List Event
+events_shut_early = Shut ∷ comes subscribe_1 ∷ reply 200 1 ∷ Ticks 3599 ∷ voice 1 ∷ []
+
+shut_early : outs start events_shut_early ≡
+    Answered (codes "SIP/2.0 200 OK" ∷ (codes "To: <sip:alice@127.0.0.1>;tag=" ++ tag_1) ∷ codes "Expires: 3600" ∷ [])
+    ∷ Noticed 1 (codes "active;expires=3600") none
+    ∷ Noticed 2 (codes "active;expires=1") (lines (codes "Messages-Waiting: yes" ∷ codes "Voice-Message: 1/0 (0/0)" ∷ []))
+    ∷ []
+unfolding joined outs
+shut_early = refl
+
+transfer_forgotten_5 : transfer_after start (comes refer_1 ∷ Shut ∷ []) ≡ None
+unfolding transfer_after
+transfer_forgotten_5 = refl
+
+-- ---- unanswered NOTIFYs
+
+-- A NOTIFY may be unanswered for 31 seconds
+abbrev events_waiting : List Event
+events_waiting = comes subscribe_1
+    ∷ Ticks 31
+    ∷ voice 1 ∷ []
+
+waiting : outs start events_waiting ≡
+    Answered (codes "SIP/2.0 200 OK" ∷ (codes "To: <sip:alice@127.0.0.1>;tag=" ++ tag_1) ∷ codes "Expires: 3600" ∷ [])
+    ∷ Noticed 1 (codes "active;expires=3600") none
+    ∷ Noticed 2 (codes "active;expires=3569") (lines (codes "Messages-Waiting: yes" ∷ codes "Voice-Message: 1/0 (0/0)" ∷ []))
+    ∷ []
+unfolding joined outs
+waiting = refl
+
+-- After 32 seconds its subscription is gone, untold
+abbrev events_lost : List Event
+events_lost = comes subscribe_1
+    ∷ Ticks 32
+    ∷ voice 1 ∷ []
+
+lost : outs start events_lost ≡
+    Answered (codes "SIP/2.0 200 OK" ∷ (codes "To: <sip:alice@127.0.0.1>;tag=" ++ tag_1) ∷ codes "Expires: 3600" ∷ [])
+    ∷ Noticed 1 (codes "active;expires=3600") none
+    ∷ []
+unfolding joined outs
+lost = refl
+
+-- A final answer closes it
+abbrev events_answered_in_time : List Event
+events_answered_in_time = comes subscribe_1
+    ∷ reply 200 1
+    ∷ Ticks 32
+    ∷ voice 1 ∷ []
+
+answered_in_time : outs start events_answered_in_time ≡
+    Answered (codes "SIP/2.0 200 OK" ∷ (codes "To: <sip:alice@127.0.0.1>;tag=" ++ tag_1) ∷ codes "Expires: 3600" ∷ [])
+    ∷ Noticed 1 (codes "active;expires=3600") none
+    ∷ Noticed 2 (codes "active;expires=3568") (lines (codes "Messages-Waiting: yes" ∷ codes "Voice-Message: 1/0 (0/0)" ∷ []))
+    ∷ []
+unfolding joined outs
+answered_in_time = refl
+
+-- So does one that refuses it, but for a 481
+abbrev events_failed_in_time : List Event
+events_failed_in_time = comes subscribe_1
+    ∷ reply 500 1
+    ∷ Ticks 32
+    ∷ voice 1 ∷ []
+
+failed_in_time : outs start events_failed_in_time ≡
+    Answered (codes "SIP/2.0 200 OK" ∷ (codes "To: <sip:alice@127.0.0.1>;tag=" ++ tag_1) ∷ codes "Expires: 3600" ∷ [])
+    ∷ Noticed 1 (codes "active;expires=3600") none
+    ∷ Noticed 2 (codes "active;expires=3568") (lines (codes "Messages-Waiting: yes" ∷ codes "Voice-Message: 1/0 (0/0)" ∷ []))
+    ∷ []
+unfolding joined outs
+failed_in_time = refl
+
+-- A provisional one doesn't
+abbrev events_trying : List Event
+events_trying = comes subscribe_1
+    ∷ reply 100 1
+    ∷ Ticks 32
+    ∷ voice 1 ∷ []
+
+trying : outs start events_trying ≡
+    Answered (codes "SIP/2.0 200 OK" ∷ (codes "To: <sip:alice@127.0.0.1>;tag=" ++ tag_1) ∷ codes "Expires: 3600" ∷ [])
+    ∷ Noticed 1 (codes "active;expires=3600") none
+    ∷ []
+unfolding joined outs
+trying = refl
+
+-- Nor does one in another dialog
+abbrev events_answered_elsewhere : List Event
+events_answered_elsewhere = comes subscribe_1
+    ∷ reply_from tag_2 (codes "c1") 200 1
+    ∷ reply_from tag_1 (codes "c2") 200 1
+    ∷ Ticks 32
+    ∷ voice 1 ∷ []
+
+answered_elsewhere : outs start events_answered_elsewhere ≡
+    Answered (codes "SIP/2.0 200 OK" ∷ (codes "To: <sip:alice@127.0.0.1>;tag=" ++ tag_1) ∷ codes "Expires: 3600" ∷ [])
+    ∷ Noticed 1 (codes "active;expires=3600") none
+    ∷ []
+unfolding joined outs
+answered_elsewhere = refl
+
+-- Each NOTIFY asks for an answer of its own
+abbrev events_one_unanswered : List Event
+events_one_unanswered = comes subscribe_1
+    ∷ voice 1
+    ∷ reply 200 2
+    ∷ Ticks 32
+    ∷ voice 2 ∷ []
+
+one_unanswered : outs start events_one_unanswered ≡
+    Answered (codes "SIP/2.0 200 OK" ∷ (codes "To: <sip:alice@127.0.0.1>;tag=" ++ tag_1) ∷ codes "Expires: 3600" ∷ [])
+    ∷ Noticed 1 (codes "active;expires=3600") none
+    ∷ Noticed 2 (codes "active;expires=3600") (lines (codes "Messages-Waiting: yes" ∷ codes "Voice-Message: 1/0 (0/0)" ∷ []))
+    ∷ []
+unfolding joined outs
+one_unanswered = refl
+
+-- An answer that comes before its NOTIFY is none
+abbrev events_answered_too_early : List Event
+events_answered_too_early = comes subscribe_1
+    ∷ reply 200 1
+    ∷ reply 200 2
+    ∷ voice 1
+    ∷ Ticks 32
+    ∷ voice 2 ∷ []
+
+answered_too_early : outs start events_answered_too_early ≡
+    Answered (codes "SIP/2.0 200 OK" ∷ (codes "To: <sip:alice@127.0.0.1>;tag=" ++ tag_1) ∷ codes "Expires: 3600" ∷ [])
+    ∷ Noticed 1 (codes "active;expires=3600") none
+    ∷ Noticed 2 (codes "active;expires=3600") (lines (codes "Messages-Waiting: yes" ∷ codes "Voice-Message: 1/0 (0/0)" ∷ []))
+    ∷ []
+unfolding joined outs
+answered_too_early = refl
+
+-- The 32 seconds begin where the NOTIFY was made
+abbrev events_made_later : List Event
+events_made_later = comes subscribe_1
+    ∷ reply 200 1
+    ∷ Ticks 100
+    ∷ voice 1
+    ∷ Ticks 131
+    ∷ voice 2
+    ∷ Ticks 132
+    ∷ voice 3 ∷ []
+
+made_later : outs start events_made_later ≡
+    Answered (codes "SIP/2.0 200 OK" ∷ (codes "To: <sip:alice@127.0.0.1>;tag=" ++ tag_1) ∷ codes "Expires: 3600" ∷ [])
+    ∷ Noticed 1 (codes "active;expires=3600") none
+    ∷ Noticed 2 (codes "active;expires=3500") (lines (codes "Messages-Waiting: yes" ∷ codes "Voice-Message: 1/0 (0/0)" ∷ []))
+    ∷ Noticed 3 (codes "active;expires=3469") (lines (codes "Messages-Waiting: yes" ∷ codes "Voice-Message: 2/0 (0/0)" ∷ []))
+    ∷ []
+unfolding joined outs
+made_later = refl
+
+-- It is looked at before the time that is up
+abbrev events_lost_before_due : List Event
+events_lost_before_due = comes (for_time 60 subscribe_1)
+    ∷ Ticks 60 ∷ []
+
+lost_before_due : outs start events_lost_before_due ≡
+    Answered (codes "SIP/2.0 200 OK" ∷ (codes "To: <sip:alice@127.0.0.1>;tag=" ++ tag_1) ∷ codes "Expires: 60" ∷ [])
+    ∷ Noticed 1 (codes "active;expires=60") none
+    ∷ []
+unfolding joined outs
+lost_before_due = refl
+
+-- A dialog that was lost is gone
+abbrev events_refreshed_after_loss : List Event
+events_refreshed_after_loss = comes subscribe_1
+    ∷ Ticks 32
+    ∷ comes (within tag_1 2 subscribe_2) ∷ []
+
+refreshed_after_loss : outs start events_refreshed_after_loss ≡
+    Answered (codes "SIP/2.0 200 OK" ∷ (codes "To: <sip:alice@127.0.0.1>;tag=" ++ tag_1) ∷ codes "Expires: 3600" ∷ [])
+    ∷ Noticed 1 (codes "active;expires=3600") none
+    ∷ Answered (codes "SIP/2.0 481 Call/Transaction Does Not Exist" ∷ (codes "To: <sip:alice@127.0.0.1>;tag=" ++ tag_1) ∷ [])
+    ∷ []
+unfolding joined outs
+refreshed_after_loss = refl
+
+transfer_forgotten_6 : transfer_after start (comes refer_1 ∷ Ticks 32 ∷ []) ≡ None
+unfolding transfer_after
+transfer_forgotten_6 = refl
+
+-- ---- a REFER without a subscription
+
+-- It is started and not told of, and takes a serial
+abbrev events_unwatched_transfer : List Event
+events_unwatched_transfer = comes (unwatched refer_1)
+    ∷ progress 200 (codes "OK")
+    ∷ comes (unwatched (of_call (codes "c8") (refer (codes "z9hG4bKr2")))) ∷ []
+
+unwatched_transfer : outs start events_unwatched_transfer ≡
+    Answered (codes "SIP/2.0 202 Accepted" ∷ (codes "To: <sip:bob@127.0.0.1>;tag=" ++ tag_1) ∷ codes "Refer-Sub: false" ∷ [])
+    ∷ Started tag_1 (codes "sip:carol@127.0.0.1")
+    ∷ Answered (codes "SIP/2.0 202 Accepted" ∷ (codes "To: <sip:bob@127.0.0.1>;tag=" ++ tag_2) ∷ codes "Refer-Sub: false" ∷ [])
+    ∷ Started tag_2 (codes "sip:carol@127.0.0.1")
+    ∷ []
+unfolding joined outs
+unwatched_transfer = refl
+
+-- A Refer-Sub that says neither
+abbrev events_bad_refer_sub : List Event
+events_bad_refer_sub = comes (record refer_1 { refer_sub = Bad }) ∷ []
+
+bad_refer_sub : outs start events_bad_refer_sub ≡
+    Answered (codes "SIP/2.0 400 Bad Request" ∷ codes "To: <sip:bob@127.0.0.1>;tag=w0-0" ∷ [])
+    ∷ []
+unfolding joined outs
+bad_refer_sub = refl
+
+-- It is looked at in a REFER alone
+abbrev events_bad_refer_sub_elsewhere : List Event
+events_bad_refer_sub_elsewhere = comes (record subscribe_1 { refer_sub = Bad }) ∷ []
+
+bad_refer_sub_elsewhere : outs start events_bad_refer_sub_elsewhere ≡
+    Answered (codes "SIP/2.0 200 OK" ∷ (codes "To: <sip:alice@127.0.0.1>;tag=" ++ tag_1) ∷ codes "Expires: 3600" ∷ [])
+    ∷ Noticed 1 (codes "active;expires=3600") none
+    ∷ []
+unfolding joined outs
+bad_refer_sub_elsewhere = refl
+
+-- One that asks for the subscription
+abbrev events_watched_transfer : List Event
+events_watched_transfer = comes (record refer_1 { refer_sub = Value true }) ∷ []
+
+watched_transfer : outs start events_watched_transfer ≡
+    Answered (codes "SIP/2.0 202 Accepted" ∷ (codes "To: <sip:bob@127.0.0.1>;tag=" ++ tag_1) ∷ [])
+    ∷ Noticed 1 (codes "active;expires=180") (lines (codes "SIP/2.0 100 Trying" ∷ []))
+    ∷ Started tag_1 (codes "sip:carol@127.0.0.1")
+    ∷ []
+unfolding joined outs
+watched_transfer = refl
+
+-- It needs no place in the table
+abbrev events_unwatched_in_full_table : List Event
+events_unwatched_in_full_table = comes subscribe_1
+    ∷ comes (unwatched refer_1) ∷ []
+
+unwatched_in_full_table : outs (start_with (record usual { table = 1 })) events_unwatched_in_full_table ≡
+    Answered (codes "SIP/2.0 200 OK" ∷ (codes "To: <sip:alice@127.0.0.1>;tag=" ++ tag_1) ∷ codes "Expires: 3600" ∷ [])
+    ∷ Noticed 1 (codes "active;expires=3600") none
+    ∷ Answered (codes "SIP/2.0 202 Accepted" ∷ (codes "To: <sip:bob@127.0.0.1>;tag=" ++ tag_2) ∷ codes "Refer-Sub: false" ∷ [])
+    ∷ Started tag_2 (codes "sip:carol@127.0.0.1")
+    ∷ []
+unfolding joined outs
+unwatched_in_full_table = refl
+
+-- But a serial
+abbrev events_unwatched_without_serial : List Event
+events_unwatched_without_serial = comes subscribe_1
+    ∷ comes (unwatched refer_1) ∷ []
+
+unwatched_without_serial : outs (start_with (record usual { serials = 1 })) events_unwatched_without_serial ≡
+    Answered (codes "SIP/2.0 200 OK" ∷ (codes "To: <sip:alice@127.0.0.1>;tag=" ++ tag_1) ∷ codes "Expires: 3600" ∷ [])
+    ∷ Noticed 1 (codes "active;expires=3600") none
+    ∷ Answered (codes "SIP/2.0 503 Service Unavailable" ∷ codes "To: <sip:bob@127.0.0.1>;tag=w0-0" ∷ [])
+    ∷ []
+unfolding joined outs
+unwatched_without_serial = refl
+
+-- And a package of transfers
+abbrev events_unwatched_without_package : List Event
+events_unwatched_without_package = comes (unwatched refer_1) ∷ []
+
+unwatched_without_package : outs (record start { boxes = mail_box ∷ [] }) events_unwatched_without_package ≡
+    Answered (codes "SIP/2.0 489 Bad Event" ∷ codes "To: <sip:bob@127.0.0.1>;tag=w0-0" ∷ codes "Allow-Events: message-summary" ∷ [])
+    ∷ []
+unfolding joined outs
+unwatched_without_package = refl
+
+-- `norefersub` is understood, and not listed where something else isn't
+abbrev events_norefersub_and_more : List Event
+events_norefersub_and_more = comes (record refer_1 { require = codes "norefersub" ∷ codes "foo" ∷ [] }) ∷ []
+
+norefersub_and_more : outs start events_norefersub_and_more ≡
+    Answered (codes "SIP/2.0 420 Bad Extension" ∷ codes "To: <sip:bob@127.0.0.1>;tag=w0-0" ∷ codes "Unsupported: foo" ∷ [])
+    ∷ []
+unfolding joined outs
+norefersub_and_more = refl
+
+-- Its case is ignored
+abbrev events_norefersub : List Event
+events_norefersub = comes (record refer_1 { require = codes "NoReferSub" ∷ [] }) ∷ []
+
+norefersub : outs start events_norefersub ≡
+    Answered (codes "SIP/2.0 202 Accepted" ∷ (codes "To: <sip:bob@127.0.0.1>;tag=" ++ tag_1) ∷ [])
+    ∷ Noticed 1 (codes "active;expires=180") (lines (codes "SIP/2.0 100 Trying" ∷ []))
+    ∷ Started tag_1 (codes "sip:carol@127.0.0.1")
+    ∷ []
+unfolding joined outs
+norefersub = refl
+
+transfer_not_begun : transfer_after start (comes (unwatched refer_1) ∷ []) ≡ None
+unfolding transfer_after
+transfer_not_begun = refl

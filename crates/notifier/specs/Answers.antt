@@ -1,6 +1,6 @@
 -- The answers to requests, and those that are kept.
-use Rattle.std.specs.Prelude.{ℕ, Bool, List, [], ◌∷◌, map, take, find, if◌then◌else◌, Option, Some, None, option_map, codes}
-use Rattle.sip_read.specs.declared.message.Addr.{Addr}
+use Rattle.std.specs.Prelude.{ℕ, Bool, false, List, [], ◌∷◌, map, take, find, filter, if◌then◌else◌, Option, Some, None, option_map, codes}
+use Rattle.sip_text.specs.declared.address.Addr.{Addr}
 use Rattle.sip_read.specs.declared.message.Request.{Request}
 use Rattle.sip_write.specs.declared.status.Status.{Status}
 use Rattle.sip_write.specs.declared.status.Status.TheVariants as status
@@ -13,7 +13,7 @@ use Rattle.notifier.specs.declared.row.Key.{Key}
 use Rattle.notifier.specs.declared.row.Kept.{Kept}
 use Rattle.notifier.specs.Limits.{Limits}
 use Rattle.notifier.specs.Refusals.{status_of}
-use Rattle.notifier.specs.Requests.{same_key, is_refer, granted}
+use Rattle.notifier.specs.Requests.{same_key, is_refer, is_unwatched, is_strange, granted}
 use Rattle.notifier.specs.Tag.{refusal_tag}
 
 -- an answer without any of the optional lines. A To without a tag gets this one
@@ -30,6 +30,7 @@ bare_answer source r tag status = record {
   allow = None;
   allow_events = None;
   unsupported = None;
+  without_subscription = false;
 }
 
 abbrev pub min_expires_of : Limits → Refusal → Option ℕ
@@ -41,8 +42,8 @@ allow_of refusal.OtherMethod = Some (codes "SUBSCRIBE" ∷ codes "REFER" ∷ [])
 allow_of _ = None
 
 abbrev pub unsupported_of : List (List ℕ) → Refusal → Option (List (List ℕ))
-unsupported_of required refusal.UnmetRequire = Some required
-unsupported_of required _ = None
+unsupported_of words refusal.UnmetRequire = Some words
+unsupported_of words _ = None
 
 abbrev pub allow_events_of : List (List ℕ) → Refusal → Option (List (List ℕ))
 allow_events_of names refusal.NoPackage = Some names
@@ -56,7 +57,7 @@ refusal_text place names tag source r refused =
       min_expires = min_expires_of place.limits refused;
       allow = allow_of refused;
       allow_events = allow_events_of names refused;
-      unsupported = unsupported_of r.require refused;
+      unsupported = unsupported_of (filter is_strange r.require) refused;
     }
 
 module _ {maps : Maps} where
@@ -75,13 +76,14 @@ renewal_answer place source r =
       expires = Some (granted place.limits r);
     }
 
--- the 200 or 202 that makes a dialog (RFC 3261 section 12.1.1)
+-- the 200 or 202 that makes a dialog (RFC 3261 section 12.1.1); it says where no subscription goes with it (RFC 4488)
 unfoldable pub birth_answer : Place → Addr → Request → List ℕ → AnswerText
 birth_answer place source r tag =
     record (bare_answer source r (Some tag) (if is_refer r then status.Accepted else status.Ok)) {
       record_routes = r.record_routes;
       contact = Some place.me;
       expires = if is_refer r then None else Some (granted place.limits r);
+      without_subscription = is_unwatched r;
     }
 
 -- ---- kept answers, newest first

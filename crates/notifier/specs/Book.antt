@@ -1,12 +1,13 @@
 -- The book of a notifier: what it keeps, and what each event does to it (RFC 6665 section 4.2).
-use Rattle.std.specs.Prelude.{ℕ, ◌+◌, max, Bool, false, ◌&&◌, List, [], ◌∷◌, ◌++◌, find, length, is_none, if◌then◌else◌, nat_lt, Some, None, Option, option_to_list}
-use Rattle.sip_read.specs.declared.message.Addr.{Addr}
+use Rattle.std.specs.Prelude.{ℕ, ◌+◌, max, Bool, true, false, is_none, List, [], ◌∷◌, ◌++◌, find, length, if◌then◌else◌, nat_lt, Some, None, Option, option_to_list}
+use Rattle.sip_text.specs.declared.address.Addr.{Addr}
 use Rattle.sip_read.specs.declared.message.Request.{Request}
 use Rattle.sip_read.specs.declared.message.Response.{Response}
 use Rattle.sip_write.specs.Answer.{AnswerText, answer_text}
 use Rattle.subscription.specs.declared.terms.Usage.{Usage}
 use Rattle.subscription.specs.declared.terms.Want.{Want}
 use Rattle.subscription.specs.declared.life.Step.{Step}
+use Rattle.subscription.specs.State.{State}
 use Rattle.subscription.specs.Table.{accept, fetch, over}
 use Rattle.package.specs.declared.change.Change.TheVariants.{Mail as MailTo, Begin, Step as StepOf}
 use Rattle.package.specs.declared.change.Outcome.{Outcome}
@@ -15,17 +16,20 @@ use Rattle.package.specs.Content.{Maps, SeenBy, is_final, mail_package, refer_pa
 use Rattle.package.specs.Boxes.{change_first}
 use Rattle.notifier.specs.declared.place.Place.{Place}
 use Rattle.notifier.specs.declared.event.Event.{Event}
-use Rattle.notifier.specs.declared.event.Event.TheVariants.{Request as Comes, Reply, Mail, Progress, Tick}
+use Rattle.notifier.specs.declared.event.Event.TheVariants.{Request as Comes, Reply, Mail, Progress, Tick, Shut}
 use Rattle.notifier.specs.declared.refusal.Refusal.{Refusal}
 use Rattle.notifier.specs.declared.refusal.Refusal.TheVariants.{NoDialog, OldCseq, Full}
+use Rattle.notifier.specs.declared.request.Birth.{Birth}
+use Rattle.notifier.specs.declared.request.Birth.TheVariants.{Watch, Fetch, Transfer, Unwatched}
 use Rattle.notifier.specs.declared.row.Row.{Row}
 use Rattle.notifier.specs.declared.row.Kept.{Kept}
 use Rattle.notifier.specs.Fields.{value_of, or_empty}
+use Rattle.notifier.specs.Limits.{Limits}
 use Rattle.notifier.specs.Start.{tag_of, last_moment}
-use Rattle.notifier.specs.Requests.{is_ack, is_refer, key_of_request, user_part, event_of, granted, asks_nothing, misfit, misplaced, is_full, unheard}
+use Rattle.notifier.specs.Requests.{is_ack, is_refer, key_of_request, user_part, event_of, granted, misfit, misplaced, unheard, birth_of, is_full}
 use Rattle.notifier.specs.Answers.{refusal_answer, renewal_answer, birth_answer, kept_answer, ring_with}
 use Rattle.notifier.specs.Out.{Send, Answers, Starts}
-use Rattle.notifier.specs.Rows.{Told, turned, left, said, gone, forgetting, only, is_dialog, counted, renewed, tells_watcher, times_out, disowned}
+use Rattle.notifier.specs.Rows.{Told, goes, turned, left, said, gone, forgetting, only, is_dialog, counted, renewed, tells_watcher, times_out, stops, answered}
 
 module _ (maps : Maps) where
   -- the moment in seconds, the next serial, the rows by rising serial, the packages, and the kept answers, newest first
@@ -43,6 +47,58 @@ module _ (maps : Maps) where
 
 abbrev pub Book : Type 0
 Book = BookBy finite_maps
+
+-- ---- what to do with a request: the first case that applies, in this order (RFC 6665 section 4.2.1)
+
+pub data Verdict : Type 0 where
+  -- an ACK has no answer (RFC 3261 section 17)
+  Silent : Verdict
+  -- a retransmission gets the kept answer (RFC 3261 section 17.2.2)
+  Repeated : (bytes : List ℕ) → Verdict
+  -- it is refused for this cause
+  Refused : (cause : Refusal) → Verdict
+  -- it is refused in the dialog of the row with this serial, and that dialog has heard its CSeq (RFC 3261 section 12.2.2)
+  Denied : (serial : ℕ) (cause : Refusal) → Verdict
+  -- a SUBSCRIBE is accepted in the dialog of the row with this serial (RFC 6665 section 4.2.1.4)
+  Renewed : (serial : ℕ) → Verdict
+  -- it makes a dialog, and this (RFC 6665 section 4.2.1.1, RFC 3515 section 2.4.2)
+  Born : (kind : Birth) → Verdict
+
+-- refused for this cause, if there is one; else as the rest says
+unfoldable pub unless : Option Refusal → Verdict → Verdict
+unless (Some cause) rest = Refused cause
+unless None rest = rest
+
+-- the same in the dialog of the row with this serial
+unfoldable pub unless_denied : ℕ → Option Refusal → Verdict
+unless_denied serial (Some cause) = Denied serial cause
+unless_denied serial None = Renewed serial
+
+-- in a dialog, by its row: there is none, its CSeq isn't above the last one, or what stands against it (RFC 3261 section 12.2.2)
+unfoldable pub in_dialog : Limits → Request → Option Row → Verdict
+in_dialog limits r None = Refused NoDialog
+in_dialog limits r (Some row) =
+    if nat_lt row.last_cseq r.head.cseq then unless_denied row.serial (unheard limits row.sub.want.event r) else Refused OldCseq
+
+module _ {maps : Maps} where
+  -- outside a dialog: no package takes it, there is no room, or it makes a dialog
+  unfoldable pub outside : Limits → BookBy maps → Request → Verdict
+  outside limits b r =
+      unless (misplaced limits b.boxes r)
+      (if is_full limits b.next (length b.rows) r then Refused Full else Born (birth_of limits r))
+
+  -- by its To tag
+  unfoldable pub by_to_tag : Limits → BookBy maps → Request → Option (List ℕ) → Verdict
+  by_to_tag limits b r None = outside limits b r
+  by_to_tag limits b r (Some tag) = in_dialog limits r (find (is_dialog r tag) b.rows)
+
+  -- by the kept answer: it is a retransmission, or no state can help it, or the To tag says
+  unfoldable pub by_kept : Limits → BookBy maps → Request → Option (List ℕ) → Verdict
+  by_kept limits b r (Some bytes) = Repeated bytes
+  by_kept limits b r None = unless (misfit r) (by_to_tag limits b r r.head.to.tag)
+
+  unfoldable pub verdict : Limits → BookBy maps → Request → Verdict
+  verdict limits b r = if is_ack r then Silent else by_kept limits b r (kept_answer b.ring (key_of_request r))
 
 -- ---- a request that makes a dialog
 
@@ -68,11 +124,28 @@ new_want place tag source r = record {
   max_cseq = place.limits.max_cseq;
 }
 
-unfoldable pub first_step : Place → ℕ → List ℕ → Addr → Request → Step
-first_step place clock tag source r =
-    if asks_nothing place.limits r
-    then over (fetch (new_usage tag r) (new_want place tag source r))
-    else accept (new_usage tag r) (new_want place tag source r) clock (granted place.limits r)
+-- how its subscription begins, if it makes one
+unfoldable pub first_step : Limits → ℕ → Usage → Want → Request → Birth → Option Step
+first_step limits clock usage want r Watch = Some (accept usage want clock (granted limits r))
+first_step limits clock usage want r Fetch = Some (over (fetch usage want))
+first_step limits clock usage want r Transfer = Some (accept usage want clock (granted limits r))
+first_step limits clock usage want r Unwatched = None
+
+-- its row, of which no NOTIFY was sent yet
+unfoldable pub new_row : ℕ → Request → State → Row
+new_row serial r sub = record { serial = serial; sub = sub; last_cseq = r.head.cseq; unanswered = [] }
+
+-- the word that its transfer may start
+unfoldable pub first_word : List ℕ → Request → List Send
+first_word tag r = if is_refer r then Starts tag (or_empty (value_of r.refer_to)) ∷ [] else []
+
+-- a transfer that ends at its birth is forgotten
+unfoldable pub first_gone : List ℕ → Birth → Bool → List (List ℕ)
+first_gone tag Transfer true = tag ∷ []
+first_gone tag Transfer false = []
+first_gone tag _ ends = []
+
+-- ---- what is done
 
 module _ {maps : Maps} where
   unfoldable pub nothing : BookBy maps → SteppedBy maps
@@ -95,77 +168,52 @@ module _ {maps : Maps} where
     outs = outs ++ said rule b.rows;
   }
 
-  -- ---- a request in a dialog (RFC 3261 section 12.2.2)
-
-  -- in the dialog of the row with this serial, by what stands against the request
-  unfoldable pub heard : Place → BookBy maps → Addr → Request → ℕ → Option Refusal → SteppedBy maps
-  heard place b source r serial (Some cause) =
+  -- refused in the dialog of the row with this serial
+  unfoldable pub denied : Place → BookBy maps → Addr → Request → ℕ → Refusal → SteppedBy maps
+  denied place b source r serial cause =
       all_rows (refused place b source r cause).book (only serial (counted r)) (refused place b source r cause).outs
-  heard place b source r serial None =
+
+  -- accepted in it
+  unfoldable pub accepted : Place → BookBy maps → Addr → Request → ℕ → SteppedBy maps
+  accepted place b source r serial =
       all_rows (keeping place b r (renewal_answer place source r))
       (only serial (renewed place b.boxes b.clock source r))
       (Answers source (answer_text (renewal_answer place source r)) ∷ [])
 
-  -- by the row of its dialog
-  unfoldable pub in_dialog : Place → BookBy maps → Addr → Request → Option Row → SteppedBy maps
-  in_dialog place b source r None = refused place b source r NoDialog
-  in_dialog place b source r (Some row) =
-      if nat_lt row.last_cseq r.head.cseq
-      then heard place b source r row.serial (unheard place.limits row.sub.want.event r)
-      else refused place b source r OldCseq
+  -- a transfer that is watched begins (RFC 3515 section 2.4.4)
+  unfoldable pub first_boxes : List (SeenBy maps) → List ℕ → Birth → List (SeenBy maps)
+  first_boxes boxes tag Transfer = (change_first boxes (Begin tag)).1
+  first_boxes boxes tag _ = boxes
 
-  -- ---- a request that makes a dialog, in the book
+  -- its row, if one stays, and its first NOTIFY, if there is one
+  unfoldable pub first_told : Place → List (SeenBy maps) → ℕ → List ℕ → Addr → Request → ℕ → Option Step → Told
+  first_told place boxes clock tag source r serial None = goes
+  first_told place boxes clock tag source r serial (Some next) =
+      turned place boxes clock source (new_want place tag source r) (new_row serial r) next
 
-  -- a REFER begins a transfer
-  unfoldable pub first_boxes : List (SeenBy maps) → List ℕ → Request → List (SeenBy maps)
-  first_boxes boxes tag r = if is_refer r then (change_first boxes (Begin tag)).1 else boxes
-
-  unfoldable pub first_told : Place → BookBy maps → Addr → Request → List ℕ → Told
-  first_told place b source r tag =
-      turned place (first_boxes b.boxes tag r) source (new_want place tag source r) b.next r.head.cseq
-      (first_step place b.clock tag source r)
-
-  -- the new row, if one stays. A transfer that ends at its birth is forgotten
-  unfoldable pub born_with : Place → BookBy maps → Addr → Request → List ℕ → Told → SteppedBy maps
-  born_with place b source r tag told = record {
+  unfoldable pub born_with : Place → BookBy maps → Addr → Request → Birth → List ℕ → Told → SteppedBy maps
+  born_with place b source r kind tag told = record {
     book = record (keeping place b r (birth_answer place source r tag)) {
       next = b.next + 1;
       rows = b.rows ++ option_to_list told.row;
-      boxes = forgetting (if is_refer r && is_none told.row then tag ∷ [] else []) (first_boxes b.boxes tag r);
+      boxes = forgetting (first_gone tag kind (is_none told.row)) (first_boxes b.boxes tag kind);
     };
-    outs =
-        Answers source (answer_text (birth_answer place source r tag))
-        ∷ (told.notifies ++ (if is_refer r then Starts tag (or_empty (value_of r.refer_to)) ∷ [] else []));
+    outs = Answers source (answer_text (birth_answer place source r tag)) ∷ (told.notifies ++ first_word tag r);
   }
 
-  unfoldable pub born : Place → BookBy maps → Addr → Request → SteppedBy maps
-  born place b source r =
-      born_with place b source r (tag_of place b.next) (first_told place b source r (tag_of place b.next))
+  unfoldable pub born : Place → BookBy maps → Addr → Request → Birth → SteppedBy maps
+  born place b source r kind =
+      born_with place b source r kind (tag_of place b.next)
+      (first_told place (first_boxes b.boxes (tag_of place b.next) kind) b.clock (tag_of place b.next) source r b.next
+      (first_step place.limits b.clock (new_usage (tag_of place b.next) r) (new_want place (tag_of place b.next) source r) r kind))
 
-  unfoldable pub outside : Place → BookBy maps → Addr → Request → Option Refusal → SteppedBy maps
-  outside place b source r (Some cause) = refused place b source r cause
-  outside place b source r None =
-      if is_full place.limits b.next (length b.rows) r then refused place b source r Full else born place b source r
-
-  -- ---- a request
-
-  unfoldable pub by_to_tag : Place → BookBy maps → Addr → Request → Option (List ℕ) → SteppedBy maps
-  by_to_tag place b source r None = outside place b source r (misplaced place.limits b.boxes r)
-  by_to_tag place b source r (Some tag) = in_dialog place b source r (find (is_dialog r tag) b.rows)
-
-  unfoldable pub judged : Place → BookBy maps → Addr → Request → Option Refusal → SteppedBy maps
-  judged place b source r (Some cause) = refused place b source r cause
-  judged place b source r None = by_to_tag place b source r r.head.to.tag
-
-  -- a retransmission is answered from the ring (RFC 3261 section 17.2.2)
-  unfoldable pub served : Place → BookBy maps → Addr → Request → Option (List ℕ) → SteppedBy maps
-  served place b source r (Some bytes) = record { book = b; outs = Answers source bytes ∷ [] }
-  served place b source r None = judged place b source r (misfit r)
-
-  -- an ACK has no answer (RFC 3261 section 17)
-  unfoldable pub asked_for : Place → BookBy maps → Addr → Request → SteppedBy maps
-  asked_for place b source r =
-      if is_ack r then nothing b else served place b source r (kept_answer b.ring (key_of_request r))
+  unfoldable pub served : Place → BookBy maps → Addr → Request → Verdict → SteppedBy maps
+  served place b source r Silent = nothing b
+  served place b source r (Repeated bytes) = record { book = b; outs = Answers source bytes ∷ [] }
+  served place b source r (Refused cause) = refused place b source r cause
+  served place b source r (Denied serial cause) = denied place b source r serial cause
+  served place b source r (Renewed serial) = accepted place b source r serial
+  served place b source r (Born kind) = born place b source r kind
 
   -- ---- other events
 
@@ -177,17 +225,22 @@ module _ {maps : Maps} where
   content_changed place b name resource is_over (Unknown, boxes) = nothing (record b { boxes = boxes })
 
   unfoldable pub replied : BookBy maps → Response → SteppedBy maps
-  replied b response = all_rows b (disowned response) []
+  replied b response = all_rows b (answered response) []
 
   -- time goes on, and never back
   unfoldable pub ticked : Place → BookBy maps → ℕ → SteppedBy maps
   ticked place b clock = all_rows (record b { clock = clock }) (times_out place b.boxes clock) []
 
+  -- the planned stop
+  unfoldable pub shut : Place → BookBy maps → SteppedBy maps
+  shut place b = all_rows b (stops place b.boxes b.clock) []
+
   -- ---- the step
 
   unfoldable pub step : Place → BookBy maps → Event → SteppedBy maps
-  step place b (Comes source r) = asked_for place b source r
+  step place b (Comes source r) = served place b source r (verdict place.limits b r)
   step place b (Reply response) = replied b response
   step place b (Mail m) = content_changed place b mail_package m.mailbox false (change_first b.boxes (MailTo m))
   step place b (Progress p) = content_changed place b refer_package p.tag (is_final p.code) (change_first b.boxes (StepOf p))
   step place b (Tick t) = if nat_lt last_moment t then nothing b else ticked place b (max b.clock t)
+  step place b Shut = shut place b

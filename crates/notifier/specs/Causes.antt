@@ -4,17 +4,18 @@ use Rattle.package.specs.Content.{Maps, SeenBy}
 use Rattle.notifier.specs.declared.place.Place.{Place}
 use Rattle.notifier.specs.declared.row.Row.{Row}
 use Rattle.notifier.specs.declared.rule.Cause.{Cause}
-use Rattle.notifier.specs.declared.rule.Cause.TheVariants.{Response, Refused, Renewal, Change, Time}
+use Rattle.notifier.specs.declared.rule.Cause.TheVariants.{Response, Refused, Renewal, Change, Time, Stop}
 use Rattle.notifier.specs.Sound.{IsLive}
-use Rattle.notifier.specs.Rows.{Told, only, disowned, counted, renewed, tells_watcher, times_out}
+use Rattle.notifier.specs.Rows.{Told, only, answered, counted, renewed, tells_watcher, times_out, stops}
 
 module _ {maps : Maps} where
   abbrev pub rule_of : Place → List (SeenBy maps) → ℕ → Cause → Row → Told
-  rule_of place boxes clock (Response response) = disowned response.now
+  rule_of place boxes clock (Response response) = answered response.now
   rule_of place boxes clock (Refused serial r) = only serial (counted r.now)
   rule_of place boxes clock (Renewal serial source r) = only serial (renewed place boxes clock source r.now)
   rule_of place boxes clock (Change name resource is_over) = tells_watcher place boxes clock name.now resource.now is_over
   rule_of place boxes clock Time = times_out place boxes clock
+  rule_of place boxes clock Stop = stops place boxes clock
 
 -- a change can tell rows that have time left
 abbrev pub CanTell : ℕ → Cause → Row → Type 0
@@ -23,3 +24,4 @@ CanTell clock (Refused serial r) row = Unit {0}
 CanTell clock (Renewal serial source r) row = Unit {0}
 CanTell clock (Change name resource is_over) row = IsLive clock row
 CanTell clock Time row = Unit {0}
+CanTell clock Stop row = Unit {0}

@@ -1,7 +1,7 @@
 -- Words on the headers of a request that may stand once, and on texts that may be absent.
 use Rattle.std.specs.Prelude.{ℕ, Bool, true, false, ◌&&◌, List, [], Option, Some, None, bytes_eq}
-use Rattle.event_headers.specs.declared.field.Field.{Field}
-use Rattle.event_headers.specs.declared.field.Field.TheVariants.{Absent, Bad, Value}
+use Rattle.sip_text.specs.declared.field.Field.{Field}
+use Rattle.sip_text.specs.declared.field.Field.TheVariants.{Absent, Bad, Value}
 use Rattle.event_headers.specs.Values.{EventValue}
 
 abbrev pub value_of : {A : Type 0} → Field A → Option A

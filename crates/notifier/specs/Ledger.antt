@@ -3,10 +3,10 @@ use Rattle.std.specs.Prelude.{◌≡◌, ◌<◌, ◌≤◌, ◌^◌, List, map,
 use Rattle.package.specs.Content.{Seen, finite_maps}
 use Rattle.notifier.specs.declared.ledger.Ledger.{Ledger}
 use Rattle.notifier.specs.declared.event.Out.{Out}
-use Rattle.notifier.specs.Limits.{Limits}
+use Rattle.notifier.specs.declared.place.Place.{Place}
 use Rattle.notifier.specs.Out.{out_of}
 use Rattle.notifier.specs.Book.{Book, SteppedBy}
-use Rattle.notifier.specs.Sound.{IsLive}
+use Rattle.notifier.specs.Sound.{IsLive, IsOwn, AreRising}
 
 module _ {P : Type 0} (seen : P → Seen) where
   abbrev pub book_of : Ledger P → Book
@@ -23,10 +23,12 @@ pub record IsStep (stepped : SteppedBy finite_maps) (book : Book) (outs : List O
   pub book_is : book ≡ stepped.book
   pub outs_are : outs ≡ map out_of stepped.outs
 
--- the numbers stay within their types, and the ring has the room of the limits
-pub record IsSound {P : Type 0} (limits : Limits) (ledger : Ledger P) : Type 0 where
+-- the numbers stay within their types, each row is of its serial, serials rise, and the ring has the room of the limits
+pub record IsSound {P : Type 0} (place : Place) (ledger : Ledger P) : Type 0 where
   pub clock_fits : ledger.clock < 2 ^ 63
   pub next_begins : 1 ≤ ledger.next
   pub next_fits : ledger.next ≤ 2 ^ 32
   pub rows_live : All (IsLive ledger.clock) ledger.rows.items
-  pub ring_fits : ledger.ring.capacity ≡ limits.kept
+  pub rows_own : All (IsOwn place ledger.next) ledger.rows.items
+  pub rows_rise : AreRising ledger.rows.items
+  pub ring_fits : ledger.ring.capacity ≡ place.limits.kept

@@ -10,6 +10,7 @@ pub mod Out
 pub mod Rows
 pub mod Told
 pub mod Sound
+pub mod Home
 pub mod Causes
 pub mod Book
 pub mod Run

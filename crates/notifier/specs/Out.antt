@@ -1,7 +1,7 @@
 -- What goes out, with the record that a NOTIFY is written from.
 use Rattle.std.specs.Prelude.{ℕ, Bool, List, [], ◌∷◌, if◌then◌else◌, codes, bytes_eq}
 use Rattle.event_headers.specs.Values.{StateValue}
-use Rattle.sip_read.specs.declared.message.Addr.{Addr}
+use Rattle.sip_text.specs.declared.address.Addr.{Addr}
 use Rattle.sip_write.specs.Notify.{NotifyText, notify_text}
 use Rattle.notifier.specs.declared.event.Out.{Out}
 use Rattle.notifier.specs.declared.event.Out.TheVariants.{Answer, Notify, Start}

@@ -1,5 +1,5 @@
 -- The tests on one request. They look at the request, the limits and the boxes, and at nothing that is carried along.
-use Rattle.std.specs.Prelude.{ℕ, min, Bool, true, not, ◌&&◌, ◌||◌, List, [], is_none, if◌then◌else◌, nat_eq, nat_lt, nat_le, ◌==◌, Some, None, codes, bytes_eq, decimal, Option, unwrap_or, length}
+use Rattle.std.specs.Prelude.{ℕ, min, Bool, true, false, not, ◌&&◌, ◌||◌, List, [], is_none, if◌then◌else◌, nat_eq, nat_lt, nat_le, ◌==◌, Some, None, codes, bytes_eq, decimal, Option, unwrap_or}
 use Rattle.std.specs.List.{list_any, before_first, after_first, starts_with}
 use Rattle.std.specs.Str.{str_eq_ignore_ascii_case}
 use Rattle.event_headers.specs.Values.{EventValue, Range}
@@ -9,6 +9,8 @@ use Rattle.package.specs.Boxes.{first_box}
 use Rattle.notifier.specs.declared.refusal.Refusal.{Refusal}
 use Rattle.notifier.specs.declared.refusal.Refusal.TheVariants.{OtherMethod, OtherScheme, UnmetRequire, Malformed, ReferInDialog, OtherEvent, NoPackage, OnlyByRefer, NotAcceptable, NoResource, TooBrief}
 use Rattle.notifier.specs.declared.row.Key.{Key}
+use Rattle.notifier.specs.declared.request.Birth.{Birth}
+use Rattle.notifier.specs.declared.request.Birth.TheVariants.{Watch, Fetch, Transfer, Unwatched}
 use Rattle.notifier.specs.Limits.{Limits}
 use Rattle.notifier.specs.Fields.{value_of, is_absent, is_bad, same_event}
 
@@ -87,6 +89,18 @@ asks_nothing limits r = not (is_refer r) && asked limits r == 0
 abbrev pub is_too_brief : Limits → Request → Bool
 is_too_brief limits r = nat_lt 0 (asked limits r) && nat_lt (asked limits r) limits.min_time
 
+-- A REFER that asks for no subscription (RFC 4488). It always gets its will.
+abbrev pub is_no : Option Bool → Bool
+is_no None = false
+is_no (Some wanted) = not wanted
+
+unfoldable pub is_unwatched : Request → Bool
+is_unwatched r = is_refer r && is_no (value_of r.refer_sub)
+
+-- A required extension that isn't understood (RFC 3261 section 8.2.2.3): any but `norefersub`, whose case is ignored.
+abbrev pub is_strange : List ℕ → Bool
+is_strange word = not (str_eq_ignore_ascii_case word (codes "norefersub"))
+
 -- ---- a request that no state can help
 
 -- a header that has to be there, or that can't be read
@@ -94,7 +108,7 @@ unfoldable pub is_malformed : Request → Bool
 is_malformed r =
     not (bytes_eq r.head.cseq_method r.method)
     || ((is_subscribe r && (is_absent r.event || (is_bad r.event || (is_bad r.expires || is_bad r.accept))))
-    || ((is_refer r && (is_absent r.refer_to || is_bad r.refer_to))
+    || ((is_refer r && (is_absent r.refer_to || (is_bad r.refer_to || is_bad r.refer_sub)))
     || (is_bad r.contact || (is_absent r.contact && is_none r.head.to.tag))))
 
 -- another method, another scheme, a demand that isn't met, a malformed request (RFC 3261 sections 8.2.1, 8.2.2, 21.4.1)
@@ -102,7 +116,7 @@ unfoldable pub misfit : Request → Option Refusal
 misfit r =
     if not (is_subscribe r || is_refer r) then Some OtherMethod
     else if not (is_sip_uri r.uri) then Some OtherScheme
-    else if not (length r.require == 0) then Some UnmetRequire
+    else if list_any is_strange r.require then Some UnmetRequire
     else if is_malformed r then Some Malformed
     else None
 
@@ -154,9 +168,23 @@ module _ {maps : Maps} where
   abbrev pub misplaced : Limits → List (SeenBy maps) → Request → Option Refusal
   misplaced limits boxes r = misplaced_at limits r (first_box (event_of r).package boxes)
 
--- The next serial is past the last one, or there is no place in the table. A fetch needs no place.
+-- What a request makes outside a dialog: a subscription that watches a mailbox, a single look at it (a fetch, RFC 6665
+-- section 4.4.3), a transfer with a subscription that watches it (RFC 3515), or a transfer that nobody watches (RFC 4488).
+unfoldable pub birth_of : Limits → Request → Birth
+birth_of limits r =
+    if is_refer r then (if is_unwatched r then Unwatched else Transfer)
+    else if asks_nothing limits r then Fetch else Watch
+
+-- what leaves a row behind needs a place in the table
+abbrev pub needs_place : Birth → Bool
+needs_place Watch = true
+needs_place Fetch = false
+needs_place Transfer = true
+needs_place Unwatched = false
+
+-- the next serial is past the last one, or it needs a place in the table and there is none
 unfoldable pub is_full : Limits → ℕ → ℕ → Request → Bool
-is_full limits serial alive r = nat_lt limits.serials serial || (nat_le limits.table alive && not (asks_nothing limits r))
+is_full limits serial alive r = nat_lt limits.serials serial || (nat_le limits.table alive && needs_place (birth_of limits r))
 
 -- ---- a request in a dialog of this event
 

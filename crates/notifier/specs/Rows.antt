@@ -1,25 +1,29 @@
 -- What an event makes of the live subscriptions, row by row.
-use Rattle.std.specs.Prelude.{ℕ, Bool, ◌&&◌, List, [], ◌∷◌, ◌++◌, Option, Some, None, is_none, option_to_list, if◌then◌else◌, nat_le, ◌==◌, bytes_eq}
-use Rattle.sip_read.specs.declared.message.Addr.{Addr}
+use Rattle.std.specs.Prelude.{ℕ, ◌-◌, Bool, not, ◌&&◌, filter, List, [], ◌∷◌, ◌++◌, Option, Some, None, is_none, option_to_list, if◌then◌else◌, nat_le, ◌==◌, bytes_eq}
+use Rattle.std.specs.List.{list_any}
+use Rattle.sip_text.specs.declared.address.Addr.{Addr}
 use Rattle.sip_read.specs.declared.message.Request.{Request}
 use Rattle.sip_read.specs.declared.message.Response.{Response}
 use Rattle.sip_write.specs.Notify.{NotifyText}
 use Rattle.subscription.specs.declared.terms.Usage.{Usage}
 use Rattle.subscription.specs.declared.terms.Want.{Want}
 use Rattle.subscription.specs.declared.notify.Notice.{Notice}
-use Rattle.subscription.specs.declared.notify.Reason.TheVariants.{Timeout}
+use Rattle.subscription.specs.declared.notify.Reason.{Reason}
+use Rattle.subscription.specs.declared.notify.Reason.TheVariants.{Timeout, Deactivated}
 use Rattle.subscription.specs.declared.life.Step.{Step}
 use Rattle.subscription.specs.declared.life.Step.TheVariants.{Live, Over}
 use Rattle.subscription.specs.State.{State}
-use Rattle.subscription.specs.Table.{refresh, end, over, changed, is_refusal_of}
+use Rattle.subscription.specs.Table.{refresh, end, over, changed, is_answer_to, refuses}
 use Rattle.subscription.specs.Written.{state_of}
 use Rattle.package.specs.declared.change.Change.TheVariants.{Forget}
-use Rattle.package.specs.Content.{Maps, SeenBy}
+use Rattle.package.specs.Content.{Maps, SeenBy, is_final}
 use Rattle.package.specs.Boxes.{first_box, change_first, content_in, type_of}
 use Rattle.package.specs.Bodies.{body_of_held}
 use Rattle.notifier.specs.declared.place.Place.{Place}
 use Rattle.notifier.specs.declared.row.Row.{Row}
+use Rattle.notifier.specs.declared.row.Unanswered.{Unanswered}
 use Rattle.notifier.specs.Fields.{value_of, or_empty}
+use Rattle.notifier.specs.Start.{patience}
 use Rattle.notifier.specs.Requests.{is_of_refer, granted, asks_nothing}
 use Rattle.notifier.specs.Out.{Send, Notifies}
 
@@ -54,21 +58,38 @@ stays row = record { row = Some row; notifies = [] }
 unfoldable pub goes : Told
 goes = record { row = None; notifies = [] }
 
+-- a rule for the rows that pass a test: any other row stays
+unfoldable pub wherever : (Row → Bool) → (Row → Told) → Row → Told
+wherever test rule row = if test row then rule row else stays row
+
+-- the row with one NOTIFY more that is unanswered
+unfoldable pub opened : ℕ → Notice → Row → Row
+opened clock notice row =
+    record row { unanswered = row.unanswered ++ record { number = notice.number; moment = clock } ∷ [] }
+
+-- the row with this state of its subscription
+abbrev pub with_sub : Row → State → Row
+with_sub row sub = record row { sub = sub }
+
 module _ {maps : Maps} where
-  -- A step of a subscription, whose NOTIFY goes to this address. The row that stays has this serial and last CSeq.
-  unfoldable pub turned : Place → List (SeenBy maps) → Addr → Want → ℕ → ℕ → Step → Told
-  turned place boxes to want serial cseq (Live sub notice) = record {
-    row = Some (record { serial = serial; sub = sub; last_cseq = cseq });
+  -- A step of a subscription. Its NOTIFY goes to this address; `row_of` makes the row of the state that goes on.
+  unfoldable pub turned : Place → List (SeenBy maps) → ℕ → Addr → Want → (State → Row) → Step → Told
+  turned place boxes clock to want row_of (Live sub notice) = record {
+    row = Some (opened clock notice (row_of sub));
     notifies = Notifies to (notify place boxes sub.usage want notice) ∷ [];
   }
-  turned place boxes to want serial cseq (Over usage notice) = record {
+  turned place boxes clock to want row_of (Over usage notice) = record {
     row = None;
     notifies = Notifies to (notify place boxes usage want notice) ∷ [];
   }
 
   -- a step that no request made: the NOTIFY goes where the last one went
-  unfoldable pub tells : Place → List (SeenBy maps) → Row → Step → Told
-  tells place boxes row next = turned place boxes row.sub.want.to row.sub.want row.serial row.last_cseq next
+  unfoldable pub tells : Place → List (SeenBy maps) → ℕ → Row → Step → Told
+  tells place boxes clock row next = turned place boxes clock row.sub.want.to row.sub.want (with_sub row) next
+
+  -- the end, with a last NOTIFY that says why
+  unfoldable pub ends : Place → List (SeenBy maps) → ℕ → Reason → Row → Told
+  ends place boxes clock reason row = tells place boxes clock row (over (end row.sub reason))
 
 -- ---- all rows by one rule
 
@@ -97,16 +118,19 @@ module _ {maps : Maps} where
   forgetting [] boxes = boxes
   forgetting (tag ∷ tags) boxes = forgetting tags (change_first boxes (Forget tag)).1
 
--- the rule for one row alone
-unfoldable pub only : ℕ → (Row → Told) → Row → Told
-only serial rule row = if row.serial == serial then rule row else stays row
-
 -- the dialog after a step
 abbrev pub usage_after : Step → Usage
 usage_after (Live sub notice) = sub.usage
 usage_after (Over usage notice) = usage
 
--- ---- the rule of each event
+-- ---- a request in a dialog
+
+-- the rule for one row alone
+abbrev pub has_serial : ℕ → Row → Bool
+has_serial serial row = row.serial == serial
+
+unfoldable pub only : ℕ → (Row → Told) → Row → Told
+only serial rule = wherever (has_serial serial) rule
 
 -- Call-ID and both tags name the dialog (RFC 3261 section 12)
 unfoldable pub is_dialog : Request → List ℕ → Row → Bool
@@ -127,22 +151,63 @@ renewed_sub place clock source r sub =
 module _ {maps : Maps} where
   unfoldable pub renewed : Place → List (SeenBy maps) → ℕ → Addr → Request → Row → Told
   renewed place boxes clock source r row =
-      turned place boxes source row.sub.want row.serial r.head.cseq (renewed_sub place clock source r row.sub)
+      turned place boxes clock source row.sub.want (with_sub (record row { last_cseq = r.head.cseq }))
+      (renewed_sub place clock source r row.sub)
+
+-- ---- other events
 
 abbrev pub watches : List ℕ → List ℕ → Row → Bool
 watches name resource row = bytes_eq row.sub.want.event.package name && bytes_eq row.sub.want.resource resource
 
 module _ {maps : Maps} where
-  -- a row whose resource changed is told
-  unfoldable pub tells_watcher : Place → List (SeenBy maps) → ℕ → List ℕ → List ℕ → Bool → Row → Told
-  tells_watcher place boxes clock name resource is_over row =
-      if watches name resource row then tells place boxes row (changed row.sub clock is_over) else stays row
+  -- what a row watches has changed, and may be over for good
+  unfoldable pub tells_change : Place → List (SeenBy maps) → ℕ → Bool → Row → Told
+  tells_change place boxes clock is_over row = tells place boxes clock row (changed row.sub clock is_over)
 
-  -- a row whose time is up gets a last NOTIFY (RFC 6665 section 4.2.2)
+  -- a change tells those who watch it
+  unfoldable pub tells_watcher : Place → List (SeenBy maps) → ℕ → List ℕ → List ℕ → Bool → Row → Told
+  tells_watcher place boxes clock name resource is_over =
+      wherever (watches name resource) (tells_change place boxes clock is_over)
+
+-- the time of its subscription is up
+abbrev pub is_due : ℕ → Row → Bool
+is_due clock row = nat_le row.sub.due clock
+
+-- a NOTIFY of it was unanswered for too long
+abbrev pub is_late : ℕ → Unanswered → Bool
+is_late clock notify = nat_le patience (clock - notify.moment)
+
+unfoldable pub is_overdue : ℕ → Row → Bool
+is_overdue clock row = list_any (is_late clock) row.unanswered
+
+module _ {maps : Maps} where
+  -- Time goes on. First a row of which a NOTIFY was unanswered for too long goes, untold (RFC 6665 section 4.2.2). Else, if its
+  -- time is up, it gets a last NOTIFY (section 4.2.1.4).
   unfoldable pub times_out : Place → List (SeenBy maps) → ℕ → Row → Told
   times_out place boxes clock row =
-      if nat_le row.sub.due clock then tells place boxes row (over (end row.sub Timeout)) else stays row
+      if is_overdue clock row then goes else wherever (is_due clock) (ends place boxes clock Timeout) row
 
--- a 481 to a NOTIFY ends its subscription without another
-unfoldable pub disowned : Response → Row → Told
-disowned response row = if is_refusal_of row.sub response then goes else stays row
+  -- the planned stop ends every row (RFC 6665 section 4.1.3)
+  unfoldable pub stops : Place → List (SeenBy maps) → ℕ → Row → Told
+  stops place boxes clock row = ends place boxes clock Deactivated row
+
+-- the response answers one of its NOTIFYs
+abbrev pub is_answered_by : Response → Row → Bool
+is_answered_by response row = is_answer_to row.sub response
+
+-- the NOTIFY with this number isn't unanswered any more
+abbrev pub has_number : ℕ → Unanswered → Bool
+has_number number notify = notify.number == number
+
+unfoldable pub closed : ℕ → Row → Row
+closed number row = record row { unanswered = filter (λ notify. not (has_number number notify)) row.unanswered }
+
+-- by its status: a 481 ends the row, untold; any other final one closes its NOTIFY (RFC 3261 section 7.2)
+unfoldable pub takes_answer : Response → Row → Told
+takes_answer response row =
+    if refuses response then goes
+    else if is_final response.status then stays (closed response.head.cseq row)
+    else stays row
+
+unfoldable pub answered : Response → Row → Told
+answered response = wherever (is_answered_by response) (takes_answer response)

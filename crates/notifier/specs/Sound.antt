@@ -1,8 +1,20 @@
--- What holds of every live row, so that no number leaves its type.
-use Rattle.std.specs.Prelude.{ℕ, ◌+◌, ◌<◌, ◌≤◌}
+-- What holds of every live row, so that no number leaves its type, and of all rows.
+use Rattle.std.specs.Prelude.{◌≡◌, ℕ, ◌+◌, ◌<◌, ◌≤◌, List, [], ◌∷◌, All}
+use Rattle.notifier.specs.declared.place.Place.{Place}
 use Rattle.notifier.specs.declared.row.Row.{Row}
+use Rattle.notifier.specs.Start.{tag_of}
 
 -- a live row has time left, and no more than can be granted
 pub record IsLive (clock : ℕ) (row : Row) : Type 0 where
   pub has_time : clock < row.sub.due
   pub time_fits : row.sub.due ≤ clock + 4294967295
+
+-- its serial was given, and its tag is that of its serial
+pub record IsOwn (place : Place) (next : ℕ) (row : Row) : Type 0 where
+  pub given : row.serial < next
+  pub tagged : row.sub.usage.local_tag ≡ tag_of place row.serial
+
+-- each row has a greater serial than those before it
+abbrev pub AreRising : List Row → Type 0
+AreRising [] = Unit {0}
+AreRising (row ∷ rows) = All (λ other. row.serial < other.serial) rows × AreRising rows

@@ -15,7 +15,7 @@ Start = StartBy finite_maps
 
 -- the place of this worker
 abbrev pub place_of : Setup → ℕ → Place
-place_of setup worker = record { limits = setup.limits; seed = setup.seed; me = setup.me; worker = worker }
+place_of setup worker = record { limits = setup.limits; seed = setup.seed; me = setup.me; stop = setup.stop; worker = worker }
 
 -- the local tag of the subscription with this serial
 abbrev pub tag_of : Place → ℕ → List ℕ
@@ -24,3 +24,7 @@ tag_of place serial = local_tag place.seed place.worker serial
 -- the latest moment that a Tick may have
 abbrev pub last_moment : ℕ
 last_moment = 9223372036854775807
+
+-- how many seconds a NOTIFY may stay unanswered: timer F of RFC 3261, section 17.1.2.2
+abbrev pub patience : ℕ
+patience = 32

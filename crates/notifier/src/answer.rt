@@ -1,19 +1,20 @@
 //! The answers of a desk, as bytes.
 #![tactic(auto, unfolding(crate::specs::Answers::refusal_answer, crate::specs::Answers::refusal_text, crate::specs::Answers::renewal_answer, crate::specs::Answers::birth_answer))]
 
-ghost use Rattle.std.specs.Prelude.{◌≡◌, map, option_map, IfOk};
+ghost use Rattle.std.specs.Prelude.{◌≡◌, ◌++◌, ◌∷◌, [], map, option_map, filter, IfOk, OnOk};
 ghost use Rattle.sip_write.specs.Answer.{answer_text};
 ghost use Rattle.sip_write.specs.Views.{answer_view};
 ghost use Rattle.notifier.specs.Answers as spec;
+ghost use Rattle.notifier.specs.Requests.{is_strange as is_strange_word};
 
 use crate::limits::Limits;
 use crate::place::Place;
 use crate::refusal::Refusal;
-use crate::request::{granted, is_refer};
+use crate::request::{granted, is_refer, is_strange, is_unwatched};
 use crate::tag::refusal_tag;
-use event_headers::{NoMemory, Octets, Text};
 use package::Package;
 use sip_read::{Addr, Request};
+use sip_text::{NoMemory, Octets, Text};
 use sip_write::{Answer, Status, write_response};
 use std::alloc::Global;
 
@@ -46,6 +47,7 @@ pub fn renewal_answer(
         allow: None,
         allow_events: None,
         unsupported: None,
+        without_subscription: false,
     };
     answer_bytes(alloc, &answer)
 }
@@ -81,18 +83,30 @@ pub fn birth_answer<'a>(
         allow: None,
         allow_events: None,
         unsupported: None,
+        without_subscription: is_unwatched(request),
     };
     answer_bytes(alloc, &answer)
 }
 
-fn texts_of(alloc: Global, texts: &[Text]) -> Result<Vec<&str>, NoMemory>
-    ensures { IfOk result (λ names. map (λ n. n.now) names.items ≡ texts.now) }
+/// Puts a word behind those that are there, if it isn't understood.
+fn push_strange<'a>(words: &mut Vec<&'a str>, word: &'a Text) -> Result<(), NoMemory>
+    ensures { OnOk result (map (λ w. w.now) words.new.items ≡ map (λ w. w.now) words.old.items ++ filter is_strange_word (word.now ∷ [])) }
 {
-    let mut names = Vec::with_capacity(alloc, texts.len())?;
-    for text in texts {
-        names.push(text.as_str())?;
+    if is_strange(word) {
+        words.push(word.as_str())?;
     }
-    Ok(names)
+    Ok(())
+}
+
+/// The required extensions that aren't understood.
+fn strange_of(alloc: Global, required: &[Text]) -> Result<Vec<&str>, NoMemory>
+    ensures { IfOk result (λ words. map (λ w. w.now) words.items ≡ filter is_strange_word required.now) }
+{
+    let mut words = Vec::new(alloc);
+    for word in required {
+        push_strange(&mut words, word)?;
+    }
+    Ok(words)
 }
 
 fn names_of<P: Package>(alloc: Global, boxes: &Vec<P>) -> Result<Vec<&str>, NoMemory>
@@ -119,7 +133,7 @@ pub fn refusal_answer<P: Package>(
 {
     let tag = refusal_tag(alloc, place.worker)?;
     let names = names_of(alloc, boxes)?;
-    let required = texts_of(alloc, request.require.as_slice())?;
+    let strange = strange_of(alloc, request.require.as_slice())?;
     refusal_bytes(
         alloc,
         place,
@@ -128,7 +142,7 @@ pub fn refusal_answer<P: Package>(
         refused,
         tag.as_str(),
         names.as_slice(),
-        required.as_slice(),
+        strange.as_slice(),
     )
 }
 
@@ -159,16 +173,16 @@ fn allow_events_of<'a>(names: &'a [&'a str], refused: Refusal) -> Option<&'a [&'
     }
 }
 
-fn unsupported_of<'a>(required: &'a [&'a str], refused: Refusal) -> Option<&'a [&'a str]>
-    ensures { option_map (λ texts. map (λ n. n.now) texts.now) result ≡ spec.unsupported_of (map (λ n. n.now) required.now) refused }
+fn unsupported_of<'a>(words: &'a [&'a str], refused: Refusal) -> Option<&'a [&'a str]>
+    ensures { option_map (λ texts. map (λ n. n.now) texts.now) result ≡ spec.unsupported_of (map (λ n. n.now) words.now) refused }
 {
     match refused {
-        Refusal::UnmetRequire => Some(required),
+        Refusal::UnmetRequire => Some(words),
         _ => None,
     }
 }
 
-/// The same, where the tag, the names of the packages and the required extensions are at hand.
+/// The same, where the tag, the names of the packages and the extensions that aren't understood are at hand.
 fn refusal_bytes<'a>(
     alloc: Global,
     place: &Place,
@@ -177,9 +191,9 @@ fn refusal_bytes<'a>(
     refused: Refusal,
     tag: &'a str,
     names: &'a [&'a str],
-    required: &'a [&'a str],
+    strange: &'a [&'a str],
 ) -> Result<Octets, NoMemory>
-    requires { map (λ n. n.now) required.now ≡ request.now.require }
+    requires { map (λ n. n.now) strange.now ≡ filter is_strange_word request.now.require }
     ensures { IfOk result (λ bytes. bytes ≡ answer_text (spec.refusal_text place.now (map (λ n. n.now) names.now) tag.now source request.now refused)) }
 {
     let answer = Answer {
@@ -193,7 +207,8 @@ fn refusal_bytes<'a>(
         min_expires: min_expires_of(&place.limits, refused),
         allow: allow_of(refused),
         allow_events: allow_events_of(names, refused),
-        unsupported: unsupported_of(required, refused),
+        unsupported: unsupported_of(strange, refused),
+        without_subscription: false,
     };
     answer_bytes(alloc, &answer)
 }

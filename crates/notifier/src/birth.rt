@@ -1,7 +1,7 @@
 //! Requests that make a dialog (RFC 3261 section 12.1.1).
-#![tactic(auto, unfolding(crate::specs::Book::new_usage, crate::specs::Book::new_want, crate::specs::Book::first_step, crate::specs::Book::first_boxes, crate::specs::Requests::event_of))]
+#![tactic(auto, unfolding(crate::specs::Book::new_usage, crate::specs::Book::new_want, crate::specs::Book::first_step, crate::specs::Book::first_boxes, crate::specs::Book::first_told, crate::specs::Book::new_row, crate::specs::Rows::goes, crate::specs::Requests::event_of))]
 
-ghost use Rattle.std.specs.Prelude.{◌≡◌, ◌≤◌, ◌<◌, ◌^◌, ◌∷◌, [], map, if◌then◌else◌, IfOk, OnOk, option_to_list, None};
+ghost use Rattle.std.specs.Prelude.{false, ◌≡◌, ◌≤◌, ◌<◌, ◌^◌, ◌∷◌, [], map, if◌then◌else◌, IfOk, OnOk, option_to_list, None};
 ghost use Rattle.subscription.specs.Table as table;
 ghost use Rattle.notifier.specs.Book as spec;
 ghost use Rattle.notifier.specs.Fields as fields;
@@ -13,12 +13,13 @@ use crate::boxes::change_first;
 use crate::dialog::tag_or_empty;
 use crate::notice::copy_want;
 use crate::place::Place;
-use crate::request::{asks_nothing, granted, is_refer};
-use crate::rules::{After, turned};
+use crate::request::{Birth, granted, is_refer};
+use crate::rules::{After, Stub, turned};
 use crate::uri::user_part;
-use event_headers::{EventValue, Field, NoMemory, Text, Values};
+use event_headers::EventValue;
 use package::{Change, Package};
 use sip_read::{Addr, Request};
+use sip_text::{Field, NoMemory, Text, Values};
 use std::alloc::Global;
 use subscription::{Step, Sub, Usage, Want};
 
@@ -109,36 +110,75 @@ fn new_want(
     })
 }
 
-/// How the subscription begins.
-fn first_step(place: &Place, clock: u64, usage: Usage, want: Want, request: &Request) -> Step
+/// A subscription that goes on for the time granted.
+fn first_accepted(place: &Place, clock: u64, usage: Usage, want: Want, request: &Request) -> Step
     requires number { 1 ≤ want.max_cseq }
     requires clock { clock < 2 ^ 63 }
-    ensures { result ≡ (if requests.asks_nothing place.now.limits request.now then table.over (table.fetch usage want) else table.accept usage want clock (requests.granted place.now.limits request.now)) }
+    requires asks { requests.asks_nothing place.now.limits request.now ≡ false }
+    ensures { result ≡ table.accept usage want clock (requests.granted place.now.limits request.now) }
 {
-    if asks_nothing(&place.limits, request) {
-        let (usage, notice) = Sub::fetch(usage, want);
-        return Step::Over(usage, notice);
-    }
     Sub::accept(usage, want, clock, granted(&place.limits, request))
 }
 
-/// A REFER begins a transfer.
+/// How the subscription begins, if there is one.
+fn first_step(
+    place: &Place,
+    clock: u64,
+    usage: Usage,
+    want: Want,
+    request: &Request,
+    kind: Birth,
+) -> Option<Step>
+    requires number { 1 ≤ want.max_cseq }
+    requires clock { clock < 2 ^ 63 }
+    requires kind { kind ≡ requests.birth_of place.now.limits request.now }
+    ensures { result ≡ spec.first_step place.now.limits clock usage want request.now kind }
+{
+    match kind {
+        Birth::Fetch => {
+            let (usage, notice) = Sub::fetch(usage, want);
+            Some(Step::Over(usage, notice))
+        }
+        Birth::Unwatched => None,
+        Birth::Watch => Some(first_accepted(place, clock, usage, want, request)),
+        Birth::Transfer => Some(first_accepted(place, clock, usage, want, request)),
+    }
+}
+
+/// A transfer that is watched begins.
 pub fn begin<P: Package>(
     alloc: Global,
     boxes: &mut Vec<P>,
     tag: &Text,
-    request: &Request,
+    kind: Birth,
 ) -> Result<(), NoMemory>
-    ensures { OnOk result (map P.seen boxes.new.items ≡ spec.first_boxes (map P.seen boxes.old.items) tag.now request.now) }
+    ensures { OnOk result (map P.seen boxes.new.items ≡ spec.first_boxes (map P.seen boxes.old.items) tag.now kind) }
 {
-    if is_refer(request) {
-        let change = Change::Begin(tag.copy(alloc)?);
-        change_first(alloc, boxes, &change)?;
+    match kind {
+        Birth::Transfer => {
+            let change = Change::Begin(tag.copy(alloc)?);
+            change_first(alloc, boxes, &change)?;
+            Ok(())
+        }
+        Birth::Watch => Ok(()),
+        Birth::Fetch => Ok(()),
+        Birth::Unwatched => Ok(()),
     }
-    Ok(())
 }
 
-/// The new row, if one stays, and its first NOTIFY.
+/// Nothing is told, and no row stays.
+fn untold() -> After
+    ensures row { result.row ≡ None }
+    ensures out { option_to_list result.out ≡ [] }
+{
+    After {
+        row: None,
+        out: None,
+        gone: None,
+    }
+}
+
+/// The new row, if one stays, and its first NOTIFY, if there is one.
 pub fn first_told<P: Package>(
     alloc: Global,
     place: &Place,
@@ -147,25 +187,25 @@ pub fn first_told<P: Package>(
     serial: u32,
     source: Addr,
     request: &Request,
+    kind: Birth,
     tag: &Text,
 ) -> Result<After, NoMemory>
     requires clock { clock < 2 ^ 63 }
     requires fits { requests.misfit request.now ≡ None }
-    ensures row { IfOk result (λ after. after.row ≡ (rows.turned place.now (map P.seen boxes.now.items) source (spec.new_want place.now tag.now source request.now) serial request.now.head.cseq (spec.first_step place.now clock tag.now source request.now)).row) }
-    ensures out { IfOk result (λ after. option_to_list after.out ≡ map out_of (rows.turned place.now (map P.seen boxes.now.items) source (spec.new_want place.now tag.now source request.now) serial request.now.head.cseq (spec.first_step place.now clock tag.now source request.now)).notifies) }
+    requires kind { kind ≡ requests.birth_of place.now.limits request.now }
+    ensures row { IfOk result (λ after. after.row ≡ (spec.first_told place.now (map P.seen boxes.now.items) clock tag.now source request.now serial (spec.first_step place.now.limits clock (spec.new_usage tag.now request.now) (spec.new_want place.now tag.now source request.now) request.now kind)).row) }
+    ensures out { IfOk result (λ after. option_to_list after.out ≡ map out_of (spec.first_told place.now (map P.seen boxes.now.items) clock tag.now source request.now serial (spec.first_step place.now.limits clock (spec.new_usage tag.now request.now) (spec.new_want place.now tag.now source request.now) request.now kind)).notifies) }
 {
     let usage = new_usage(alloc, tag, request)?;
     let want = new_want(alloc, place, tag, source, request)?;
     let told = copy_want(alloc, &want)?;
-    let next = first_step(place, clock, usage, want, request);
-    turned(
-        alloc,
-        place,
-        boxes,
-        source,
-        &told,
+    let stub = Stub {
         serial,
-        request.head.cseq,
-        next,
-    )
+        last_cseq: request.head.cseq,
+        unanswered: Values::new(Vec::new(alloc)),
+    };
+    match first_step(place, clock, usage, want, request, kind) {
+        None => Ok(untold()),
+        Some(next) => turned(alloc, place, boxes, clock, source, &told, stub, next),
+    }
 }

@@ -6,8 +6,8 @@ ghost use Rattle.package.specs.Changes.{is_forget};
 ghost use Rattle.package.specs.Boxes as spec;
 ghost use Rattle.package.specs.Bodies.{body_of_held};
 
-use event_headers::NoMemory;
 use package::{Change, Outcome, Package};
+use sip_text::NoMemory;
 use std::alloc::Global;
 
 /// Where the first box of the name stands.

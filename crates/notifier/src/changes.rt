@@ -1,5 +1,5 @@
 //! Events that are no requests.
-#![tactic(auto, unfolding(crate::specs::Book::nothing, crate::specs::Book::content_changed, crate::specs::Book::ticked, crate::specs::Book::replied))]
+#![tactic(auto, unfolding(crate::specs::Book::nothing, crate::specs::Book::content_changed, crate::specs::Book::ticked, crate::specs::Book::shut, crate::specs::Book::replied))]
 
 ghost use Rattle.std.specs.Prelude.{◌≡◌, ◌≤◌, ◌<◌, ◌^◌, [], map, IfOk, OnOk};
 ghost use Rattle.package.specs.Boxes.{change_first as changed_boxes};
@@ -13,9 +13,9 @@ use crate::ledger::Ledger;
 use crate::place::Place;
 use crate::rule::Cause;
 use crate::telling::all_rows;
-use event_headers::NoMemory;
 use package::{Change, Outcome, Package};
 use sip_read::Response;
+use sip_text::NoMemory;
 use std::alloc::Global;
 
 /// A response.
@@ -25,9 +25,9 @@ pub fn reply<P: Package>(
     ledger: &mut Ledger<P>,
     response: &Response,
 ) -> Result<Vec<Out>, NoMemory>
-    requires { IsSound place.now.limits ledger.old }
+    requires { IsSound place.now ledger.old }
     ensures step { IfOk result (λ outs. IsStep (spec.replied (book_of P.seen ledger.old) response.now) (book_of P.seen ledger.new) outs.items) }
-    ensures sound { OnOk result (IsSound place.now.limits ledger.new) }
+    ensures sound { OnOk result (IsSound place.now ledger.new) }
 {
     let mut outs = Vec::new(alloc);
     all_rows(alloc, place, ledger, &Cause::Response(response), &mut outs)?;
@@ -41,15 +41,30 @@ pub fn tick<P: Package>(
     ledger: &mut Ledger<P>,
     clock: u64,
 ) -> Result<Vec<Out>, NoMemory>
-    requires sound { IsSound place.now.limits ledger.old }
+    requires sound { IsSound place.now ledger.old }
     requires on { ledger.old.clock ≤ clock }
     requires fits { clock < 2 ^ 63 }
     ensures step { IfOk result (λ outs. IsStep (spec.ticked place.now (book_of P.seen ledger.old) clock) (book_of P.seen ledger.new) outs.items) }
-    ensures sound { OnOk result (IsSound place.now.limits ledger.new) }
+    ensures sound { OnOk result (IsSound place.now ledger.new) }
 {
     ledger.clock = clock;
     let mut outs = Vec::new(alloc);
     all_rows(alloc, place, ledger, &Cause::Time, &mut outs)?;
+    Ok(outs)
+}
+
+/// The notifier stops.
+pub fn shut<P: Package>(
+    alloc: Global,
+    place: &Place,
+    ledger: &mut Ledger<P>,
+) -> Result<Vec<Out>, NoMemory>
+    requires { IsSound place.now ledger.old }
+    ensures step { IfOk result (λ outs. IsStep (spec.shut place.now (book_of P.seen ledger.old)) (book_of P.seen ledger.new) outs.items) }
+    ensures sound { OnOk result (IsSound place.now ledger.new) }
+{
+    let mut outs = Vec::new(alloc);
+    all_rows(alloc, place, ledger, &Cause::Stop, &mut outs)?;
     Ok(outs)
 }
 
@@ -62,9 +77,9 @@ fn tell_watchers<P: Package>(
     resource: &str,
     is_over: bool,
 ) -> Result<Vec<Out>, NoMemory>
-    requires { IsSound place.now.limits ledger.old }
+    requires { IsSound place.now ledger.old }
     ensures step { IfOk result (λ outs. IsStep (spec.all_rows (book_of P.seen ledger.old) (tells_watcher place.now (map P.seen ledger.old.boxes.items) ledger.old.clock name.now resource.now is_over) []) (book_of P.seen ledger.new) outs.items) }
-    ensures sound { OnOk result (IsSound place.now.limits ledger.new) }
+    ensures sound { OnOk result (IsSound place.now ledger.new) }
 {
     let mut outs = Vec::new(alloc);
     all_rows(
@@ -87,9 +102,9 @@ pub fn content_changed<P: Package>(
     is_over: bool,
     change: &Change,
 ) -> Result<Vec<Out>, NoMemory>
-    requires { IsSound place.now.limits ledger.old }
+    requires { IsSound place.now ledger.old }
     ensures step { IfOk result (λ outs. IsStep (spec.content_changed place.now (book_of P.seen ledger.old) name.now resource.now is_over (changed_boxes (map P.seen ledger.old.boxes.items) change.now)) (book_of P.seen ledger.new) outs.items) }
-    ensures sound { OnOk result (IsSound place.now.limits ledger.new) }
+    ensures sound { OnOk result (IsSound place.now ledger.new) }
 {
     match change_first(alloc, &mut ledger.boxes, change)? {
         Outcome::Changed => tell_watchers(alloc, place, ledger, name, resource, is_over),

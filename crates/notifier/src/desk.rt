@@ -11,8 +11,8 @@ use crate::event_steps::act;
 use crate::ledger::Ledger;
 use crate::place::{Place, Setup};
 use circular_buffer::HeapCircularBuffer;
-use event_headers::NoMemory;
 use package::Package;
+use sip_text::NoMemory;
 use std::alloc::Global;
 use std::marker::Model;
 use thiserror::Error;
@@ -61,7 +61,7 @@ impl<P: Package> Model for Desk<P> {
 
     ghost view = { λ d. if d.spent then None else Some (record { place = d.place; book = book_of P.seen d.ledger }) };
 
-    ghost invariant = { λ d. d.spent ≡ false → IsSound d.place.limits d.ledger };
+    ghost invariant = { λ d. d.spent ≡ false → IsSound d.place d.ledger };
 }
 
 impl<P: Package> Desk<P> {
@@ -80,6 +80,7 @@ impl<P: Package> Desk<P> {
             limits: setup.limits,
             seed: setup.seed,
             me: setup.me,
+            stop: setup.stop,
             worker,
         };
         let ledger = Ledger {

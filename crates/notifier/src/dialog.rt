@@ -1,5 +1,5 @@
 //! Requests in a dialog (RFC 3261 section 12.2.2), and refusals.
-#![tactic(auto, unfolding(crate::specs::Book::refused, crate::specs::Book::keeping, crate::specs::Book::all_rows, crate::specs::Book::in_dialog, crate::specs::Out::out_of, crate::specs::Rows::is_dialog))]
+#![tactic(auto, unfolding(crate::specs::Book::refused, crate::specs::Book::keeping, crate::specs::Book::all_rows, crate::specs::Book::in_dialog, crate::specs::Book::unless_denied, crate::specs::Book::served, crate::specs::Out::out_of, crate::specs::Rows::is_dialog))]
 
 ghost use Rattle.std.specs.Prelude.{◌≡◌, ◌∷◌, [], map, option_map, find, IfOk, OnOk};
 ghost use Rattle.notifier.specs.Book as spec;
@@ -21,9 +21,9 @@ use crate::request::unheard;
 use crate::row::{Key, Row};
 use crate::rule::Cause;
 use crate::telling::{all_rows, answer};
-use event_headers::{NoMemory, Text};
 use package::Package;
 use sip_read::{Addr, Request};
+use sip_text::{NoMemory, Text};
 use std::alloc::Global;
 
 /// The tag, or the empty text.
@@ -63,9 +63,9 @@ pub fn refuse<P: Package>(
     refused: Refusal,
 ) -> Result<Vec<Out>, NoMemory>
     requires key { key ≡ key_of_request request.now }
-    requires sound { IsSound place.now.limits ledger.old }
+    requires sound { IsSound place.now ledger.old }
     ensures step { IfOk result (λ outs. IsStep (spec.refused place.now (book_of P.seen ledger.old) source request.now refused) (book_of P.seen ledger.new) outs.items) }
-    ensures sound { OnOk result (IsSound place.now.limits ledger.new) }
+    ensures sound { OnOk result (IsSound place.now ledger.new) }
 {
     let bytes = refusal_answer(alloc, place, &ledger.boxes, source, request, refused)?;
     answer(alloc, &place.limits, &mut ledger.ring, key, source, bytes)
@@ -83,9 +83,9 @@ fn hear_refused<P: Package>(
     refused: Refusal,
 ) -> Result<Vec<Out>, NoMemory>
     requires key { key ≡ key_of_request request.now }
-    requires sound { IsSound place.now.limits ledger.old }
-    ensures step { IfOk result (λ outs. IsStep (spec.heard place.now (book_of P.seen ledger.old) source request.now serial (Some refused)) (book_of P.seen ledger.new) outs.items) }
-    ensures sound { OnOk result (IsSound place.now.limits ledger.new) }
+    requires sound { IsSound place.now ledger.old }
+    ensures step { IfOk result (λ outs. IsStep (spec.denied place.now (book_of P.seen ledger.old) source request.now serial refused) (book_of P.seen ledger.new) outs.items) }
+    ensures sound { OnOk result (IsSound place.now ledger.new) }
 {
     let mut outs = refuse(alloc, place, ledger, source, request, key, refused)?;
     all_rows(
@@ -108,10 +108,10 @@ fn answer_renewal<P: Package>(
     key: Option<Key>,
 ) -> Result<Vec<Out>, NoMemory>
     requires key { key ≡ key_of_request request.now }
-    requires sound { IsSound place.now.limits ledger.old }
+    requires sound { IsSound place.now ledger.old }
     ensures book { OnOk result (book_of P.seen ledger.new ≡ spec.keeping place.now (book_of P.seen ledger.old) request.now (answers.renewal_answer place.now source request.now)) }
     ensures outs { IfOk result (λ outs. outs.items ≡ map out_of (Answers source (answer_text (answers.renewal_answer place.now source request.now)) ∷ [])) }
-    ensures sound { OnOk result (IsSound place.now.limits ledger.new) }
+    ensures sound { OnOk result (IsSound place.now ledger.new) }
     ensures limits { OnOk result (AreLimits place.now.limits) }
 {
     place.limits.are_in_range();
@@ -130,9 +130,9 @@ fn hear_renewal<P: Package>(
     serial: u32,
 ) -> Result<Vec<Out>, NoMemory>
     requires key { key ≡ key_of_request request.now }
-    requires sound { IsSound place.now.limits ledger.old }
-    ensures step { IfOk result (λ outs. IsStep (spec.heard place.now (book_of P.seen ledger.old) source request.now serial None) (book_of P.seen ledger.new) outs.items) }
-    ensures sound { OnOk result (IsSound place.now.limits ledger.new) }
+    requires sound { IsSound place.now ledger.old }
+    ensures step { IfOk result (λ outs. IsStep (spec.accepted place.now (book_of P.seen ledger.old) source request.now serial) (book_of P.seen ledger.new) outs.items) }
+    ensures sound { OnOk result (IsSound place.now ledger.new) }
 {
     let mut outs = answer_renewal(alloc, place, ledger, source, request, key)?;
     all_rows(
@@ -157,9 +157,9 @@ fn hear<P: Package>(
     against: Option<Refusal>,
 ) -> Result<Vec<Out>, NoMemory>
     requires key { key ≡ key_of_request request.now }
-    requires sound { IsSound place.now.limits ledger.old }
-    ensures step { IfOk result (λ outs. IsStep (spec.heard place.now (book_of P.seen ledger.old) source request.now serial against) (book_of P.seen ledger.new) outs.items) }
-    ensures sound { OnOk result (IsSound place.now.limits ledger.new) }
+    requires sound { IsSound place.now ledger.old }
+    ensures step { IfOk result (λ outs. IsStep (spec.served place.now (book_of P.seen ledger.old) source request.now (spec.unless_denied serial against)) (book_of P.seen ledger.new) outs.items) }
+    ensures sound { OnOk result (IsSound place.now ledger.new) }
 {
     match against {
         Some(refused) => hear_refused(alloc, place, ledger, source, request, key, serial, refused),
@@ -178,9 +178,9 @@ pub fn serve_in_dialog<P: Package>(
     tag: &Text,
 ) -> Result<Vec<Out>, NoMemory>
     requires key { key ≡ key_of_request request.now }
-    requires sound { IsSound place.now.limits ledger.old }
-    ensures step { IfOk result (λ outs. IsStep (spec.in_dialog place.now (book_of P.seen ledger.old) source request.now (find (rows.is_dialog request.now tag.now) ledger.old.rows.items)) (book_of P.seen ledger.new) outs.items) }
-    ensures sound { OnOk result (IsSound place.now.limits ledger.new) }
+    requires sound { IsSound place.now ledger.old }
+    ensures step { IfOk result (λ outs. IsStep (spec.served place.now (book_of P.seen ledger.old) source request.now (spec.in_dialog place.now.limits request.now (find (rows.is_dialog request.now tag.now) ledger.old.rows.items))) (book_of P.seen ledger.new) outs.items) }
+    ensures sound { OnOk result (IsSound place.now ledger.new) }
 {
     let Some(row) = find_dialog(ledger.rows.as_slice(), request, tag) else {
         return refuse(

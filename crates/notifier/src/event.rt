@@ -1,8 +1,8 @@
 //! What comes to a desk, and what it sends.
 
-use event_headers::{Octets, Text};
 use package::{MailChange, Progress};
 use sip_read::{Addr, Request, Response};
+use sip_text::{Octets, Text};
 
 /// What comes to a desk.
 #[derive(Debug, Drop)]
@@ -17,6 +17,9 @@ pub enum Event {
     Progress(Progress),
     /// Time goes on to this second. Seconds are counted from the start.
     Tick(u64),
+    /// The notifier stops as planned: each live subscription ends, and may be made again at once (RFC 6665 section
+    /// 4.1.3).
+    Shut,
 }
 
 /// What a desk sends.

@@ -9,7 +9,7 @@ ghost use Rattle.notifier.specs.Requests.{same_key as same_key_of};
 use crate::limits::Limits;
 use crate::row::{Kept, Key};
 use circular_buffer::HeapCircularBuffer;
-use event_headers::Octets;
+use sip_text::Octets;
 
 fn same_key(key: &Key, other: &Key) -> bool
     ensures { result ≡ same_key_of key.now other.now }

@@ -41,4 +41,5 @@ pub use event::{Event, Out};
 pub use limits::Limits;
 pub use place::{Place, Setup};
 pub use refusal::Refusal;
+pub use uri::user_part;
 pub use whole_run::{play, play_boxes};

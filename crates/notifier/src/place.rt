@@ -11,6 +11,8 @@ pub struct Setup {
     pub seed: [u8; 32],
     /// The address of this server.
     pub me: Addr,
+    /// Whether the last event of each worker is `Shut`. Whoever feeds a desk looks at it, the desk doesn't.
+    pub stop: bool,
 }
 
 /// The place of a desk: the setup, and the number of its worker.
@@ -19,5 +21,6 @@ pub struct Place {
     pub limits: Limits,
     pub seed: [u8; 32],
     pub me: Addr,
+    pub stop: bool,
     pub worker: u32,
 }

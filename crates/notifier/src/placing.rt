@@ -11,9 +11,10 @@ use crate::limits::Limits;
 use crate::refusal::Refusal;
 use crate::request::{is_refer, is_too_brief, package_of};
 use crate::uri::user_part;
-use event_headers::{Field, Range, Values};
+use event_headers::Range;
 use package::Package;
 use sip_read::Request;
+use sip_text::{Field, Values};
 
 fn before_semicolon(text: &str) -> &str
     ensures { result.now ≡ before_first spec.is_semicolon text.now }

@@ -1,6 +1,7 @@
 //! Tests on one request. They look at the request and the limits, and at nothing that is carried along.
-#![tactic(auto, unfolding(crate::specs::Requests::key_of_request, crate::specs::Requests::event_of, crate::specs::Requests::asked, crate::specs::Requests::granted, crate::specs::Requests::asks_nothing, crate::specs::Requests::is_malformed, crate::specs::Requests::misfit, crate::specs::Requests::is_full, crate::specs::Requests::unheard))]
+#![tactic(auto, unfolding(crate::specs::Requests::key_of_request, crate::specs::Requests::event_of, crate::specs::Requests::asked, crate::specs::Requests::granted, crate::specs::Requests::asks_nothing, crate::specs::Requests::is_unwatched, crate::specs::Requests::birth_of, crate::specs::Requests::is_malformed, crate::specs::Requests::misfit, crate::specs::Requests::is_full, crate::specs::Requests::unheard))]
 
+ghost use Rattle.std.specs.List.{list_any};
 ghost use Rattle.std.specs.Prelude.{◌≡◌, ◌≤◌, false, option_map, IfOk};
 ghost use Rattle.event_headers.specs.Values.{EventValue as Value};
 ghost use Rattle.notifier.specs.Fields as fields;
@@ -10,9 +11,23 @@ use crate::limits::Limits;
 use crate::refusal::Refusal;
 use crate::row::Key;
 use crate::uri::is_sip_uri;
-use event_headers::{EventValue, Field, NoMemory, Text};
+use event_headers::EventValue;
 use sip_read::Request;
+use sip_text::{Field, NoMemory, Text};
 use std::alloc::Global;
+
+/// What a request makes outside a dialog.
+#[derive(Clone, Copy, Debug)]
+pub enum Birth {
+    /// A subscription that watches a mailbox.
+    Watch,
+    /// A single look at a mailbox (RFC 6665 section 4.4.3).
+    Fetch,
+    /// A transfer, with a subscription that watches it (RFC 3515).
+    Transfer,
+    /// A transfer without a subscription (RFC 4488).
+    Unwatched,
+}
 
 pub fn is_ack(request: &Request) -> bool
     ensures { result ≡ spec.is_ack request.now }
@@ -128,6 +143,54 @@ pub fn is_too_brief(limits: &Limits, request: &Request) -> bool
     0 < seconds && seconds < limits.min_time()
 }
 
+/// Whether it is a REFER that asks for no subscription (RFC 4488).
+pub fn is_unwatched(request: &Request) -> bool
+    ensures { result ≡ spec.is_unwatched request.now }
+{
+    is_refer(request) && matches!(request.refer_sub, Field::Value(false))
+}
+
+/// What it makes, where nothing stands against it.
+pub fn birth_of(limits: &Limits, request: &Request) -> Birth
+    ensures { result ≡ spec.birth_of limits.now request.now }
+{
+    if is_refer(request) {
+        if is_unwatched(request) {
+            Birth::Unwatched
+        } else {
+            Birth::Transfer
+        }
+    } else if asks_nothing(limits, request) {
+        Birth::Fetch
+    } else {
+        Birth::Watch
+    }
+}
+
+fn needs_place(birth: Birth) -> bool
+    ensures { result ≡ spec.needs_place birth }
+{
+    match birth {
+        Birth::Watch => true,
+        Birth::Fetch => false,
+        Birth::Transfer => true,
+        Birth::Unwatched => false,
+    }
+}
+
+/// Whether a required extension isn't understood (RFC 3261 section 8.2.2.3).
+pub fn is_strange(word: &Text) -> bool
+    ensures { result ≡ spec.is_strange word.now }
+{
+    !word.as_str().eq_ignore_ascii_case("norefersub")
+}
+
+fn requires_more(required: &[Text]) -> bool
+    ensures { result ≡ list_any spec.is_strange required.now }
+{
+    required.iter().any(|word| is_strange(word))
+}
+
 fn is_absent<T>(field: &Field<T>) -> bool
     ensures { result ≡ fields.is_absent field.now }
 {
@@ -150,7 +213,10 @@ fn is_malformed(request: &Request) -> bool
                 || is_bad(&request.event)
                 || is_bad(&request.expires)
                 || is_bad(&request.accept))
-        || is_refer(request) && (is_absent(&request.refer_to) || is_bad(&request.refer_to))
+        || is_refer(request)
+            && (is_absent(&request.refer_to)
+                || is_bad(&request.refer_to)
+                || is_bad(&request.refer_sub))
         || is_bad(&request.contact)
         || is_absent(&request.contact) && request.head.to.tag.is_none()
 }
@@ -163,7 +229,7 @@ pub fn misfit(request: &Request) -> Option<Refusal>
         Some(Refusal::OtherMethod)
     } else if !is_sip_uri(request.uri.as_str()) {
         Some(Refusal::OtherScheme)
-    } else if !request.require.is_empty() {
+    } else if requires_more(request.require.as_slice()) {
         Some(Refusal::UnmetRequire)
     } else if is_malformed(request) {
         Some(Refusal::Malformed)
@@ -178,7 +244,7 @@ pub fn is_full(limits: &Limits, next: u64, alive: usize, request: &Request) -> b
     ensures room { result ≡ false → next ≤ limits.now.serials }
 {
     u64::from(limits.serials()) < next
-        || limits.table() as usize <= alive && !asks_nothing(limits, request)
+        || limits.table() as usize <= alive && needs_place(birth_of(limits, request))
 }
 
 /// Why a request in the dialog of this event is refused, if so.

@@ -1,5 +1,5 @@
 //! What a request makes of a ledger, in the order in which the cases are looked for.
-#![tactic(auto, unfolding(crate::specs::Book::nothing, crate::specs::Book::outside, crate::specs::Book::by_to_tag, crate::specs::Book::judged, crate::specs::Book::served, crate::specs::Book::asked_for, crate::specs::Book::born, crate::specs::Out::out_of))]
+#![tactic(auto, unfolding(crate::specs::Book::nothing, crate::specs::Book::unless, crate::specs::Book::outside, crate::specs::Book::by_to_tag, crate::specs::Book::by_kept, crate::specs::Book::verdict, crate::specs::Book::served, crate::specs::Out::out_of))]
 
 ghost use Rattle.std.specs.Prelude.{◌≡◌, ◌≤◌, map, IfOk, OnOk, None};
 ghost use Rattle.notifier.specs.Book as spec;
@@ -14,12 +14,12 @@ use crate::ledger::Ledger;
 use crate::place::Place;
 use crate::placing::misplaced;
 use crate::refusal::Refusal;
-use crate::request::{is_ack, is_full, key_of, misfit};
+use crate::request::{birth_of, is_ack, is_full, key_of, misfit};
 use crate::row::Key;
 use crate::telling::copy_bytes;
-use event_headers::NoMemory;
 use package::Package;
 use sip_read::{Addr, Request};
+use sip_text::NoMemory;
 use std::alloc::Global;
 
 /// A request without a To tag.
@@ -33,9 +33,9 @@ fn serve_outside<P: Package>(
 ) -> Result<Vec<Out>, NoMemory>
     requires key { key ≡ requests.key_of_request request.now }
     requires fits { requests.misfit request.now ≡ None }
-    requires sound { IsSound place.now.limits ledger.old }
-    ensures step { IfOk result (λ outs. IsStep (spec.outside place.now (book_of P.seen ledger.old) source request.now (requests.misplaced place.now.limits (map P.seen ledger.old.boxes.items) request.now)) (book_of P.seen ledger.new) outs.items) }
-    ensures sound { OnOk result (IsSound place.now.limits ledger.new) }
+    requires sound { IsSound place.now ledger.old }
+    ensures step { IfOk result (λ outs. IsStep (spec.served place.now (book_of P.seen ledger.old) source request.now (spec.outside place.now.limits (book_of P.seen ledger.old) request.now)) (book_of P.seen ledger.new) outs.items) }
+    ensures sound { OnOk result (IsSound place.now ledger.new) }
 {
     if let Some(refused) = misplaced(&place.limits, &ledger.boxes, request) {
         return refuse(alloc, place, ledger, source, request, key, refused);
@@ -43,7 +43,8 @@ fn serve_outside<P: Package>(
     if is_full(&place.limits, ledger.next, ledger.rows.len(), request) {
         return refuse(alloc, place, ledger, source, request, key, Refusal::Full);
     }
-    bear(alloc, place, ledger, source, request, key)
+    let kind = birth_of(&place.limits, request);
+    bear(alloc, place, ledger, source, request, key, kind)
 }
 
 /// A request that fits, by its To tag.
@@ -57,9 +58,9 @@ fn serve_fitting<P: Package>(
 ) -> Result<Vec<Out>, NoMemory>
     requires key { key ≡ requests.key_of_request request.now }
     requires fits { requests.misfit request.now ≡ None }
-    requires sound { IsSound place.now.limits ledger.old }
-    ensures step { IfOk result (λ outs. IsStep (spec.by_to_tag place.now (book_of P.seen ledger.old) source request.now request.now.head.to.tag) (book_of P.seen ledger.new) outs.items) }
-    ensures sound { OnOk result (IsSound place.now.limits ledger.new) }
+    requires sound { IsSound place.now ledger.old }
+    ensures step { IfOk result (λ outs. IsStep (spec.served place.now (book_of P.seen ledger.old) source request.now (spec.by_to_tag place.now.limits (book_of P.seen ledger.old) request.now request.now.head.to.tag)) (book_of P.seen ledger.new) outs.items) }
+    ensures sound { OnOk result (IsSound place.now ledger.new) }
 {
     match &request.head.to.tag {
         None => serve_outside(alloc, place, ledger, source, request, key),
@@ -77,9 +78,9 @@ fn serve_new<P: Package>(
     key: Option<Key>,
 ) -> Result<Vec<Out>, NoMemory>
     requires key { key ≡ requests.key_of_request request.now }
-    requires sound { IsSound place.now.limits ledger.old }
-    ensures step { IfOk result (λ outs. IsStep (spec.judged place.now (book_of P.seen ledger.old) source request.now (requests.misfit request.now)) (book_of P.seen ledger.new) outs.items) }
-    ensures sound { OnOk result (IsSound place.now.limits ledger.new) }
+    requires sound { IsSound place.now ledger.old }
+    ensures step { IfOk result (λ outs. IsStep (spec.served place.now (book_of P.seen ledger.old) source request.now (spec.by_kept place.now.limits (book_of P.seen ledger.old) request.now None)) (book_of P.seen ledger.new) outs.items) }
+    ensures sound { OnOk result (IsSound place.now ledger.new) }
 {
     match misfit(request) {
         Some(refused) => refuse(alloc, place, ledger, source, request, key, refused),
@@ -95,9 +96,9 @@ pub fn serve<P: Package>(
     source: Addr,
     request: &Request,
 ) -> Result<Vec<Out>, NoMemory>
-    requires { IsSound place.now.limits ledger.old }
-    ensures step { IfOk result (λ outs. IsStep (spec.asked_for place.now (book_of P.seen ledger.old) source request.now) (book_of P.seen ledger.new) outs.items) }
-    ensures sound { OnOk result (IsSound place.now.limits ledger.new) }
+    requires { IsSound place.now ledger.old }
+    ensures step { IfOk result (λ outs. IsStep (spec.served place.now (book_of P.seen ledger.old) source request.now (spec.verdict place.now.limits (book_of P.seen ledger.old) request.now)) (book_of P.seen ledger.new) outs.items) }
+    ensures sound { OnOk result (IsSound place.now ledger.new) }
 {
     let mut outs = Vec::new(alloc);
     if is_ack(request) {

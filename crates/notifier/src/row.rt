@@ -1,7 +1,15 @@
 //! What a desk keeps: its live subscriptions, and its answers.
 
-use event_headers::{Octets, Text};
+use sip_text::{Octets, Text, Values};
 use subscription::Sub;
+
+/// A NOTIFY that no final answer came to yet.
+#[derive(Clone, Copy, Debug)]
+pub struct Unanswered {
+    pub number: u32,
+    /// The second in which it was made.
+    pub moment: u64,
+}
 
 /// A live subscription.
 #[derive(Debug, Drop)]
@@ -11,6 +19,8 @@ pub struct Row {
     pub sub: Sub,
     /// The last CSeq number of its dialog, also of a refused request (RFC 3261 section 12.2.2).
     pub last_cseq: u32,
+    /// Its NOTIFYs that are unanswered, by rising number.
+    pub unanswered: Values<Unanswered>,
 }
 
 /// What names a transaction (RFC 3261 section 17.2.3).

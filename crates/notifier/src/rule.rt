@@ -8,10 +8,10 @@ ghost use Rattle.notifier.specs.Told.{IsTold};
 use crate::event::Out;
 use crate::place::Place;
 use crate::row::Row;
-use crate::rules::{After, count, disown, renew, tell_watcher, time_out};
-use event_headers::{NoMemory, Text};
+use crate::rules::{After, count, renew, stop, take_answer, tell_watcher, time_out};
 use package::Package;
 use sip_read::{Addr, Request, Response};
+use sip_text::{NoMemory, Text};
 use std::alloc::Global;
 
 /// Why the live subscriptions are told.
@@ -27,6 +27,8 @@ pub enum Cause<'a> {
     Change(&'a str, &'a str, bool),
     /// Time has gone on.
     Time,
+    /// The notifier stops.
+    Stop,
 }
 
 /// Tells one row.
@@ -43,7 +45,7 @@ fn tell<P: Package>(
     ensures { IfOk result (λ after. IsTold (rule_of place.now (map P.seen boxes.now.items) clock cause.now) row after) }
 {
     match cause {
-        Cause::Response(response) => Ok(disown(response, row)),
+        Cause::Response(response) => Ok(take_answer(response, row)),
         Cause::Refused(serial, request) => Ok(count(*serial, request, row)),
         Cause::Renewal(serial, source, request) => {
             renew(alloc, place, boxes, clock, *serial, *source, request, row)
@@ -52,6 +54,7 @@ fn tell<P: Package>(
             tell_watcher(alloc, place, boxes, clock, name, resource, *is_over, row)
         }
         Cause::Time => time_out(alloc, place, boxes, clock, row),
+        Cause::Stop => stop(alloc, place, boxes, clock, row),
     }
 }
 

@@ -1,24 +1,24 @@
 //! The rule of each event for one row.
-#![tactic(auto, unfolding(crate::specs::Rows::stays, crate::specs::Rows::goes, crate::specs::Rows::gone_at, crate::specs::Rows::only, crate::specs::Rows::disowned, crate::specs::Rows::counted, crate::specs::Rows::turned, crate::specs::Rows::tells, crate::specs::Rows::times_out, crate::specs::Rows::tells_watcher, crate::specs::Rows::renewed, crate::specs::Rows::renewed_sub, subscription::specs::Table::told, subscription::specs::Table::end, subscription::specs::Table::changed, subscription::specs::Table::refresh, subscription::specs::Table::refused_by))]
+#![tactic(auto, unfolding(crate::specs::Rows::stays, crate::specs::Rows::goes, crate::specs::Rows::gone_at, crate::specs::Rows::wherever, crate::specs::Rows::opened, crate::specs::Rows::closed, crate::specs::Rows::only, crate::specs::Rows::takes_answer, crate::specs::Rows::answered, crate::specs::Rows::is_overdue, crate::specs::Rows::counted, crate::specs::Rows::turned, crate::specs::Rows::tells, crate::specs::Rows::ends, crate::specs::Rows::times_out, crate::specs::Rows::stops, crate::specs::Rows::tells_change, crate::specs::Rows::tells_watcher, crate::specs::Rows::renewed, crate::specs::Rows::renewed_sub, subscription::specs::Table::told, subscription::specs::Table::end, subscription::specs::Table::changed, subscription::specs::Table::refresh, subscription::specs::Table::is_refusal_of, subscription::specs::Table::refused_by, subscription::specs::Table::lost))]
 
-ghost use Rattle.std.specs.Prelude.{◌≡◌, ◌<◌, ◌^◌, ◌&&◌, ◌∷◌, [], map, if◌then◌else◌, is_none, IfOk, option_to_list};
+ghost use Rattle.std.specs.Prelude.{◌≡◌, ◌<◌, ◌^◌, ◌&&◌, ◌∷◌, [], map, filter, not, if◌then◌else◌, is_none, IfOk, option_to_list};
 ghost use Rattle.notifier.specs.Requests.{is_of_refer as is_of_refer_event};
 ghost use Rattle.notifier.specs.Rows as spec;
 ghost use Rattle.notifier.specs.Fields.{value_of};
 ghost use Rattle.notifier.specs.Out.{out_of};
 ghost use Rattle.notifier.specs.Sound.{IsLive};
-ghost use Rattle.notifier.specs.Told.{IsTold};
+ghost use Rattle.notifier.specs.Told.{IsTold, row_with};
 
 use crate::event::Out;
 use crate::notice::{copy_want, notice_out};
 use crate::place::Place;
 use crate::request::{asks_nothing, granted};
-use crate::row::Row;
-use event_headers::{Field, NoMemory, Text};
+use crate::row::{Row, Unanswered};
 use package::Package;
 use sip_read::{Addr, Request, Response};
+use sip_text::{Field, NoMemory, Text, Values};
 use std::alloc::Global;
-use subscription::{Reason, Step, Sub, Usage, Want};
+use subscription::{Notice, Reason, Step, Sub, Usage, Want};
 
 /// What an event makes of one row.
 #[derive(Drop)]
@@ -29,6 +29,14 @@ pub struct After {
     pub out: Option<Out>,
     /// The tag of its transfer, where the row goes and has one.
     pub gone: Option<Text>,
+}
+
+/// A row without its subscription.
+#[derive(Drop)]
+pub struct Stub {
+    pub serial: u32,
+    pub last_cseq: u32,
+    pub unanswered: Values<Unanswered>,
 }
 
 /// Whether this is the want of a transfer.
@@ -62,28 +70,68 @@ fn stays(row: Row) -> After
     }
 }
 
-/// A response: a 481 to a NOTIFY ends its subscription without another.
-pub fn disown(response: &Response, row: Row) -> After
-    ensures { IsTold (spec.disowned response.now) row result }
+/// A row that goes untold.
+fn goes(row: Row) -> After
+    ensures row { result.row ≡ None }
+    ensures out { option_to_list result.out ≡ [] }
+    ensures gone { option_to_list result.gone ≡ (if is_of_refer_event row.sub.want.event then row.sub.usage.local_tag ∷ [] else []) }
 {
     let of_refer = is_of_refer(row.sub.want());
+    let Row { sub, .. } = row;
+    After {
+        row: None,
+        out: None,
+        gone: gone_tag(of_refer, sub.lost()),
+    }
+}
+
+fn has_number(notify: &Unanswered, number: u32) -> bool
+    ensures { result ≡ spec.has_number number notify.now }
+{
+    notify.number == number
+}
+
+/// The NOTIFY with this number isn't unanswered any more.
+fn close(unanswered: &mut Vec<Unanswered>, number: u32)
+    ensures { unanswered.new.items ≡ filter (λ notify. not (spec.has_number number notify)) unanswered.old.items }
+{
+    unanswered.retain(|notify| !has_number(notify, number));
+}
+
+/// The row whose NOTIFY with this number is answered.
+fn closed(number: u32, row: Row) -> Row
+    ensures { result ≡ spec.closed number row }
+{
     let Row {
         serial,
         sub,
         last_cseq,
+        unanswered,
     } = row;
-    match sub.refused_by(response) {
-        Ok(usage) => After {
-            row: None,
-            out: None,
-            gone: gone_tag(of_refer, usage),
-        },
-        Err(sub) => stays(Row {
-            serial,
-            sub,
-            last_cseq,
-        }),
+    let mut unanswered = unanswered.into_vec();
+    close(&mut unanswered, number);
+    Row {
+        serial,
+        sub,
+        last_cseq,
+        unanswered: Values::new(unanswered),
     }
+}
+
+/// A response: a 481 to a NOTIFY ends its subscription without another, and another final answer closes its NOTIFY.
+pub fn take_answer(response: &Response, row: Row) -> After
+    ensures { IsTold (spec.answered response.now) row result }
+{
+    if !row.sub.is_answered_by(response) {
+        return stays(row);
+    }
+    if response.status == 481 {
+        return goes(row);
+    }
+    if response.status < 200 {
+        return stays(row);
+    }
+    stays(closed(response.head.cseq, row))
 }
 
 /// A refused request in a dialog moves the last CSeq of the row with this serial.
@@ -99,30 +147,44 @@ pub fn count(wanted: u32, request: &Request, row: Row) -> After
     })
 }
 
-/// A step of a subscription, whose NOTIFY goes to this address. The row that stays has this serial and last CSeq.
+/// The row of a subscription that goes on, with its new NOTIFY unanswered.
+fn opened(stub: Stub, sub: Sub, clock: u64, notice: Notice) -> Result<Row, NoMemory>
+    ensures { IfOk result (λ row. row ≡ spec.opened clock notice (row_with stub sub)) }
+{
+    let mut unanswered = stub.unanswered.into_vec();
+    unanswered.push(Unanswered {
+        number: notice.number,
+        moment: clock,
+    })?;
+    Ok(Row {
+        serial: stub.serial,
+        sub,
+        last_cseq: stub.last_cseq,
+        unanswered: Values::new(unanswered),
+    })
+}
+
+/// A step of a subscription, whose NOTIFY goes to this address.
 pub fn turned<P: Package>(
     alloc: Global,
     place: &Place,
     boxes: &Vec<P>,
+    clock: u64,
     to: Addr,
     want: &Want,
-    serial: u32,
-    last_cseq: u32,
+    stub: Stub,
     next: Step,
 ) -> Result<After, NoMemory>
-    ensures row { IfOk result (λ after. after.row ≡ (spec.turned place.now (map P.seen boxes.now.items) to want.now serial last_cseq next).row) }
-    ensures out { IfOk result (λ after. option_to_list after.out ≡ map out_of (spec.turned place.now (map P.seen boxes.now.items) to want.now serial last_cseq next).notifies) }
-    ensures gone { IfOk result (λ after. option_to_list after.gone ≡ (if is_of_refer_event want.now.event && is_none (spec.turned place.now (map P.seen boxes.now.items) to want.now serial last_cseq next).row then (spec.usage_after next).local_tag ∷ [] else [])) }
+    ensures row { IfOk result (λ after. after.row ≡ (spec.turned place.now (map P.seen boxes.now.items) clock to want.now (row_with stub) next).row) }
+    ensures out { IfOk result (λ after. option_to_list after.out ≡ map out_of (spec.turned place.now (map P.seen boxes.now.items) clock to want.now (row_with stub) next).notifies) }
+    ensures gone { IfOk result (λ after. option_to_list after.gone ≡ (if is_of_refer_event want.now.event && is_none (spec.turned place.now (map P.seen boxes.now.items) clock to want.now (row_with stub) next).row then (spec.usage_after next).local_tag ∷ [] else [])) }
 {
     match next {
         Step::Live(sub, notice) => {
             let out = notice_out(alloc, place, boxes, to, sub.usage(), want, notice)?;
+            let row = opened(stub, sub, clock, notice)?;
             Ok(After {
-                row: Some(Row {
-                    serial,
-                    sub,
-                    last_cseq,
-                }),
+                row: Some(row),
                 out: Some(out),
                 gone: None,
             })
@@ -138,7 +200,45 @@ pub fn turned<P: Package>(
     }
 }
 
-/// Time: a row whose time is up gets a last NOTIFY.
+/// The end of a row, with a last NOTIFY that says why.
+fn end<P: Package>(
+    alloc: Global,
+    place: &Place,
+    boxes: &Vec<P>,
+    clock: u64,
+    reason: Reason,
+    row: Row,
+) -> Result<After, NoMemory>
+    ensures { IfOk result (λ after. IsTold (spec.ends place.now (map P.seen boxes.now.items) clock reason) row after) }
+{
+    let want = copy_want(alloc, row.sub.want())?;
+    let Row {
+        serial,
+        sub,
+        last_cseq,
+        unanswered,
+    } = row;
+    let stub = Stub {
+        serial,
+        last_cseq,
+        unanswered,
+    };
+    let (usage, notice) = sub.end(reason);
+    let next = Step::Over(usage, notice);
+    turned(alloc, place, boxes, clock, want.to, &want, stub, next)
+}
+
+/// Whether a NOTIFY of it was unanswered for too long.
+fn is_overdue(clock: u64, row: &Row) -> bool
+    ensures { result ≡ spec.is_overdue clock row.now }
+{
+    row.unanswered
+        .as_slice()
+        .iter()
+        .any(|notify| clock.saturating_sub(notify.moment) >= 32)
+}
+
+/// Time: a row of which a NOTIFY was unanswered for too long goes, else one whose time is up gets a last NOTIFY.
 pub fn time_out<P: Package>(
     alloc: Global,
     place: &Place,
@@ -148,26 +248,26 @@ pub fn time_out<P: Package>(
 ) -> Result<After, NoMemory>
     ensures { IfOk result (λ after. IsTold (spec.times_out place.now (map P.seen boxes.now.items) clock) row after) }
 {
+    if is_overdue(clock, &row) {
+        return Ok(goes(row));
+    }
     if row.sub.due() > clock {
         return Ok(stays(row));
     }
-    let want = copy_want(alloc, row.sub.want())?;
-    let Row {
-        serial,
-        sub,
-        last_cseq,
-    } = row;
-    let (usage, notice) = sub.end(Reason::Timeout);
-    turned(
-        alloc,
-        place,
-        boxes,
-        want.to,
-        &want,
-        serial,
-        last_cseq,
-        Step::Over(usage, notice),
-    )
+    end(alloc, place, boxes, clock, Reason::Timeout, row)
+}
+
+/// The planned stop: each row gets a last NOTIFY.
+pub fn stop<P: Package>(
+    alloc: Global,
+    place: &Place,
+    boxes: &Vec<P>,
+    clock: u64,
+    row: Row,
+) -> Result<After, NoMemory>
+    ensures { IfOk result (λ after. IsTold (spec.stops place.now (map P.seen boxes.now.items) clock) row after) }
+{
+    end(alloc, place, boxes, clock, Reason::Deactivated, row)
 }
 
 /// Whether a row watches this resource of this package.
@@ -200,9 +300,15 @@ pub fn tell_watcher<P: Package>(
         serial,
         sub,
         last_cseq,
+        unanswered,
     } = row;
+    let stub = Stub {
+        serial,
+        last_cseq,
+        unanswered,
+    };
     let next = sub.changed(clock, is_over);
-    turned(alloc, place, boxes, want.to, &want, serial, last_cseq, next)
+    turned(alloc, place, boxes, clock, want.to, &want, stub, next)
 }
 
 fn target_of(alloc: Global, contact: &Field<Text>) -> Result<Option<Text>, NoMemory>
@@ -254,18 +360,19 @@ fn renew_row<P: Package>(
     ensures { IfOk result (λ after. IsTold (spec.renewed place.now (map P.seen boxes.now.items) clock source request.now) row after) }
 {
     let want = copy_want(alloc, row.sub.want())?;
-    let Row { serial, sub, .. } = row;
-    let next = renewed_sub(alloc, place, clock, source, request, sub)?;
-    turned(
-        alloc,
-        place,
-        boxes,
-        source,
-        &want,
+    let Row {
         serial,
-        request.head.cseq,
-        next,
-    )
+        sub,
+        unanswered,
+        ..
+    } = row;
+    let stub = Stub {
+        serial,
+        last_cseq: request.head.cseq,
+        unanswered,
+    };
+    let next = renewed_sub(alloc, place, clock, source, request, sub)?;
+    turned(alloc, place, boxes, clock, source, &want, stub, next)
 }
 
 /// The same of the row with this serial alone.

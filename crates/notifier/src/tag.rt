@@ -6,10 +6,10 @@ ghost use Rattle.notifier.specs.Start.{tag_of};
 ghost use Rattle.notifier.specs.Tag.{tag_bytes, refusal_tag as refusal_tag_of};
 
 use crate::place::Place;
-use event_headers::{NoMemory, Text};
 use rand_chacha::ChaCha20Rng;
 use rand_core::SeedableRng;
 use rand_core::utils::NextWord;
+use sip_text::{NoMemory, Text};
 use std::alloc::Global;
 
 /// The bytes whose digits stand in the tag.

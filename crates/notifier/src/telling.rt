@@ -19,9 +19,9 @@ use crate::place::Place;
 use crate::row::{Kept, Key, Row};
 use crate::rule::{Cause, tell_all};
 use circular_buffer::HeapCircularBuffer;
-use event_headers::{NoMemory, Octets, Text};
 use package::{Change, Package};
 use sip_read::Addr;
+use sip_text::{NoMemory, Octets, Text};
 use std::alloc::Global;
 use std::mem;
 

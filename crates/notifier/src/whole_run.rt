@@ -11,8 +11,8 @@ ghost use Rattle.notifier.specs.Start.{place_of};
 use crate::desk::Desk;
 use crate::event::{Event, Out};
 use crate::place::Setup;
-use event_headers::NoMemory;
 use package::Package;
+use sip_text::NoMemory;
 use std::alloc::Global;
 
 /// Handles these events, one by one, and gathers what they send.

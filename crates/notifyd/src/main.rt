@@ -1,13 +1,13 @@
 //! `notifyd`, a notifier of SIP event notification (RFC 6665) that runs a script: it reads one from standard input, and
 //! prints what the notifier sends.
 //!
-//! `notifyd script [--seed <64 hex digits>] 1 <mailbox>...`; without arguments it is `notifyd script 1 alice`. What is
+//! `notifyd script [--seed <64 hex digits>] [--stop] <workers> <mailbox>...`; without arguments it is `notifyd script 1 alice`. What is
 //! proved of it is the contract of [`server::run`]; here stand the arguments, the two streams and the exit status.
 #![tactic(auto)]
 
-use event_headers::Text;
 use scripts::{Sink, Source};
 use server::{Status, run};
+use sip_text::Text;
 use std::process::ExitCode;
 use std::rt::Env;
 use std::{env, io};

@@ -4,7 +4,7 @@ ghost use Rattle.package.specs.Changes.{event_of_change};
 
 use crate::mail_change::MailChange;
 use crate::progress::Progress;
-use event_headers::Text;
+use sip_text::Text;
 
 /// What may change in a package.
 #[derive(Debug, Drop)]

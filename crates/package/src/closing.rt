@@ -4,8 +4,8 @@ ghost use Rattle.package.specs.Closings as spec;
 ghost use Rattle.package.specs.Closings.{counted};
 
 use crate::change::Outcome;
-use event_headers::{NoMemory, Text};
 use once_cell::race::{Note, OnceBox};
+use sip_text::{NoMemory, Text};
 use std::alloc::Global;
 use std::marker::Model;
 use std::sync::Arc;

@@ -1,13 +1,13 @@
 //! What a notifier sees of an event package.
 ghost use Rattle.std.specs.Prelude.{◌≡◌, ℕ, List, IfOk, OnErr, option_map, is_some, IsOk, IsTrue};
-ghost use Rattle.event_headers.specs.Tokens.{is_token};
+ghost use Rattle.sip_text.specs.Tokens.{is_token};
 ghost use Rattle.package.specs.Texts.{is_printable};
 ghost use Rattle.package.specs.Content.{Seen, KeepsKind, held, is_finished};
 ghost use Rattle.package.specs.Changes.{change_of, is_forget};
 ghost use Rattle.package.specs.Bodies.{body_of};
 
 use crate::change::{Change, Outcome};
-use event_headers::NoMemory;
+use sip_text::NoMemory;
 use std::alloc::Global;
 
 /// An event package. It is seen as a name and a content type, which no call changes, and a finite map from the resources

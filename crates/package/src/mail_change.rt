@@ -5,7 +5,7 @@ ghost use Rattle.package.specs.Values.{IsMailChange};
 
 use crate::counts::{Class, Counts};
 use crate::texts::is_word;
-use event_headers::{NoMemory, Text};
+use sip_text::{NoMemory, Text};
 use std::alloc::Global;
 use std::marker::Model;
 

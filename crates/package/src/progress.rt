@@ -4,7 +4,7 @@ ghost use Rattle.package.specs.Values as values;
 ghost use Rattle.package.specs.Values.{IsProgress};
 
 use crate::texts::{is_printable, is_word};
-use event_headers::{NoMemory, Text};
+use sip_text::{NoMemory, Text};
 use std::alloc::Global;
 use std::marker::Model;
 

@@ -1,6 +1,6 @@
 //! Worked examples of changes and of the cell.
 use crate::{Change, Class, Closing, ClosingCell, Counts, Ending, MailChange, Outcome, Progress};
-use event_headers::{NoMemory, Text};
+use sip_text::{NoMemory, Text};
 use std::alloc::{AllocError, Global};
 use std::test::Fail;
 

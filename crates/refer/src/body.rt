@@ -3,7 +3,7 @@ ghost use Rattle.std.specs.Prelude.{◌≡◌, IfOk, string_bytes};
 ghost use Rattle.package.specs.Bodies.{status_body};
 
 use crate::status::Status;
-use event_headers::NoMemory;
+use sip_text::NoMemory;
 use std::alloc::Global;
 
 /// The status line that tells how far a transfer has come.

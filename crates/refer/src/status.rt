@@ -2,8 +2,8 @@
 ghost use Rattle.std.specs.Prelude.{◌≡◌, codes, bytes_eq, ◌==◌, ◌&&◌, ◌||◌, IfOk};
 ghost use Rattle.package.specs.Content as content;
 
-use event_headers::{NoMemory, Text};
 use package::Progress;
+use sip_text::{NoMemory, Text};
 use std::alloc::Global;
 
 /// The status that a body tells.

@@ -1,8 +1,8 @@
 //! Worked examples of transfers and their bodies (RFC 3515, RFC 3420).
 use crate::Transfers;
-use event_headers::{NoMemory, Text};
 use package::Outcome::{Changed, Same, Unknown};
 use package::{Change, Class, ClosingCell, MailChange, Outcome, Package, Progress};
+use sip_text::{NoMemory, Text};
 use std::alloc::Global;
 use std::sync::Arc;
 use std::test::Fail;

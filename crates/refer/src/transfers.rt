@@ -8,9 +8,9 @@ ghost use Rattle.refer.specs.Transfers.{refer_type, new_transfers, content_of, t
 
 use crate::body::write_body;
 use crate::status::Status;
-use event_headers::{NoMemory, Text};
 use indexmap::IndexMap;
 use package::{Change, ClosingCell, Ending, Outcome, Package, Progress};
+use sip_text::{NoMemory, Text};
 use std::alloc::Global;
 use std::sync::Arc;
 

@@ -5,18 +5,21 @@ use Rattle.std.specs.List.{flat_map, AllByRecursion}
 use Rattle.std.proofs.lemmas.List.{append-nil, length-append, take-append-drop, take_at, drop_at, length-take-le}
 use Rattle.std.proofs.lemmas.Bool.{eqb-true}
 use Rattle.std.proofs.lemmas.Bool.Decides.{nat_tests}
-use Rattle.sip_read.specs.declared.message.Addr.{Addr}
+use Rattle.sip_text.specs.declared.address.Addr.{Addr}
 use Rattle.scripts.specs.declared.script.Block.{Block}
 use Rattle.scripts.specs.declared.script.Block.TheVariants as block
 use Rattle.scripts.specs.declared.script.Control.{Control}
 use Rattle.scripts.specs.declared.script.Control.TheVariants as control
 use Rattle.scripts.specs.declared.error.ScriptError.{ScriptError}
 use Rattle.scripts.specs.declared.error.ScriptError.TheVariants as error
-use Rattle.scripts.specs.Reading.{Fails, ◌>>=◌, cut_at, after_byte, number_up_to, addr_of, octets_at, sip_head, sip_at, named_at, block_of, block_named, block_at, blocks_at, blocks_of}
-use Rattle.scripts.specs.Script.{addr_text, sip_text, control_text, block_text, lf, IsAddr, IsControl, IsBlock, IsScript}
-use Rattle.scripts.proofs.Pieces.{bind_some, some_is, byte_taken, cut_takes, cut_again, Lacks, lacks_append}
-use Rattle.scripts.proofs.Numbers.{up_to_takes, up_to_again}
-use Rattle.scripts.proofs.Addresses.{addr_takes, addr_again, addr_lacks, decimal_lacks}
+use Rattle.sip_text.specs.Reading.{◌>>=◌, cut_at, after_byte, plain_up_to, addr_of}
+use Rattle.scripts.specs.Reading.{Fails, octets_at, sip_head, sip_at, named_at, block_of, block_named, block_at, blocks_at, blocks_of}
+use Rattle.sip_text.specs.Addresses.{addr_text, IsAddr}
+use Rattle.scripts.specs.Script.{sip_text, control_text, block_text, lf, IsControl, IsBlock, IsScript}
+use Rattle.sip_text.proofs.Cuts.{cut_takes, cut_again, Lacks, lacks_append}
+use Rattle.sip_text.proofs.Pieces.{bind_some, some_is, byte_taken}
+use Rattle.sip_text.proofs.PlainNumbers.{up_to_takes, up_to_again}
+use Rattle.sip_text.proofs.Addresses.{addr_takes, addr_again, addr_lacks, decimal_lacks}
 use Rattle.scripts.proofs.Lines.{same_text, or_takes, named_takes, HasWord, mail_word, progress_word, tick_word, line_lacks}
 
 -- ---- SIP blocks
@@ -50,9 +53,9 @@ head_takes : (t : List ℕ) (addr : Addr) (n : ℕ) → sip_head t ≡ Some (add
 unfolding sip_head
 head_takes t addr n e =
     let last = λ (a : Addr) (m : ℕ). (let l : Option (Addr × ℕ) = Some (a, m) in l) in
-    let p = bind_some (cut_at 32 t) (λ x. addr_of x.0 >>= λ a. number_up_to 65536 x.1 >>= λ m. last a m) (addr, n) e in
-    let q = bind_some (addr_of p.0.0) (λ a. number_up_to 65536 p.0.1 >>= λ m. last a m) (addr, n) p.2 in
-    let r = bind_some (number_up_to 65536 p.0.1) (λ m. last q.0 m) (addr, n) q.2 in
+    let p = bind_some (cut_at 32 t) (λ x. addr_of x.0 >>= λ a. plain_up_to 65536 x.1 >>= λ m. last a m) (addr, n) e in
+    let q = bind_some (addr_of p.0.0) (λ a. plain_up_to 65536 p.0.1 >>= λ m. last a m) (addr, n) p.2 in
+    let r = bind_some (plain_up_to 65536 p.0.1) (λ m. last q.0 m) (addr, n) q.2 in
     let a = cut_takes 32 t p.0.0 p.0.1 p.1 in
     let b = addr_takes p.0.0 q.0 q.1 in
     let c = up_to_takes 65536 p.0.1 r.0 r.1 in

@@ -1,9 +1,5 @@
-pub mod Addresses
 pub mod Blocks
 pub mod Calls
 pub mod Devices
 pub mod Lines
-pub mod Numbers
 pub mod Orders
-pub mod Pieces
-pub mod Texts

@@ -14,11 +14,13 @@ use Rattle.package.specs.declared.counts.Class.TheVariants as class
 use Rattle.scripts.specs.declared.script.Control.{Control}
 use Rattle.scripts.specs.declared.script.Control.TheVariants as control
 use Rattle.scripts.specs.Changes.{is_mail, is_progress, mail_of, progress_of}
-use Rattle.scripts.specs.Reading.{◌>>=◌, cut_at, number_of, number_up_to, text_of, class_of, count_at, counts_of, mail_words, mail_at, progress_words, progress_at, named_at}
+use Rattle.sip_text.specs.Reading.{◌>>=◌, cut_at, plain_number, plain_up_to, text_of}
+use Rattle.scripts.specs.Reading.{class_of, count_at, counts_of, mail_words, mail_at, progress_words, progress_at, named_at}
 use Rattle.scripts.specs.Script.{class_text, mail_text, progress_text, control_text, IsMail, IsProgress, IsControl}
-use Rattle.scripts.proofs.Pieces.{bind_some, some_is, test_some, and_both, cut_takes, cut_again, Lacks, lacks_append, all_lacks}
-use Rattle.scripts.proofs.Numbers.{number_takes, number_again, up_to_takes, up_to_again}
-use Rattle.scripts.proofs.Addresses.{decimal_lacks}
+use Rattle.sip_text.proofs.Cuts.{test_some, cut_takes, cut_again, Lacks, lacks_append, all_lacks}
+use Rattle.sip_text.proofs.Pieces.{bind_some, some_is, and_both}
+use Rattle.sip_text.proofs.PlainNumbers.{number_takes, number_again, up_to_takes, up_to_again}
+use Rattle.sip_text.proofs.Addresses.{decimal_lacks}
 
 pub text_taken : (t w : List ℕ) → text_of t ≡ Some w → (t ≡ w) × IsUtf8 w
 text_taken t w e = let k = test_some (is_utf8 t) t w e in (k.1, rw (← k.1) (IsUtf8-from_is_utf8 t k.0))
@@ -127,8 +129,8 @@ class_lacks_lf class.Text = refl
 count_takes : (t : List ℕ) (n : ℕ) (r : List ℕ) → count_at t ≡ Some (n, r) → (t ≡ decimal n ++ 32 ∷ r) × (n ≤ 4294967295)
 unfolding count_at
 count_takes t n r e =
-    let a = bind_some (cut_at 32 t) (λ p. number_up_to 4294967295 p.0 >>= λ m. Some (m, p.1)) (n, r) e in
-    let b = bind_some (number_up_to 4294967295 a.0.0) (λ m. Some (m, a.0.1)) (n, r) a.2 in
+    let a = bind_some (cut_at 32 t) (λ p. plain_up_to 4294967295 p.0 >>= λ m. Some (m, p.1)) (n, r) e in
+    let b = bind_some (plain_up_to 4294967295 a.0.0) (λ m. Some (m, a.0.1)) (n, r) a.2 in
     let pair = some_is (b.0, a.0.1) (n, r) b.2 in
     let n-is : b.0 ≡ n = ap (λ (p : ℕ × List ℕ). p.0) pair in
     let r-is : a.0.1 ≡ r = ap (λ (p : ℕ × List ℕ). p.1) pair in
@@ -153,10 +155,10 @@ counts_take : (t : List ℕ) (c : Counts) → counts_of t ≡ Some c → (t ≡ 
 unfolding counts_of
 counts_take t c e =
     let last = λ (i j k n : ℕ). (let l : Option Counts = Some (record { new_count = i; old_count = j; urgent_new = k; urgent_old = n }) in l) in
-    let p = bind_some (count_at t) (λ i. count_at i.1 >>= λ j. count_at j.1 >>= λ k. number_up_to 4294967295 k.1 >>= λ n. last i.0 j.0 k.0 n) c e in
-    let q = bind_some (count_at p.0.1) (λ j. count_at j.1 >>= λ k. number_up_to 4294967295 k.1 >>= λ n. last p.0.0 j.0 k.0 n) c p.2 in
-    let r = bind_some (count_at q.0.1) (λ k. number_up_to 4294967295 k.1 >>= λ n. last p.0.0 q.0.0 k.0 n) c q.2 in
-    let s = bind_some (number_up_to 4294967295 r.0.1) (λ n. last p.0.0 q.0.0 r.0.0 n) c r.2 in
+    let p = bind_some (count_at t) (λ i. count_at i.1 >>= λ j. count_at j.1 >>= λ k. plain_up_to 4294967295 k.1 >>= λ n. last i.0 j.0 k.0 n) c e in
+    let q = bind_some (count_at p.0.1) (λ j. count_at j.1 >>= λ k. plain_up_to 4294967295 k.1 >>= λ n. last p.0.0 j.0 k.0 n) c p.2 in
+    let r = bind_some (count_at q.0.1) (λ k. plain_up_to 4294967295 k.1 >>= λ n. last p.0.0 q.0.0 k.0 n) c q.2 in
+    let s = bind_some (plain_up_to 4294967295 r.0.1) (λ n. last p.0.0 q.0.0 r.0.0 n) c r.2 in
     let i = count_takes t p.0.0 p.0.1 p.1 in
     let j = count_takes p.0.1 q.0.0 q.0.1 q.1 in
     let k = count_takes q.0.1 r.0.0 r.0.1 r.1 in
@@ -255,10 +257,10 @@ progress_words_take : (t : List ℕ) (w : Progress) → progress_words t ≡ Som
 unfolding progress_words
 progress_words_take t w e =
     let last = λ (g : List ℕ) (n : ℕ) (r : List ℕ). (let l : Option Progress = Some (record { tag = g; code = n; reason = r }) in l) in
-    let p = bind_some (cut_at 32 t) (λ x. text_of x.0 >>= λ g. cut_at 32 x.1 >>= λ y. number_up_to 65535 y.0 >>= λ n. text_of y.1 >>= λ r. last g n r) w e in
-    let q = bind_some (text_of p.0.0) (λ g. cut_at 32 p.0.1 >>= λ y. number_up_to 65535 y.0 >>= λ n. text_of y.1 >>= λ r. last g n r) w p.2 in
-    let r = bind_some (cut_at 32 p.0.1) (λ y. number_up_to 65535 y.0 >>= λ n. text_of y.1 >>= λ z. last q.0 n z) w q.2 in
-    let s = bind_some (number_up_to 65535 r.0.0) (λ n. text_of r.0.1 >>= λ z. last q.0 n z) w r.2 in
+    let p = bind_some (cut_at 32 t) (λ x. text_of x.0 >>= λ g. cut_at 32 x.1 >>= λ y. plain_up_to 65535 y.0 >>= λ n. text_of y.1 >>= λ r. last g n r) w e in
+    let q = bind_some (text_of p.0.0) (λ g. cut_at 32 p.0.1 >>= λ y. plain_up_to 65535 y.0 >>= λ n. text_of y.1 >>= λ r. last g n r) w p.2 in
+    let r = bind_some (cut_at 32 p.0.1) (λ y. plain_up_to 65535 y.0 >>= λ n. text_of y.1 >>= λ z. last q.0 n z) w q.2 in
+    let s = bind_some (plain_up_to 65535 r.0.0) (λ n. text_of r.0.1 >>= λ z. last q.0 n z) w r.2 in
     let u = bind_some (text_of r.0.1) (λ z. last q.0 s.0 z) w s.2 in
     let a = cut_takes 32 t p.0.0 p.0.1 p.1 in
     let b = text_taken p.0.0 q.0 q.1 in
@@ -313,11 +315,11 @@ or_takes false x other y e f g = g refl e
 pub named_takes : (name rest : List ℕ) (c : Control) → named_at name rest ≡ Some c → TakesLine name rest c
 unfolding named_at
 named_takes name rest c e =
-    let tick : Option Control = cond (bytes_eq name (codes "TICK")) (number_of rest >>= λ n. Some (control.Tick n)) None in
+    let tick : Option Control = cond (bytes_eq name (codes "TICK")) (plain_number rest >>= λ n. Some (control.Tick n)) None in
     let others : Option Control = cond (bytes_eq name (codes "PROGRESS")) (progress_at rest >>= λ p. Some (control.Progress p)) tick in
     or_takes (bytes_eq name (codes "MAIL")) (mail_at rest >>= λ m. Some (control.Mail m)) others c e of_mail
     (λ _ e2. or_takes (bytes_eq name (codes "PROGRESS")) (progress_at rest >>= λ p. Some (control.Progress p)) tick c e2 of_progress
-    (λ _ e3. or_takes (bytes_eq name (codes "TICK")) (number_of rest >>= λ n. Some (control.Tick n)) None c e3 of_tick (λ _ e4. absurd cc))) where
+    (λ _ e3. or_takes (bytes_eq name (codes "TICK")) (plain_number rest >>= λ n. Some (control.Tick n)) None c e3 of_tick (λ _ e4. absurd cc))) where
       of_mail : bytes_eq name (codes "MAIL") ≡ true → (mail_at rest >>= λ m. Some (control.Mail m)) ≡ Some c → TakesLine name rest c
       of_mail same e =
           let p = bind_some (mail_at rest) (λ m. Some (control.Mail m)) c e in
@@ -330,9 +332,9 @@ named_takes name rest c e =
           let k = progress_takes rest p.0 p.1 in
           subst (TakesLine name rest) (some_is (control.Progress p.0) c p.2) (record { whole = ap (λ (l : List ℕ). l ++ 32 ∷ rest) (same_text name (codes "PROGRESS") same) ∙ k.0; is_control = k.1 })
 
-      of_tick : bytes_eq name (codes "TICK") ≡ true → (number_of rest >>= λ n. Some (control.Tick n)) ≡ Some c → TakesLine name rest c
+      of_tick : bytes_eq name (codes "TICK") ≡ true → (plain_number rest >>= λ n. Some (control.Tick n)) ≡ Some c → TakesLine name rest c
       of_tick same e =
-          let p = bind_some (number_of rest) (λ n. Some (control.Tick n)) c e in
+          let p = bind_some (plain_number rest) (λ n. Some (control.Tick n)) c e in
           let k = number_takes rest p.0 p.1 in
           subst (TakesLine name rest) (some_is (control.Tick p.0) c p.2) (record { whole = ap (λ (l : List ℕ). l ++ 32 ∷ rest) (same_text name (codes "TICK") same) ∙ ap (λ (l : List ℕ). codes "TICK " ++ l) k.0; is_control = k.1 })
 

@@ -6,9 +6,11 @@ use Rattle.scripts.specs.declared.error.ScriptError.{ScriptError}
 use Rattle.scripts.specs.declared.error.ScriptError.TheVariants as error
 use Rattle.scripts.specs.declared.script.Control.{Control}
 use Rattle.scripts.specs.declared.script.Control.TheVariants as control
-use Rattle.scripts.specs.Reading.{◌>>=◌, Gives, cut_at, named_at, ended, line_of, order_of, control_of, blocks_of}
+use Rattle.sip_text.specs.Reading.{◌>>=◌, cut_at}
+use Rattle.scripts.specs.Reading.{Gives, named_at, ended, line_of, order_of, control_of, blocks_of}
 use Rattle.scripts.specs.Script.{control_text, lf, IsControl, IsControlLine, IsScript, Answers, IsExactScript, IsExactControlLine}
-use Rattle.scripts.proofs.Pieces.{bind_some, some_is, cut_takes, cut_again, cut_lacks, Lacks}
+use Rattle.sip_text.proofs.Cuts.{cut_takes, cut_again, cut_lacks, Lacks}
+use Rattle.sip_text.proofs.Pieces.{bind_some, some_is}
 use Rattle.scripts.proofs.Lines.{same_text, or_takes, named_takes, HasWord, mail_word, progress_word, tick_word, line_lacks}
 use Rattle.scripts.proofs.Blocks.{script_takes, script_again}
 

@@ -6,8 +6,9 @@
 --   NOTIFY <tag> <number> <address> <length> LF octets LF
 --   START <tag> <refer_to>
 use Rattle.std.specs.Prelude.{ℕ, List, ◌++◌, length, codes, decimal}
-use Rattle.sip_read.specs.declared.message.Addr.{Addr}
-use Rattle.scripts.specs.Script.{addr_text, lf}
+use Rattle.sip_text.specs.declared.address.Addr.{Addr}
+use Rattle.sip_text.specs.Addresses.{addr_text}
+use Rattle.scripts.specs.Script.{lf}
 
 -- a SIP block that can't be read: its number among the SIP blocks, from 1, and the number of the error
 abbrev pub unread_text : ℕ → ℕ → List ℕ

@@ -4,7 +4,8 @@ use Rattle.std.specs.List.{prefix_len, list_all}
 use Rattle.std.specs.Char.{is_ascii_digit}
 use Rattle.std.specs.Str.{is_utf8}
 use Rattle.std.specs.Str.Parse.{digits_value}
-use Rattle.sip_read.specs.declared.message.Addr.{Addr}
+use Rattle.sip_text.specs.declared.address.Addr.{Addr}
+use Rattle.sip_text.specs.Reading.{◌>>=◌, after_byte, cut_at, text_of, plain_number, plain_up_to, addr_of}
 use Rattle.package.specs.Values.{MailChange, Progress}
 use Rattle.package.specs.declared.counts.Counts.{Counts}
 use Rattle.package.specs.declared.counts.Class.{Class}
@@ -17,75 +18,7 @@ use Rattle.scripts.specs.declared.error.ScriptError.{ScriptError}
 use Rattle.scripts.specs.declared.error.ScriptError.TheVariants as error
 use Rattle.scripts.specs.Changes.{mail_of, progress_of}
 
-infixl 10 ◌>>=◌
-abbrev pub ◌>>=◌ : {A B : Type 0} → Option A → (A → Option B) → Option B
-(Some x) >>= f = f x
-None >>= f = None
-
--- what a function found, seen by view, is what the function on lists gives
-abbrev pub Finds : {X Y : Type 0} → (X → Y) → Option X → Option Y → Type 0
-Finds view (Some x) read = read ≡ Some (view x)
-Finds view None read = read ≡ None
-
--- ---- pieces
-
-abbrev pub is_other : ℕ → ℕ → Bool
-is_other b x = not (x == b)
-
--- what follows this byte
-abbrev pub after_byte : ℕ → List ℕ → Option (List ℕ)
-after_byte b [] = None
-after_byte b (x ∷ xs) = if x == b then Some xs else None
-
--- what stands before the first such byte, and what behind it
-unfoldable pub cut_at : ℕ → List ℕ → Option (List ℕ × List ℕ)
-cut_at b t = do
-  rest ← after_byte b (drop (prefix_len (is_other b) t) t)
-  Some (take (prefix_len (is_other b) t) t, rest)
-
--- a number in decimal without leading zeros
-abbrev pub is_plain : List ℕ → Bool
-is_plain [] = false
-is_plain (x ∷ xs) = if x == 48 then length xs == 0 else list_all is_ascii_digit (x ∷ xs)
-
-abbrev pub text_of : List ℕ → Option (List ℕ)
-text_of t = if is_utf8 t then Some t else None
-
--- the number that the word is in decimal, below 2 ^ 64
-unfoldable pub number_of : List ℕ → Option ℕ
-number_of w = do
-  t ← text_of w
-  if is_plain t && nat_lt (digits_value 10 t) (2 ^ 64) then Some (digits_value 10 t) else None
-
--- the same, at most this
-unfoldable pub number_up_to : ℕ → List ℕ → Option ℕ
-number_up_to most w = do
-  n ← number_of w
-  if nat_le n most then Some n else None
-
 -- ---- lines
-
--- an octet of an address before a dot, and what stands behind that
-unfoldable pub octet_at : List ℕ → Option (ℕ × List ℕ)
-octet_at t = do
-  p ← cut_at 46 t
-  n ← number_up_to 255 p.0
-  Some (n, p.1)
-
-unfoldable pub ip_of : List ℕ → Option (List ℕ)
-ip_of t = do
-  a ← octet_at t
-  b ← octet_at a.1
-  c ← octet_at b.1
-  d ← number_up_to 255 c.1
-  Some (a.0 ∷ b.0 ∷ c.0 ∷ d ∷ [])
-
-unfoldable pub addr_of : List ℕ → Option Addr
-addr_of t = do
-  p ← cut_at 58 t
-  ip ← ip_of p.0
-  port ← number_up_to 65535 p.1
-  Some (record { ip = ip; port = port })
 
 unfoldable pub class_of : List ℕ → Option Class
 class_of w =
@@ -100,7 +33,7 @@ class_of w =
 unfoldable pub count_at : List ℕ → Option (ℕ × List ℕ)
 count_at t = do
   p ← cut_at 32 t
-  n ← number_up_to 4294967295 p.0
+  n ← plain_up_to 4294967295 p.0
   Some (n, p.1)
 
 -- the four counts of a MAIL line: new, old, urgent new, urgent old
@@ -109,7 +42,7 @@ counts_of t = do
   a ← count_at t
   b ← count_at a.1
   c ← count_at b.1
-  d ← number_up_to 4294967295 c.1
+  d ← plain_up_to 4294967295 c.1
   Some (record { new_count = a.0; old_count = b.0; urgent_new = c.0; urgent_old = d })
 
 -- the words of a MAIL line behind the first, which a mail change may refuse
@@ -133,7 +66,7 @@ progress_words t = do
   word ← cut_at 32 t
   tag ← text_of word.0
   number ← cut_at 32 word.1
-  code ← number_up_to 65535 number.0
+  code ← plain_up_to 65535 number.0
   reason ← text_of number.1
   Some (record { tag = tag; code = code; reason = reason })
 
@@ -147,7 +80,7 @@ unfoldable pub named_at : List ℕ → List ℕ → Option Control
 named_at name rest =
     if bytes_eq name (codes "MAIL") then (mail_at rest >>= λ m. Some (control.Mail m))
     else if bytes_eq name (codes "PROGRESS") then (progress_at rest >>= λ p. Some (control.Progress p))
-    else if bytes_eq name (codes "TICK") then (number_of rest >>= λ n. Some (control.Tick n))
+    else if bytes_eq name (codes "TICK") then (plain_number rest >>= λ n. Some (control.Tick n))
     else None
 
 -- ---- blocks
@@ -161,7 +94,7 @@ unfoldable pub sip_head : List ℕ → Option (Addr × ℕ)
 sip_head t = do
   p ← cut_at 32 t
   addr ← addr_of p.0
-  len ← number_up_to 65536 p.1
+  len ← plain_up_to 65536 p.1
   Some (addr, len)
 
 unfoldable pub sip_at : List ℕ → List ℕ → Option (Block × List ℕ)

@@ -13,7 +13,8 @@
 -- Each number is decimal without leading zeros, so each block has one text, and a script is the texts of its blocks, joined.
 use Rattle.std.specs.Prelude.{◌≡◌, ℕ, ◌<◌, ◌≤◌, ◌^◌, List, [], ◌∷◌, ◌++◌, length, slice_index, codes, decimal, IsUtf8, ◌⊎◌, Result, Ok, Err}
 use Rattle.std.specs.List.{flat_map, AllByRecursion}
-use Rattle.sip_read.specs.declared.message.Addr.{Addr}
+use Rattle.sip_text.specs.declared.address.Addr.{Addr}
+use Rattle.sip_text.specs.Addresses.{addr_text, IsAddr}
 use Rattle.package.specs.Values.{MailChange, Progress, IsMailChange, IsProgress as IsAllowedProgress}
 use Rattle.package.specs.declared.counts.Class.{Class}
 use Rattle.package.specs.declared.counts.Class.TheVariants as class
@@ -28,15 +29,6 @@ use Rattle.scripts.specs.declared.error.ScriptError.TheVariants as error
 
 abbrev pub lf : List ℕ
 lf = 10 ∷ []
-
--- an IPv4 address in dotted decimal
-abbrev pub ip_text : List ℕ → List ℕ
-ip_text ip =
-    decimal (slice_index ip 0) ++ (codes "." ++ (decimal (slice_index ip 1)
-    ++ (codes "." ++ (decimal (slice_index ip 2) ++ (codes "." ++ decimal (slice_index ip 3))))))
-
-abbrev pub addr_text : Addr → List ℕ
-addr_text addr = ip_text addr.ip ++ (codes ":" ++ decimal addr.port)
 
 abbrev pub class_text : Class → List ℕ
 class_text class.Voice = codes "voice"
@@ -75,11 +67,6 @@ block_text (block.Progress p) = progress_text p ++ lf
 block_text (block.Tick n) = tick_text n ++ lf
 
 -- ---- what may be told
-
-pub record IsAddr (addr : Addr) : Type 0 where
-  pub four : length addr.ip ≡ 4
-  pub octets : (k : ℕ) → k < 4 → slice_index addr.ip k < 256
-  pub port : addr.port < 2 ^ 16
 
 -- counts of 32 bits, and what `MailChange::new` accepts
 pub record IsMail (m : MailChange) : Type 0 where

@@ -4,12 +4,12 @@ ghost use Rattle.hex.specs.Hex.{decode_sized};
 ghost use Rattle.scripts.specs.declared.arguments.Arguments.{Arguments};
 ghost use Rattle.scripts.specs.declared.arguments.ArgumentsError.TheVariants.{NoMemory};
 ghost use Rattle.scripts.specs.Arguments.{zero_seed, default_arguments, AreArguments, AnswersArguments};
-ghost use Rattle.scripts.specs.ArgumentsReading.{seed_of, workers_of, crew_at, script_at, arguments_of, GivesArguments};
-ghost use Rattle.scripts.specs.Reading.{Finds, number_up_to};
+ghost use Rattle.scripts.specs.ArgumentsReading.{seed_of, workers_of, crew_at, stop_at, script_at, arguments_of, GivesArguments};
+ghost use Rattle.sip_text.specs.Bytes.{Finds};
+ghost use Rattle.sip_text.specs.Reading.{plain_up_to};
 
-use crate::scan::number_of;
-use event_headers::{NoMemory as NoRoom, Text, Values};
 use hex::FromHex;
+use sip_text::{NoMemory as NoRoom, Text, Values, plain_number};
 use std::alloc::{AllocError, AllocFailed, Global};
 use thiserror::Error;
 
@@ -18,6 +18,8 @@ use thiserror::Error;
 pub struct Arguments {
     /// From which the words of local tags are drawn.
     pub seed: [u8; 32],
+    /// Whether the script ends with a planned stop.
+    pub stop: bool,
     /// 1 to 256.
     pub workers: u32,
     /// One or more.
@@ -79,11 +81,11 @@ fn workers_of(word: &str) -> Option<u32>
     if number == 0 { None } else { Some(number) }
 }
 
-#[tactic(auto, unfolding(crate::specs::Reading::number_up_to))]
+#[tactic(auto, unfolding(sip_text::specs::Reading::plain_up_to))]
 fn up_to_256(word: &[u8]) -> Option<u32>
-    ensures { Finds (λ x. x) result (number_up_to 256 word.now) }
+    ensures { Finds (λ x. x) result (plain_up_to 256 word.now) }
 {
-    let number = number_of(word)?;
+    let number = plain_number(word)?;
     if number <= 256 {
         Some(number as u32)
     } else {
@@ -104,8 +106,13 @@ fn copies_of(alloc: Global, texts: &[Text]) -> Result<Vec<Text>, ArgumentsError>
 
 /// The workers and the mailboxes.
 #[tactic(auto, unfolding(crate::specs::ArgumentsReading::crew_at))]
-fn crew_at(alloc: Global, seed: [u8; 32], words: &[Text]) -> Result<Arguments, ArgumentsError>
-    ensures { GivesArguments result (crew_at seed words.now) }
+fn crew_at(
+    alloc: Global,
+    seed: [u8; 32],
+    stop: bool,
+    words: &[Text],
+) -> Result<Arguments, ArgumentsError>
+    ensures { GivesArguments result (crew_at seed stop words.now) }
 {
     let [word, mailboxes @ ..] = words else {
         return Err(ArgumentsError::Bad);
@@ -119,9 +126,21 @@ fn crew_at(alloc: Global, seed: [u8; 32], words: &[Text]) -> Result<Arguments, A
     let mailboxes = copies_of(alloc, mailboxes)?;
     Ok(Arguments {
         seed,
+        stop,
         workers,
         mailboxes: Values::new(mailboxes),
     })
+}
+
+/// What stands behind the seed.
+#[tactic(auto, unfolding(crate::specs::ArgumentsReading::stop_at))]
+fn stop_at(alloc: Global, seed: [u8; 32], words: &[Text]) -> Result<Arguments, ArgumentsError>
+    ensures { GivesArguments result (stop_at seed words.now) }
+{
+    match words {
+        [flag, words @ ..] if flag.is("--stop") => crew_at(alloc, seed, true, words),
+        _ => crew_at(alloc, seed, false, words),
+    }
 }
 
 /// What stands behind the first word.
@@ -131,10 +150,10 @@ fn script_at(alloc: Global, words: &[Text]) -> Result<Arguments, ArgumentsError>
 {
     match words {
         [flag, digits, words @ ..] if flag.is("--seed") => match seed_of(digits.as_str()) {
-            Some(seed) => crew_at(alloc, seed, words),
+            Some(seed) => stop_at(alloc, seed, words),
             None => Err(ArgumentsError::Bad),
         },
-        _ => crew_at(alloc, [0; 32], words),
+        _ => stop_at(alloc, [0; 32], words),
     }
 }
 
@@ -146,6 +165,7 @@ fn default_arguments(alloc: Global) -> Result<Arguments, ArgumentsError>
     mailboxes.push(Text::of(alloc, "alice")?)?;
     Ok(Arguments {
         seed: [0; 32],
+        stop: false,
         workers: 1,
         mailboxes: Values::new(mailboxes),
     })

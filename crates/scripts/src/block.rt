@@ -1,24 +1,25 @@
 //! The blocks of a script.
 ghost use Rattle.std.specs.Prelude.{◌≡◌, ℕ};
-ghost use Rattle.scripts.specs.Reading.{Finds, Gives, number_up_to, octets_at, sip_head, sip_at, block_of, block_named, block_at, blocks_of};
+ghost use Rattle.sip_text.specs.Bytes.{Finds};
+ghost use Rattle.sip_text.specs.Reading.{plain_up_to};
+ghost use Rattle.scripts.specs.Reading.{Gives, octets_at, sip_head, sip_at, block_of, block_named, block_at, blocks_of};
 
 use crate::error::ScriptError;
-use crate::line::{addr_of, named_at};
-use crate::scan::{after_byte, cut_at, number_of};
+use crate::line::named_at;
 use crate::script::{Block, Control};
-use event_headers::Octets;
 use sip_read::Addr;
+use sip_text::{Octets, after_byte, cut_at, plain_number};
 use std::alloc::Global;
 
 /// The most octets that a datagram of a script may have.
 const MOST_OCTETS: u64 = 65536;
 
 /// How many octets a SIP block says that it has.
-#[tactic(auto, unfolding(crate::specs::Reading::number_up_to))]
+#[tactic(auto, unfolding(sip_text::specs::Reading::plain_up_to))]
 fn length_of(word: &[u8]) -> Option<usize>
-    ensures { Finds (λ x. x) result (number_up_to 65536 word.now) }
+    ensures { Finds (λ x. x) result (plain_up_to 65536 word.now) }
 {
-    let length = number_of(word)?;
+    let length = plain_number(word)?;
     if length <= MOST_OCTETS {
         Some(length as usize)
     } else {
@@ -44,7 +45,7 @@ fn sip_head(text: &[u8]) -> Option<(Addr, usize)>
     ensures { Finds (λ x. x) result (sip_head text.now) }
 {
     let (word, rest) = cut_at(b' ', text)?;
-    let addr = addr_of(word)?;
+    let addr = Addr::of(word)?;
     let length = length_of(rest)?;
     Some((addr, length))
 }

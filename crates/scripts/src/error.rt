@@ -3,7 +3,7 @@ ghost use Rattle.std.specs.Prelude.{◌≡◌, ℕ};
 ghost use Rattle.scripts.specs.Errors.{number_of_error};
 ghost use Rattle.scripts.specs.declared.error.ScriptError.TheVariants.{NoMemory};
 
-use event_headers::NoMemory as NoRoom;
+use sip_text::NoMemory as NoRoom;
 use std::alloc::{AllocError, AllocFailed};
 use thiserror::Error;
 

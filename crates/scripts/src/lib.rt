@@ -21,7 +21,6 @@ mod line;
 pub mod output;
 pub mod page;
 pub mod parse;
-mod scan;
 pub mod script;
 #[cfg(test)]
 mod tests;

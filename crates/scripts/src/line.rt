@@ -1,46 +1,15 @@
 //! The words of a line.
 ghost use Rattle.std.specs.Prelude.{◌≡◌, ℕ, string_bytes};
-ghost use Rattle.scripts.specs.Reading.{Finds, Gives, octet_at, ip_of, addr_of, class_of, count_at, counts_of, mail_words, mail_at, progress_words, progress_at, named_at, order_of, line_of, control_of};
+ghost use Rattle.sip_text.specs.Bytes.{Finds};
+ghost use Rattle.scripts.specs.Reading.{Gives, class_of, count_at, counts_of, mail_words, mail_at, progress_words, progress_at, named_at, order_of, line_of, control_of};
 ghost use Rattle.scripts.specs.Changes.{mail_of, progress_of};
 ghost use Rattle.scripts.specs.Views.{mail_seen, progress_seen};
 
 use crate::error::ScriptError;
-use crate::scan::{byte_of, count_of, cut_at, number_of, short_of, text_of};
 use crate::script::Control;
 use package::{Class, Counts, MailChange, Progress};
-use sip_read::Addr;
+use sip_text::{byte_of, count_of, cut_at, plain_number, short_of, text_of};
 use std::alloc::Global;
-
-/// An octet of an address before a dot, and what stands behind that.
-#[tactic(auto, unfolding(crate::specs::Reading::octet_at))]
-fn octet_at(text: &[u8]) -> Option<(u8, &[u8])>
-    ensures { Finds (λ x. (x.0, x.1.now)) result (octet_at text.now) }
-{
-    let (word, rest) = cut_at(b'.', text)?;
-    Some((byte_of(word)?, rest))
-}
-
-#[tactic(auto, unfolding(crate::specs::Reading::ip_of))]
-fn ip_of(text: &[u8]) -> Option<[u8; 4]>
-    ensures { Finds (λ x. x) result (ip_of text.now) }
-{
-    let (first, rest) = octet_at(text)?;
-    let (second, rest) = octet_at(rest)?;
-    let (third, rest) = octet_at(rest)?;
-    let fourth = byte_of(rest)?;
-    Some([first, second, third, fourth])
-}
-
-/// An address in dotted decimal, a colon and a port.
-#[tactic(auto, unfolding(crate::specs::Reading::addr_of))]
-pub fn addr_of(text: &[u8]) -> Option<Addr>
-    ensures { Finds (λ x. x) result (addr_of text.now) }
-{
-    let (host, rest) = cut_at(b':', text)?;
-    let ip = ip_of(host)?;
-    let port = short_of(rest)?;
-    Some(Addr { ip, port })
-}
 
 #[tactic(auto, unfolding(crate::specs::Reading::class_of))]
 fn class_of(word: &[u8]) -> Option<Class>
@@ -184,7 +153,7 @@ pub fn named_at(alloc: Global, name: &[u8], rest: &[u8]) -> Result<Control, Scri
     } else if name == b"PROGRESS".as_slice() {
         Ok(Control::Progress(progress_at(alloc, rest)?))
     } else if name == b"TICK".as_slice() {
-        number_of(rest)
+        plain_number(rest)
             .map(Control::Tick)
             .ok_or(ScriptError::BadScript)
     } else {

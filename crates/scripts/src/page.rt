@@ -1,10 +1,10 @@
 //! What a server prints of a run, line by line.
 ghost use Rattle.std.specs.Prelude.{◌≡◌, ℕ, List, [], ◌∷◌, ◌++◌, length, take, string_bytes, IfOk, OnOk, OnErr};
-ghost use Rattle.scripts.specs.Script.{ip_text, addr_text, lf};
+ghost use Rattle.scripts.specs.Script.{lf};
 ghost use Rattle.scripts.specs.Page.{unread_text, worker_text, answer_text, notify_text, start_text};
 
-use event_headers::NoMemory;
 use sip_read::Addr;
+use sip_text::NoMemory;
 use std::alloc::{AllocError, Global};
 use std::marker::Model;
 
@@ -18,28 +18,6 @@ impl Model for Page {
     ghost Value = { List ℕ };
 
     ghost view = { λ p. p.bytes.items };
-}
-
-/// An IPv4 address in dotted decimal.
-fn ip_text(
-    alloc: Global,
-    first: u8,
-    second: u8,
-    third: u8,
-    fourth: u8,
-) -> Result<String, AllocError>
-    ensures { IfOk result (λ text. string_bytes text ≡ ip_text (first ∷ second ∷ third ∷ fourth ∷ [])) }
-{
-    format!(in alloc; "{first}.{second}.{third}.{fourth}")
-}
-
-/// An address in dotted decimal, a colon and a port.
-fn addr_text(alloc: Global, addr: Addr) -> Result<String, AllocError>
-    ensures { IfOk result (λ text. string_bytes text ≡ addr_text addr) }
-{
-    let host = ip_text(alloc, addr.ip[0], addr.ip[1], addr.ip[2], addr.ip[3])?;
-    let port = addr.port;
-    format!(in alloc; "{host}:{port}")
 }
 
 impl Page {
@@ -92,7 +70,7 @@ impl Page {
         ensures ok { OnOk result (self.new ≡ self.old ++ answer_text addr octets.now) }
         ensures err { OnErr result (self.new ≡ self.old) }
     {
-        let addr = addr_text(alloc, addr)?;
+        let addr = addr.text(alloc)?;
         let length = octets.len();
         let head = format!(in alloc; "ANSWER {addr} {length}\n")?;
         self.add(head.as_str(), octets)
@@ -110,7 +88,7 @@ impl Page {
         ensures ok { OnOk result (self.new ≡ self.old ++ notify_text tag.now number addr octets.now) }
         ensures err { OnErr result (self.new ≡ self.old) }
     {
-        let addr = addr_text(alloc, addr)?;
+        let addr = addr.text(alloc)?;
         let length = octets.len();
         let head = format!(in alloc; "NOTIFY {tag} {number} {addr} {length}\n")?;
         self.add(head.as_str(), octets)

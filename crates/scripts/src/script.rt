@@ -1,8 +1,8 @@
 //! What a script and a control line say.
 
-use event_headers::Octets;
 use package::{MailChange, Progress};
 use sip_read::Addr;
+use sip_text::Octets;
 
 /// A block of a script.
 #[derive(Debug, Drop)]

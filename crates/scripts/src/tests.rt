@@ -6,8 +6,8 @@ use crate::{
     ArgumentsError, Block, Control, Page, ScriptError, one_reading, parse_arguments, parse_control,
     parse_script,
 };
-use event_headers::Text;
 use sip_read::Addr;
+use sip_text::Text;
 use std::alloc::{AllocError, Global};
 use std::io;
 use std::io::{ErrorKind, Read, Write};
@@ -359,21 +359,36 @@ const SEED: &str = "00112233445566778899aabbccddeeffFFEEDDCCBBAA9988776655443322
 #[test]
 fn arguments_ask_for_workers_and_mailboxes(rt: HostRuntime) -> Result<(), Fail> {
     let alloc = rt.alloc();
-    for (words, workers, mailboxes) in [
-        ([].as_slice(), 1, ["alice"].as_slice()),
-        (&["script", "1", "alice"], 1, &["alice"]),
-        (&["script", "256", "", "two words"], 256, &["", "two words"]),
-        (&["script", "2", "3", "--seed"], 2, &["3", "--seed"]),
-        (&["script", "--seed", SEED, "16", "bob"], 16, &["bob"]),
+    for (words, stop, workers, mailboxes) in [
+        ([].as_slice(), false, 1, ["alice"].as_slice()),
+        (&["script", "1", "alice"], false, 1, &["alice"]),
+        (
+            &["script", "256", "", "two words"],
+            false,
+            256,
+            &["", "two words"],
+        ),
+        (
+            &["script", "--stop", "2", "3", "--stop"],
+            true,
+            2,
+            &["3", "--stop"],
+        ),
+        (
+            &["script", "--seed", SEED, "--stop", "16", "bob"],
+            true,
+            16,
+            &["bob"],
+        ),
     ] {
         let words = texts(alloc, words)?;
         let arguments = parse_arguments(alloc, words.as_slice())?;
-        assert_eq!(rt; arguments.workers, workers);
+        assert_eq!(rt; (arguments.stop, arguments.workers), (stop, workers));
         assert_eq!(rt; arguments.mailboxes.as_slice().len(), mailboxes.len());
         for (mailbox, want) in arguments.mailboxes.as_slice().iter().zip(mailboxes) {
             assert_eq!(rt; mailbox.as_str(), *want);
         }
-        let first = if words.len() == 5 {
+        let first = if words.len() == 6 {
             [0x00, 0x11, 0x22]
         } else {
             [0, 0, 0]
@@ -395,7 +410,8 @@ fn other_arguments_are_bad(rt: HostRuntime) -> Result<(), Fail> {
         &["script", "01", "alice"],
         &["script", "--seed"],
         &["script", "--seed", SEED],
-        &["script", "--seed", SEED, "1"],
+        &["script", "--stop", "1"],
+        &["script", "--stop", "--seed", SEED, "1", "alice"],
         &["script", "--seed", "00", "1", "alice"],
         &[
             "script",

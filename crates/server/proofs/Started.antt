@@ -1,18 +1,25 @@
 -- The program starts from what its arguments say.
-use Rattle.std.proofs.Common.{◌≡◌, ℕ, List, [], ◌∷◌, map, string_bytes, String, refl, ap, ◌∙◌}
+use Rattle.std.proofs.Common.{◌≡◌, ℕ, ◌+◌, ◌≤◌, List, [], ◌∷◌, ◌++◌, length, map, string_bytes, String, refl, sym, ap, ◌∙◌, inl, inr, arith}
+use Rattle.std.specs.Prelude.{◌%◌, ◌==◌}
 use Rattle.std.specs.FinMap.{from_entries}
 use Rattle.std.specs.declared.alloc.Global.{Global}
+use Rattle.std.specs.List.{range_with_len}
+use Rattle.std.proofs.lemmas.List.{map-append, length-map}
+use Rattle.std.proofs.lemmas.List.Elements.{filter-append}
+use Rattle.std.proofs.lemmas.List.FromFn.{map-range_with_len_more, length-map-range_with_len}
+use Rattle.scripts.specs.declared.arguments.Arguments.{Arguments}
+use Rattle.scripts.specs.Arguments.{AreArguments}
 use Rattle.package.specs.Content.{Content, OfMail, Seen, mail_package}
 use Rattle.package.specs.Changes.{unset}
 use Rattle.message_summary.specs.Mailboxes.{mail_type, new_mailboxes}
 use Rattle.refer.specs.Transfers.{new_transfers}
 use Rattle.notifier.specs.declared.place.Setup.{Setup}
-use Rattle.notifier.specs.Start.{Start, place_of}
+use Rattle.notifier.specs.Home.{key_hash}
 use Rattle.server.specs.declared.either.EitherPackage.{EitherPackage}
 use Rattle.server.specs.declared.either.EitherPackage.TheVariants.{First, Second}
 use Rattle.server.specs.Either.{seen_as}
-use Rattle.server.specs.Runs.{start_of}
-use Rattle.server.specs.Call.{mailboxes_named, place_for, start_with}
+use Rattle.server.specs.Runs.{starts_on}
+use Rattle.server.specs.Call.{mailboxes_named, setup_for, names_for, boxes_with, boxes_for, starts_for}
 
 new_entries : (names : List (String Global)) → map {B = List ℕ × Content} (λ name. (string_bytes name, OfMail unset)) names ≡ map {B = List ℕ × Content} (λ name. (name, OfMail unset)) (map string_bytes names)
 new_entries [] = refl
@@ -22,15 +29,43 @@ new_mailboxes-named : (names : List (String Global)) → new_mailboxes names ≡
 new_mailboxes-named names =
     ap (λ entries. let m : Seen = record { name = mail_package; content_type = mail_type; contents = from_entries entries } in m) (new_entries names)
 
-pub start_of-with : {A B : Type 0} (first : A → Seen) (second : B → Seen) (setup : Setup) (boxes : List (EitherPackage A B)) (a : A) (b : B)
-    (seed : List ℕ) (names : List (String Global)) (mailboxes : List (List ℕ))
-    → place_of setup 0 ≡ place_for seed → boxes ≡ First a ∷ Second b ∷ [] → first a ≡ new_mailboxes names → second b ≡ new_transfers
-    → map string_bytes names ≡ mailboxes
-    → start_of (seen_as first second) setup boxes ≡ start_with seed mailboxes
-start_of-with first second setup boxes a b seed names mailboxes place are mail transfers named =
-    let boxes_are : map (seen_as first second) boxes ≡ mailboxes_named mailboxes ∷ new_transfers ∷ [] =
+pub boxes_are : {A B : Type 0} (first : A → Seen) (second : B → Seen) (boxes : List (EitherPackage A B)) (a : A) (b : B) (names : List (String Global))
+    → boxes ≡ First a ∷ Second b ∷ [] → first a ≡ new_mailboxes names → second b ≡ new_transfers
+    → map (seen_as first second) boxes ≡ boxes_with (map string_bytes names)
+boxes_are first second boxes a b names are mail transfers =
     ap (map (seen_as first second)) are
-    ∙ ap (λ m. m ∷ second b ∷ []) (mail ∙ new_mailboxes-named names ∙ ap mailboxes_named named)
-    ∙ ap (λ t. mailboxes_named mailboxes ∷ t ∷ []) transfers in
-    ap (λ p. let s : Start = record { place = p; boxes = map (seen_as first second) boxes } in s) place
-    ∙ ap (λ bs. let s : Start = record { place = place_for seed; boxes = bs } in s) boxes_are
+    ∙ ap (λ (m : Seen). m ∷ second b ∷ []) (mail ∙ new_mailboxes-named names)
+    ∙ ap (λ (t : Seen). mailboxes_named (map string_bytes names) ∷ t ∷ []) transfers
+
+-- ---- the mailboxes of a worker
+
+pub names-push : (n worker : ℕ) (names : List (List ℕ)) (name : List ℕ) → names_for n worker (names ++ name ∷ []) ≡ names_for n worker names ++ names_for n worker (name ∷ [])
+names-push n worker names name = filter-append (λ (x : List ℕ). key_hash x % n == worker) names (name ∷ [])
+
+-- ---- the boxes of all workers
+
+pub boxes-push : {X : Type 0} (seen : X → List Seen) (all : List X) (boxes : X) (n worker : ℕ) (names its : List (List ℕ))
+    → map seen all ≡ map (λ w. boxes_with (names_for n w names)) (range_with_len 0 worker) → seen boxes ≡ boxes_with its → its ≡ names_for n worker names
+    → map seen (all ++ boxes ∷ []) ≡ map (λ w. boxes_with (names_for n w names)) (range_with_len 0 (worker + 1))
+boxes-push seen all boxes n worker names its so_far new named =
+    map-append seen all (boxes ∷ [])
+    ∙ ap (λ (b : List Seen). map seen all ++ b ∷ []) (new ∙ ap boxes_with named)
+    ∙ ap (λ (bs : List (List Seen)). bs ++ boxes_with (names_for n worker names) ∷ []) so_far
+    ∙ sym (map-range_with_len_more (λ w. boxes_with (names_for n w names)) 0 worker worker (omega arith))
+
+pub boxes-len : {X : Type 0} (seen : X → List Seen) (all : List X) (n : ℕ) (names : List (List ℕ)) → map seen all ≡ boxes_for n names → length all ≡ n
+boxes-len seen all n names are = sym (length-map all seen) ∙ ap length are ∙ length-map-range_with_len (λ w. boxes_with (names_for n w names)) 0 n
+
+pub starts_are : {X : Type 0} (seen : X → List Seen) (all : List X) (setup : Setup) (a : Arguments) → setup ≡ setup_for a.seed a.stop → map seen all ≡ boxes_for a.workers a.mailboxes
+    → starts_on setup (map seen all) ≡ starts_for a
+starts_are seen all setup a is are = ap (λ (s : Setup). starts_on s (map seen all)) is ∙ ap (starts_on (setup_for a.seed a.stop)) are
+
+-- ---- how many workers there are
+
+pub from_one : (words : List (List ℕ)) (a : Arguments) → AreArguments words a → 1 ≤ a.workers
+from_one words a (inl none) = let one = ap (λ (b : Arguments). b.workers) none.1 in omega arith
+from_one words a (inr call) = call.from_one
+
+pub to_256 : (words : List (List ℕ)) (a : Arguments) → AreArguments words a → a.workers ≤ 256
+to_256 words a (inl none) = let one = ap (λ (b : Arguments). b.workers) none.1 in omega arith
+to_256 words a (inr call) = call.to_256

@@ -2,13 +2,14 @@
 --
 --   status   line on standard error     cause
 --   0        none                       done
---   1        notifyd: bad arguments     the arguments don't ask for one worker that runs a script
+--   1        notifyd: bad arguments     the arguments don't ask for workers that run a script
 --   2        notifyd: bad script        the bytes are no script
 --   3        notifyd: device fault      a read or a write failed
 --   4        notifyd: out of memory     a growth was refused
-use Rattle.std.specs.Prelude.{◌≡◌, ℕ, List, [], ◌∷◌, map, codes, Option, Some, None}
+use Rattle.std.specs.Prelude.{ℕ, Bool, ◌%◌, ◌==◌, List, [], ◌∷◌, map, filter, codes, Option, Some, None}
+use Rattle.std.specs.List.{range_with_len}
 use Rattle.std.specs.FinMap.{from_entries}
-use Rattle.sip_read.specs.declared.message.Addr.{Addr}
+use Rattle.sip_text.specs.declared.address.Addr.{Addr}
 use Rattle.scripts.specs.declared.arguments.Arguments.{Arguments}
 use Rattle.scripts.specs.Arguments.{AreArguments}
 use Rattle.package.specs.Content.{Content, OfMail, Seen, mail_package}
@@ -16,10 +17,12 @@ use Rattle.package.specs.Changes.{unset}
 use Rattle.message_summary.specs.Mailboxes.{mail_type}
 use Rattle.refer.specs.Transfers.{new_transfers}
 use Rattle.notifier.specs.Limits.{Limits}
-use Rattle.notifier.specs.declared.place.Place.{Place}
+use Rattle.notifier.specs.declared.place.Setup.{Setup}
+use Rattle.notifier.specs.Home.{key_hash}
 use Rattle.notifier.specs.Start.{Start}
 use Rattle.server.specs.declared.program.Status.{Status}
 use Rattle.server.specs.declared.program.Status.TheVariants as status
+use Rattle.server.specs.Runs.{starts_on}
 
 abbrev pub code_of : Status → ℕ
 code_of status.Done = 0
@@ -62,28 +65,31 @@ mailboxes_named names = record {
   contents = from_entries (map {B = List ℕ × Content} (λ name. (name, OfMail unset)) names);
 }
 
--- worker 0 with this seed
-abbrev pub place_for : List ℕ → Place
-place_for seed = record { limits = program_limits; seed = seed; me = program_addr; worker = 0 }
+-- what all its workers have in common, with this seed, and whether a stop is planned
+abbrev pub setup_for : List ℕ → Bool → Setup
+setup_for seed stop = record { limits = program_limits; seed = seed; me = program_addr; stop = stop }
+
+-- the mailboxes, of these, whose keys go to this worker of n
+abbrev pub names_for : ℕ → ℕ → List (List ℕ) → List (List ℕ)
+names_for n worker names = filter (λ name. key_hash name % n == worker) names
 
 -- two packages: the mailboxes, then the transfers
-abbrev pub start_with : List ℕ → List (List ℕ) → Start
-start_with seed names = record { place = place_for seed; boxes = mailboxes_named names ∷ new_transfers ∷ [] }
+abbrev pub boxes_with : List (List ℕ) → List Seen
+boxes_with names = mailboxes_named names ∷ new_transfers ∷ []
 
-abbrev pub start_for : Arguments → Start
-start_for a = start_with a.seed a.mailboxes
+-- those of each of n workers, among which the mailboxes are dealt out
+abbrev pub boxes_for : ℕ → List (List ℕ) → List (List Seen)
+boxes_for n names = map (λ worker. boxes_with (names_for n worker names)) (range_with_len 0 n)
 
--- the words ask for one worker that runs a script, with these arguments
-pub record AskForOne (words : List (List ℕ)) (a : Arguments) : Type 0 where
-  pub are_arguments : AreArguments words a
-  pub one : a.workers ≡ 1
+abbrev pub starts_for : Arguments → List Start
+starts_for a = starts_on (setup_for a.seed a.stop) (boxes_for a.workers a.mailboxes)
 
--- the words ask for a run from a start of which P holds
-pub record AsksFor (words : List (List ℕ)) (P : Start → Type 0) : Type 0 where
+-- the words ask for a run from starts of which P holds
+pub record AsksFor (words : List (List ℕ)) (P : List Start → Type 0) : Type 0 where
   pub arguments : Arguments
-  pub are_arguments : AskForOne words arguments
-  pub holds : P (start_for arguments)
+  pub are_arguments : AreArguments words arguments
+  pub holds : P (starts_for arguments)
 
 -- the words ask for nothing that the program does
 abbrev pub AsksForNone : List (List ℕ) → Type 0
-AsksForNone words = (a : Arguments) → AskForOne words a → ⊥
+AsksForNone words = (a : Arguments) → AreArguments words a → ⊥

@@ -1,11 +1,12 @@
--- The page of a script that one worker runs.
+-- The page of a script that one or several workers run.
 --
 -- Each datagram of the script is one message, or wrong in one way (RFC 3261 section 7). The messages and the other lines of
--- the script are the worker's events, in order. The page has a line for each datagram that can't be read, then the
--- worker's line, then all that it sent, in order.
+-- the script are its events, in order. Each worker handles those that go to it: ticks, and the events whose home it is; and
+-- last a Shut, where a stop is planned. The page has a line for each datagram that can't be read; then for each worker, from
+-- 0, its line and all that it sent, in order.
 use Rattle.std.specs.Prelude.{◌≡◌, ℕ, ◌≤◌, List, [], ◌++◌, length, map, Option, Some, None, Result, Ok, Err}
 use Rattle.std.specs.List.{flat_map, filter_map, enumerate_from}
-use Rattle.sip_read.specs.declared.message.Addr.{Addr}
+use Rattle.sip_text.specs.declared.address.Addr.{Addr}
 use Rattle.sip_read.specs.declared.message.Message.{Message}
 use Rattle.sip_read.specs.declared.message.Message.TheVariants as message
 use Rattle.sip_read.specs.declared.error.ReadError.{ReadError}
@@ -23,6 +24,7 @@ use Rattle.notifier.specs.declared.event.Out.TheVariants as out
 use Rattle.notifier.specs.Start.{StartBy, Start}
 use Rattle.notifier.specs.Out.{out_of}
 use Rattle.notifier.specs.Run.{made}
+use Rattle.notifier.specs.Home.{events_for, at_the_stop}
 
 -- ---- what the datagrams are
 
@@ -44,7 +46,7 @@ abbrev pub unread_line : ℕ → Result Message ReadError → List ℕ
 unread_line number (Ok m) = []
 unread_line number (Err e) = unread_text number (error_number e)
 
--- ---- what a script is to a worker
+-- ---- the events of a script
 
 -- the octets of a datagram
 abbrev pub octets_in : Block → Option (List ℕ)
@@ -84,11 +86,22 @@ worker_lines worker events outs = worker_text worker (length events) (length out
 -- ---- the page
 
 module _ {maps : Maps} where
-  -- what is printed for these blocks
-  abbrev pub page_text : StartBy maps → Readings → List Block → List ℕ
-  page_text start readings blocks =
-      unread_lines readings blocks
-      ++ worker_lines start.place.worker (events_of readings blocks) (map out_of (made start (events_of readings blocks)))
+  -- those of these events that go to the worker with this start, one of n
+  abbrev pub events_to : ℕ → List Event → StartBy maps → List Event
+  events_to n es start = events_for n start.place.worker es
+
+  -- what it handles: these, and a Shut where a stop is planned
+  abbrev pub events_at : ℕ → List Event → StartBy maps → List Event
+  events_at n es start = events_to n es start ++ at_the_stop start.place.stop
+
+  -- and what is printed of it
+  abbrev pub worker_page : ℕ → List Event → StartBy maps → List ℕ
+  worker_page n es start = worker_lines start.place.worker (events_at n es start) (map out_of (made start (events_at n es start)))
+
+  -- what is printed for these blocks by workers with these starts
+  abbrev pub page_text : List (StartBy maps) → Readings → List Block → List ℕ
+  page_text starts readings blocks =
+      unread_lines readings blocks ++ flat_map (worker_page (length starts) (events_of readings blocks)) starts
 
 -- the most bytes that a script may have
 abbrev pub most_bytes : ℕ
@@ -99,10 +112,10 @@ pub record IsShortScript (bytes : List ℕ) (blocks : List Block) : Type 0 where
   pub is_script : IsScript bytes blocks
   pub is_short : length bytes ≤ most_bytes
 
--- this is printed for these bytes
-pub record IsPage (start : Start) (bytes page : List ℕ) : Type 0 where
+-- this is printed for these bytes by workers with these starts
+pub record IsPage (starts : List Start) (bytes page : List ℕ) : Type 0 where
   pub blocks : List Block
   pub is_script : IsShortScript bytes blocks
   pub readings : Readings
   pub are_readings : AreReadings readings
-  pub whole : page ≡ page_text start readings blocks
+  pub whole : page ≡ page_text starts readings blocks

@@ -1,5 +1,7 @@
 -- What a run reads and writes. Readers and writers are seen as the bytes that they have left and hold, where those are known.
-use Rattle.std.specs.Prelude.{◌≡◌, ℕ, ◌<◌, List, length, map, Option, ◌⊎◌}
+use Rattle.std.specs.Prelude.{◌≡◌, ℕ, ◌<◌, List, length, map, Option, ◌⊎◌, Vec}
+use Rattle.std.specs.List.{enumerate_from}
+use Rattle.std.specs.declared.alloc.Global.{Global}
 use Rattle.std.specs.Io.KnownBytes.{Consumes, Appends, IsAtEnd}
 use Rattle.scripts.specs.declared.script.Block.{Block}
 use Rattle.scripts.specs.declared.device.Source.{Source}
@@ -10,9 +12,16 @@ use Rattle.notifier.specs.declared.place.Setup.{Setup}
 use Rattle.notifier.specs.Start.{Start, place_of}
 use Rattle.server.specs.Page.{most_bytes, IsShortScript, IsPage}
 
--- one worker, of number 0, with these boxes
-abbrev pub start_of : {P : Type 0} → (P → Seen) → Setup → List P → Start
-start_of seen setup boxes = record { place = place_of setup 0; boxes = map seen boxes }
+-- the worker of this number with these boxes
+abbrev pub start_of : {P : Type 0} → (P → Seen) → Setup → ℕ → List P → Start
+start_of seen setup worker boxes = record { place = place_of setup worker; boxes = map seen boxes }
+
+-- workers numbered from 0, each with its boxes
+abbrev pub starts_on : Setup → List (List Seen) → List Start
+starts_on setup boxes = map (λ numbered. let s : Start = record { place = place_of setup numbered.0; boxes = numbered.1 } in s) (enumerate_from 0 boxes)
+
+abbrev pub starts_of : {P : Type 0} → (P → Seen) → Setup → List (Vec P Global) → List Start
+starts_of seen setup boxes = starts_on setup (map (λ held. map seen held.items) boxes)
 
 -- what was read is too long, or it is all there was and no script
 pub record ReadsNoScript {R : Type 0} (remaining : R → Option (List ℕ)) (before after : Source R) : Type 0 where
@@ -22,25 +31,25 @@ pub record ReadsNoScript {R : Type 0} (remaining : R → Option (List ℕ)) (bef
 
 module _ {R W : Type 0} (remaining : R → Option (List ℕ)) (contents : W → Option (List ℕ)) where
   -- all was read, and what was written is its page
-  pub record WritesPage (start : Start) (source source' : Source R) (sink sink' : Sink W) : Type 0 where
+  pub record WritesPage (starts : List Start) (source source' : Source R) (sink sink' : Sink W) : Type 0 where
     pub bytes : List ℕ
     pub page : List ℕ
     pub was_read : Consumes (remaining source.reader) (remaining source'.reader) bytes
     pub is_all : IsAtEnd (remaining source'.reader)
-    pub is_page : IsPage start bytes page
+    pub is_page : IsPage starts bytes page
     pub was_written : Appends (contents sink.writer) (contents sink'.writer) page
 
   -- all was read, and what was written is a front of its page
-  pub record WritesFront (start : Start) (source source' : Source R) (sink sink' : Sink W) : Type 0 where
+  pub record WritesFront (starts : List Start) (source source' : Source R) (sink sink' : Sink W) : Type 0 where
     pub bytes : List ℕ
     pub page : List ℕ
     pub was_read : Consumes (remaining source.reader) (remaining source'.reader) bytes
     pub is_all : IsAtEnd (remaining source'.reader)
-    pub is_page : IsPage start bytes page
+    pub is_page : IsPage starts bytes page
     pub was_written : AppendsFront (contents sink.writer) (contents sink'.writer) page
 
   -- a read failed and nothing was written, or a write failed
-  abbrev pub MeetsFault : Start → Source R → Source R → Sink W → Sink W → Type 0
-  MeetsFault start source source' sink sink' =
+  abbrev pub MeetsFault : List Start → Source R → Source R → Sink W → Sink W → Type 0
+  MeetsFault starts source source' sink sink' =
       ((source'.failures ≡ one_more source.failures) × (sink' ≡ sink))
-      ⊎ ((source'.failures ≡ source.failures) × (sink'.failures ≡ one_more sink.failures) × WritesFront start source source' sink sink')
+      ⊎ ((source'.failures ≡ source.failures) × (sink'.failures ≡ one_more sink.failures) × WritesFront starts source source' sink sink')

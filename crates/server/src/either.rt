@@ -1,8 +1,8 @@
 //! A package of one of two types, so that both stand in one list.
 ghost use Rattle.server.specs.Either.{seen_as};
 
-use event_headers::NoMemory;
 use package::{Change, Outcome, Package};
+use sip_text::NoMemory;
 use std::alloc::Global;
 
 /// A package of one of two types.

@@ -4,10 +4,10 @@ ghost use Rattle.scripts.specs.declared.script.Block.{Block};
 ghost use Rattle.server.specs.Page.{Readings, AreReadings, event_of, unread_line};
 ghost use Rattle.server.specs.Hearing.{HasHeard};
 
-use event_headers::NoMemory;
 use notifier::Event;
 use scripts::{Block, Page};
 use sip_read::{Addr, Message, ReadError, read};
+use sip_text::NoMemory;
 use std::alloc::Global;
 
 /// What has been heard of a script so far.

@@ -1,7 +1,8 @@
 //! The server of a SIP notifier that runs scripts.
 //!
-//! [`script_one`] reads a script, has one worker handle its events, and writes the page of what it sent. [`run`] is the
-//! program over any reader and writer: it looks at the arguments and answers a [`Status`].
+//! [`script_one`] reads a script, has one worker handle its events, and writes the page of what it sent; [`script_many`] does
+//! it with several workers, each event going to its home. [`run`] is the program over any reader and writer: it looks at the
+//! arguments and answers a [`Status`].
 //!
 //! Begin with `specs/Page`: it says, short enough to be read aloud, which page a script has, by the reader's relation for
 //! its datagrams and the notifier's definition for its events. What is written is that page, or a front of it after a
@@ -9,6 +10,7 @@
 //! in that call. `specs/Runs` says what is read and written, `specs/Call` what the program starts from and how it ends.
 #![tactic(auto)]
 
+mod dealing;
 pub mod either;
 mod hearing;
 mod printing;
@@ -16,7 +18,8 @@ pub mod program;
 pub mod script;
 #[cfg(test)]
 mod tests;
+mod worker;
 
 pub use either::EitherPackage;
 pub use program::{Status, run};
-pub use script::script_one;
+pub use script::{script_many, script_one};

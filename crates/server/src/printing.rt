@@ -1,11 +1,14 @@
-//! What a worker prints.
+//! What workers print.
 ghost use Rattle.std.specs.Prelude.{◌≡◌, ◌++◌, OnOk};
 ghost use Rattle.std.specs.List.{flat_map};
 ghost use Rattle.server.specs.Page.{out_text};
+ghost use Rattle.server.specs.Working.{printed};
 
-use event_headers::NoMemory;
+use crate::worker::Worker;
 use notifier::Out;
+use package::Package;
 use scripts::Page;
+use sip_text::NoMemory;
 use std::alloc::Global;
 
 /// Appends an out.
@@ -26,11 +29,38 @@ fn print(alloc: Global, page: &mut Page, out: &Out) -> Result<(), NoMemory>
 }
 
 /// Appends outs, in order.
-pub fn print_all(alloc: Global, page: &mut Page, outs: &[Out]) -> Result<(), NoMemory>
+fn print_all(alloc: Global, page: &mut Page, outs: &[Out]) -> Result<(), NoMemory>
     ensures { OnOk result (page.new ≡ page.old ++ flat_map out_text outs.now) }
 {
     for out in outs {
         print(alloc, page, out)?;
+    }
+    Ok(())
+}
+
+/// Appends the worker's line and all that it sent.
+fn print_worker<P: Package>(
+    alloc: Global,
+    page: &mut Page,
+    worker: &Worker<P>,
+) -> Result<(), NoMemory>
+    ensures { OnOk result (page.new ≡ page.old ++ printed worker.now) }
+{
+    let made = worker.outs.len() as u64;
+    page.worker(alloc, worker.number, worker.handled, made)?;
+    print_all(alloc, page, worker.outs.as_slice())
+}
+
+/// Appends the workers, in order.
+pub fn print_workers<P: Package>(
+    alloc: Global,
+    page: &mut Page,
+    workers: &[Worker<P>],
+) -> Result<(), NoMemory>
+    ensures { OnOk result (page.new ≡ page.old ++ flat_map printed workers.now) }
+{
+    for worker in workers {
+        print_worker(alloc, page, worker)?;
     }
     Ok(())
 }

@@ -1,20 +1,22 @@
 //! The program, over any reader and writer.
-ghost use Rattle.std.specs.Prelude.{◌≡◌, ◌≢◌, true, List, map, option_map, string_bytes, IfOk, OnOk, OnErr, IfErr, Err};
-ghost use Rattle.notifier.specs.Start.{place_of};
+ghost use Rattle.std.specs.Prelude.{◌≡◌, ◌≢◌, ◌<◌, ◌≤◌, ◌∷◌, [], ◌++◌, List, map, option_map, string_bytes, IfOk, OnOk, OnErr, IfErr, Err};
 ghost use Rattle.scripts.specs.declared.arguments.Arguments.{Arguments};
 ghost use Rattle.scripts.specs.declared.arguments.ArgumentsError.TheVariants as reasons;
+ghost use Rattle.server.specs.Boxes.{box_seen};
 ghost use Rattle.server.specs.Runs.{WritesPage, ReadsNoScript, MeetsFault};
-ghost use Rattle.server.specs.Call.{code_of, line_of, place_for, start_with, AsksFor, AsksForNone};
+ghost use Rattle.server.specs.Call as spec;
+ghost use Rattle.server.specs.Call.{code_of, line_of, setup_for, starts_for, AsksFor, AsksForNone};
 
 use crate::either::EitherPackage;
-use crate::script::script_one;
-use event_headers::{NoMemory, Text, Values};
+use crate::script::script_many;
+use homes::key_hash;
 use message_summary::Mailboxes;
 use notifier::{Limits, Setup};
 use package::ClosingCell;
 use refer::Transfers;
 use scripts::{Arguments, ArgumentsError, ScriptError, Sink, Source, parse_arguments};
 use sip_read::Addr;
+use sip_text::{NoMemory, Text};
 use std::alloc::Global;
 use std::io::{Read, Write};
 
@@ -60,9 +62,9 @@ impl Status {
     }
 }
 
-/// What the desk of the program stands on, with this seed.
-fn setup_of(seed: [u8; 32]) -> Setup
-    ensures { place_of result 0 ≡ place_for seed }
+/// What the desks of the program stand on, with this seed, and whether a stop is planned.
+fn setup_of(seed: [u8; 32], stop: bool) -> Setup
+    ensures { result ≡ setup_for seed stop }
 {
     let Some(limits) = Limits::new(
         60, 86400, 3600, 180, 2147483647, 1024, 4294967295, 64, 64, 64,
@@ -76,56 +78,104 @@ fn setup_of(seed: [u8; 32]) -> Setup
             ip: [127, 0, 0, 1],
             port: 5060,
         },
+        stop,
     }
 }
 
-/// The texts as strings.
-fn strings_of(alloc: Global, texts: Values<Text>) -> Result<Vec<String>, NoMemory>
-    ensures { IfOk result (λ strings. map string_bytes strings.items ≡ texts) }
-{
-    let mut strings = Vec::new(alloc);
-    for text in texts.into_vec() {
-        strings.push(text.into_string())?;
-    }
-    Ok(strings)
-}
-
-/// Runs a script by one worker with this seed and these mailboxes.
-fn run_one<R: Read, W: Write>(
+/// Adds the mailbox to the names, if its key goes to this one of the workers.
+fn add_name(
     alloc: Global,
-    seed: [u8; 32],
-    mailboxes: Values<Text>,
-    source: &mut Source<R>,
-    sink: &mut Sink<W>,
-) -> Result<(), ScriptError>
-    ensures page { OnOk result (WritesPage R.remaining W.contents (start_with seed mailboxes) source.old source.new sink.old sink.new) }
-    ensures bad_script { result ≡ Err ScriptError.BadScript → ReadsNoScript R.remaining source.old source.new }
-    ensures unwritten { result ≢ Err ScriptError.Device → OnErr result (sink.new ≡ sink.old) }
-    ensures device { result ≡ Err ScriptError.Device →
-        MeetsFault R.remaining W.contents (start_with seed mailboxes) source.old source.new sink.old sink.new }
+    names: &mut Vec<String>,
+    mailbox: &Text,
+    workers: u32,
+    worker: u32,
+) -> Result<(), NoMemory>
+    requires { 0 < workers }
+    ensures { OnOk result (map string_bytes names.new.items ≡ map string_bytes names.old.items ++ spec.names_for workers worker (mailbox.now ∷ [])) }
 {
-    let names = strings_of(alloc, mailboxes)?;
+    if key_hash(mailbox.as_str()) % workers == worker {
+        names.push(mailbox.copy(alloc)?.into_string())?;
+    }
+    Ok(())
+}
+
+/// The mailboxes, of these, whose keys go to this one of the workers.
+fn names_for(
+    alloc: Global,
+    mailboxes: &[Text],
+    workers: u32,
+    worker: u32,
+) -> Result<Vec<String>, NoMemory>
+    requires { 0 < workers }
+    ensures { IfOk result (λ names. map string_bytes names.items ≡ spec.names_for workers worker mailboxes.now) }
+{
+    let mut names = Vec::new(alloc);
+    for mailbox in mailboxes {
+        add_name(alloc, &mut names, mailbox, workers, worker)?;
+    }
+    Ok(names)
+}
+
+/// The packages of the program.
+type Boxes = Vec<EitherPackage<Mailboxes, Transfers>>;
+
+/// The packages of a worker with these mailboxes.
+fn boxes_with(alloc: Global, names: Vec<String>) -> Result<Boxes, NoMemory>
+    ensures { IfOk result (λ boxes. map box_seen boxes.items ≡ spec.boxes_with (map string_bytes names.items)) }
+{
     let mailboxes = Mailboxes::new(alloc, names, ClosingCell::new(alloc)?)?;
     let transfers = Transfers::new(alloc, ClosingCell::new(alloc)?)?;
     let mut boxes = Vec::new(alloc);
     boxes.push(EitherPackage::First(mailboxes))?;
     boxes.push(EitherPackage::Second(transfers))?;
-    script_one(alloc, source, sink, &setup_of(seed), boxes)
+    Ok(boxes)
 }
 
-/// Reads the arguments, and runs the script where they ask for one worker.
+/// The packages of each worker.
+fn boxes_for(alloc: Global, mailboxes: &[Text], workers: u32) -> Result<Vec<Boxes>, NoMemory>
+    requires { 0 < workers }
+    ensures { IfOk result (λ all. map (λ boxes. map box_seen boxes.items) all.items ≡ spec.boxes_for workers mailboxes.now) }
+{
+    let mut all = Vec::new(alloc);
+    for worker in 0..workers {
+        let names = names_for(alloc, mailboxes, workers, worker)?;
+        all.push(boxes_with(alloc, names)?)?;
+    }
+    Ok(all)
+}
+
+/// Runs a script by workers with this seed and these mailboxes.
+fn run_script<R: Read, W: Write>(
+    alloc: Global,
+    call: &Arguments,
+    source: &mut Source<R>,
+    sink: &mut Sink<W>,
+) -> Result<(), ScriptError>
+    requires some { 0 < call.now.workers }
+    requires few { call.now.workers ≤ 256 }
+    ensures page { OnOk result (WritesPage R.remaining W.contents (starts_for call.now) source.old source.new sink.old sink.new) }
+    ensures bad_script { result ≡ Err ScriptError.BadScript → ReadsNoScript R.remaining source.old source.new }
+    ensures unwritten { result ≢ Err ScriptError.Device → OnErr result (sink.new ≡ sink.old) }
+    ensures device { result ≡ Err ScriptError.Device →
+        MeetsFault R.remaining W.contents (starts_for call.now) source.old source.new sink.old sink.new }
+{
+    let boxes = boxes_for(alloc, call.mailboxes.as_slice(), call.workers)?;
+    script_many(alloc, source, sink, &setup_of(call.seed, call.stop), boxes)
+}
+
+/// Reads the arguments, and runs the script where they ask for it.
 fn attempt<R: Read, W: Write>(
     alloc: Global,
     words: &[Text],
     source: &mut Source<R>,
     sink: &mut Sink<W>,
 ) -> Result<(), Status>
-    ensures done { OnOk result (AsksFor words.now (λ start. WritesPage R.remaining W.contents start source.old source.new sink.old sink.new)) }
+    ensures done { OnOk result (AsksFor words.now (λ starts. WritesPage R.remaining W.contents starts source.old source.new sink.old sink.new)) }
     ensures done_is { IfErr result (λ status. status ≢ Status.Done) }
     ensures bad_arguments { result ≡ Err Status.BadArguments → AsksForNone words.now × (source.new ≡ source.old) }
-    ensures bad_script { result ≡ Err Status.BadScript → AsksFor words.now (λ start. ReadsNoScript R.remaining source.old source.new) }
+    ensures bad_script { result ≡ Err Status.BadScript → AsksFor words.now (λ starts. ReadsNoScript R.remaining source.old source.new) }
     ensures device { result ≡ Err Status.DeviceFault →
-        AsksFor words.now (λ start. MeetsFault R.remaining W.contents start source.old source.new sink.old sink.new) }
+        AsksFor words.now (λ starts. MeetsFault R.remaining W.contents starts source.old source.new sink.old sink.new) }
     ensures unwritten { result ≢ Err Status.DeviceFault → OnErr result (sink.new ≡ sink.old) }
 {
     let call = match parse_arguments(alloc, words) {
@@ -133,10 +183,7 @@ fn attempt<R: Read, W: Write>(
         Err(ArgumentsError::Bad) => return Err(Status::BadArguments),
         Err(ArgumentsError::NoMemory) => return Err(Status::OutOfMemory),
     };
-    if call.workers != 1 {
-        return Err(Status::BadArguments);
-    }
-    match run_one(alloc, call.seed, call.mailboxes, source, sink) {
+    match run_script(alloc, &call, source, sink) {
         Ok(()) => Ok(()),
         Err(ScriptError::BadScript) => Err(Status::BadScript),
         Err(ScriptError::Device) => Err(Status::DeviceFault),
@@ -144,9 +191,9 @@ fn attempt<R: Read, W: Write>(
     }
 }
 
-/// Runs the program: looks at the words behind its name, then runs the script that the reader gives by one worker with the
-/// mailboxes that the words name, and writes the page. What it starts from is in `specs/Call`. Arguments are looked at
-/// before anything is read. Calls for more than one worker are bad arguments for now.
+/// Runs the program: looks at the words behind its name, then runs the script that the reader gives by as many workers
+/// as they ask for, among whom the mailboxes are dealt out that they name, and writes the page. What it starts from is in
+/// `specs/Call`. Arguments are looked at before anything is read.
 pub fn run<R: Read, W: Write>(
     alloc: Global,
     words: &[Text],
@@ -154,13 +201,13 @@ pub fn run<R: Read, W: Write>(
     sink: &mut Sink<W>,
 ) -> Status
     // What was written is the page of all that was read.
-    ensures done { result ≡ Status.Done → AsksFor words.now (λ start. WritesPage R.remaining W.contents start source.old source.new sink.old sink.new) }
+    ensures done { result ≡ Status.Done → AsksFor words.now (λ starts. WritesPage R.remaining W.contents starts source.old source.new sink.old sink.new) }
 
     // Only words that ask for nothing are bad arguments, and then nothing is read.
     ensures bad_arguments { result ≡ Status.BadArguments → AsksForNone words.now × (source.new ≡ source.old) }
-    ensures bad_script { result ≡ Status.BadScript → AsksFor words.now (λ start. ReadsNoScript R.remaining source.old source.new) }
+    ensures bad_script { result ≡ Status.BadScript → AsksFor words.now (λ starts. ReadsNoScript R.remaining source.old source.new) }
     ensures device { result ≡ Status.DeviceFault →
-        AsksFor words.now (λ start. MeetsFault R.remaining W.contents start source.old source.new sink.old sink.new) }
+        AsksFor words.now (λ starts. MeetsFault R.remaining W.contents starts source.old source.new sink.old sink.new) }
 
     // Nothing is written but a page or a front of it.
     ensures unwritten { result ≢ Status.Done → result ≢ Status.DeviceFault → sink.new ≡ sink.old }

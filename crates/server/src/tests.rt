@@ -1,7 +1,7 @@
 //! Readers and writers that fail, bad scripts, and bad arguments. The worked runs are a program of their own.
 use crate::{Status, run};
-use event_headers::{NoMemory, Text};
 use scripts::{Sink, Source};
+use sip_text::{NoMemory, Text};
 use std::alloc::{AllocError, Global};
 use std::io;
 use std::io::{ErrorKind, Read, Write};
@@ -199,7 +199,7 @@ fn bad_arguments_are_seen_before_anything_is_read(rt: HostRuntime) -> Result<(),
         ["script"].as_slice(),
         &["script", "1"],
         &["script", "0", "alice"],
-        &["script", "2", "alice"],
+        &["script", "257", "alice"],
         &["script", "--seed", "00", "1", "alice"],
         &["udp", "5060", "5061", "1", "1", "alice"],
     ] {

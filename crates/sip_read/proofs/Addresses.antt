@@ -3,16 +3,16 @@ use Rattle.std.proofs.Common.{◌≡◌, ◌≢◌, ℕ, Bool, true, false, cond
 use Rattle.std.specs.List.{list_all, prefix_len}
 use Rattle.std.proofs.lemmas.Bool.{eqb-true}
 use Rattle.std.proofs.lemmas.List.{take-append-drop, drop_at}
-use Rattle.event_headers.specs.declared.scan.Class.{Class}
-use Rattle.event_headers.specs.declared.scan.Class.TheVariants as class
-use Rattle.event_headers.specs.Bytes.{is_in, is_letter, is_space}
-use Rattle.event_headers.specs.Reading.{◌>>=◌, span_at, after_byte, after_spaces, begins, quoted_at}
-use Rattle.event_headers.specs.Grammar.{AllPassing, AreSpaces}
+use Rattle.sip_text.specs.declared.scan.Class.{Class}
+use Rattle.sip_text.specs.declared.scan.Class.TheVariants as class
+use Rattle.sip_text.specs.Bytes.{is_in, is_letter, is_space}
+use Rattle.sip_text.specs.Reading.{◌>>=◌, span_at, after_byte, after_spaces, begins, quoted_at}
+use Rattle.sip_text.specs.Grammar.{AllPassing, AreSpaces}
 use Rattle.sip_read.specs.Addresses.{IsDisplay, IsUri}
 use Rattle.sip_read.specs.AddressesComputed.{colon_then_some, has_scheme, angle_at, after_display, address_at}
-use Rattle.event_headers.proofs.Pieces.{bind_some, some_is, and_both, span_takes, span_again, byte_taken, prefix_passes, prefix_again, spaces_again, apart, which_space}
-use Rattle.event_headers.proofs.ParameterValues.{quoted_takes, quoted_at_again}
-use Rattle.event_headers.proofs.Trims.{all-append}
+use Rattle.sip_text.proofs.Pieces.{bind_some, some_is, and_both, span_takes, span_again, byte_taken, prefix_passes, prefix_again, spaces_again, apart, which_space}
+use Rattle.sip_text.proofs.ParameterValues.{quoted_takes, quoted_at_again}
+use Rattle.sip_text.proofs.Trims.{all-append}
 
 colon_taken : (t : List ℕ) → colon_then_some t ≡ true → (rest : List ℕ) × (rest ≢ []) × (t ≡ 58 ∷ rest)
 colon_taken [] e = absurd cc

@@ -4,13 +4,13 @@ use Rattle.std.specs.List.{list_all}
 use Rattle.std.proofs.lemmas.Bool.{ltb-true, lt-ltb}
 use Rattle.std.proofs.lemmas.Bool.Decides.{nat_tests}
 use Rattle.std.proofs.lemmas.List.{append-nil}
-use Rattle.event_headers.specs.declared.scan.Class.TheVariants as class
-use Rattle.event_headers.specs.Bytes.{is_in, is_space}
-use Rattle.event_headers.specs.Reading.{◌>>=◌, span_at, all_of, text_of, word_of}
-use Rattle.event_headers.specs.Grammar.{Stops, IsWord, number_of}
-use Rattle.event_headers.proofs.Pieces.{bind_some, some_is, and_both, span_takes, span_again, nonempty_length, length_nonempty, NoSpace, not_of_space, word_stops_spaces}
-use Rattle.event_headers.proofs.Utf8.{text_taken, text_again, text_from_ascii, token_small}
-use Rattle.event_headers.proofs.Words.{word_takes, word_again}
+use Rattle.sip_text.specs.declared.scan.Class.TheVariants as class
+use Rattle.sip_text.specs.Bytes.{is_in, is_space}
+use Rattle.sip_text.specs.Reading.{◌>>=◌, span_at, all_of, text_of, word_of}
+use Rattle.sip_text.specs.Grammar.{Stops, IsWord, number_of}
+use Rattle.sip_text.proofs.Pieces.{bind_some, some_is, and_both, span_takes, span_again, nonempty_length, length_nonempty, NoSpace, not_of_space, word_stops_spaces}
+use Rattle.sip_text.proofs.Utf8.{text_taken, text_again, text_from_ascii, token_small}
+use Rattle.sip_text.proofs.Words.{word_takes, word_again}
 use Rattle.sip_read.specs.declared.call.Sequence.{Sequence}
 use Rattle.sip_read.specs.Calls.{is_visible, IsCallId, IsSequence}
 use Rattle.sip_read.specs.ValuesComputed.{call_id_of, sequence_of}

@@ -1,15 +1,15 @@
 -- A header line with the lines that continue it.
 use Rattle.std.proofs.Common.{◌≡◌, ◌≢◌, ℕ, zero, suc, ◌+◌, ◌≤◌, Bool, true, false, cond, List, [], ◌∷◌, ◌++◌, length, Option, Some, None, refl, sym, ap, subst, ◌∙◌, append_assoc, arith, inl, inr}
 use Rattle.std.specs.List.{list_all}
-use Rattle.event_headers.specs.declared.scan.Class.TheVariants as class
-use Rattle.event_headers.specs.Bytes.{is_in, is_space}
-use Rattle.event_headers.specs.Reading.{◌>>=◌, after_spaces, trim_end}
+use Rattle.sip_text.specs.declared.scan.Class.TheVariants as class
+use Rattle.sip_text.specs.Bytes.{is_in, is_space}
+use Rattle.sip_text.specs.Reading.{◌>>=◌, after_spaces, trim_end}
 use Rattle.sip_read.specs.LinesComputed.{line_at, begins_space, joined, continued_at, continued_of, unfolded_of}
-use Rattle.event_headers.specs.Grammar.{Stops, AllPassing, AreSpaces, IsWord}
+use Rattle.sip_text.specs.Grammar.{Stops, AllPassing, AreSpaces, IsWord}
 use Rattle.sip_read.specs.Folding.{Unfolds, unbroken, continued, BeginsLine}
-use Rattle.event_headers.proofs.Pieces.{bind_some, bind_same, some_is, and_both, spaces_taken, spaces_again, which_space, stops_after_drop}
+use Rattle.sip_text.proofs.Pieces.{bind_some, bind_same, some_is, and_both, spaces_taken, spaces_again, which_space, stops_after_drop}
 use Rattle.sip_read.proofs.Lines.{line_takes, line_again, line_shortens}
-use Rattle.event_headers.proofs.Trims.{trim_end_parts, trim_again, all-append}
+use Rattle.sip_text.proofs.Trims.{trim_end_parts, trim_again, all-append}
 
 abbrev Read : Type 0
 Read = Option (List ℕ × List ℕ)

@@ -2,13 +2,13 @@
 use Rattle.std.proofs.Common.{◌≡◌, ℕ, suc, ◌≤◌, List, ◌∷◌, ◌++◌, length, Some, refl, sym, ap, subst, ◌∙◌, arith}
 use Rattle.std.specs.Str.{IsUtf8}
 use Rattle.std.proofs.lemmas.List.{length-append}
-use Rattle.event_headers.specs.declared.scan.Class.TheVariants as class
-use Rattle.event_headers.specs.Bytes.{is_in, is_space}
-use Rattle.event_headers.specs.Reading.{◌>>=◌, span_at, text_of, elements_of}
-use Rattle.event_headers.specs.Grammar.{Stops, AreElements}
-use Rattle.event_headers.proofs.Pieces.{Takes, bind_some, some_is, span_takes, span_again, stops_at_spaces}
-use Rattle.event_headers.proofs.Utf8.{text_taken, text_again}
-use Rattle.event_headers.proofs.CommaLists.{Tail, nothing_behind, comma_behind, tail_ends, elements_take, elements_again, utf8_cuts}
+use Rattle.sip_text.specs.declared.scan.Class.TheVariants as class
+use Rattle.sip_text.specs.Bytes.{is_in, is_space}
+use Rattle.sip_text.specs.Reading.{◌>>=◌, span_at, text_of, elements_of}
+use Rattle.sip_text.specs.Grammar.{Stops, AreElements}
+use Rattle.sip_text.proofs.Pieces.{Takes, bind_some, some_is, span_takes, span_again, stops_at_spaces}
+use Rattle.sip_text.proofs.Utf8.{text_taken, text_again}
+use Rattle.sip_text.proofs.CommaLists.{Tail, nothing_behind, comma_behind, tail_ends, elements_take, elements_again, utf8_cuts}
 use Rattle.sip_read.specs.declared.item.Listed.{Listed}
 use Rattle.sip_read.specs.declared.item.Listed.TheVariants as listed
 use Rattle.sip_read.specs.Items.{Item, via, require, record_route, IsElement}

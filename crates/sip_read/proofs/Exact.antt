@@ -4,10 +4,10 @@ use Rattle.std.specs.Prelude.{◌⊎◌}
 use Rattle.std.specs.List.{filter_map}
 use Rattle.std.proofs.lemmas.Bool.{ltb-true, lt-ltb, ltb-false, le-ltb, ne_eqb}
 use Rattle.std.proofs.lemmas.List.{length-append}
-use Rattle.event_headers.specs.declared.field.Field.{Field}
-use Rattle.event_headers.specs.declared.field.Field.TheVariants as field
-use Rattle.event_headers.specs.Grammar.{number_of}
-use Rattle.event_headers.specs.Reading.{◌>>=◌}
+use Rattle.sip_text.specs.declared.field.Field.{Field}
+use Rattle.sip_text.specs.declared.field.Field.TheVariants as field
+use Rattle.sip_text.specs.Grammar.{number_of}
+use Rattle.sip_text.specs.Reading.{◌>>=◌}
 use Rattle.event_headers.specs.Headers.{IsEvent, EventFits, IsExpires, Fits, IsAccept, RangesFit}
 use Rattle.event_headers.specs.HeaderReading.{event_of, event_fits, expires_of, expires_fits, accept_of, ranges_fit}
 use Rattle.event_headers.proofs.Events.{event_takes, event_again, event_fit, event_large}
@@ -36,15 +36,18 @@ use Rattle.sip_read.specs.GatheredComputed.{Gathered, nothing, with_items, gathe
 use Rattle.sip_read.specs.Items.{Item}
 use Rattle.sip_read.specs.ItemsComputed.{section_of, items_of}
 use Rattle.sip_read.specs.LinesComputed.{lines_of}
-use Rattle.sip_read.specs.Message.{HasItems, HasHead, via_in, from_in, to_in, call_id_in, cseq_in, length_in, contact_in, event_in, expires_in, accept_in, refer_to_in, doubled, joined_lines, with_commas, IsHead, IsBody, IsField, IsKept, IsRequest, IsResponse, Reads, Wrong, Says, Answers, IsReading}
+use Rattle.sip_read.specs.Message.{HasItems, HasHead, via_in, from_in, to_in, call_id_in, cseq_in, length_in, contact_in, event_in, expires_in, accept_in, refer_to_in, refer_sub_in, doubled, joined_lines, with_commas, IsHead, IsBody, IsField, IsKept, IsRequest, IsResponse, Reads, Wrong, Says, Answers, IsReading}
 use Rattle.sip_read.specs.MessageComputed.{◌then◌, or_else, refused, head_of, body_of, value_or_bad, accept_field, request_of, finished, message_of, read_of}
 use Rattle.sip_read.specs.MessageComputed as computed
 use Rattle.sip_read.specs.OnceComputed.{is_several, field_of}
+use Rattle.sip_read.specs.ReferSub.{IsReferSub}
+use Rattle.sip_read.specs.ValuesComputed.{refer_sub_of}
 use Rattle.sip_read.specs.Vias.{Hop, via_of}
 use Rattle.sip_read.proofs.FirstLines.{first_takes, first_again}
 use Rattle.sip_read.proofs.GatheredLists.{once_of, top_of, texts, capped, accept_of_lines, gathered_of, gathered_is}
 use Rattle.sip_read.proofs.HeaderItems.{items_take, items_again}
 use Rattle.sip_read.proofs.Parties.{contact_takes, contact_again}
+use Rattle.sip_read.proofs.ReferSubs.{refer_sub_takes, refer_sub_again}
 use Rattle.sip_read.proofs.Sections.{lines_take, lines_again}
 
 -- ---- the section
@@ -277,6 +280,7 @@ module _ (bytes : List ℕ) (xs : List Item) (rest : List ℕ) where
     accept = subst (IsField (IsKept IsAccept RangesFit) (joined_lines (filter_map accept_in xs))) (sym (accept_same (filter_map accept_in xs))) (field_takes (IsKept IsAccept RangesFit) accept_kept (kept_takes IsAccept RangesFit accept_of ranges_fit accept_takes accept_again ranges_are_fit ranges_are_large) (kept_again IsAccept RangesFit accept_of ranges_fit accept_takes accept_again ranges_are_fit ranges_are_large) (joined_lines (filter_map accept_in xs)));
     contact = field_takes IsContact contact_of contact_takes contact_again (filter_map contact_in xs);
     refer_to = field_takes IsContact contact_of contact_takes contact_again (filter_map refer_to_in xs);
+    refer_sub = field_takes IsReferSub refer_sub_of refer_sub_takes refer_sub_again (filter_map refer_sub_in xs);
     require = refl;
     record_routes = refl;
     body = is_body;
@@ -341,12 +345,12 @@ unfolding message_of
 read_single bytes first xs rest cut none = read_head bytes first xs rest cut ∙ rw (doubled_same xs, none) refl
 
 -- a request with other values of the headers that may stand
-abbrev request_with : Request → Field EventValue → Field ℕ → Field (List Range) → Field (List ℕ) → Field (List ℕ) → List (List ℕ) → List (List ℕ) → Request
-request_with r e x a c f q o = record { method = r.method; uri = r.uri; head = r.head; event = e; expires = x; accept = a; contact = c; refer_to = f; require = q; record_routes = o; body = r.body }
+abbrev request_with : Request → Field EventValue → Field ℕ → Field (List Range) → Field (List ℕ) → Field (List ℕ) → Field Bool → List (List ℕ) → List (List ℕ) → Request
+request_with r e x a c f s q o = record { method = r.method; uri = r.uri; head = r.head; event = e; expires = x; accept = a; contact = c; refer_to = f; refer_sub = s; require = q; record_routes = o; body = r.body }
 
-same_request : (r : Request) (e : Field EventValue) (x : Field ℕ) (a : Field (List Range)) (c f : Field (List ℕ)) (q o : List (List ℕ)) → e ≡ r.event → x ≡ r.expires → a ≡ r.accept → c ≡ r.contact → f ≡ r.refer_to → q ≡ r.require → o ≡ r.record_routes
-    → request_with r e x a c f q o ≡ r
-same_request r e x a c f q o k l m n p u v = rw (k, l, m, n, p, u, v) refl
+same_request : (r : Request) (e : Field EventValue) (x : Field ℕ) (a : Field (List Range)) (c f : Field (List ℕ)) (s : Field Bool) (q o : List (List ℕ)) → e ≡ r.event → x ≡ r.expires → a ≡ r.accept → c ≡ r.contact → f ≡ r.refer_to → s ≡ r.refer_sub → q ≡ r.require → o ≡ r.record_routes
+    → request_with r e x a c f s q o ≡ r
+same_request r e x a c f s q o k l m n p t u v = rw (k, l, m, n, p, t, u, v) refl
 
 told_request : (bytes : List ℕ) (r : Request) → IsRequest bytes r → read_of bytes ≡ Ok (messages.Request r)
 told_request bytes r is =
@@ -358,9 +362,10 @@ told_request bytes r is =
     let accept = accept_same (filter_map accept_in xs) ∙ field_told (IsKept IsAccept RangesFit) accept_kept (kept_takes IsAccept RangesFit accept_of ranges_fit accept_takes accept_again ranges_are_fit ranges_are_large) (kept_again IsAccept RangesFit accept_of ranges_fit accept_takes accept_again ranges_are_fit ranges_are_large) (joined_lines (filter_map accept_in xs)) r.accept is.accept in
     let contact = field_told IsContact contact_of contact_takes contact_again (filter_map contact_in xs) r.contact is.contact in
     let refer_to = field_told IsContact contact_of contact_takes contact_again (filter_map refer_to_in xs) r.refer_to is.refer_to in
+    let refer_sub = field_told IsReferSub refer_sub_of refer_sub_takes refer_sub_again (filter_map refer_sub_in xs) r.refer_sub is.refer_sub in
     let found : read_of bytes ≡ Ok (messages.Request (request_of r.method r.uri r.head fs r.body)) = read_single bytes (request r.method r.uri) xs is.rest is.cut (head_single xs r.head is.head b.1) ∙ rw (head_told xs r.head is.head, b.0) refl in
-    found ∙ ap (λ (q : Request). Ok (messages.Request q)) (same_request r (field_of fs.event) (field_of fs.expires) (accept_field fs.accept) (field_of fs.contact) (field_of fs.refer_to) fs.require fs.record_routes
-    event expires accept contact refer_to (sym is.require) (sym is.record_routes))
+    found ∙ ap (λ (q : Request). Ok (messages.Request q)) (same_request r (field_of fs.event) (field_of fs.expires) (accept_field fs.accept) (field_of fs.contact) (field_of fs.refer_to) (field_of fs.refer_sub) fs.require fs.record_routes
+    event expires accept contact refer_to refer_sub (sym is.require) (sym is.record_routes))
 
 told_response : (bytes : List ℕ) (r : Response) → IsResponse bytes r → read_of bytes ≡ Ok (messages.Response r)
 told_response bytes r is =

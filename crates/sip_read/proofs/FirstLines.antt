@@ -5,12 +5,12 @@ use Rattle.std.specs.List.{list_all}
 use Rattle.std.specs.Str.{IsUtf8, str_eq_ignore_ascii_case}
 use Rattle.std.proofs.lemmas.Bool.{eqb-true, eq-eqb}
 use Rattle.std.proofs.lemmas.Bool.Decides.{nat_tests}
-use Rattle.event_headers.specs.declared.scan.Class.TheVariants as class
-use Rattle.event_headers.specs.Bytes.{is_in}
-use Rattle.event_headers.specs.Reading.{◌>>=◌, span_at, after_byte, text_of}
-use Rattle.event_headers.specs.Grammar.{AllPassing, IsWord, number_of}
-use Rattle.event_headers.proofs.Pieces.{bind_some, some_is, and_both, span_takes, span_again, byte_taken}
-use Rattle.event_headers.proofs.Utf8.{text_taken, text_again, text_from_ascii, token_small, uri_small}
+use Rattle.sip_text.specs.declared.scan.Class.TheVariants as class
+use Rattle.sip_text.specs.Bytes.{is_in}
+use Rattle.sip_text.specs.Reading.{◌>>=◌, span_at, after_byte, text_of}
+use Rattle.sip_text.specs.Grammar.{AllPassing, IsWord, number_of}
+use Rattle.sip_text.proofs.Pieces.{bind_some, some_is, and_both, span_takes, span_again, byte_taken}
+use Rattle.sip_text.proofs.Utf8.{text_taken, text_again, text_from_ascii, token_small, uri_small}
 use Rattle.sip_read.specs.FirstLine.{First, request, status, IsRequestLine, IsStatusLine, IsFirstLine}
 use Rattle.sip_read.specs.FirstLineComputed.{request_line, version_at, status_line, or_status, first_of, first_at}
 use Rattle.sip_read.specs.LinesComputed.{line_at}

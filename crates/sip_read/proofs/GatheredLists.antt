@@ -2,16 +2,17 @@
 use Rattle.std.proofs.Common.{◌≡◌, ℕ, ◌^◌, List, [], ◌∷◌, ◌++◌, Option, Some, None, refl, ◌∙◌, append_assoc, map, min}
 use Rattle.std.specs.List.{filter_map}
 use Rattle.std.proofs.lemmas.List.{append-nil}
-use Rattle.event_headers.specs.Grammar.{number_of}
+use Rattle.sip_text.specs.Grammar.{number_of}
 use Rattle.sip_read.specs.declared.message.Via.{Via}
 use Rattle.sip_read.specs.declared.once.Once.{Once}
 use Rattle.sip_read.specs.declared.once.Once.TheVariants as once
 use Rattle.sip_read.specs.AddressesComputed.{contact_of}
 use Rattle.sip_read.specs.FieldsComputed.{event_kept, expires_kept}
 use Rattle.sip_read.specs.GatheredComputed.{Fields, Gathered, nothing, accept_more, first_or, with_item, with_items}
-use Rattle.sip_read.specs.Items.{Item, via, from, to, call_id, cseq, content_length, contact, event, expires, accept, refer_to, require, record_route}
-use Rattle.sip_read.specs.Message.{via_in, from_in, to_in, call_id_in, cseq_in, length_in, contact_in, event_in, expires_in, accept_in, refer_to_in, require_in, route_in, with_commas}
+use Rattle.sip_read.specs.Items.{Item, via, from, to, call_id, cseq, content_length, contact, event, expires, accept, refer_to, refer_sub, require, record_route}
+use Rattle.sip_read.specs.Message.{via_in, from_in, to_in, call_id_in, cseq_in, length_in, contact_in, event_in, expires_in, accept_in, refer_to_in, refer_sub_in, require_in, route_in, with_commas}
 use Rattle.sip_read.specs.OnceComputed.{once_all}
+use Rattle.sip_read.specs.ValuesComputed.{refer_sub_of}
 use Rattle.sip_read.specs.Vias.{Hop, via_of}
 
 -- ---- what is gathered, header by header
@@ -37,6 +38,7 @@ fields_with f xs = record {
   accept = accept_all f.accept (filter_map accept_in xs);
   contact = once_all f.contact (map contact_of (filter_map contact_in xs));
   refer_to = once_all f.refer_to (map contact_of (filter_map refer_to_in xs));
+  refer_sub = once_all f.refer_sub (map refer_sub_of (filter_map refer_sub_in xs));
   require = f.require ++ filter_map require_in xs;
   record_routes = f.record_routes ++ filter_map route_in xs;
 }
@@ -66,6 +68,7 @@ gathered_all g (event v ∷ xs) = gathered_all (with_item g (event v)) xs
 gathered_all g (expires v ∷ xs) = gathered_all (with_item g (expires v)) xs
 gathered_all g (accept v ∷ xs) = gathered_all (with_item g (accept v)) xs
 gathered_all g (refer_to v ∷ xs) = gathered_all (with_item g (refer_to v)) xs
+gathered_all g (refer_sub v ∷ xs) = gathered_all (with_item g (refer_sub v)) xs
 gathered_all g (require v ∷ xs) = gathered_all (with_item g (require v)) xs ∙ rw (append_assoc g.fields.require (v ∷ []) (filter_map require_in xs)) refl
 gathered_all g (record_route v ∷ xs) = gathered_all (with_item g (record_route v)) xs ∙ rw (append_assoc g.fields.record_routes (v ∷ []) (filter_map route_in xs)) refl
 
@@ -117,6 +120,7 @@ fields_of xs = record {
   accept = accept_of_lines (filter_map accept_in xs);
   contact = once_of (map contact_of (filter_map contact_in xs));
   refer_to = once_of (map contact_of (filter_map refer_to_in xs));
+  refer_sub = once_of (map refer_sub_of (filter_map refer_sub_in xs));
   require = filter_map require_in xs;
   record_routes = filter_map route_in xs;
 }
@@ -146,4 +150,5 @@ gathered_is xs = gathered_all nothing xs ∙ rw (
   all_accept (filter_map accept_in xs),
   all_once (map contact_of (filter_map contact_in xs)),
   all_once (map contact_of (filter_map refer_to_in xs)),
+  all_once (map refer_sub_of (filter_map refer_sub_in xs)),
 ) refl

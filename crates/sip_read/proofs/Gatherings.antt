@@ -1,8 +1,8 @@
 -- What the loops over elements and over lines gather.
 use Rattle.std.proofs.Common.{◌≡◌, ℕ, zero, suc, ◌≤◌, ◌<◌, true, false, eqb, cond, List, [], ◌∷◌, ◌++◌, length, Option, Some, None, option_map, refl, sym, ap, subst, ◌∙◌, arith}
-use Rattle.event_headers.specs.Reading.{◌>>=◌, after_comma, elements_at, elements_of}
-use Rattle.event_headers.proofs.Pieces.{bind_same, some_is}
-use Rattle.event_headers.proofs.CommaLists.{comma_shortens}
+use Rattle.sip_text.specs.Reading.{◌>>=◌, after_comma, elements_at, elements_of}
+use Rattle.sip_text.proofs.Pieces.{bind_same, some_is}
+use Rattle.sip_text.proofs.CommaLists.{comma_shortens}
 use Rattle.sip_read.specs.declared.item.Listed.{Listed}
 use Rattle.sip_read.specs.Items.{Item}
 use Rattle.sip_read.specs.ItemsComputed.{element_at, line_items, items_of, section_of}

@@ -5,19 +5,19 @@ use Rattle.std.specs.Str.{IsUtf8, is_utf8}
 use Rattle.std.proofs.lemmas.Str.{IsUtf8-from_is_utf8, is_utf8-from_IsUtf8}
 use Rattle.std.proofs.lemmas.Bool.{eqb-true}
 use Rattle.std.proofs.lemmas.List.{append-nil}
-use Rattle.event_headers.specs.declared.scan.Class.TheVariants as class
-use Rattle.event_headers.specs.Bytes.{is_in, is_space}
-use Rattle.event_headers.specs.Reading.{◌>>=◌, all_of}
-use Rattle.event_headers.specs.Grammar.{AreSpaces, IsTrimmed}
-use Rattle.event_headers.proofs.Pieces.{bind_some, some_is, and_both}
-use Rattle.event_headers.proofs.Utf8.{text_after_ascii, text_before_ascii, token_small, space_small}
-use Rattle.event_headers.proofs.Words.{all_takes, all_again}
+use Rattle.sip_text.specs.declared.scan.Class.TheVariants as class
+use Rattle.sip_text.specs.Bytes.{is_in, is_space}
+use Rattle.sip_text.specs.Reading.{◌>>=◌, all_of}
+use Rattle.sip_text.specs.Grammar.{AreSpaces, IsTrimmed}
+use Rattle.sip_text.proofs.Pieces.{bind_some, some_is, and_both}
+use Rattle.sip_text.proofs.Utf8.{text_after_ascii, text_before_ascii, token_small, space_small}
+use Rattle.sip_text.proofs.Words.{all_takes, all_again}
 use Rattle.sip_read.specs.declared.header.Header.{Header}
 use Rattle.sip_read.specs.declared.header.Header.TheVariants as headers
 use Rattle.sip_read.specs.declared.item.Listed.TheVariants as listed
 use Rattle.sip_read.specs.AddressesComputed.{party_of}
 use Rattle.sip_read.specs.Headers.{header_named}
-use Rattle.sip_read.specs.Items.{Item, from, to, call_id, cseq, content_length, contact, event, expires, accept, refer_to, AreValues, IsLine, AreItems}
+use Rattle.sip_read.specs.Items.{Item, from, to, call_id, cseq, content_length, contact, event, expires, accept, refer_to, refer_sub, AreValues, IsLine, AreItems}
 use Rattle.sip_read.specs.ItemsComputed.{alone, values_of, line_items, items_of}
 use Rattle.sip_read.specs.LinesComputed.{header_of}
 use Rattle.sip_read.specs.ValuesComputed.{call_id_of, sequence_of}
@@ -51,6 +51,7 @@ values_take headers.Event v xs t e = raw (event v) xs e
 values_take headers.Expires v xs t e = raw (expires v) xs e
 values_take headers.Accept v xs t e = raw (accept v) xs e
 values_take headers.ReferTo v xs t e = raw (refer_to v) xs e
+values_take headers.ReferSub v xs t e = raw (refer_sub v) xs e
 values_take headers.Require v xs t e = listed_take listed.Require v xs t.0 e
 values_take headers.RecordRoute v xs t e = listed_take listed.RecordRoute v xs t.0 e
 values_take headers.Other v xs t e = sym (some_is [] xs e)
@@ -67,6 +68,7 @@ values_again headers.Event v xs u h = rw h refl
 values_again headers.Expires v xs u h = rw h refl
 values_again headers.Accept v xs u h = rw h refl
 values_again headers.ReferTo v xs u h = rw h refl
+values_again headers.ReferSub v xs u h = rw h refl
 values_again headers.Require v xs u h = listed_again listed.Require v xs u h
 values_again headers.RecordRoute v xs u h = listed_again listed.RecordRoute v xs u h
 values_again headers.Other v xs u h = rw h refl

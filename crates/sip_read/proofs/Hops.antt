@@ -6,15 +6,15 @@ use Rattle.std.specs.Str.{IsUtf8, str_eq_ignore_ascii_case}
 use Rattle.std.proofs.lemmas.List.{length-append, take_at}
 use Rattle.std.proofs.lemmas.Bool.{eqb-true, eq-eqb}
 use Rattle.std.proofs.lemmas.Bool.Decides.{nat_tests}
-use Rattle.event_headers.specs.declared.scan.Class.TheVariants as class
-use Rattle.event_headers.specs.Bytes.{is_in, is_space}
-use Rattle.event_headers.specs.Reading.{◌>>=◌, span_at, after_byte, after_spaces, text_of, some_of}
-use Rattle.event_headers.specs.Grammar.{Parameter, has_name, AreSpaces, IsWord, Stops, IsParameter, IsAssigned, AreParameters}
+use Rattle.sip_text.specs.declared.scan.Class.TheVariants as class
+use Rattle.sip_text.specs.Bytes.{is_in, is_space}
+use Rattle.sip_text.specs.Reading.{◌>>=◌, span_at, after_byte, after_spaces, text_of, some_of}
+use Rattle.sip_text.specs.Grammar.{Parameter, has_name, AreSpaces, IsWord, Stops, IsParameter, IsAssigned, AreParameters}
 use Rattle.sip_read.specs.Vias.{Hop, is_bare_rport, value_of_first, branch_of, IsSlashed, IsProtocol, IsHop}
 use Rattle.sip_read.specs.ViasComputed.{taken, slashed_at, protocol_at, some_text_of, hop_of, hop_at}
-use Rattle.event_headers.proofs.Pieces.{bind_some, some_is, and_both, span_takes, span_again, spaces_taken, spaces_again, byte_taken, NoSpace, not_of_space, stops_at_spaces, word_stops_spaces}
-use Rattle.event_headers.proofs.Utf8.{text_taken, text_again, text_from_ascii, text_after_ascii, token_small, space_small, split_text, is_wide}
-use Rattle.event_headers.proofs.Groups.{group_takes, group_again, Ends}
+use Rattle.sip_text.proofs.Pieces.{bind_some, some_is, and_both, span_takes, span_again, spaces_taken, spaces_again, byte_taken, NoSpace, not_of_space, stops_at_spaces, word_stops_spaces}
+use Rattle.sip_text.proofs.Utf8.{text_taken, text_again, text_from_ascii, text_after_ascii, token_small, space_small, split_text, is_wide}
+use Rattle.sip_text.proofs.Groups.{group_takes, group_again, Ends}
 
 -- ---- a word and a slash
 

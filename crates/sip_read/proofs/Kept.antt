@@ -3,9 +3,9 @@ use Rattle.std.proofs.Common.{◌≡◌, ℕ, Bool, true, false, cond, List, Opt
 use Rattle.std.specs.Prelude.{IfOk}
 use Rattle.event_headers.specs.declared.error.HeaderError.{HeaderError}
 use Rattle.event_headers.specs.declared.error.HeaderError.TheVariants as header_errors
-use Rattle.event_headers.specs.declared.error.NoMemory.{NoMemory}
+use Rattle.sip_text.specs.declared.error.NoMemory.{NoMemory}
 use Rattle.event_headers.specs.Headers.{Says, IsSaid}
-use Rattle.event_headers.proofs.Pieces.{some_is}
+use Rattle.sip_text.proofs.Pieces.{some_is}
 use Rattle.sip_read.specs.FieldsComputed.{kept, KeptOf}
 use Rattle.sip_read.specs.Message.{IsKept}
 

@@ -7,6 +7,7 @@ pub mod Parties
 pub mod Hops
 pub mod Routes
 pub mod Calls
+pub mod ReferSubs
 pub mod FirstLines
 pub mod Elements
 pub mod HeaderItems

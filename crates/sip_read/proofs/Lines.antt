@@ -2,13 +2,13 @@
 use Rattle.std.proofs.Common.{◌≡◌, ℕ, ◌+◌, List, ◌∷◌, ◌++◌, length, take, drop, Some, refl, sym, ap, subst, ◌∙◌, arith}
 use Rattle.std.specs.List.{prefix_len}
 use Rattle.std.proofs.lemmas.List.{take-append-drop, take_at, drop_at, length-append}
-use Rattle.event_headers.specs.declared.scan.Class.TheVariants as class
-use Rattle.event_headers.specs.Bytes.{is_in}
-use Rattle.event_headers.specs.Reading.{◌>>=◌, span_at, after_byte, after_spaces, trimmed}
+use Rattle.sip_text.specs.declared.scan.Class.TheVariants as class
+use Rattle.sip_text.specs.Bytes.{is_in}
+use Rattle.sip_text.specs.Reading.{◌>>=◌, span_at, after_byte, after_spaces, trimmed}
 use Rattle.sip_read.specs.LinesComputed.{line_at, header_of}
-use Rattle.event_headers.specs.Grammar.{AllPassing, AreSpaces, IsWord}
-use Rattle.event_headers.proofs.Pieces.{bind_some, some_is, span_takes, span_again, spaces_taken, spaces_again, byte_taken, NoSpace, stops_at_spaces, prefix_passes, prefix_again}
-use Rattle.event_headers.proofs.Trims.{Trims, trimmed_taken, trimmed_again}
+use Rattle.sip_text.specs.Grammar.{AllPassing, AreSpaces, IsWord}
+use Rattle.sip_text.proofs.Pieces.{bind_some, some_is, span_takes, span_again, spaces_taken, spaces_again, byte_taken, NoSpace, stops_at_spaces, prefix_passes, prefix_again}
+use Rattle.sip_text.proofs.Trims.{Trims, trimmed_taken, trimmed_again}
 
 pub line_takes : (t l r : List ℕ) → line_at t ≡ Some (l, r) → (t ≡ l ++ 13 ∷ 10 ∷ r) × AllPassing (is_in class.Line) l
 unfolding line_at

@@ -4,17 +4,17 @@ use Rattle.std.specs.List.{list_all, prefix_len}
 use Rattle.std.specs.Str.{IsUtf8}
 use Rattle.std.proofs.lemmas.Bool.Decides.{nat_tests}
 use Rattle.std.proofs.lemmas.List.{drop_at}
-use Rattle.event_headers.specs.declared.scan.Class.TheVariants as class
-use Rattle.event_headers.specs.Bytes.{is_in, is_letter}
-use Rattle.event_headers.specs.Reading.{◌>>=◌, span_at, after_byte, after_spaces, begins, text_of, parameters_of, word_named}
-use Rattle.event_headers.specs.Grammar.{Parameter, AllPassing, AreSpaces, Stops, AreParameters}
+use Rattle.sip_text.specs.declared.scan.Class.TheVariants as class
+use Rattle.sip_text.specs.Bytes.{is_in, is_letter}
+use Rattle.sip_text.specs.Reading.{◌>>=◌, span_at, after_byte, after_spaces, begins, text_of, parameters_of, word_named}
+use Rattle.sip_text.specs.Grammar.{Parameter, AllPassing, AreSpaces, Stops, AreParameters}
 use Rattle.sip_read.specs.Addresses.{IsUri, IsAddress, IsParty, IsContact}
 use Rattle.sip_read.specs.AddressesComputed.{has_scheme, bare_at, after_display, chosen, address_at, party_of, contact_of}
-use Rattle.event_headers.proofs.Pieces.{bind_some, some_is, and_both, span_takes, span_again, spaces_taken, byte_taken, prefix_again, stops_at_spaces}
+use Rattle.sip_text.proofs.Pieces.{bind_some, some_is, and_both, span_takes, span_again, spaces_taken, byte_taken, prefix_again, stops_at_spaces}
 use Rattle.sip_read.proofs.Addresses.{scheme_takes, scheme_again, angle_takes, display_takes, angle_address_again, spaces_shown, uri_some}
-use Rattle.event_headers.proofs.Utf8.{text_taken, text_again, text_from_ascii, uri_small, token_small}
-use Rattle.event_headers.proofs.Lists.{parameters_take, parameters_again}
-use Rattle.event_headers.proofs.Words.{named_takes, named_again}
+use Rattle.sip_text.proofs.Utf8.{text_taken, text_again, text_from_ascii, uri_small, token_small}
+use Rattle.sip_text.proofs.Lists.{parameters_take, parameters_again}
+use Rattle.sip_text.proofs.Words.{named_takes, named_again}
 use Rattle.sip_read.specs.declared.message.Party.{Party}
 use Rattle.std.specs.Prelude.{codes}
 

@@ -3,10 +3,10 @@ use Rattle.std.proofs.Common.{◌≡◌, ℕ, ◌≤◌, List, [], ◌∷◌, �
 use Rattle.std.specs.List.{list_all}
 use Rattle.std.specs.Str.{IsUtf8}
 use Rattle.std.proofs.lemmas.List.{append-nil}
-use Rattle.event_headers.specs.declared.scan.Class.TheVariants as class
-use Rattle.event_headers.specs.Bytes.{is_in}
-use Rattle.event_headers.specs.Grammar.{AllPassing, IsWord, IsTrimmed}
-use Rattle.event_headers.proofs.Pieces.{NoSpace, no_space, and_both}
+use Rattle.sip_text.specs.declared.scan.Class.TheVariants as class
+use Rattle.sip_text.specs.Bytes.{is_in}
+use Rattle.sip_text.specs.Grammar.{AllPassing, IsWord, IsTrimmed}
+use Rattle.sip_text.proofs.Pieces.{NoSpace, no_space, and_both}
 use Rattle.sip_read.specs.FirstLine.{First, IsFirstLine}
 use Rattle.sip_read.specs.Folding.{unbroken, BeginsLine, AreLines}
 use Rattle.sip_read.specs.Headers.{header_named}

@@ -3,18 +3,18 @@ use Rattle.std.proofs.Common.{◌≡◌, ℕ, List, ◌∷◌, ◌++◌, length,
 use Rattle.std.specs.Prelude.{◌⊎◌}
 use Rattle.std.specs.Str.{IsUtf8}
 use Rattle.std.proofs.lemmas.List.{length-append}
-use Rattle.event_headers.specs.declared.scan.Class.TheVariants as class
-use Rattle.event_headers.specs.Bytes.{is_in}
-use Rattle.event_headers.specs.Reading.{◌>>=◌, after_byte, after_spaces, text_of, some_of}
-use Rattle.event_headers.specs.Grammar.{AllPassing, AreSpaces, IsQuoted}
+use Rattle.sip_text.specs.declared.scan.Class.TheVariants as class
+use Rattle.sip_text.specs.Bytes.{is_in}
+use Rattle.sip_text.specs.Reading.{◌>>=◌, after_byte, after_spaces, text_of, some_of}
+use Rattle.sip_text.specs.Grammar.{AllPassing, AreSpaces, IsQuoted}
 use Rattle.sip_read.specs.Addresses.{IsUri, IsRoute}
 use Rattle.sip_read.specs.AddressesComputed.{after_display, angle_at, bracketed_at}
 use Rattle.sip_read.specs.ViasComputed.{taken}
 use Rattle.sip_read.specs.ItemsComputed.{route_at}
-use Rattle.event_headers.proofs.Pieces.{bind_some, some_is, spaces_taken, byte_taken}
+use Rattle.sip_text.proofs.Pieces.{bind_some, some_is, spaces_taken, byte_taken}
 use Rattle.sip_read.proofs.Addresses.{angle_takes, angle_again, display_takes, display_again}
-use Rattle.event_headers.proofs.Utf8.{text_taken, text_again}
-use Rattle.event_headers.proofs.Groups.{group_takes, group_again, Ends}
+use Rattle.sip_text.proofs.Utf8.{text_taken, text_again}
+use Rattle.sip_text.proofs.Groups.{group_takes, group_again, Ends}
 use Rattle.sip_read.proofs.Hops.{taken_is}
 
 bind_assoc : {A B C : Type 0} (o : Option A) (f : A → Option B) (g : B → Option C) → (o >>= λ x. f x >>= g) ≡ ((o >>= f) >>= g)

@@ -2,10 +2,10 @@
 use Rattle.std.proofs.Common.{◌≡◌, ℕ, zero, suc, ◌+◌, ◌≤◌, Bool, true, false, eqb, cond, List, [], ◌∷◌, ◌++◌, length, Option, Some, None, refl, sym, ap, subst, ◌∙◌, append_assoc, arith}
 use Rattle.std.proofs.lemmas.Bool.{eqb-true, eqb-false, ne_eqb}
 use Rattle.std.proofs.lemmas.List.{length-append, nil_from_length}
-use Rattle.event_headers.specs.Reading.{◌>>=◌}
+use Rattle.sip_text.specs.Reading.{◌>>=◌}
 use Rattle.sip_read.specs.LinesComputed.{line_at, begins_space, unfolded_of, lines_at, lines_of}
 use Rattle.sip_read.specs.Folding.{BeginsLine, AreLines, HasLines}
-use Rattle.event_headers.proofs.Pieces.{bind_some, some_is, bind_same}
+use Rattle.sip_text.proofs.Pieces.{bind_some, some_is, bind_same}
 use Rattle.sip_read.proofs.Lines.{line_takes, line_again, line_shortens}
 use Rattle.sip_read.proofs.Continuations.{line_found, unfolded_takes, unfolded_shortens, wire_begins}
 

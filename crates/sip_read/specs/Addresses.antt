@@ -1,9 +1,9 @@
 -- Addresses, and the values that are one: From, To, Contact, Refer-To and Record-Route (RFC 3261 sections 20.10, 20.20, 20.30 and 20.39, RFC 3515).
 use Rattle.std.specs.Prelude.{◌≡◌, ◌≢◌, ℕ, true, List, [], ◌∷◌, ◌++◌, ◌⊎◌, codes}
-use Rattle.event_headers.specs.declared.scan.Class.{Class}
-use Rattle.event_headers.specs.declared.scan.Class.TheVariants as class
-use Rattle.event_headers.specs.Bytes.{is_in, is_letter}
-use Rattle.event_headers.specs.Grammar.{AllPassing, AreSpaces, IsQuoted, Parameter, AreParameters, IsWordNamed}
+use Rattle.sip_text.specs.declared.scan.Class.{Class}
+use Rattle.sip_text.specs.declared.scan.Class.TheVariants as class
+use Rattle.sip_text.specs.Bytes.{is_in, is_letter}
+use Rattle.sip_text.specs.Grammar.{AllPassing, AreSpaces, IsQuoted, Parameter, AreParameters, IsWordNamed}
 use Rattle.sip_read.specs.declared.message.Party.{Party}
 
 -- a uri as far as the reader looks at it, of bytes of the class:

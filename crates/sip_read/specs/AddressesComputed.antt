@@ -1,9 +1,9 @@
 -- What the reader computes of addresses, as functions on lists. The relation (Addresses) is what they come to.
 use Rattle.std.specs.Prelude.{ℕ, Bool, false, ◌&&◌, List, [], ◌∷◌, drop, ◌==◌, if◌then◌else◌, Option, Some, None, codes}
 use Rattle.std.specs.List.{prefix_len}
-use Rattle.event_headers.specs.declared.scan.Class.TheVariants as class
-use Rattle.event_headers.specs.Bytes.{is_in, is_letter}
-use Rattle.event_headers.specs.Reading.{◌>>=◌, span_at, after_spaces, after_byte, begins, quoted_at, parameters_of, word_named, text_of}
+use Rattle.sip_text.specs.declared.scan.Class.TheVariants as class
+use Rattle.sip_text.specs.Bytes.{is_in, is_letter}
+use Rattle.sip_text.specs.Reading.{◌>>=◌, span_at, after_spaces, after_byte, begins, quoted_at, parameters_of, word_named, text_of}
 use Rattle.sip_read.specs.declared.message.Party.{Party}
 
 abbrev pub colon_then_some : List ℕ → Bool

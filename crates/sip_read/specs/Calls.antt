@@ -1,8 +1,8 @@
 -- Values of Call-ID and CSeq (RFC 3261 sections 20.8 and 20.16).
 use Rattle.std.specs.Prelude.{◌≡◌, ◌≢◌, ℕ, Bool, ◌<◌, ◌^◌, List, [], ◌++◌}
-use Rattle.event_headers.specs.declared.scan.Class.TheVariants as class
-use Rattle.event_headers.specs.Bytes.{is_within}
-use Rattle.event_headers.specs.Grammar.{AllPassing, IsWord, number_of}
+use Rattle.sip_text.specs.declared.scan.Class.TheVariants as class
+use Rattle.sip_text.specs.Bytes.{is_within}
+use Rattle.sip_text.specs.Grammar.{AllPassing, IsWord, number_of}
 use Rattle.sip_read.specs.declared.call.Sequence.{Sequence}
 
 -- 33 to 126

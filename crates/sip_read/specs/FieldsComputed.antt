@@ -2,7 +2,7 @@
 use Rattle.std.specs.Prelude.{◌≡◌, ℕ, Bool, List, if◌then◌else◌, Option, Some, None, Result, Ok, Err, IfOk}
 use Rattle.event_headers.specs.declared.error.HeaderError.{HeaderError}
 use Rattle.event_headers.specs.declared.error.HeaderError.TheVariants as header_errors
-use Rattle.event_headers.specs.declared.error.NoMemory.{NoMemory}
+use Rattle.sip_text.specs.declared.error.NoMemory.{NoMemory}
 use Rattle.event_headers.specs.HeaderReading.{event_of, event_fits, expires_of, expires_fits, accept_of, ranges_fit}
 use Rattle.event_headers.specs.Values.{EventValue, Range}
 

@@ -1,9 +1,9 @@
 -- The first line of a message (RFC 3261 sections 7.1 and 7.2).
 use Rattle.std.specs.Prelude.{◌≡◌, ℕ, ◌≤◌, true, List, ◌∷◌, ◌++◌, length, codes}
 use Rattle.std.specs.Str.{IsUtf8, str_eq_ignore_ascii_case}
-use Rattle.event_headers.specs.declared.scan.Class.TheVariants as class
-use Rattle.event_headers.specs.Bytes.{is_in}
-use Rattle.event_headers.specs.Grammar.{AllPassing, IsWord, number_of}
+use Rattle.sip_text.specs.declared.scan.Class.TheVariants as class
+use Rattle.sip_text.specs.Bytes.{is_in}
+use Rattle.sip_text.specs.Grammar.{AllPassing, IsWord, number_of}
 
 pub data First : Type 0 where
   request : (method uri : List ℕ) → First

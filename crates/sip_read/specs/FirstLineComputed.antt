@@ -2,10 +2,10 @@
 use Rattle.std.specs.Prelude.{ℕ, ◌&&◌, List, length, nat_le, ◌==◌, if◌then◌else◌, Option, Some, None, codes}
 use Rattle.std.specs.List.{list_all}
 use Rattle.std.specs.Str.{str_eq_ignore_ascii_case}
-use Rattle.event_headers.specs.declared.scan.Class.TheVariants as class
-use Rattle.event_headers.specs.Bytes.{is_in}
-use Rattle.event_headers.specs.Grammar.{number_of}
-use Rattle.event_headers.specs.Reading.{◌>>=◌, span_at, after_byte, text_of}
+use Rattle.sip_text.specs.declared.scan.Class.TheVariants as class
+use Rattle.sip_text.specs.Bytes.{is_in}
+use Rattle.sip_text.specs.Grammar.{number_of}
+use Rattle.sip_text.specs.Reading.{◌>>=◌, span_at, after_byte, text_of}
 use Rattle.sip_read.specs.FirstLine.{First, request, status}
 use Rattle.sip_read.specs.LinesComputed.{line_at}
 

@@ -1,8 +1,8 @@
 -- Header lines as they stand on the wire, where a line may be continued by others (RFC 3261 section 7.3.1).
 use Rattle.std.specs.Prelude.{◌≡◌, ℕ, false, List, [], ◌∷◌, ◌++◌, reverse}
-use Rattle.event_headers.specs.declared.scan.Class.TheVariants as class
-use Rattle.event_headers.specs.Bytes.{is_in, is_space}
-use Rattle.event_headers.specs.Grammar.{AllPassing, AreSpaces, IsWord, Stops}
+use Rattle.sip_text.specs.declared.scan.Class.TheVariants as class
+use Rattle.sip_text.specs.Bytes.{is_in, is_space}
+use Rattle.sip_text.specs.Grammar.{AllPassing, AreSpaces, IsWord, Stops}
 
 -- what a header line on the wire says: itself, where it stands in one piece; where it is continued, the CRLF and the spaces on both sides of it say one SP
 --   LWS = [*WSP CRLF] 1*WSP

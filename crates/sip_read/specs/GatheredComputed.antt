@@ -1,7 +1,7 @@
 -- What the reader computes of all values, header by header.
 use Rattle.std.specs.Prelude.{◌≡◌, ℕ, Bool, true, false, List, [], ◌∷◌, ◌++◌, Option, Some, None, option_map, min, ◌^◌}
-use Rattle.event_headers.specs.Grammar.{number_of}
-use Rattle.event_headers.specs.Reading.{◌>>=◌}
+use Rattle.sip_text.specs.Grammar.{number_of}
+use Rattle.sip_text.specs.Reading.{◌>>=◌}
 use Rattle.event_headers.specs.Values.{EventValue}
 use Rattle.sip_read.specs.declared.call.Sequence.{Sequence}
 use Rattle.sip_read.specs.declared.message.Party.{Party}
@@ -10,10 +10,11 @@ use Rattle.sip_read.specs.declared.once.Once.{Once}
 use Rattle.sip_read.specs.declared.once.Once.TheVariants as once
 use Rattle.sip_read.specs.AddressesComputed.{contact_of}
 use Rattle.sip_read.specs.FieldsComputed.{event_kept, expires_kept}
-use Rattle.sip_read.specs.Items.{Item, via, from, to, call_id, cseq, content_length, contact, event, expires, accept, refer_to, require, record_route}
+use Rattle.sip_read.specs.Items.{Item, via, from, to, call_id, cseq, content_length, contact, event, expires, accept, refer_to, refer_sub, require, record_route}
 use Rattle.sip_read.specs.ItemsComputed.{line_items, section_of}
 use Rattle.sip_read.specs.LinesComputed.{unfolded_of}
 use Rattle.sip_read.specs.OnceComputed.{once_more}
+use Rattle.sip_read.specs.ValuesComputed.{refer_sub_of}
 use Rattle.sip_read.specs.Vias.{via_of}
 
 pub record Fields : Type 0 where
@@ -22,6 +23,7 @@ pub record Fields : Type 0 where
   pub accept : Option (List ℕ)
   pub contact : Once (Option (List ℕ))
   pub refer_to : Once (Option (List ℕ))
+  pub refer_sub : Once (Option Bool)
   pub require : List (List ℕ)
   pub record_routes : List (List ℕ)
 
@@ -36,7 +38,7 @@ pub record Gathered : Type 0 where
   pub fields : Fields
 
 abbrev pub fields_nothing : Fields
-fields_nothing = record { event = once.Absent; expires = once.Absent; accept = None; contact = once.Absent; refer_to = once.Absent; require = []; record_routes = [] }
+fields_nothing = record { event = once.Absent; expires = once.Absent; accept = None; contact = once.Absent; refer_to = once.Absent; refer_sub = once.Absent; require = []; record_routes = [] }
 
 abbrev pub nothing : Gathered
 nothing = record { vias = []; top = None; from = once.Absent; to = once.Absent; call_id = once.Absent; cseq = once.Absent; content_length = once.Absent; fields = fields_nothing }
@@ -57,6 +59,7 @@ with_field f (expires v) = record f { expires = once_more f.expires (expires_kep
 with_field f (accept v) = record f { accept = accept_more f.accept v }
 with_field f (contact v) = record f { contact = once_more f.contact (contact_of v) }
 with_field f (refer_to v) = record f { refer_to = once_more f.refer_to (contact_of v) }
+with_field f (refer_sub v) = record f { refer_sub = once_more f.refer_sub (refer_sub_of v) }
 with_field f (require v) = record f { require = f.require ++ v ∷ [] }
 with_field f (record_route v) = record f { record_routes = f.record_routes ++ v ∷ [] }
 with_field f (via h) = f
@@ -78,6 +81,7 @@ with_item g (expires v) = record g { fields = with_field g.fields (expires v) }
 with_item g (accept v) = record g { fields = with_field g.fields (accept v) }
 with_item g (contact v) = record g { fields = with_field g.fields (contact v) }
 with_item g (refer_to v) = record g { fields = with_field g.fields (refer_to v) }
+with_item g (refer_sub v) = record g { fields = with_field g.fields (refer_sub v) }
 with_item g (require v) = record g { fields = with_field g.fields (require v) }
 with_item g (record_route v) = record g { fields = with_field g.fields (record_route v) }
 

@@ -21,5 +21,6 @@ header_named n = if is_name n (codes "via") (codes "v") then headers.Via else
     (if str_eq_ignore_ascii_case n (codes "expires") then headers.Expires else
     (if str_eq_ignore_ascii_case n (codes "accept") then headers.Accept else
     (if is_name n (codes "refer-to") (codes "r") then headers.ReferTo else
+    (if str_eq_ignore_ascii_case n (codes "refer-sub") then headers.ReferSub else
     (if str_eq_ignore_ascii_case n (codes "require") then headers.Require else
-    (if str_eq_ignore_ascii_case n (codes "record-route") then headers.RecordRoute else headers.Other))))))))))))
+    (if str_eq_ignore_ascii_case n (codes "record-route") then headers.RecordRoute else headers.Other)))))))))))))

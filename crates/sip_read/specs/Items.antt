@@ -1,9 +1,9 @@
 -- Header lines, and what they say value by value (RFC 3261 section 7.3).
 use Rattle.std.specs.Prelude.{◌≡◌, ℕ, List, [], ◌∷◌, ◌++◌, reverse}
 use Rattle.std.specs.Str.{IsUtf8}
-use Rattle.event_headers.specs.declared.scan.Class.TheVariants as class
-use Rattle.event_headers.specs.Bytes.{is_in}
-use Rattle.event_headers.specs.Grammar.{AreSpaces, IsWord, Stops, AreElements}
+use Rattle.sip_text.specs.declared.scan.Class.TheVariants as class
+use Rattle.sip_text.specs.Bytes.{is_in}
+use Rattle.sip_text.specs.Grammar.{AreSpaces, IsWord, IsTrimmed, AreElements}
 use Rattle.sip_read.specs.declared.call.Sequence.{Sequence}
 use Rattle.sip_read.specs.declared.header.Header.{Header}
 use Rattle.sip_read.specs.declared.header.Header.TheVariants as headers
@@ -15,8 +15,8 @@ use Rattle.sip_read.specs.Calls.{IsCallId, IsSequence}
 use Rattle.sip_read.specs.Headers.{header_named}
 use Rattle.sip_read.specs.Vias.{Hop, IsHop}
 
--- a value of a header. Of Content-Length these are the digits; Contact, Event, Expires, Accept and Refer-To are as written, since no value
--- of theirs makes a line bad
+-- a value of a header. Of Content-Length these are the digits; Contact, Event, Expires, Accept, Refer-To and Refer-Sub are as written, since
+-- no value of theirs makes a line bad
 pub data Item : Type 0 where
   via : Hop → Item
   from : Party → Item
@@ -29,6 +29,7 @@ pub data Item : Type 0 where
   expires : List ℕ → Item
   accept : List ℕ → Item
   refer_to : List ℕ → Item
+  refer_sub : List ℕ → Item
   require : List ℕ → Item
   record_route : List ℕ → Item
 
@@ -51,13 +52,10 @@ AreValues headers.Event v xs = xs ≡ event v ∷ []
 AreValues headers.Expires v xs = xs ≡ expires v ∷ []
 AreValues headers.Accept v xs = xs ≡ accept v ∷ []
 AreValues headers.ReferTo v xs = xs ≡ refer_to v ∷ []
+AreValues headers.ReferSub v xs = xs ≡ refer_sub v ∷ []
 AreValues headers.Require v xs = AreElements (IsElement listed.Require) v xs
 AreValues headers.RecordRoute v xs = AreElements (IsElement listed.RecordRoute) v xs
 AreValues headers.Other v xs = xs ≡ []
-
--- it neither begins nor ends with SP or HT
-abbrev pub IsTrimmed : List ℕ → Type 0
-IsTrimmed text = Stops (is_in class.Space) text × Stops (is_in class.Space) (reverse text)
 
 -- a header line in one piece, in UTF-8, and its values
 --   line = token WS ":" WS value WS

@@ -1,14 +1,14 @@
 -- What the reader computes of header lines, as functions on lists. The relation (Items) is what they come to.
 use Rattle.std.specs.Prelude.{ℕ, List, [], ◌∷◌, ◌++◌, if◌then◌else◌, Option, Some, None, option_map}
 use Rattle.std.specs.Str.{is_utf8}
-use Rattle.event_headers.specs.declared.scan.Class.TheVariants as class
-use Rattle.event_headers.specs.Bytes.{is_in}
-use Rattle.event_headers.specs.Reading.{◌>>=◌, span_at, some_of, text_of, all_of, elements_of}
+use Rattle.sip_text.specs.declared.scan.Class.TheVariants as class
+use Rattle.sip_text.specs.Bytes.{is_in}
+use Rattle.sip_text.specs.Reading.{◌>>=◌, span_at, some_of, text_of, all_of, elements_of}
 use Rattle.sip_read.specs.declared.header.Header.{Header}
 use Rattle.sip_read.specs.declared.header.Header.TheVariants as headers
 use Rattle.sip_read.specs.declared.item.Listed.{Listed}
 use Rattle.sip_read.specs.declared.item.Listed.TheVariants as listed
-use Rattle.sip_read.specs.Items.{Item, via, from, to, call_id, cseq, content_length, contact, event, expires, accept, refer_to, require, record_route}
+use Rattle.sip_read.specs.Items.{Item, via, from, to, call_id, cseq, content_length, contact, event, expires, accept, refer_to, refer_sub, require, record_route}
 use Rattle.sip_read.specs.AddressesComputed.{bracketed_at, party_of}
 use Rattle.sip_read.specs.Headers.{header_named}
 use Rattle.sip_read.specs.LinesComputed.{header_of, lines_of}
@@ -56,6 +56,7 @@ single_of headers.Event v = Some (event v)
 single_of headers.Expires v = Some (expires v)
 single_of headers.Accept v = Some (accept v)
 single_of headers.ReferTo v = Some (refer_to v)
+single_of headers.ReferSub v = Some (refer_sub v)
 single_of headers.Require v = None
 single_of headers.RecordRoute v = None
 single_of headers.Other v = None
@@ -75,6 +76,7 @@ values_of headers.Event v = alone (single_of headers.Event v)
 values_of headers.Expires v = alone (single_of headers.Expires v)
 values_of headers.Accept v = alone (single_of headers.Accept v)
 values_of headers.ReferTo v = alone (single_of headers.ReferTo v)
+values_of headers.ReferSub v = alone (single_of headers.ReferSub v)
 values_of headers.Require v = elements_of (element_at listed.Require) v
 values_of headers.RecordRoute v = elements_of (element_at listed.RecordRoute) v
 values_of headers.Other v = Some []

@@ -4,6 +4,7 @@ pub mod Folding
 pub mod Addresses
 pub mod Vias
 pub mod Calls
+pub mod ReferSub
 pub mod Items
 pub mod FirstLine
 pub mod Message

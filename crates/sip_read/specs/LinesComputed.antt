@@ -1,9 +1,9 @@
 -- What the reader computes of lines, as functions on lists. The relation (Folding) is what they come to.
 use Rattle.std.specs.Prelude.{ℕ, zero, suc, Bool, false, List, [], ◌∷◌, ◌++◌, length, take, drop, ◌==◌, if◌then◌else◌, Option, Some, None}
 use Rattle.std.specs.List.{prefix_len}
-use Rattle.event_headers.specs.declared.scan.Class.TheVariants as class
-use Rattle.event_headers.specs.Bytes.{is_in, is_space}
-use Rattle.event_headers.specs.Reading.{◌>>=◌, span_at, after_spaces, after_byte, trim_end, trimmed}
+use Rattle.sip_text.specs.declared.scan.Class.TheVariants as class
+use Rattle.sip_text.specs.Bytes.{is_in, is_space}
+use Rattle.sip_text.specs.Reading.{◌>>=◌, span_at, after_spaces, after_byte, trim_end, trimmed}
 
 -- a line at the front, behind which a CRLF stands, and the rest
 unfoldable pub line_at : List ℕ → Option (List ℕ × List ℕ)

@@ -1,11 +1,11 @@
 -- Which datagrams are which message, and which are none (RFC 3261 sections 7, 18 and 20). Each relation says that there is some way to cut the bytes.
 use Rattle.std.specs.Prelude.{◌≡◌, ℕ, ◌<◌, ◌≤◌, List, [], ◌∷◌, ◌++◌, map, length, take, nat_lt, ◌==◌, Option, Some, None, Result, Ok, Err, find}
 use Rattle.std.specs.List.{filter_map}
-use Rattle.event_headers.specs.declared.field.Field.{Field}
-use Rattle.event_headers.specs.declared.field.Field.TheVariants as field
-use Rattle.event_headers.specs.declared.scan.Class.TheVariants as class
-use Rattle.event_headers.specs.Bytes.{is_in}
-use Rattle.event_headers.specs.Grammar.{AllPassing, number_of}
+use Rattle.sip_text.specs.declared.field.Field.{Field}
+use Rattle.sip_text.specs.declared.field.Field.TheVariants as field
+use Rattle.sip_text.specs.declared.scan.Class.TheVariants as class
+use Rattle.sip_text.specs.Bytes.{is_in}
+use Rattle.sip_text.specs.Grammar.{AllPassing, number_of}
 use Rattle.event_headers.specs.Headers.{IsEvent, EventFits, IsExpires, Fits, IsAccept, RangesFit}
 use Rattle.sip_read.specs.declared.call.Sequence.{Sequence}
 use Rattle.sip_read.specs.declared.error.HeaderName.{HeaderName}
@@ -21,7 +21,8 @@ use Rattle.sip_read.specs.declared.message.Response.{Response}
 use Rattle.sip_read.specs.Addresses.{IsContact}
 use Rattle.sip_read.specs.FirstLine.{First, request, status, IsFirstLine}
 use Rattle.sip_read.specs.Folding.{HasLines}
-use Rattle.sip_read.specs.Items.{Item, via, from, to, call_id, cseq, content_length, contact, event, expires, accept, refer_to, require, record_route, AreItems}
+use Rattle.sip_read.specs.Items.{Item, via, from, to, call_id, cseq, content_length, contact, event, expires, accept, refer_to, refer_sub, require, record_route, AreItems}
+use Rattle.sip_read.specs.ReferSub.{IsReferSub}
 use Rattle.sip_read.specs.Vias.{Hop, via_of}
 
 -- ---- the datagram cut
@@ -84,6 +85,10 @@ accept_in _ = None
 abbrev pub refer_to_in : Item → Option (List ℕ)
 refer_to_in (refer_to v) = Some v
 refer_to_in _ = None
+
+abbrev pub refer_sub_in : Item → Option (List ℕ)
+refer_sub_in (refer_sub v) = Some v
+refer_sub_in _ = None
 
 abbrev pub require_in : Item → Option (List ℕ)
 require_in (require v) = Some v
@@ -166,6 +171,7 @@ pub record IsRequest (bytes : List ℕ) (r : Request) : Type 0 where
   pub accept : IsField (IsKept IsAccept RangesFit) (joined_lines (filter_map accept_in items)) r.accept
   pub contact : IsField IsContact (filter_map contact_in items) r.contact
   pub refer_to : IsField IsContact (filter_map refer_to_in items) r.refer_to
+  pub refer_sub : IsField IsReferSub (filter_map refer_sub_in items) r.refer_sub
   pub require : r.require ≡ filter_map require_in items
   pub record_routes : r.record_routes ≡ filter_map route_in items
   pub body : IsBody (filter_map length_in items) rest r.body

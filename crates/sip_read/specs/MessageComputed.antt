@@ -1,7 +1,7 @@
 -- What the reader computes of a datagram, as a function on lists. The relation (Message) is what it comes to.
 use Rattle.std.specs.Prelude.{ℕ, List, length, take, nat_lt, if◌then◌else◌, Option, Some, None, Result, Ok, Err}
-use Rattle.event_headers.specs.declared.field.Field.{Field}
-use Rattle.event_headers.specs.declared.field.Field.TheVariants as field
+use Rattle.sip_text.specs.declared.field.Field.{Field}
+use Rattle.sip_text.specs.declared.field.Field.TheVariants as field
 use Rattle.event_headers.specs.Values.{Range}
 use Rattle.sip_read.specs.declared.call.Sequence.{Sequence}
 use Rattle.sip_read.specs.declared.error.HeaderName.{HeaderName}
@@ -79,6 +79,7 @@ request_of method uri head fields body = record {
   accept = accept_field fields.accept;
   contact = field_of fields.contact;
   refer_to = field_of fields.refer_to;
+  refer_sub = field_of fields.refer_sub;
   require = fields.require;
   record_routes = fields.record_routes;
   body = body;

@@ -1,7 +1,7 @@
 -- Values that may stand once.
 use Rattle.std.specs.Prelude.{Bool, true, false, List, [], ◌∷◌, Option, Some, None, Result, Ok, Err}
-use Rattle.event_headers.specs.declared.field.Field.{Field}
-use Rattle.event_headers.specs.declared.field.Field.TheVariants as field
+use Rattle.sip_text.specs.declared.field.Field.{Field}
+use Rattle.sip_text.specs.declared.field.Field.TheVariants as field
 use Rattle.sip_read.specs.declared.error.HeaderName.{HeaderName}
 use Rattle.sip_read.specs.declared.error.ReadError.{ReadError}
 use Rattle.sip_read.specs.declared.error.ReadError.TheVariants as errors

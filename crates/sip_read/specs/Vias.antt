@@ -2,8 +2,8 @@
 use Rattle.std.specs.Prelude.{◌≡◌, ℕ, Bool, true, ◌&&◌, not, List, ◌∷◌, ◌++◌, Option, Some, None, find, is_some, codes}
 use Rattle.std.specs.List.{list_any}
 use Rattle.std.specs.Str.{str_eq_ignore_ascii_case}
-use Rattle.event_headers.specs.declared.scan.Class.TheVariants as class
-use Rattle.event_headers.specs.Grammar.{AreSpaces, IsWord, Parameter, AreParameters, has_name}
+use Rattle.sip_text.specs.declared.scan.Class.TheVariants as class
+use Rattle.sip_text.specs.Grammar.{AreSpaces, IsWord, Parameter, AreParameters, has_name}
 use Rattle.sip_read.specs.declared.message.Via.{Via}
 
 -- a Via value: its text, the host and port, the value of the first branch, and whether it has an rport without a value

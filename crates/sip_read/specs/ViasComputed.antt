@@ -2,10 +2,10 @@
 use Rattle.std.specs.Prelude.{ℕ, ◌-◌, List, length, take, if◌then◌else◌, Option, Some, None, codes}
 use Rattle.std.specs.List.{list_any}
 use Rattle.std.specs.Str.{str_eq_ignore_ascii_case}
-use Rattle.event_headers.specs.declared.scan.Class.TheVariants as class
-use Rattle.event_headers.specs.Bytes.{is_in}
-use Rattle.event_headers.specs.Grammar.{Parameter}
-use Rattle.event_headers.specs.Reading.{◌>>=◌, span_at, after_spaces, after_byte, some_of, text_of}
+use Rattle.sip_text.specs.declared.scan.Class.TheVariants as class
+use Rattle.sip_text.specs.Bytes.{is_in}
+use Rattle.sip_text.specs.Grammar.{Parameter}
+use Rattle.sip_text.specs.Reading.{◌>>=◌, span_at, after_spaces, after_byte, some_of, text_of}
 use Rattle.sip_read.specs.Vias.{Hop, branch_of, is_bare_rport}
 
 -- the text without the rest that stands at its end

@@ -38,6 +38,7 @@ item (items.Event v) = spec.event v.now
 item (items.Expires v) = spec.expires v.now
 item (items.Accept v) = spec.accept v.now
 item (items.ReferTo v) = spec.refer_to v.now
+item (items.ReferSub v) = spec.refer_sub v.now
 item (items.Require v) = spec.require v.now
 item (items.RecordRoute v) = spec.record_route v.now
 
@@ -49,7 +50,7 @@ abbrev pub first_pair : (FirstText × Bor (List ℕ)) → First × List ℕ
 first_pair x = (first x.0, x.1.now)
 
 abbrev pub fields_seen : FieldsHeld → Fields
-fields_seen f = record { event = f.event; expires = f.expires; accept = option_map (λ v. v.items) f.accept; contact = f.contact; refer_to = f.refer_to; require = f.require.items; record_routes = f.record_routes.items }
+fields_seen f = record { event = f.event; expires = f.expires; accept = option_map (λ v. v.items) f.accept; contact = f.contact; refer_to = f.refer_to; refer_sub = f.refer_sub; require = f.require.items; record_routes = f.record_routes.items }
 
 abbrev pub gathered_seen : GatheredHeld → Gathered
 gathered_seen g = record { vias = g.vias.items; top = g.top; from = g.from; to = g.to; call_id = g.call_id; cseq = g.cseq; content_length = g.content_length; fields = fields_seen g.fields }

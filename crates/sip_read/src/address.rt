@@ -1,9 +1,9 @@
 //! An address: in angle brackets behind a display name, or bare (RFC 3261 section 20.10).
 ghost use Rattle.std.specs.Prelude.{◌≡◌};
-ghost use Rattle.event_headers.specs.Bytes.{Finds};
+ghost use Rattle.sip_text.specs.Bytes.{Finds};
 ghost use Rattle.sip_read.specs.AddressesComputed.{has_scheme, angle_at, bare_at, after_display, bracketed_at, address_at};
 
-use event_headers::scan::{Class, after_byte, quoted_at, skip_spaces, span_at, split_front};
+use sip_text::{Class, after_byte, quoted_at, skip_spaces, span_at, split_front};
 
 /// Whether it begins with a scheme and a colon, and goes on.
 fn has_scheme(uri: &[u8]) -> bool

@@ -12,7 +12,8 @@ use crate::gathered::{Fields, Gathered};
 use crate::message::{Head, Message, Party, Request, Response, Via};
 use crate::once::{Once, field_of};
 use crate::value::accept_of;
-use event_headers::{Field, NoMemory, Octets, Range, Text, Values};
+use event_headers::Range;
+use sip_text::{Field, NoMemory, Octets, Text, Values};
 use std::alloc::Global;
 
 impl Gathered {
@@ -126,6 +127,7 @@ fn request_of(
         accept,
         contact: field_of(fields.contact),
         refer_to: field_of(fields.refer_to),
+        refer_sub: field_of(fields.refer_sub),
         require: Values::new(fields.require),
         record_routes: Values::new(fields.record_routes),
         body,

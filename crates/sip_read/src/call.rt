@@ -1,16 +1,14 @@
 //! Values of Call-ID and CSeq (RFC 3261 sections 20.8 and 20.16).
 ghost use Rattle.std.specs.Prelude.{◌≡◌, ◌<◌, ◌≤◌, ◌^◌, min};
-ghost use Rattle.event_headers.specs.Bytes.{Finds};
-ghost use Rattle.event_headers.specs.Grammar.{number_of};
+ghost use Rattle.sip_text.specs.Bytes.{Finds};
+ghost use Rattle.sip_text.specs.Grammar.{number_of};
 ghost use Rattle.sip_read.specs.ValuesComputed.{call_id_of, sequence_of};
 ghost use Rattle.std.specs.List.{list_all};
-ghost use Rattle.event_headers.specs.Reading.{all_of};
+ghost use Rattle.sip_text.specs.Reading.{all_of};
 ghost use Rattle.sip_read.specs.Calls.{is_visible};
 ghost use Rattle.sip_read.specs.Views.{sequence};
 
-use event_headers::Text;
-use event_headers::scan::{Class, span_at};
-use event_headers::word::{capped_number, text_of, word_of};
+use sip_text::{Class, Text, capped_number, span_at, text_of, word_of};
 
 fn all_visible(text: &[u8]) -> bool
     ensures { result ≡ list_all is_visible text.now }

@@ -3,7 +3,7 @@ ghost use Rattle.std.specs.Prelude.{◌≡◌};
 ghost use Rattle.sip_read.specs.declared.error.ReadError.TheVariants as errors;
 ghost use Rattle.sip_read.specs.Errors.{error_number};
 
-use event_headers::NoMemory;
+use sip_text::NoMemory;
 use std::fmt;
 use thiserror::Error;
 

@@ -1,12 +1,11 @@
 //! The first line of a message: a request line or a status line (RFC 3261 sections 7.1 and 7.2).
 ghost use Rattle.std.specs.Prelude.{◌≡◌, ◌≤◌, ◌<◌};
-ghost use Rattle.event_headers.specs.Bytes.{Finds};
+ghost use Rattle.sip_text.specs.Bytes.{Finds};
 ghost use Rattle.sip_read.specs.FirstLineComputed.{request_line, version_at, status_line, first_of, first_at};
 ghost use Rattle.sip_read.specs.Views.{first, first_pair};
 
 use crate::line::line_at;
-use event_headers::scan::{Class, after_byte, span_at};
-use event_headers::word::{all_in, capped_number, text_of};
+use sip_text::{Class, after_byte, all_in, capped_number, span_at, text_of};
 
 /// What the first line says.
 #[derive(Clone, Copy)]

@@ -1,12 +1,11 @@
 //! Header lines that are continued by others (RFC 3261 section 7.3.1).
 ghost use Rattle.std.specs.Prelude.{◌≡◌, OnOk};
-ghost use Rattle.event_headers.specs.Bytes.{Finds, Gives};
+ghost use Rattle.sip_text.specs.Bytes.{Finds, Gives};
 ghost use Rattle.sip_read.specs.LinesComputed.{begins_space, joined, continued_of, unfolded_of};
 ghost use Rattle.sip_read.specs.LineViews.{line_seen, unfolded_seen};
 
 use crate::line::line_at;
-use event_headers::NoMemory;
-use event_headers::scan::{Class, kept_len, skip_spaces};
+use sip_text::{Class, NoMemory, kept_len, skip_spaces};
 use std::alloc::Global;
 
 /// A header line in one piece. One that isn't continued stands in the datagram, and takes no memory.

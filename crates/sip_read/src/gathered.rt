@@ -1,11 +1,11 @@
 //! What the header lines say, header by header.
 ghost use Rattle.std.specs.Prelude.{◌≡◌, ◌+◌, ◌<◌, ◌≤◌, ℕ, length, option_map, IfOk, OnOk};
-ghost use Rattle.event_headers.specs.Bytes.{Gives};
+ghost use Rattle.sip_text.specs.Bytes.{Gives};
 ghost use Rattle.sip_read.specs.OnceComputed.{once_more};
 ghost use Rattle.sip_read.specs.GatheredComputed.{nothing, fields_nothing, with_item, with_field, accept_more, Adds, gather_line, gather};
 ghost use Rattle.sip_read.specs.ItemsComputed.{element_at, values_of, line_items};
 ghost use Rattle.sip_read.specs.AddressesComputed.{contact_of as contact_text};
-ghost use Rattle.event_headers.specs.Reading.{elements_of};
+ghost use Rattle.sip_text.specs.Reading.{elements_of};
 ghost use Rattle.sip_read.specs.Views.{item as item_view, party as party_view, fields_seen, gathered_seen, gathered_pair};
 
 use crate::call::{CSeq, Sequence};
@@ -16,11 +16,10 @@ use crate::line::{header_of, line_at};
 use crate::message::{Party, Via};
 use crate::once::Once;
 use crate::party::{PartyText, contact_of};
-use crate::value::{event_of, expires_of};
+use crate::value::{event_of, expires_of, refer_sub_of};
 use crate::via::Hop;
-use event_headers::scan::after_comma;
-use event_headers::word::{capped_number, is_text};
-use event_headers::{EventValue, NoMemory, Text};
+use event_headers::EventValue;
+use sip_text::{NoMemory, Text, after_comma, capped_number, is_text, some_copy};
 use std::alloc::Global;
 
 /// What the lines say that only a request's reader asks for.
@@ -32,6 +31,7 @@ pub struct Fields {
     pub accept: Option<Vec<u8>>,
     pub contact: Once<Option<Text>>,
     pub refer_to: Once<Option<Text>>,
+    pub refer_sub: Once<Option<bool>>,
     pub require: Vec<Text>,
     pub record_routes: Vec<Text>,
 }
@@ -50,20 +50,11 @@ pub struct Gathered {
     pub fields: Fields,
 }
 
-fn copy_of_some(alloc: Global, text: Option<&str>) -> Result<Option<Text>, NoMemory>
-    ensures { IfOk result (λ o. o ≡ option_map (λ t. t.now) text.entry) }
-{
-    match text {
-        Some(text) => Ok(Some(Text::of(alloc, text)?)),
-        None => Ok(None),
-    }
-}
-
 fn owned_party(alloc: Global, from: PartyText<'_>) -> Result<Party, NoMemory>
     ensures { IfOk result (λ p. p ≡ party_view from.entry) }
 {
     let text = Text::of(alloc, from.text)?;
-    let tag = copy_of_some(alloc, from.tag)?;
+    let tag = some_copy(alloc, from.tag)?;
     Ok(Party { text, tag })
 }
 
@@ -71,7 +62,7 @@ fn owned_party(alloc: Global, from: PartyText<'_>) -> Result<Party, NoMemory>
 fn contact_value(alloc: Global, value: &[u8]) -> Result<Option<Text>, NoMemory>
     ensures { IfOk result (λ o. o ≡ contact_text value.now) }
 {
-    copy_of_some(alloc, contact_of(alloc, value)?)
+    some_copy(alloc, contact_of(alloc, value)?)
 }
 
 /// A further Accept line, behind a comma where it isn't the first.
@@ -98,6 +89,7 @@ impl Fields {
             accept: None,
             contact: Once::Absent,
             refer_to: Once::Absent,
+            refer_sub: Once::Absent,
             require: Vec::new(alloc),
             record_routes: Vec::new(alloc),
         }
@@ -113,6 +105,7 @@ impl Fields {
             Item::Accept(value) => accept_more(alloc, &mut self.accept, value)?,
             Item::Contact(value) => self.contact.add(contact_value(alloc, value)?),
             Item::ReferTo(value) => self.refer_to.add(contact_value(alloc, value)?),
+            Item::ReferSub(value) => self.refer_sub.add(refer_sub_of(alloc, value)?),
             Item::Require(token) => self.require.push(Text::of(alloc, token)?)?,
             Item::RecordRoute(route) => self.record_routes.push(Text::of(alloc, route)?)?,
             _ => {}
@@ -144,7 +137,7 @@ impl Gathered {
         self.vias.push(Text::of(alloc, hop.text)?)?;
         if self.top.is_none() {
             let sent_by = Text::of(alloc, hop.sent_by)?;
-            let branch = copy_of_some(alloc, hop.branch)?;
+            let branch = some_copy(alloc, hop.branch)?;
             self.top = Some(Via {
                 sent_by,
                 branch,

@@ -16,6 +16,7 @@ pub enum Header {
     Expires,
     Accept,
     ReferTo,
+    ReferSub,
     Require,
     RecordRoute,
     /// Any other header, also one without a compact name of ours.
@@ -29,7 +30,8 @@ fn is_name(name: &[u8], long: &[u8], compact: &[u8]) -> bool
     name.eq_ignore_ascii_case(long) || name.eq_ignore_ascii_case(compact)
 }
 
-/// The header that a name stands for (RFC 3261 section 7.3.3, RFC 6665 section 8.2, RFC 3515 section 2.1).
+/// The header that a name stands for (RFC 3261 section 7.3.3, RFC 6665 section 8.2, RFC 3515 section 2.1,
+/// RFC 4488 section 4).
 pub fn header_named(name: &[u8]) -> Header
     ensures { result ≡ header_named name.now }
 {
@@ -55,6 +57,8 @@ pub fn header_named(name: &[u8]) -> Header
         Header::Accept
     } else if is_name(name, b"refer-to", b"r") {
         Header::ReferTo
+    } else if name.eq_ignore_ascii_case(b"refer-sub") {
+        Header::ReferSub
     } else if name.eq_ignore_ascii_case(b"require") {
         Header::Require
     } else if name.eq_ignore_ascii_case(b"record-route") {

@@ -1,6 +1,6 @@
 //! What the lines of a header section say, value by value.
 ghost use Rattle.std.specs.Prelude.{◌≡◌};
-ghost use Rattle.event_headers.specs.Bytes.{Finds, Gives};
+ghost use Rattle.sip_text.specs.Bytes.{Finds, Gives};
 ghost use Rattle.sip_read.specs.ItemsComputed.{token_at, route_at, element_at, single_of};
 ghost use Rattle.sip_read.specs.Views.{item};
 
@@ -9,10 +9,7 @@ use crate::call::{CSeq, call_id_of, sequence_of};
 use crate::header::Header;
 use crate::party::{PartyText, party_of};
 use crate::via::{Hop, before, hop_at};
-use event_headers::NoMemory;
-use event_headers::parameter::some_of;
-use event_headers::scan::{Class, span_at};
-use event_headers::word::{all_of, text_of};
+use sip_text::{Class, NoMemory, all_of, some_of, span_at, text_of};
 use std::alloc::Global;
 
 /// A value of a header, as it stands in its line. Those that can't make a line bad are not looked at yet.
@@ -30,6 +27,7 @@ pub enum Item<'a> {
     Expires(&'a [u8]),
     Accept(&'a [u8]),
     ReferTo(&'a [u8]),
+    ReferSub(&'a [u8]),
     Require(&'a str),
     RecordRoute(&'a str),
 }
@@ -113,6 +111,7 @@ pub fn single_of(alloc: Global, header: Header, value: &[u8]) -> Result<Option<I
         Header::Expires => Ok(Some(Item::Expires(value))),
         Header::Accept => Ok(Some(Item::Accept(value))),
         Header::ReferTo => Ok(Some(Item::ReferTo(value))),
+        Header::ReferSub => Ok(Some(Item::ReferSub(value))),
         Header::Via | Header::Require | Header::RecordRoute | Header::Other => Ok(None),
     }
 }

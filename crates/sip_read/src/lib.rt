@@ -32,4 +32,5 @@ mod via;
 
 pub use datagram::read;
 pub use error::{HeaderName, ReadError};
-pub use message::{Addr, Head, Message, Party, Request, Response, Via};
+pub use message::{Head, Message, Party, Request, Response, Via};
+pub use sip_text::Addr;

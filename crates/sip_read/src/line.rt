@@ -1,9 +1,9 @@
 //! Lines, and what a header line says.
 ghost use Rattle.std.specs.Prelude.{◌≡◌, ◌<◌, ◌^◌};
-ghost use Rattle.event_headers.specs.Bytes.{Finds};
+ghost use Rattle.sip_text.specs.Bytes.{Finds};
 ghost use Rattle.sip_read.specs.LinesComputed.{line_at, header_of};
 
-use event_headers::scan::{Class, after_byte, skip_spaces, span_at, split_front, trim};
+use sip_text::{Class, after_byte, skip_spaces, span_at, split_front, trim};
 
 /// A line at the front, and what stands behind its CRLF.
 #[tactic(auto, unfolding(crate::specs::LinesComputed::line_at))]

@@ -1,13 +1,7 @@
 //! SIP messages as values (RFC 3261 section 7).
 
-use event_headers::{EventValue, Field, Octets, Range, Text, Values};
-
-/// An IPv4 address and a port.
-#[derive(Clone, Copy, Debug, PartialEq, Eq)]
-pub struct Addr {
-    pub ip: [u8; 4],
-    pub port: u16,
-}
+use event_headers::{EventValue, Range};
+use sip_text::{Field, Octets, Text, Values};
 
 /// The parts of a message's first Via value that decide (RFC 3261 section 20.42, RFC 3581).
 #[derive(Debug, Drop)]
@@ -55,6 +49,8 @@ pub struct Request {
     pub contact: Field<Text>,
     /// The address alone.
     pub refer_to: Field<Text>,
+    /// Whether the one who sent a REFER wants a subscription (RFC 4488 section 4).
+    pub refer_sub: Field<bool>,
     pub require: Values<Text>,
     /// Record-Route values as written, in order.
     pub record_routes: Values<Text>,

@@ -3,7 +3,7 @@ ghost use Rattle.std.specs.Prelude.{◌≡◌};
 ghost use Rattle.sip_read.specs.OnceComputed.{once_more, is_several, required, field_of};
 
 use crate::error::{HeaderName, ReadError};
-use event_headers::Field;
+use sip_text::Field;
 
 /// What the lines of one header say: no line, the value of the one line, or several lines.
 #[derive(Drop)]

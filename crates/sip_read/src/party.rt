@@ -1,14 +1,11 @@
 //! Values that are one address: From, To, Contact and Refer-To.
 ghost use Rattle.std.specs.Prelude.{◌≡◌, IfOk};
-ghost use Rattle.event_headers.specs.Bytes.{Gives};
+ghost use Rattle.sip_text.specs.Bytes.{Gives};
 ghost use Rattle.sip_read.specs.AddressesComputed.{party_of, contact_of};
 ghost use Rattle.sip_read.specs.Views.{party};
 
 use crate::address::address_at;
-use event_headers::parameter::{parameters_of, word_named};
-use event_headers::scan::Class;
-use event_headers::word::text_of;
-use event_headers::{NoMemory, Text};
+use sip_text::{Class, NoMemory, Text, parameters_of, text_of, word_named};
 use std::alloc::Global;
 
 /// A From or a To, as it stands in the line.

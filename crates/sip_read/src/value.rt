@@ -1,11 +1,12 @@
 //! Values of the event headers, as far as a message keeps them: None where a value isn't in its grammar, or a number in it is too large.
 ghost use Rattle.std.specs.Prelude.{◌≡◌, IfOk};
 ghost use Rattle.sip_read.specs.FieldsComputed.{KeptOf, event_kept, expires_kept, accept_kept};
+ghost use Rattle.sip_text.specs.Bytes.{Gives};
+ghost use Rattle.sip_read.specs.ReferSub.{truth_of};
+ghost use Rattle.sip_read.specs.ValuesComputed.{refer_sub_of};
 
-use event_headers::accept::read_accept;
-use event_headers::event::read_event;
-use event_headers::expires::read_expires;
-use event_headers::{EventValue, HeaderError, NoMemory, Range, Values};
+use event_headers::{EventValue, HeaderError, Range, read_accept, read_event, read_expires};
+use sip_text::{NoMemory, Values, token_with};
 use std::alloc::Global;
 
 /// The value, or None where the text says none.
@@ -29,6 +30,29 @@ pub fn expires_of(value: &[u8]) -> Result<Option<u32>, NoMemory>
     ensures { IfOk result (λ o. o ≡ expires_kept value.now) }
 {
     kept(read_expires(value))
+}
+
+/// The truth that a word tells. Case is ignored.
+fn truth_of(word: &str) -> Option<bool>
+    ensures { result ≡ truth_of word.now }
+{
+    if word.eq_ignore_ascii_case("true") {
+        Some(true)
+    } else if word.eq_ignore_ascii_case("false") {
+        Some(false)
+    } else {
+        None
+    }
+}
+
+#[tactic(auto, unfolding(crate::specs::ValuesComputed::refer_sub_of))]
+pub fn refer_sub_of(alloc: Global, value: &[u8]) -> Result<Option<bool>, NoMemory>
+    ensures { IfOk result (λ o. o ≡ refer_sub_of value.now) }
+{
+    let Some((word, _)) = token_with(alloc, value)? else {
+        return Ok(None);
+    };
+    Ok(truth_of(word))
 }
 
 pub fn accept_of(alloc: Global, value: &[u8]) -> Result<Option<Values<Range>>, NoMemory>

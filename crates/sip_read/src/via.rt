@@ -1,16 +1,15 @@
 //! Values of Via (RFC 3261 section 20.42, RFC 3581).
 ghost use Rattle.std.specs.Prelude.{◌≡◌, ◌-◌, ◌≤◌, option_map};
 ghost use Rattle.std.specs.List.{list_any};
-ghost use Rattle.event_headers.specs.Bytes.{Finds, Gives};
-ghost use Rattle.event_headers.specs.Views.{view, views};
+ghost use Rattle.sip_text.specs.Bytes.{Finds, Gives};
+ghost use Rattle.sip_text.specs.Views.{view, views};
 ghost use Rattle.sip_read.specs.Vias.{branch_of, is_bare_rport};
 ghost use Rattle.sip_read.specs.ViasComputed.{taken, slashed_at, protocol_at, some_text_of, hop_of, hop_at};
 ghost use Rattle.sip_read.specs.Views.{hop};
 
-use event_headers::NoMemory;
-use event_headers::parameter::{Parameter, first_named, some_of};
-use event_headers::scan::{Class, after_byte, skip_spaces, span_at};
-use event_headers::word::text_of;
+use sip_text::{
+    Class, NoMemory, Parameter, after_byte, first_named, skip_spaces, some_of, span_at, text_of,
+};
 use std::alloc::Global;
 
 /// A Via value, as it stands in the line.
@@ -56,7 +55,7 @@ fn protocol_at(text: &[u8]) -> Option<&[u8]>
 }
 
 /// The value of the first branch.
-#[tactic(auto, using(event_headers::proofs::OverViews::over_views))]
+#[tactic(auto, using(sip_text::proofs::OverViews::over_views))]
 fn branch_of<'a>(parameters: &[Parameter<'a>]) -> Option<&'a [u8]>
     ensures { option_map (λ t. t.now) result ≡ branch_of (views parameters.now) }
 {

@@ -1,30 +1,31 @@
 -- A written answer is read as a response with the same status.
-use Rattle.std.proofs.Common.{◌≡◌, ◌≢◌, ℕ, suc, ◌<◌, ◌≤◌, ◌+◌, ◌/◌, ◌%◌, ◌^◌, true, false, List, [], ◌∷◌, ◌++◌, length, map, Option, Some, None, option_map, refl, sym, ap, subst, ◌∙◌, append_assoc, append-nil, arith, codes, decimal}
+use Rattle.std.proofs.Common.{◌≡◌, ◌≢◌, ℕ, Bool, suc, ◌<◌, ◌≤◌, ◌+◌, ◌/◌, ◌%◌, ◌^◌, true, false, List, [], ◌∷◌, ◌++◌, length, map, Option, Some, None, option_map, refl, sym, ap, subst, ◌∙◌, append_assoc, append-nil, arith, codes, decimal}
 use Rattle.std.specs.Prelude.{All, IfSome}
 use Rattle.std.specs.List.{filter_map}
 use Rattle.std.proofs.lemmas.Bool.Decides.{nat_tests}
 use Rattle.std.proofs.lemmas.Fmt.{decimal_by_steps}
 use Rattle.std.proofs.lemmas.List.{length-append}
 use Rattle.std.proofs.lemmas.List.Elements.{filter_map-append}
-use Rattle.event_headers.specs.declared.scan.Class.TheVariants as class
-use Rattle.event_headers.specs.Bytes.{is_in, is_within}
-use Rattle.event_headers.specs.Grammar.{AllPassing, IsWord}
-use Rattle.event_headers.specs.Headers.{IsToken, Fits}
+use Rattle.sip_text.specs.declared.scan.Class.TheVariants as class
+use Rattle.sip_text.specs.Bytes.{is_in, is_within}
+use Rattle.sip_text.specs.Grammar.{AllPassing, IsWord}
+use Rattle.sip_text.specs.Grammar.{IsToken}
+use Rattle.event_headers.specs.Headers.{Fits}
 use Rattle.event_headers.specs.Written.{parameter_text, comma_joined}
-use Rattle.event_headers.proofs.Trims.{all-append}
+use Rattle.sip_text.proofs.Trims.{all-append}
 use Rattle.sip_read.specs.declared.call.Sequence.{Sequence}
-use Rattle.sip_read.specs.declared.message.Addr.{Addr}
+use Rattle.sip_text.specs.declared.address.Addr.{Addr}
 use Rattle.sip_read.specs.declared.message.Party.{Party}
 use Rattle.sip_read.specs.Addresses.{IsParty}
 use Rattle.sip_read.specs.Calls.{is_visible, IsSequence}
 use Rattle.sip_read.specs.FirstLine.{status, IsStatusLine}
-use Rattle.sip_read.specs.Items.{Item, via, from, to, call_id, cseq, content_length, contact, expires, record_route}
+use Rattle.sip_read.specs.Items.{Item, via, from, to, call_id, cseq, content_length, contact, expires, refer_sub, record_route}
 use Rattle.sip_read.specs.Message.{HasHead, IsBody, via_in, from_in, to_in, call_id_in, cseq_in, length_in}
 use Rattle.sip_read.specs.Vias.{Hop, via_of, IsHop}
 use Rattle.sip_read.proofs.PlainLines.{on_wire, IsPlain, plain_head}
 use Rattle.sip_write.specs.declared.status.Status.{Status}
 use Rattle.sip_write.specs.declared.status.Status.TheVariants as statuses
-use Rattle.sip_write.specs.Answer.{AnswerText, status_line, via_lines, dialog_lines, option_lines, answer_lines, answer_text, added_tag}
+use Rattle.sip_write.specs.Answer.{AnswerText, status_line, via_lines, dialog_lines, option_lines, refer_sub_text, answer_lines, answer_text, added_tag}
 use Rattle.sip_write.specs.AnswerAgain.{IsViaField, IsRouteField, IsAnswer, kept_tag, AnswerIsReadAgain}
 use Rattle.sip_write.specs.Lines.{joined, header, header_of, contact_text}
 use Rattle.sip_write.specs.ReadAgain.{IsAddr, IsFieldText}
@@ -210,6 +211,11 @@ unsupported_laid : (ts : Option (List (List ℕ))) (lines : List (List ℕ)) (xs
 unsupported_laid None lines xs is h = h
 unsupported_laid (Some ts) lines xs is h = none (plain (codes "Unsupported") (comma_joined ts) [] (literal_name 85 (codes "nsupported") refl) (list_field ts is) refl) h
 
+refer_sub_laid : (without : Bool) (lines : List (List ℕ)) (xs : List Item) → Laid lines xs
+    → Laid (header_of (codes "Refer-Sub") (refer_sub_text without) ++ lines) (map refer_sub (listed (refer_sub_text without)) ++ xs)
+refer_sub_laid false lines xs h = h
+refer_sub_laid true lines xs h = one (plain (codes "Refer-Sub") (codes "false") (refer_sub (codes "false") ∷ []) (literal_name 82 (codes "efer-Sub") refl) (visible_field (codes "false") refl) refl) h
+
 -- ---- all lines
 
 abbrev size_line : List (List ℕ)
@@ -222,7 +228,8 @@ options_then a lines =
     ++ (header_of (codes "Min-Expires") (option_map decimal a.min_expires)
     ++ (header_of (codes "Allow") (option_map comma_joined a.allow)
     ++ (header_of (codes "Allow-Events") (option_map comma_joined a.allow_events)
-    ++ (header_of (codes "Unsupported") (option_map comma_joined a.unsupported) ++ lines)))))
+    ++ (header_of (codes "Unsupported") (option_map comma_joined a.unsupported)
+    ++ (header_of (codes "Refer-Sub") (refer_sub_text a.without_subscription) ++ lines))))))
 
 options_are : (a : AnswerText) (lines : List (List ℕ)) → option_lines a ++ lines ≡ options_then a lines
 unfolding options_then
@@ -268,9 +275,13 @@ sequence a = record { number = a.head.cseq; method = a.head.cseq_method }
 abbrev core : AnswerText → List Item
 core a = from a.head.from ∷ to (answer_to a) ∷ call_id a.head.call_id ∷ cseq (sequence a) ∷ []
 
+-- the items of the last lines
+abbrev last_items : AnswerText → List Item
+last_items a = map refer_sub (listed (refer_sub_text a.without_subscription)) ++ content_length (codes "0") ∷ []
+
 abbrev items : AnswerText → Hop → List Hop → List Item
 items a top others =
-    via (marked_hop a top) ∷ (map via others ++ (map record_route a.record_routes ++ (core a ++ (map contact (listed (option_map contact_text a.contact)) ++ (map expires (listed (option_map decimal a.expires)) ++ content_length (codes "0") ∷ [])))))
+    via (marked_hop a top) ∷ (map via others ++ (map record_route a.record_routes ++ (core a ++ (map contact (listed (option_map contact_text a.contact)) ++ (map expires (listed (option_map decimal a.expires)) ++ last_items a)))))
 
 abbrev nones : {X Y : Type 0} → (Item → Option Y) → (X → Item) → Type 0
 nones {X} f g = (x : X) → f (g x) ≡ None
@@ -284,13 +295,16 @@ hops_found [] = refl
 hops_found (hop ∷ hops) = ap (λ (l : List Hop). hop ∷ l) (hops_found hops)
 
 -- what a header's values are among all items
-module _ {Y : Type 0} (f : Item → Option Y) (route : nones f record_route) (met : nones f contact) (timed : nones f expires) where
+module _ {Y : Type 0} (f : Item → Option Y) (route : nones f record_route) (met : nones f contact) (timed : nones f expires) (wanted : nones f refer_sub) where
   found : (a : AnswerText) (top : Hop) (others : List Hop)
       → filter_map f (items a top others) ≡ filter_map f (via (marked_hop a top) ∷ []) ++ (filter_map f (map via others) ++ (filter_map f (core a) ++ filter_map f (content_length (codes "0") ∷ [])))
   found a top others =
       let contacts : List Item = map contact (listed (option_map contact_text a.contact)) in
       let times : List Item = map expires (listed (option_map decimal a.expires)) in
-      let last : List Item = content_length (codes "0") ∷ [] in
+      let size : List Item = content_length (codes "0") ∷ [] in
+      let wishes : List Item = map refer_sub (listed (refer_sub_text a.without_subscription)) in
+      let last : List Item = wishes ++ size in
+      let w : filter_map f wishes ≡ [] = passed f refer_sub wanted (listed (refer_sub_text a.without_subscription)) in
       let routes : List Item = map record_route a.record_routes in
       let r : filter_map f routes ≡ [] = passed f record_route route a.record_routes in
       let c : filter_map f contacts ≡ [] = passed f contact met (listed (option_map contact_text a.contact)) in
@@ -303,7 +317,8 @@ module _ {Y : Type 0} (f : Item → Option Y) (route : nones f record_route) (me
       ∙ filter_map-append f (core a) (contacts ++ (times ++ last))
       ∙ ap (λ (l : List Y). filter_map f (core a) ++ l)
       (filter_map-append f contacts (times ++ last) ∙ ap (λ (l : List Y). l ++ filter_map f (times ++ last)) c
-      ∙ filter_map-append f times last ∙ ap (λ (l : List Y). l ++ filter_map f last) t)))
+      ∙ filter_map-append f times last ∙ ap (λ (l : List Y). l ++ filter_map f last) t
+      ∙ filter_map-append f wishes size ∙ ap (λ (l : List Y). l ++ filter_map f size) w)))
 
   -- of a header other than Via
   alone : nones f via → (a : AnswerText) (top : Hop) (others : List Hop) → filter_map f (items a top others) ≡ filter_map f (core a) ++ filter_map f (content_length (codes "0") ∷ [])
@@ -314,7 +329,7 @@ module _ {Y : Type 0} (f : Item → Option Y) (route : nones f record_route) (me
 
 hops_are : (a : AnswerText) (top : Hop) (others : List Hop) → filter_map via_in (items a top others) ≡ marked_hop a top ∷ others
 hops_are a top others =
-    found via_in (λ x. refl) (λ x. refl) (λ x. refl) a top others
+    found via_in (λ x. refl) (λ x. refl) (λ x. refl) (λ x. refl) a top others
     ∙ ap (λ (l : List Hop). marked_hop a top ∷ (l ++ [])) (hops_found others) ∙ ap (λ (l : List Hop). marked_hop a top ∷ l) (append-nil others)
 
 -- ---- the whole
@@ -325,7 +340,7 @@ sequence_is a small w =
     record { digits = decimal a.head.cseq; gap = 32 ∷ []; are_digits = s.0; are_spaces = (refl, cons_some 32 []); method = w; number = sym s.1; small = small; whole = refl }
 
 behind_laid : (a : AnswerText) (top : Hop) (others : List Hop) → IsAnswer a top others
-    → Laid (dialog_lines a ++ options_then a size_line) (core a ++ (map contact (listed (option_map contact_text a.contact)) ++ (map expires (listed (option_map decimal a.expires)) ++ content_length (codes "0") ∷ [])))
+    → Laid (dialog_lines a ++ options_then a size_line) (core a ++ (map contact (listed (option_map contact_text a.contact)) ++ (map expires (listed (option_map decimal a.expires)) ++ last_items a)))
 unfolding options_then
 behind_laid a top others h =
     let small : a.head.cseq < 2 ^ 64 = omega (arith, h.number) in
@@ -333,8 +348,10 @@ behind_laid a top others h =
     let method : AllPassing is_visible a.head.cseq_method = all_within (is_in class.Token) is_visible token_visible a.head.cseq_method h.method.0 in
     let cseq_field = spaced_field (decimal a.head.cseq) a.head.cseq_method (decimal_visible a.head.cseq small) s.0.1 method h.method.1 in
     let to_field = field_more a.head.to.text (parameter_text (codes "tag") (added_tag a.head.to.tag a.tag)) h.to.1 (tag_field a.head.to.tag a.tag h.tag) in
-    let last : List Item = content_length (codes "0") ∷ [] in
-    let from_unsupported : List (List ℕ) = header_of (codes "Unsupported") (option_map comma_joined a.unsupported) ++ size_line in
+    let size : List Item = content_length (codes "0") ∷ [] in
+    let last : List Item = last_items a in
+    let from_refer_sub : List (List ℕ) = header_of (codes "Refer-Sub") (refer_sub_text a.without_subscription) ++ size_line in
+    let from_unsupported : List (List ℕ) = header_of (codes "Unsupported") (option_map comma_joined a.unsupported) ++ from_refer_sub in
     let from_events : List (List ℕ) = header_of (codes "Allow-Events") (option_map comma_joined a.allow_events) ++ from_unsupported in
     let from_allow : List (List ℕ) = header_of (codes "Allow") (option_map comma_joined a.allow) ++ from_events in
     let from_least : List (List ℕ) = header_of (codes "Min-Expires") (option_map decimal a.min_expires) ++ from_allow in
@@ -350,8 +367,9 @@ behind_laid a top others h =
     (least_laid a.min_expires from_allow last h.min_expires
     (allow_laid a.allow from_events last h.allow
     (events_laid a.allow_events from_unsupported last h.allow_events
-    (unsupported_laid a.unsupported size_line last h.unsupported
-    (one zero_line done))))))))))
+    (unsupported_laid a.unsupported from_refer_sub last h.unsupported
+    (refer_sub_laid a.without_subscription size_line size
+    (one zero_line done)))))))))))
 
 all_laid : (a : AnswerText) (top : Hop) (others : List Hop) → IsAnswer a top others → Laid (middle a top others) (items a top others)
 unfolding middle
@@ -360,7 +378,7 @@ all_laid a top others h =
     let again = top_again a.source top.text top h.source h.is_top.0 in
     let field = top_field a.source top.text top h.source h.is_top.0 h.is_top.1 (hop_starts text (marked_hop a top) again) in
     let lines : List (List ℕ) = dialog_lines a ++ options_then a size_line in
-    let xs : List Item = core a ++ (map contact (listed (option_map contact_text a.contact)) ++ (map expires (listed (option_map decimal a.expires)) ++ content_length (codes "0") ∷ [])) in
+    let xs : List Item = core a ++ (map contact (listed (option_map contact_text a.contact)) ++ (map expires (listed (option_map decimal a.expires)) ++ last_items a)) in
     one (via_line text (marked_hop a top) again field)
     (vias_laid others (map (header (codes "Record-Route")) a.record_routes ++ lines) (map record_route a.record_routes ++ xs) h.are_others
     (routes_laid a.record_routes lines xs h.record_routes (behind_laid a top others h)))
@@ -381,11 +399,11 @@ answer_again a top others h small =
         hops = hops_are a top others;
         vias = refl;
         top_via = refl;
-        from = alone from_in (λ x. refl) (λ x. refl) (λ x. refl) (λ x. refl) a top others;
-        to = alone to_in (λ x. refl) (λ x. refl) (λ x. refl) (λ x. refl) a top others;
-        call_id = alone call_id_in (λ x. refl) (λ x. refl) (λ x. refl) (λ x. refl) a top others;
-        cseq = alone cseq_in (λ x. refl) (λ x. refl) (λ x. refl) (λ x. refl) a top others;
+        from = alone from_in (λ x. refl) (λ x. refl) (λ x. refl) (λ x. refl) (λ x. refl) a top others;
+        to = alone to_in (λ x. refl) (λ x. refl) (λ x. refl) (λ x. refl) (λ x. refl) a top others;
+        call_id = alone call_id_in (λ x. refl) (λ x. refl) (λ x. refl) (λ x. refl) (λ x. refl) a top others;
+        cseq = alone cseq_in (λ x. refl) (λ x. refl) (λ x. refl) (λ x. refl) (λ x. refl) a top others;
       };
       body = [];
-      is_body = subst (λ (ds : List (List ℕ)). IsBody ds [] []) (sym (alone length_in (λ x. refl) (λ x. refl) (λ x. refl) (λ x. refl) a top others)) (omega arith, refl);
+      is_body = subst (λ (ds : List (List ℕ)). IsBody ds [] []) (sym (alone length_in (λ x. refl) (λ x. refl) (λ x. refl) (λ x. refl) (λ x. refl) a top others)) (omega arith, refl);
     }

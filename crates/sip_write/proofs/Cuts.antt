@@ -1,22 +1,20 @@
 -- Where a Via value is cut.
-use Rattle.std.proofs.Common.{◌≡◌, ◌≢◌, ℕ, suc, ◌+◌, ◌-◌, ◌<◌, ◌≤◌, Bool, true, false, eqb, cond, List, [], ◌∷◌, ◌++◌, length, take, drop, reverse, refl, sym, ap, subst, ◌∙◌, append_assoc, arith, codes, inl, inr, length-append, drop_of_length-le}
-use Rattle.std.specs.List.{prefix_len, suffix_len, flat_map}
+use Rattle.std.proofs.Common.{◌≡◌, ◌≢◌, ℕ, suc, ◌+◌, ◌-◌, ◌<◌, ◌≤◌, Bool, true, false, eqb, cond, List, [], ◌∷◌, ◌++◌, length, take, drop, reverse, refl, sym, ap, subst, ◌∙◌, append_assoc, arith, inl, inr, length-append, drop_of_length-le}
+use Rattle.std.specs.List.{prefix_len, suffix_len}
 use Rattle.std.proofs.lemmas.List.{take_at, drop_at, length-take, reverse-append}
 use Rattle.std.proofs.lemmas.List.Sums.{suffix_len-le-length}
 use Rattle.std.proofs.lemmas.List.Folds.{length-prefix_len}
 use Rattle.std.proofs.lemmas.Bool.{eqb-true}
 use Rattle.std.proofs.Math.Seq.{take-length}
 use Rattle.std.specs.Prelude.{◌⊎◌}
-use Rattle.event_headers.specs.Bytes.{is_space}
-use Rattle.event_headers.specs.Reading.{trim_end}
-use Rattle.event_headers.specs.Grammar.{AreSpaces, Stops}
-use Rattle.event_headers.proofs.Pieces.{which_space, prefix_again, and_both}
-use Rattle.event_headers.proofs.Trims.{trim_end_parts, stops_front}
+use Rattle.sip_text.specs.Bytes.{is_space}
+use Rattle.sip_text.specs.Reading.{trim_end}
+use Rattle.sip_text.specs.Grammar.{AreSpaces, Stops}
+use Rattle.sip_text.proofs.Pieces.{which_space, prefix_again, and_both}
+use Rattle.sip_text.proofs.Trims.{trim_end_parts, stops_front}
 use Rattle.sip_write.specs.declared.quoting.Quoting.{Quoting}
 use Rattle.sip_write.specs.declared.quoting.Quoting.TheVariants.{Outside, Inside, Escaped}
-use Rattle.sip_read.specs.declared.message.Addr.{Addr}
-use Rattle.sip_write.specs.Lines.{ip_text}
-use Rattle.sip_write.specs.Via.{marked_parameter, marked_parts, Parts, quoting_after, begins_parameter, with_character, parts_from, parts_of}
+use Rattle.sip_write.specs.Via.{Parts, quoting_after, begins_parameter, with_character, parts_from, parts_of}
 use Rattle.sip_write.specs.Cutting.{first_cut}
 
 -- ---- one character in front
@@ -282,21 +280,3 @@ empty_is (c ∷ text) e = let none : length (c ∷ text) ≡ 0 = eqb-true (lengt
 pub nothing_left : (text : List ℕ) → text ≡ [] → (parts_of text).parameters ≡ []
 unfolding parts_from
 nothing_left text is = ap (λ (x : List ℕ). (parts_of x).parameters) is
-
--- ---- what is put of them
-
-pub marked_is : (source : Addr) (text : List ℕ) (n : ℕ) (old a b c d front back ip : List ℕ)
-    → parts_of text ≡ record { front = take n text; parameters = (parts_of (drop n text)).parameters }
-    → front ≡ take n text → back ≡ drop n text → ip ≡ ip_text source.ip
-    → a ≡ old ++ front → b ≡ a ++ flat_map (marked_parameter source) (parts_of back).parameters → c ≡ b ++ codes ";received=" → d ≡ c ++ ip
-    → d ≡ old ++ marked_parts source (parts_of text)
-unfolding marked_parts
-marked_is source text n old a b c d front back ip whole f r i e1 e2 e3 e4 =
-    let behind : List ℕ = flat_map (marked_parameter source) (parts_of (drop n text)).parameters in
-    e4 ∙ ap (λ x. c ++ x) i ∙ ap (λ x. x ++ ip_text source.ip) (e3 ∙ ap (λ x. x ++ codes ";received=")
-    (e2 ∙ ap (λ (x : List ℕ). a ++ flat_map (marked_parameter source) (parts_of x).parameters) r
-    ∙ ap (λ x. x ++ behind) (e1 ∙ ap (λ x. old ++ x) f)))
-    ∙ regroup old (take n text) behind (codes ";received=") (ip_text source.ip)
-    ∙ ap (λ (p : Parts). old ++ (p.front ++ (flat_map (marked_parameter source) p.parameters ++ (codes ";received=" ++ ip_text source.ip)))) (sym whole) where
-      regroup : (s t u v w : List ℕ) → (((s ++ t) ++ u) ++ v) ++ w ≡ s ++ (t ++ (u ++ (v ++ w)))
-      regroup s t u v w = simp append_assoc

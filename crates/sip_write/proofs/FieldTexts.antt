@@ -9,12 +9,12 @@ use Rattle.std.proofs.lemmas.Fmt.{decimal_by_steps}
 use Rattle.std.proofs.lemmas.List.{reverse-append}
 use Rattle.std.proofs.lemmas.List.Sums.{fold-append}
 use Rattle.std.proofs.lemmas.Str.{IsUtf8-append}
-use Rattle.event_headers.specs.declared.scan.Class.TheVariants as class
-use Rattle.event_headers.specs.Bytes.{is_in, is_space, is_within}
-use Rattle.event_headers.specs.Grammar.{AllPassing, IsWord, Stops, number_of}
-use Rattle.event_headers.proofs.Pieces.{and_both, no_space, NoSpace}
-use Rattle.event_headers.proofs.Trims.{all-append, all-reverse}
-use Rattle.event_headers.proofs.Utf8.{text_from_ascii, token_small}
+use Rattle.sip_text.specs.declared.scan.Class.TheVariants as class
+use Rattle.sip_text.specs.Bytes.{is_in, is_space, is_within}
+use Rattle.sip_text.specs.Grammar.{AllPassing, IsWord, Stops, number_of}
+use Rattle.sip_text.proofs.Pieces.{and_both, no_space, NoSpace}
+use Rattle.sip_text.proofs.Trims.{all-append, all-reverse}
+use Rattle.sip_text.proofs.Utf8.{text_from_ascii, token_small}
 use Rattle.sip_read.specs.Calls.{is_visible}
 use Rattle.sip_read.specs.Headers.{header_named}
 use Rattle.sip_read.specs.Items.{Item, AreValues}

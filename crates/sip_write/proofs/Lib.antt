@@ -1,4 +1,5 @@
 pub mod Joins
+pub mod Pages
 pub mod ViaLines
 pub mod Cuts
 pub mod ViaPieces
@@ -9,3 +10,4 @@ pub mod NotifyFixed
 pub mod TopVia
 pub mod TopViaText
 pub mod AnswerRead
+pub mod ReadValues

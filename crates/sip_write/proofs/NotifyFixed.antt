@@ -6,16 +6,16 @@ use Rattle.std.proofs.lemmas.Bool.Decides.{nat_tests}
 use Rattle.std.proofs.lemmas.Fmt.{decimal_injective}
 use Rattle.std.proofs.lemmas.List.{length-append, append_cancel_left, append_cancel_right}
 use Rattle.event_headers.specs.declared.error.HeaderError.{HeaderError}
-use Rattle.event_headers.specs.Grammar.{AllPassing}
+use Rattle.sip_text.specs.Grammar.{AllPassing}
 use Rattle.event_headers.specs.HeaderReading.{event_of, event_fits, state_of, state_fits}
 use Rattle.event_headers.specs.Headers.{IsEvent, EventFits, IsEventValue, IsState, StateFits, IsStateValue, Says, IsExact}
 use Rattle.event_headers.specs.Values.{EventValue, StateValue}
 use Rattle.event_headers.specs.Written.{event_text, state_text}
 use Rattle.event_headers.proofs.Events.{event_takes, event_again, event_fit, event_large}
-use Rattle.event_headers.proofs.Pieces.{and_both}
+use Rattle.sip_text.proofs.Pieces.{and_both}
 use Rattle.event_headers.proofs.Said.{exact}
 use Rattle.event_headers.proofs.States.{state_takes, state_again, state_fit, state_large}
-use Rattle.event_headers.proofs.Trims.{all-append}
+use Rattle.sip_text.proofs.Trims.{all-append}
 use Rattle.event_headers.proofs.WrittenTexts.{event_again_read, state_again_read}
 use Rattle.sip_read.specs.Calls.{is_visible}
 use Rattle.sip_read.proofs.PlainLines.{on_wire}

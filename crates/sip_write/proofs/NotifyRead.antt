@@ -4,16 +4,17 @@ use Rattle.std.proofs.Common.{◌≡◌, ◌≢◌, ℕ, suc, ◌<◌, ◌≤◌
 use Rattle.std.specs.Prelude.{All, IfSome, slice_index}
 use Rattle.std.proofs.lemmas.Bool.Decides.{nat_tests}
 use Rattle.std.proofs.lemmas.List.{length-append}
-use Rattle.event_headers.specs.declared.scan.Class.TheVariants as class
-use Rattle.event_headers.specs.Bytes.{is_in}
-use Rattle.event_headers.specs.Grammar.{AllPassing, IsWord, Parameter, IsParameter, AreParameters, has_name, values_named}
-use Rattle.event_headers.specs.Headers.{IsToken, IsSmallToken, IsEventValue, IsStateValue, Fits}
+use Rattle.sip_text.specs.declared.scan.Class.TheVariants as class
+use Rattle.sip_text.specs.Bytes.{is_in}
+use Rattle.sip_text.specs.Grammar.{AllPassing, IsWord, Parameter, IsParameter, AreParameters, has_name, values_named}
+use Rattle.sip_text.specs.Grammar.{IsToken, IsSmallToken}
+use Rattle.event_headers.specs.Headers.{IsEventValue, IsStateValue, Fits}
 use Rattle.event_headers.specs.Values.{EventValue, StateValue}
 use Rattle.event_headers.specs.Written.{parameter_text, event_text, state_text}
-use Rattle.event_headers.proofs.Trims.{all-append}
+use Rattle.sip_text.proofs.Trims.{all-append}
 use Rattle.event_headers.proofs.WrittenTexts.{event_again_read}
 use Rattle.sip_read.specs.declared.call.Sequence.{Sequence}
-use Rattle.sip_read.specs.declared.message.Addr.{Addr}
+use Rattle.sip_text.specs.declared.address.Addr.{Addr}
 use Rattle.sip_read.specs.declared.message.Party.{Party}
 use Rattle.sip_read.specs.Addresses.{IsParty, IsContact}
 use Rattle.sip_read.specs.Calls.{is_visible, IsSequence}
@@ -345,6 +346,7 @@ reads_again n remote h small =
       accept = refl;
       contact = contact_is n.me h.me;
       refer_to = refl;
+      refer_sub = refl;
       require = refl;
       record_routes = refl;
       body = (omega (arith, size.1), sym (ap (λ (k : ℕ). take k n.body) size.1 ∙ take-length n.body));

@@ -5,12 +5,12 @@ use Rattle.std.specs.List.{list_any, flat_map, prefix_len}
 use Rattle.std.specs.Str.{str_eq_ignore_ascii_case, str_to_ascii_lowercase}
 use Rattle.std.proofs.lemmas.List.{take_at}
 use Rattle.std.proofs.lemmas.Slice.Eq.{bytes_eq-Decides}
-use Rattle.event_headers.specs.declared.scan.Class.TheVariants as class
-use Rattle.event_headers.specs.Bytes.{is_in, is_space, is_token_byte}
-use Rattle.event_headers.specs.Grammar.{AllPassing, IsWord, Parameter, IsParameter, AreParameters, has_name}
-use Rattle.event_headers.proofs.Pieces.{and_both, prefix_again}
-use Rattle.event_headers.proofs.Trims.{all-append}
-use Rattle.sip_read.specs.declared.message.Addr.{Addr}
+use Rattle.sip_text.specs.declared.scan.Class.TheVariants as class
+use Rattle.sip_text.specs.Bytes.{is_in, is_space, is_token_byte}
+use Rattle.sip_text.specs.Grammar.{AllPassing, IsWord, Parameter, IsParameter, AreParameters, has_name}
+use Rattle.sip_text.proofs.Pieces.{and_both, prefix_again}
+use Rattle.sip_text.proofs.Trims.{all-append}
+use Rattle.sip_text.specs.declared.address.Addr.{Addr}
 use Rattle.sip_read.specs.Vias.{Hop, branch_of, is_bare_rport, IsSlashed, IsProtocol, IsHop}
 use Rattle.sip_write.specs.Laws.{is_front_byte, IsViaFront, ArePieces}
 use Rattle.sip_write.specs.Lines.{ip_text}

@@ -6,13 +6,13 @@ use Rattle.std.specs.Str.{IsUtf8}
 use Rattle.std.proofs.lemmas.List.Folds.{list_all-append}
 use Rattle.std.proofs.lemmas.Str.{IsUtf8-append, IsUtf8-nil}
 use Rattle.std.proofs.lemmas.Bool.Decides.{nat_tests}
-use Rattle.event_headers.specs.declared.scan.Class.TheVariants as class
-use Rattle.event_headers.specs.Bytes.{is_in, is_space, is_token_byte}
-use Rattle.event_headers.specs.Grammar.{AllPassing, AreSpaces, Stops, Parameter, IsParameter}
-use Rattle.event_headers.proofs.Pieces.{and_both, word_stops_spaces}
-use Rattle.event_headers.proofs.Trims.{all-append}
-use Rattle.event_headers.proofs.Utf8.{is_wide, split_text, text_from_ascii, space_small}
-use Rattle.sip_read.specs.declared.message.Addr.{Addr}
+use Rattle.sip_text.specs.declared.scan.Class.TheVariants as class
+use Rattle.sip_text.specs.Bytes.{is_in, is_space, is_token_byte}
+use Rattle.sip_text.specs.Grammar.{AllPassing, AreSpaces, Stops, Parameter, IsParameter}
+use Rattle.sip_text.proofs.Pieces.{and_both, word_stops_spaces}
+use Rattle.sip_text.proofs.Trims.{all-append}
+use Rattle.sip_text.proofs.Utf8.{is_wide, split_text, text_from_ascii, space_small}
+use Rattle.sip_text.specs.declared.address.Addr.{Addr}
 use Rattle.sip_read.specs.Calls.{is_visible}
 use Rattle.sip_read.specs.Vias.{Hop, via_of, IsHop}
 use Rattle.sip_write.specs.declared.quoting.Quoting.{Quoting}
@@ -53,9 +53,9 @@ parts_whole q (c ∷ text) = character_whole q c (parts_from (quoting_after q c)
 
 -- ---- texts without control characters
 
-record IsInLine (text : List ℕ) : Type 0 where
-  bytes : AllPassing (is_in class.Line) text
-  is_text : IsUtf8 text
+pub record IsInLine (text : List ℕ) : Type 0 where
+  pub bytes : AllPassing (is_in class.Line) text
+  pub is_text : IsUtf8 text
 
 in_line_more : (x y : List ℕ) → IsInLine x → IsInLine y → IsInLine (x ++ y)
 in_line_more x y a b = record { bytes = all-append (is_in class.Line) x y a.bytes b.bytes; is_text = IsUtf8-append x y a.is_text b.is_text }
@@ -69,14 +69,14 @@ space_line x e = grind (arith, nat_tests)
 spaces_in_line : (t : List ℕ) → AreSpaces t → IsInLine t
 spaces_in_line t all = record { bytes = all_within (is_in class.Space) (is_in class.Line) space_line t all; is_text = text_from_ascii (is_in class.Space) space_small t all }
 
-space_narrow : (x : ℕ) → is_space x ≡ true → is_wide x ≡ false
+pub space_narrow : (x : ℕ) → is_space x ≡ true → is_wide x ≡ false
 space_narrow x e = grind (arith, nat_tests)
 
 piece_narrow : (before rest : List ℕ) → AreSpaces before → Stops is_wide (before ++ 59 ∷ rest)
 piece_narrow [] rest all = refl
 piece_narrow (x ∷ before) rest all = space_narrow x (and_both (is_space x) (list_all is_space before) all).0
 
-cut_in_line : (x y : List ℕ) → Stops is_wide y → IsInLine (x ++ y) → IsInLine x × IsInLine y
+pub cut_in_line : (x y : List ℕ) → Stops is_wide y → IsInLine (x ++ y) → IsInLine x × IsInLine y
 cut_in_line x y stops h =
     let texts = split_text x y stops h.is_text in
     let both = and_both (list_all (is_in class.Line) x) (list_all (is_in class.Line) y) (sym (list_all-append (is_in class.Line) x y) ∙ h.bytes) in

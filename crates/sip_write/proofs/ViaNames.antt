@@ -4,10 +4,10 @@ use Rattle.std.specs.Prelude.{◌&&◌, ◌||◌, not, bytes_eq, is_some}
 use Rattle.std.specs.List.{list_all, prefix_len, before_first}
 use Rattle.std.specs.Str.{str_eq_ignore_ascii_case, str_to_ascii_lowercase}
 use Rattle.std.proofs.lemmas.List.{take_at, drop_at}
-use Rattle.event_headers.specs.Bytes.{is_space, is_token_byte}
-use Rattle.event_headers.specs.Grammar.{AllPassing, AreSpaces, Stops, IsAssigned, Parameter, IsParameter, has_name}
-use Rattle.event_headers.proofs.Pieces.{and_both, no_space, NoSpace, apart, prefix_again}
-use Rattle.event_headers.proofs.Trims.{all-append}
+use Rattle.sip_text.specs.Bytes.{is_space, is_token_byte}
+use Rattle.sip_text.specs.Grammar.{AllPassing, AreSpaces, Stops, IsAssigned, Parameter, IsParameter, has_name}
+use Rattle.sip_text.proofs.Pieces.{and_both, no_space, NoSpace, apart, prefix_again}
+use Rattle.sip_text.proofs.Trims.{all-append}
 use Rattle.sip_write.specs.Via.{is_lead, behind_lead, is_received}
 use Rattle.sip_write.specs.Laws.{TellsItsParameter}
 

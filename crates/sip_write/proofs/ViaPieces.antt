@@ -4,10 +4,10 @@ use Rattle.std.specs.Prelude.{not}
 use Rattle.std.specs.List.{list_all}
 use Rattle.std.proofs.lemmas.List.{reverse-append, reverse-reverse, append-nil}
 use Rattle.std.proofs.lemmas.Bool.{ne_eqb}
-use Rattle.event_headers.specs.declared.scan.Class.TheVariants as class
-use Rattle.event_headers.specs.Bytes.{is_space, is_token_byte, is_value_byte}
-use Rattle.event_headers.specs.Grammar.{AllPassing, AreSpaces, IsWord, Stops, IsInside, nothing, plain, escaped, IsQuoted, IsValue, IsAssigned, Parameter, AreParameters}
-use Rattle.event_headers.proofs.Pieces.{and_both, no_space, NoSpace, apart}
+use Rattle.sip_text.specs.declared.scan.Class.TheVariants as class
+use Rattle.sip_text.specs.Bytes.{is_space, is_token_byte, is_value_byte}
+use Rattle.sip_text.specs.Grammar.{AllPassing, AreSpaces, IsWord, Stops, IsInside, nothing, plain, escaped, IsQuoted, IsValue, IsAssigned, Parameter, AreParameters}
+use Rattle.sip_text.proofs.Pieces.{and_both, no_space, NoSpace, apart}
 use Rattle.sip_write.specs.declared.quoting.Quoting.{Quoting}
 use Rattle.sip_write.specs.declared.quoting.Quoting.TheVariants.{Outside, Inside}
 use Rattle.sip_write.specs.Via.{Parts, parts_of, quoting_after}

@@ -1,7 +1,7 @@
 -- The layout of an answer (RFC 3261 section 8.2.6).
-use Rattle.std.specs.Prelude.{ℕ, List, [], ◌∷◌, ◌++◌, map, Option, Some, None, option_map, codes, decimal}
+use Rattle.std.specs.Prelude.{ℕ, Bool, true, false, List, [], ◌∷◌, ◌++◌, map, Option, Some, None, option_map, codes, decimal}
 use Rattle.event_headers.specs.Written.{comma_joined, parameter_text}
-use Rattle.sip_read.specs.declared.message.Addr.{Addr}
+use Rattle.sip_text.specs.declared.address.Addr.{Addr}
 use Rattle.sip_read.specs.declared.message.Head.{Head}
 use Rattle.sip_read.specs.declared.message.Via.{Via}
 use Rattle.sip_write.specs.declared.status.Status.{Status}
@@ -24,6 +24,8 @@ pub record AnswerText : Type 0 where
   pub allow : Option (List (List ℕ))
   pub allow_events : Option (List (List ℕ))
   pub unsupported : Option (List (List ℕ))
+  -- whether a REFER was granted without a subscription
+  pub without_subscription : Bool
 
 -- a status line (RFC 3261 section 7.2)
 abbrev pub status_line : Status → List ℕ
@@ -45,7 +47,13 @@ dialog_lines a =
     ∷ header (codes "To") (a.head.to.text ++ parameter_text (codes "tag") (added_tag a.head.to.tag a.tag))
     ∷ call_lines a.head.call_id a.head.cseq a.head.cseq_method
 
--- the lines that only some answers have (RFC 3261 sections 12.1.1, 21.4.18, 8.2.1 and 8.2.2.3, RFC 6665 sections 4.2.1.1 and 8.3.2)
+-- `Refer-Sub: false` tells that a REFER was granted without a subscription (RFC 4488 section 4)
+abbrev pub refer_sub_text : Bool → Option (List ℕ)
+refer_sub_text false = None
+refer_sub_text true = Some (codes "false")
+
+-- the lines that only some answers have (RFC 3261 sections 12.1.1, 21.4.17, 8.2.1 and 8.2.2.3, RFC 6665 sections 4.2.1.1 and 8.3.2,
+-- RFC 4488 section 4)
 abbrev pub option_lines : AnswerText → List (List ℕ)
 option_lines a =
     header_of (codes "Contact") (option_map contact_text a.contact)
@@ -53,7 +61,8 @@ option_lines a =
     ++ (header_of (codes "Min-Expires") (option_map decimal a.min_expires)
     ++ (header_of (codes "Allow") (option_map comma_joined a.allow)
     ++ (header_of (codes "Allow-Events") (option_map comma_joined a.allow_events)
-    ++ header_of (codes "Unsupported") (option_map comma_joined a.unsupported)))))
+    ++ (header_of (codes "Unsupported") (option_map comma_joined a.unsupported)
+    ++ header_of (codes "Refer-Sub") (refer_sub_text a.without_subscription))))))
 
 unfoldable pub answer_lines : AnswerText → List (List ℕ)
 answer_lines a =

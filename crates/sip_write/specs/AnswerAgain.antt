@@ -1,8 +1,9 @@
 -- What a reader of messages finds in a written answer.
 use Rattle.std.specs.Prelude.{◌≡◌, ℕ, ◌<◌, ◌≤◌, ◌^◌, false, List, ◌∷◌, ◌++◌, length, map, All, IfSome, Option, Some, None, codes}
-use Rattle.event_headers.specs.declared.scan.Class.TheVariants as class
-use Rattle.event_headers.specs.Grammar.{IsWord}
-use Rattle.event_headers.specs.Headers.{IsToken, Fits}
+use Rattle.sip_text.specs.declared.scan.Class.TheVariants as class
+use Rattle.sip_text.specs.Grammar.{IsWord}
+use Rattle.sip_text.specs.Grammar.{IsToken}
+use Rattle.event_headers.specs.Headers.{Fits}
 use Rattle.event_headers.specs.Written.{parameter_text}
 use Rattle.sip_read.specs.declared.message.Head.{Head}
 use Rattle.sip_read.specs.declared.message.Message.TheVariants as messages

@@ -1,7 +1,7 @@
 -- What the laws say.
 use Rattle.std.specs.Prelude.{◌≡◌, ℕ, Bool, ◌&&◌, not, ◌==◌, List, [], ◌∷◌, ◌++◌, reverse, codes, is_some}
-use Rattle.event_headers.specs.Bytes.{is_space}
-use Rattle.event_headers.specs.Grammar.{AllPassing, Stops, Parameter, IsParameter, AreParameters, has_name}
+use Rattle.sip_text.specs.Bytes.{is_space}
+use Rattle.sip_text.specs.Grammar.{AllPassing, Stops, Parameter, IsParameter, AreParameters, has_name}
 use Rattle.sip_write.specs.Via.{parts_of, is_received, is_bare_rport}
 
 -- what stands before the parameters of a Via value: no quote, no semicolon, and no blank at its end

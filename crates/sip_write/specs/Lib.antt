@@ -4,7 +4,9 @@ pub mod Via
 pub mod Cutting
 pub mod Answer
 pub mod Notify
+pub mod Pages
 pub mod Views
 pub mod Laws
 pub mod ReadAgain
 pub mod AnswerAgain
+pub mod RequestRead

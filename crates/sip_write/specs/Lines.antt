@@ -1,6 +1,6 @@
 -- Header lines (RFC 3261 section 7.3), and the values that several of them share.
 use Rattle.std.specs.Prelude.{ℕ, List, [], ◌∷◌, ◌++◌, Option, None, Some, codes, decimal, slice_index}
-use Rattle.sip_read.specs.declared.message.Addr.{Addr}
+use Rattle.sip_text.specs.declared.address.Addr.{Addr}
 
 -- CRLF
 abbrev pub line_end : List ℕ

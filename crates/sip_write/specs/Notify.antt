@@ -2,7 +2,7 @@
 use Rattle.std.specs.Prelude.{ℕ, List, [], ◌∷◌, ◌++◌, map, length, Some, codes, decimal}
 use Rattle.event_headers.specs.Values.{EventValue, StateValue}
 use Rattle.event_headers.specs.Written.{event_text, state_text, parameter_text}
-use Rattle.sip_read.specs.declared.message.Addr.{Addr}
+use Rattle.sip_text.specs.declared.address.Addr.{Addr}
 use Rattle.sip_write.specs.Lines.{joined, header, addr_text, contact_text, call_lines}
 
 pub record NotifyText : Type 0 where

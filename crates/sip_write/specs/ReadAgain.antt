@@ -1,13 +1,13 @@
 -- What a reader of messages finds in what is written.
 use Rattle.std.specs.Prelude.{◌≡◌, ℕ, Bool, not, ◌==◌, ◌<◌, ◌≤◌, ◌^◌, false, List, [], ◌∷◌, ◌++◌, length, All, Some, None, codes, decimal, slice_index}
 use Rattle.std.specs.Str.{IsUtf8}
-use Rattle.event_headers.specs.declared.field.Field.TheVariants as field
-use Rattle.event_headers.specs.declared.scan.Class.TheVariants as class
-use Rattle.event_headers.specs.Bytes.{is_in}
-use Rattle.event_headers.specs.Grammar.{AllPassing, IsWord, IsTrimmed}
+use Rattle.sip_text.specs.declared.field.Field.TheVariants as field
+use Rattle.sip_text.specs.declared.scan.Class.TheVariants as class
+use Rattle.sip_text.specs.Bytes.{is_in}
+use Rattle.sip_text.specs.Grammar.{AllPassing, IsWord, IsTrimmed}
 use Rattle.event_headers.specs.Headers.{IsEventValue, IsStateValue}
 use Rattle.event_headers.specs.Written.{parameter_text}
-use Rattle.sip_read.specs.declared.message.Addr.{Addr}
+use Rattle.sip_text.specs.declared.address.Addr.{Addr}
 use Rattle.sip_read.specs.declared.message.Message.TheVariants as messages
 use Rattle.sip_read.specs.declared.message.Party.{Party}
 use Rattle.sip_read.specs.declared.message.Request.{Request}
@@ -69,6 +69,7 @@ notify_request n remote = record {
   accept = field.Absent;
   contact = field.Value (codes "sip:" ++ addr_text n.me);
   refer_to = field.Absent;
+  refer_sub = field.Absent;
   require = [];
   record_routes = [];
   body = n.body;
@@ -105,7 +106,7 @@ pub record KeepsItsLines (n : NotifyText) : Type 0 where
   pub content_type : IsOneLine n.content_type
   pub body : length n.body < 2 ^ 64
 
--- the values that a subscriber acts on
+-- what NOTIFYs tell of the subscription, apart from the texts of this server: its address, its party and tag, and the route set
 pub record TellsTheSame (a b : NotifyText) : Type 0 where
   pub target : a.target ≡ b.target
   pub remote : a.remote ≡ b.remote

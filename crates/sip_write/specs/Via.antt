@@ -2,8 +2,8 @@
 use Rattle.std.specs.Prelude.{ℕ, Bool, false, ◌&&◌, ◌||◌, not, List, [], ◌∷◌, ◌++◌, drop, ◌==◌, if◌then◌else◌, bytes_eq, codes, decimal}
 use Rattle.std.specs.List.{before_first, flat_map, prefix_len, take_while}
 use Rattle.std.specs.Str.{str_eq_ignore_ascii_case}
-use Rattle.event_headers.specs.Bytes.{is_space}
-use Rattle.sip_read.specs.declared.message.Addr.{Addr}
+use Rattle.sip_text.specs.Bytes.{is_space}
+use Rattle.sip_text.specs.declared.address.Addr.{Addr}
 use Rattle.sip_read.specs.declared.message.Via.{Via}
 use Rattle.sip_write.specs.declared.quoting.Quoting.{Quoting}
 use Rattle.sip_write.specs.declared.quoting.Quoting.TheVariants as quoting

@@ -18,6 +18,7 @@ answer_view a = record {
   allow = option_map (λ names. map (λ n. n.now) names.now) a.allow;
   allow_events = option_map (λ names. map (λ n. n.now) names.now) a.allow_events;
   unsupported = option_map (λ names. map (λ n. n.now) names.now) a.unsupported;
+  without_subscription = a.without_subscription;
 }
 
 abbrev pub notify_view : NotifyText → written.NotifyText

@@ -1,18 +1,21 @@
 //! Answers.
-ghost use Rattle.std.specs.Prelude.{◌≡◌, ◌++◌, ◌∷◌, [], OnOk, OnErr, IfOk, codes, decimal, option_map, map};
+ghost use Rattle.std.specs.Prelude.{◌≡◌, ◌++◌, ◌∷◌, [], OnOk, OnErr, codes, decimal, option_map, map};
 ghost use Rattle.event_headers.specs.Written.{comma_joined};
 ghost use Rattle.sip_write.specs.Lines.{joined, header, header_of, contact_text};
-ghost use Rattle.sip_write.specs.Answer.{answer_text, status_line, via_lines, dialog_lines, added_tag, option_lines};
+ghost use Rattle.sip_write.specs.Answer.{answer_text, status_line, via_lines, dialog_lines, added_tag, option_lines, refer_sub_text};
+ghost use Rattle.sip_write.specs.Pages.{Puts};
 ghost use Rattle.sip_write.specs.Views.{answer_view};
 
-use crate::line::{
-    put_call, put_contact, put_header, put_headers, put_line, put_list, put_number, put_party,
-};
+use crate::line::texts_room;
+use crate::page::Page;
 use crate::status::Status;
 use crate::via::put_top_via;
-use event_headers::{NoMemory, Text};
 use sip_read::{Addr, Head, Party};
+use sip_text::{NoMemory, Text};
 use std::alloc::Global;
+
+/// Room for what stands around the values of an answer: names of headers, addresses and numbers.
+const FRAME: usize = 320;
 
 /// An answer to a request (RFC 3261 section 8.2.6).
 #[derive(Drop)]
@@ -39,28 +42,29 @@ pub struct Answer<'a> {
     pub allow_events: Option<&'a [&'a str]>,
     /// Option tags (RFC 3261 section 20.40).
     pub unsupported: Option<&'a [&'a str]>,
+    /// Whether a REFER was granted without a subscription (RFC 4488 section 4).
+    pub without_subscription: bool,
 }
 
 /// Puts the first line.
-fn put_status_line(alloc: Global, out: &mut Vec<u8>, status: Status) -> Result<(), NoMemory>
-    ensures { OnOk result (out.new.items ≡ out.old.items ++ joined (status_line status ∷ [])) }
+fn put_status_line(page: &mut Page, status: Status)
+    ensures { Puts page.old (joined (status_line status ∷ [])) page.new }
 {
-    let code = status.code();
-    let phrase = status.phrase();
-    let line = format!(in alloc; "SIP/2.0 {code} {phrase}")?;
-    put_line(out, line.as_str())?;
-    Ok(())
+    page.put("SIP/2.0 ");
+    page.put_number(u64::from(status.code()));
+    page.put(" ");
+    page.put(status.phrase());
+    page.end_line();
 }
 
 /// Puts the Via lines.
-fn put_vias(alloc: Global, out: &mut Vec<u8>, head: &Head, source: &Addr) -> Result<(), NoMemory>
-    ensures { OnOk result (out.new.items ≡ out.old.items ++ joined (via_lines source.now head.now.top head.now.vias)) }
+fn put_vias(page: &mut Page, head: &Head, source: &Addr)
+    ensures { Puts page.old (joined (via_lines source.now head.now.top head.now.vias)) page.new }
 {
     if let [first, others @ ..] = head.vias.as_slice() {
-        put_top_via(alloc, out, first.as_str(), &head.top, source)?;
-        put_headers(out, "Via", others)?;
+        put_top_via(page, first.as_str(), &head.top, source);
+        page.put_headers("Via", others);
     }
-    Ok(())
 }
 
 /// The tag that the To gets.
@@ -74,102 +78,91 @@ fn tag_to_add<'a>(to: &Party, tag: Option<&'a str>) -> Option<&'a str>
 }
 
 /// Puts the lines From, To, Call-ID and CSeq.
-fn put_dialog(alloc: Global, out: &mut Vec<u8>, a: &Answer<'_>) -> Result<(), NoMemory>
-    ensures { OnOk result (out.new.items ≡ out.old.items ++ joined (dialog_lines (answer_view a.now))) }
+fn put_dialog(page: &mut Page, a: &Answer<'_>)
+    ensures { Puts page.old (joined (dialog_lines (answer_view a.now))) page.new }
 {
     let head = a.head;
-    put_header(out, "From", head.from.text.as_str())?;
-    put_party(
-        alloc,
-        out,
-        "To",
-        head.to.text.as_str(),
-        tag_to_add(&head.to, a.tag),
-    )?;
-    put_call(
-        alloc,
-        out,
-        head.call_id.as_str(),
-        head.cseq,
-        head.cseq_method.as_str(),
-    )?;
-    Ok(())
+    page.put_header("From", head.from.text.as_str());
+    page.put_party("To", head.to.text.as_str(), tag_to_add(&head.to, a.tag));
+    page.put_call(head.call_id.as_str(), head.cseq, head.cseq_method.as_str());
 }
 
-#[tactic(auto, using(crate::proofs::Joins::before_all))]
-fn put_contact_of(alloc: Global, out: &mut Vec<u8>, contact: Option<Addr>) -> Result<(), NoMemory>
-    ensures { OnOk result (out.new.items ≡ out.old.items ++ joined (header_of (codes "Contact") (option_map contact_text contact))) }
+fn put_contact_of(page: &mut Page, contact: Option<Addr>)
+    ensures { Puts page.old (joined (header_of (codes "Contact") (option_map contact_text contact))) page.new }
 {
     if let Some(me) = contact {
-        put_contact(alloc, out, &me)?;
+        page.put_contact(&me);
     }
-    Ok(())
 }
 
-#[tactic(auto, using(crate::proofs::Joins::before_all))]
-fn put_seconds(
-    alloc: Global,
-    out: &mut Vec<u8>,
-    name: &str,
-    seconds: Option<u32>,
-) -> Result<(), NoMemory>
-    ensures { OnOk result (out.new.items ≡ out.old.items ++ joined (header_of name.now (option_map decimal seconds))) }
+fn put_seconds(page: &mut Page, name: &str, seconds: Option<u32>)
+    ensures { Puts page.old (joined (header_of name.now (option_map decimal seconds))) page.new }
 {
     if let Some(seconds) = seconds {
-        put_number(alloc, out, name, u64::from(seconds))?;
+        page.put_count(name, u64::from(seconds));
     }
-    Ok(())
 }
 
-#[tactic(auto, using(crate::proofs::Joins::before_all))]
-fn put_list_of(
-    alloc: Global,
-    out: &mut Vec<u8>,
-    name: &str,
-    texts: Option<&[&str]>,
-) -> Result<(), NoMemory>
-    ensures { OnOk result (out.new.items ≡ out.old.items ++ joined (header_of name.now (option_map comma_joined (option_map (λ ts. map (λ t. t.now) ts.now) texts.entry)))) }
+fn put_list_of(page: &mut Page, name: &str, texts: Option<&[&str]>)
+    ensures { Puts page.old (joined (header_of name.now (option_map comma_joined (option_map (λ ts. map (λ t. t.now) ts.now) texts.entry)))) page.new }
 {
     if let Some(texts) = texts {
-        put_list(alloc, out, name, texts)?;
+        page.put_list(name, texts);
     }
-    Ok(())
+}
+
+/// Puts the line of a REFER that was granted without a subscription.
+fn put_refer_sub(page: &mut Page, without_subscription: bool)
+    ensures { Puts page.old (joined (header_of (codes "Refer-Sub") (refer_sub_text without_subscription))) page.new }
+{
+    if without_subscription {
+        page.put_header("Refer-Sub", "false");
+    }
 }
 
 /// Puts the lines that only some answers have.
-fn put_options(alloc: Global, out: &mut Vec<u8>, a: &Answer<'_>) -> Result<(), NoMemory>
-    ensures { OnOk result (out.new.items ≡ out.old.items ++ joined (option_lines (answer_view a.now))) }
+fn put_options(page: &mut Page, a: &Answer<'_>)
+    ensures { Puts page.old (joined (option_lines (answer_view a.now))) page.new }
 {
-    put_contact_of(alloc, out, a.contact)?;
-    put_seconds(alloc, out, "Expires", a.expires)?;
-    put_seconds(alloc, out, "Min-Expires", a.min_expires)?;
-    put_list_of(alloc, out, "Allow", a.allow)?;
-    put_list_of(alloc, out, "Allow-Events", a.allow_events)?;
-    put_list_of(alloc, out, "Unsupported", a.unsupported)?;
-    Ok(())
+    put_contact_of(page, a.contact);
+    put_seconds(page, "Expires", a.expires);
+    put_seconds(page, "Min-Expires", a.min_expires);
+    put_list_of(page, "Allow", a.allow);
+    put_list_of(page, "Allow-Events", a.allow_events);
+    put_list_of(page, "Unsupported", a.unsupported);
+    put_refer_sub(page, a.without_subscription);
 }
 
 /// Puts the length of the empty body, and the empty line.
-fn put_end(out: &mut Vec<u8>) -> Result<(), NoMemory>
-    ensures { OnOk result (out.new.items ≡ out.old.items ++ joined (header (codes "Content-Length") (codes "0") ∷ [] ∷ [])) }
+fn put_end(page: &mut Page)
+    ensures { Puts page.old (joined (header (codes "Content-Length") (codes "0") ∷ [] ∷ [])) page.new }
 {
-    put_header(out, "Content-Length", "0")?;
-    put_line(out, "")?;
-    Ok(())
+    page.put_header("Content-Length", "0");
+    page.end_line();
 }
 
-/// The whole answer.
-fn laid_out(alloc: Global, a: &Answer<'_>) -> Result<Vec<u8>, NoMemory>
-    ensures { IfOk result (λ v. v.items ≡ answer_text (answer_view a.now)) }
+/// Puts the whole answer.
+fn put_answer(page: &mut Page, a: &Answer<'_>)
+    ensures { Puts page.old (answer_text (answer_view a.now)) page.new }
 {
-    let mut whole = Vec::new(alloc);
-    put_status_line(alloc, &mut whole, a.status)?;
-    put_vias(alloc, &mut whole, a.head, &a.source)?;
-    put_headers(&mut whole, "Record-Route", a.record_routes)?;
-    put_dialog(alloc, &mut whole, a)?;
-    put_options(alloc, &mut whole, a)?;
-    put_end(&mut whole)?;
-    Ok(whole)
+    put_status_line(page, a.status);
+    put_vias(page, a.head, &a.source);
+    page.put_headers("Record-Route", a.record_routes);
+    put_dialog(page, a);
+    put_options(page, a);
+    put_end(page);
+}
+
+/// About how many bytes an answer has: enough for the usual one.
+fn room_of(a: &Answer<'_>) -> usize {
+    let head = a.head;
+    FRAME
+        .saturating_add(texts_room(head.vias.as_slice()))
+        .saturating_add(texts_room(a.record_routes))
+        .saturating_add(head.from.text.as_str().len())
+        .saturating_add(head.to.text.as_str().len())
+        .saturating_add(head.call_id.as_str().len())
+        .saturating_add(head.cseq_method.as_str().len())
 }
 
 /// Appends an answer (RFC 3261 section 8.2.6). After [`NoMemory`] `out` has the items that it had.
@@ -177,7 +170,7 @@ pub fn write_response(alloc: Global, a: &Answer<'_>, out: &mut Vec<u8>) -> Resul
     ensures ok { OnOk result (out.new.items ≡ out.old.items ++ answer_text (answer_view a.now)) }
     ensures err { OnErr result (out.new.items ≡ out.old.items) }
 {
-    let whole = laid_out(alloc, a)?;
-    out.extend_from_slice(whole.as_slice())?;
-    Ok(())
+    let mut page = Page::begin(alloc, out, room_of(a));
+    put_answer(&mut page, a);
+    page.end(out)
 }

@@ -1,6 +1,7 @@
 //! What holds of the written texts.
 ghost use Rattle.sip_write.specs.AnswerAgain.{AnswerIsReadAgain};
 ghost use Rattle.sip_write.specs.ReadAgain.{NotifyIsReadAgain, NotifyFixesItsValues, TopViaIsReadAgain};
+ghost use Rattle.sip_write.specs.RequestRead.{WhatIsReadIsInItsGrammar, AnswerToWhatWasReadIsReadAgain};
 ghost use Rattle.sip_write.specs.Laws.{CutsIntoParameters, TellsItsParameter};
 
 /// A Via value in its grammar (RFC 3261 section 20.42) is cut into its parameters: the pieces that
@@ -33,4 +34,15 @@ pub fn a_top_via_is_read_again()
 /// source and a To without a tag has got one.
 pub fn an_answer_is_read_again()
     ensures { AnswerIsReadAgain }
+{}
+
+/// What a request that was read says stands in header lines, each value in its grammar.
+pub fn what_is_read_is_in_its_grammar()
+    ensures { WhatIsReadIsInItsGrammar }
+{}
+
+/// A written answer to a request that was read is read, where it fits in a datagram, as a response with the same status
+/// and the request's head.
+pub fn an_answer_to_what_was_read_is_read_again()
+    ensures { AnswerToWhatWasReadIsReadAgain }
 {}

@@ -1,16 +1,20 @@
 //! NOTIFYs.
-ghost use Rattle.std.specs.Prelude.{◌≡◌, ◌++◌, ◌∷◌, [], map, codes, decimal, OnOk, OnErr, IfOk, length, option_map, string_bytes};
+ghost use Rattle.std.specs.Prelude.{◌≡◌, ◌++◌, ◌∷◌, [], codes, OnOk, OnErr};
 ghost use Rattle.event_headers.specs.Written.{event_text, state_text};
 ghost use Rattle.sip_write.specs.Lines.{joined, header};
 ghost use Rattle.sip_write.specs.Notify.{notify_text, request_line, via_text, opening_lines, dialog_lines, event_lines, body_lines};
+ghost use Rattle.sip_write.specs.Pages.{Puts};
 ghost use Rattle.sip_write.specs.Views.{notify_view};
 
-use crate::line::{
-    addr_string, put_call, put_contact, put_header, put_headers, put_line, put_number, put_party,
-};
-use event_headers::{EventValue, NoMemory, StateValue, Text, write_event, write_state};
+use crate::line::texts_room;
+use crate::page::Page;
+use event_headers::{EventValue, StateValue};
 use sip_read::Addr;
+use sip_text::{NoMemory, Text};
 use std::alloc::Global;
+
+/// Room for what stands around the values of a NOTIFY: names of headers, addresses and numbers.
+const FRAME: usize = 400;
 
 /// What a NOTIFY says (RFC 6665 section 4.2.2).
 #[derive(Drop)]
@@ -42,104 +46,115 @@ pub struct NotifyText<'a> {
 }
 
 /// Puts the request line.
-fn put_request_line(alloc: Global, out: &mut Vec<u8>, target: &str) -> Result<(), NoMemory>
-    ensures { OnOk result (out.new.items ≡ out.old.items ++ joined (request_line target.now ∷ [])) }
+fn put_request_line(page: &mut Page, target: &str)
+    ensures { Puts page.old (joined (request_line target.now ∷ [])) page.new }
 {
-    let line = format!(in alloc; "NOTIFY {target} SIP/2.0")?;
-    put_line(out, line.as_str())?;
-    Ok(())
+    page.put("NOTIFY ");
+    page.put(target);
+    page.put(" SIP/2.0");
+    page.end_line();
 }
 
-/// The Via of this server.
-fn via_string(alloc: Global, n: &NotifyText<'_>) -> Result<String, NoMemory>
-    ensures { IfOk result (λ s. string_bytes s ≡ via_text (notify_view n.now)) }
+/// Puts the Via value of this server.
+fn put_via_value(page: &mut Page, n: &NotifyText<'_>)
+    ensures { Puts page.old (via_text (notify_view n.now)) page.new }
 {
-    let me = addr_string(alloc, &n.me)?;
-    let tag = n.local_tag;
-    let number = n.number;
-    let value = format!(in alloc; "SIP/2.0/UDP {me};branch=z9hG4bK-{tag}-{number}")?;
-    Ok(value)
-}
-
-/// Puts the Via of this server.
-fn put_via(alloc: Global, out: &mut Vec<u8>, n: &NotifyText<'_>) -> Result<(), NoMemory>
-    ensures { OnOk result (out.new.items ≡ out.old.items ++ joined (header (codes "Via") (via_text (notify_view n.now)) ∷ [])) }
-{
-    let value = via_string(alloc, n)?;
-    put_header(out, "Via", value.as_str())?;
-    Ok(())
+    page.put("SIP/2.0/UDP ");
+    page.put_addr(&n.me);
+    page.put(";branch=z9hG4bK-");
+    page.put(n.local_tag);
+    page.put("-");
+    page.put_number(u64::from(n.number));
 }
 
 /// Puts the lines up to Max-Forwards.
-fn put_opening(alloc: Global, out: &mut Vec<u8>, n: &NotifyText<'_>) -> Result<(), NoMemory>
-    ensures { OnOk result (out.new.items ≡ out.old.items ++ joined (opening_lines (notify_view n.now))) }
+fn put_opening(page: &mut Page, n: &NotifyText<'_>)
+    ensures { Puts page.old (joined (opening_lines (notify_view n.now))) page.new }
 {
-    put_request_line(alloc, out, n.target)?;
-    put_via(alloc, out, n)?;
-    put_header(out, "Max-Forwards", "70")?;
-    Ok(())
+    put_request_line(page, n.target);
+    page.put_name("Via");
+    put_via_value(page, n);
+    page.end_line();
+    page.put_header("Max-Forwards", "70");
 }
 
 /// Puts the lines from From to Contact.
-fn put_dialog(alloc: Global, out: &mut Vec<u8>, n: &NotifyText<'_>) -> Result<(), NoMemory>
-    ensures { OnOk result (out.new.items ≡ out.old.items ++ joined (dialog_lines (notify_view n.now))) }
+fn put_dialog(page: &mut Page, n: &NotifyText<'_>)
+    ensures { Puts page.old (joined (dialog_lines (notify_view n.now))) page.new }
 {
-    put_party(alloc, out, "From", n.local, Some(n.local_tag))?;
-    put_header(out, "To", n.remote)?;
-    put_call(alloc, out, n.call_id, n.number, "NOTIFY")?;
-    put_contact(alloc, out, &n.me)?;
-    Ok(())
+    page.put_party("From", n.local, Some(n.local_tag));
+    page.put_header("To", n.remote);
+    page.put_call(n.call_id, n.number, "NOTIFY");
+    page.put_contact(&n.me);
 }
 
-fn put_event_line(alloc: Global, out: &mut Vec<u8>, event: &EventValue) -> Result<(), NoMemory>
-    ensures { OnOk result (out.new.items ≡ out.old.items ++ joined (header (codes "Event") (event_text event.now) ∷ [])) }
+fn put_event_line(page: &mut Page, event: &EventValue)
+    ensures { Puts page.old (joined (header (codes "Event") (event_text event.now) ∷ [])) page.new }
 {
-    out.extend_from_slice(b"Event: ")?;
-    write_event(alloc, event, out)?;
-    out.extend_from_slice(b"\r\n")?;
-    Ok(())
+    page.put_name("Event");
+    page.put(event.package());
+    page.put_parameter("id", event.id());
+    page.end_line();
 }
 
-fn put_state_line(alloc: Global, out: &mut Vec<u8>, state: &StateValue) -> Result<(), NoMemory>
-    ensures { OnOk result (out.new.items ≡ out.old.items ++ joined (header (codes "Subscription-State") (state_text state.now) ∷ [])) }
+fn put_state_line(page: &mut Page, state: &StateValue)
+    ensures { Puts page.old (joined (header (codes "Subscription-State") (state_text state.now) ∷ [])) page.new }
 {
-    out.extend_from_slice(b"Subscription-State: ")?;
-    write_state(alloc, state, out)?;
-    out.extend_from_slice(b"\r\n")?;
-    Ok(())
+    page.put_name("Subscription-State");
+    page.put(state.word());
+    page.put_seconds_parameter("expires", state.expires());
+    page.put_parameter("reason", state.reason());
+    page.put_seconds_parameter("retry-after", state.retry_after());
+    page.end_line();
 }
 
 /// Puts the lines of the event.
-fn put_event_lines(alloc: Global, out: &mut Vec<u8>, n: &NotifyText<'_>) -> Result<(), NoMemory>
-    ensures { OnOk result (out.new.items ≡ out.old.items ++ joined (event_lines (notify_view n.now))) }
+fn put_event_lines(page: &mut Page, n: &NotifyText<'_>)
+    ensures { Puts page.old (joined (event_lines (notify_view n.now))) page.new }
 {
-    put_event_line(alloc, out, n.event)?;
-    put_state_line(alloc, out, n.state)?;
-    Ok(())
+    put_event_line(page, n.event);
+    put_state_line(page, n.state);
 }
 
 /// Puts the lines of the body and the empty line.
-fn put_body_lines(alloc: Global, out: &mut Vec<u8>, n: &NotifyText<'_>) -> Result<(), NoMemory>
-    ensures { OnOk result (out.new.items ≡ out.old.items ++ joined (body_lines (notify_view n.now))) }
+fn put_body_lines(page: &mut Page, n: &NotifyText<'_>)
+    ensures { Puts page.old (joined (body_lines (notify_view n.now))) page.new }
 {
-    put_header(out, "Content-Type", n.content_type)?;
-    put_number(alloc, out, "Content-Length", n.body.len() as u64)?;
-    put_line(out, "")?;
-    Ok(())
+    page.put_header("Content-Type", n.content_type);
+    page.put_count("Content-Length", n.body.len() as u64);
+    page.end_line();
 }
 
-/// The whole NOTIFY.
-fn laid_out(alloc: Global, n: &NotifyText<'_>) -> Result<Vec<u8>, NoMemory>
-    ensures { IfOk result (λ v. v.items ≡ notify_text (notify_view n.now)) }
+/// Puts the whole NOTIFY.
+fn put_notify(page: &mut Page, n: &NotifyText<'_>)
+    ensures { Puts page.old (notify_text (notify_view n.now)) page.new }
 {
-    let mut whole = Vec::new(alloc);
-    put_opening(alloc, &mut whole, n)?;
-    put_headers(&mut whole, "Route", n.routes)?;
-    put_dialog(alloc, &mut whole, n)?;
-    put_event_lines(alloc, &mut whole, n)?;
-    put_body_lines(alloc, &mut whole, n)?;
-    whole.extend_from_slice(n.body)?;
-    Ok(whole)
+    put_opening(page, n);
+    page.put_headers("Route", n.routes);
+    put_dialog(page, n);
+    put_event_lines(page, n);
+    put_body_lines(page, n);
+    page.put_bytes(n.body);
+}
+
+/// About how many bytes a NOTIFY has: enough for the usual one.
+fn room_of(n: &NotifyText<'_>) -> usize {
+    let texts = [
+        n.target,
+        n.local,
+        n.local_tag,
+        n.local_tag,
+        n.remote,
+        n.call_id,
+        n.event.package(),
+        n.state.word(),
+        n.content_type,
+    ];
+    let mut room = FRAME.saturating_add(n.body.len());
+    for text in texts.iter() {
+        room = room.saturating_add(text.len());
+    }
+    room.saturating_add(texts_room(n.routes))
 }
 
 /// Appends a NOTIFY (RFC 6665 section 4.2.2). After [`NoMemory`] `out` has the items that it had.
@@ -147,7 +162,7 @@ pub fn write_notify(alloc: Global, n: &NotifyText<'_>, out: &mut Vec<u8>) -> Res
     ensures ok { OnOk result (out.new.items ≡ out.old.items ++ notify_text (notify_view n.now)) }
     ensures err { OnErr result (out.new.items ≡ out.old.items) }
 {
-    let whole = laid_out(alloc, n)?;
-    out.extend_from_slice(whole.as_slice())?;
-    Ok(())
+    let mut page = Page::begin(alloc, out, room_of(n));
+    put_notify(&mut page, n);
+    page.end(out)
 }

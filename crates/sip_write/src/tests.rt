@@ -1,8 +1,9 @@
 //! Worked examples, byte for byte.
 
 use crate::{Answer, NotifyText, Status, write_notify, write_response};
-use event_headers::{EventValue, NoMemory, StateValue, Text, Values};
+use event_headers::{EventValue, StateValue};
 use sip_read::{Addr, Head, Party, Via};
+use sip_text::{NoMemory, Text, Values};
 use std::alloc::Global;
 use std::process::Abort;
 
@@ -88,6 +89,7 @@ fn bare<'a>(head: &'a Head, source: Addr, status: Status) -> Answer<'a> {
         allow: None,
         allow_events: None,
         unsupported: None,
+        without_subscription: false,
     }
 }
 
@@ -123,6 +125,26 @@ fn an_accepted_subscription_is_answered_with_contact_and_expires(rt: HostRuntime
     answer.expires = Some(3600);
     assert_eq!(rt; ACCEPTED.len(), 254);
     assert_answer(&rt, rt.alloc(), &answer, ACCEPTED);
+}
+
+const GRANTED_WITHOUT_A_SUBSCRIPTION: &str = "SIP/2.0 202 Accepted\r\n\
+    Via: SIP/2.0/UDP 127.0.0.1:5070;branch=z9hG4bKa1\r\n\
+    From: <sip:alice@127.0.0.1>;tag=f1\r\n\
+    To: <sip:alice@127.0.0.1>;tag=w0-1-76b8e0ada0f13d90\r\n\
+    Call-ID: c1\r\n\
+    CSeq: 1 SUBSCRIBE\r\n\
+    Contact: <sip:127.0.0.1:5060>\r\n\
+    Refer-Sub: false\r\n\
+    Content-Length: 0\r\n\r\n";
+
+#[test]
+fn a_transfer_without_a_subscription_is_told(rt: HostRuntime) {
+    let head = first_head(&rt, rt.alloc());
+    let mut answer = bare(&head, from_port(5070), Status::Accepted);
+    answer.tag = Some(TAG);
+    answer.contact = Some(ME);
+    answer.without_subscription = true;
+    assert_answer(&rt, rt.alloc(), &answer, GRANTED_WITHOUT_A_SUBSCRIPTION);
 }
 
 /// 224 bytes.

@@ -1,18 +1,18 @@
 //! The top Via of an answer (RFC 3261 section 18.2.1, RFC 3581 section 4).
-ghost use Rattle.std.specs.Prelude.{◌≡◌, ◌≢◌, ◌++◌, ◌∷◌, [], ◌≤◌, ◌<◌, ◌&&◌, ◌||◌, ◌==◌, not, ℕ, List, length, take, drop, OnOk, IfOk, codes, decimal, bytes_eq};
+ghost use Rattle.std.specs.Prelude.{◌≡◌, ◌≢◌, ◌++◌, ◌∷◌, [], ◌≤◌, ◌<◌, ◌&&◌, ◌||◌, ◌==◌, not, ℕ, List, length, take, drop, codes, bytes_eq};
 ghost use Rattle.std.specs.List.{prefix_len, suffix_len, position_or_len, flat_map};
-ghost use Rattle.event_headers.specs.Bytes.{is_space};
+ghost use Rattle.sip_text.specs.Bytes.{is_space};
 ghost use Rattle.sip_write.specs.Lines.{joined, header, ip_text};
 ghost use Rattle.sip_write.specs.Via.{top_via_text, marked_parts, marked_parameter, parts_of, is_lead as is_lead_byte, is_received as is_received_parameter, is_bare_rport as is_bare_rport_parameter, lead_of, behind_lead, host_of};
 ghost use Rattle.sip_write.specs.Cutting.{first_cut};
+ghost use Rattle.sip_write.specs.Pages.{Puts};
 ghost use Rattle.sip_write.specs.declared.quoting.Quoting.TheVariants as quoting;
 
-use crate::line::ip_string;
+use crate::address::{IP_LEN, ip_in};
+use crate::page::Page;
 use crate::quoting::Quoting;
-use event_headers::NoMemory;
-use event_headers::scan::{Class, kept_len, split_front};
 use sip_read::{Addr, Via};
-use std::alloc::Global;
+use sip_text::{Class, kept_len, split_front};
 
 /// How much of the text stands before the first semicolon outside quoted strings.
 fn uncut_len(text: &[u8]) -> usize
@@ -61,12 +61,12 @@ fn host_len(sent_by: &[u8]) -> usize
 }
 
 /// Whether a Via asks for no port and has this address as its host.
-fn names(top: &Via, ip: &str) -> bool
+fn names(top: &Via, ip: &[u8]) -> bool
     ensures { result ≡ (not top.now.bare_rport && bytes_eq (host_of top.now.sent_by) ip.now) }
 {
     let sent_by = top.sent_by.as_str().as_bytes();
     let host = sent_by.split_at(host_len(sent_by)).0;
-    !top.bare_rport && host == ip.as_bytes()
+    !top.bare_rport && host == ip
 }
 
 /// The semicolon of a parameter and the blanks around it.
@@ -98,27 +98,19 @@ fn is_bare_rport(parameter: &[u8]) -> bool
 }
 
 /// Puts a parameter, but none that is named `received`, and the source port at a bare `rport`.
-#[tactic(auto, using(crate::proofs::Joins::nothing_put), unfolding(crate::specs::Via::marked_parameter))]
-fn put_parameter(
-    alloc: Global,
-    out: &mut Vec<u8>,
-    parameter: &[u8],
-    source: &Addr,
-) -> Result<(), NoMemory>
-    ensures { OnOk result (out.new.items ≡ out.old.items ++ marked_parameter source.now parameter.now) }
+fn put_parameter(page: &mut Page, parameter: &[u8], source: &Addr)
+    ensures { Puts page.old (marked_parameter source.now parameter.now) page.new }
 {
     if is_received(parameter) {
-        return Ok(());
+        return;
     }
     if is_bare_rport(parameter) {
-        let port = source.port;
-        let value = format!(in alloc; "rport={port}")?;
-        out.extend_from_slice(lead(parameter))?;
-        out.extend_from_slice(value.as_bytes())?;
-    } else {
-        out.extend_from_slice(parameter)?;
+        page.put_bytes(lead(parameter));
+        page.put("rport=");
+        page.put_number(u64::from(source.port));
+        return;
     }
-    Ok(())
+    page.put_bytes(parameter);
 }
 
 /// How long the front is: the text before the first parameter.
@@ -148,69 +140,46 @@ fn parameter_len(text: &[u8]) -> usize
 }
 
 /// Puts the parameters, marked.
-fn put_parameters(
-    alloc: Global,
-    out: &mut Vec<u8>,
-    text: &[u8],
-    source: &Addr,
-) -> Result<(), NoMemory>
+fn put_parameters(page: &mut Page, text: &[u8], source: &Addr)
     requires front { (parts_of text.now).front ≡ [] }
-    ensures { OnOk result (out.new.items ≡ out.old.items ++ flat_map (marked_parameter source.now) (parts_of text.now).parameters) }
+    ensures { Puts page.old (flat_map (marked_parameter source.now) (parts_of text.now).parameters) page.new }
 {
     let mut rest = text;
     while !rest.is_empty() {
         let (parameter, others) = rest.split_at(parameter_len(rest));
-        put_parameter(alloc, out, parameter, source)?;
+        put_parameter(page, parameter, source);
         rest = others;
     }
-    Ok(())
 }
 
 /// Puts a Via value with the source written into it.
-fn put_marked(alloc: Global, out: &mut Vec<u8>, text: &[u8], source: &Addr) -> Result<(), NoMemory>
-    ensures { OnOk result (out.new.items ≡ out.old.items ++ marked_parts source.now (parts_of text.now)) }
+fn put_marked(page: &mut Page, text: &[u8], source: &Addr)
+    ensures { Puts page.old (marked_parts source.now (parts_of text.now)) page.new }
 {
     let (front, parameters) = text.split_at(front_len(text));
-    out.extend_from_slice(front)?;
-    put_parameters(alloc, out, parameters, source)?;
-    let ip = ip_string(alloc, source)?;
-    out.extend_from_slice(b";received=")?;
-    out.extend_from_slice(ip.as_bytes())?;
-    Ok(())
+    page.put_bytes(front);
+    put_parameters(page, parameters, source);
+    page.put(";received=");
+    page.put_ip(source.ip);
 }
 
-#[tactic(auto, unfolding(crate::specs::Via::top_via_text))]
 /// Puts the top Via value: as it is where it names the source and asks for no port.
-fn put_value(
-    alloc: Global,
-    out: &mut Vec<u8>,
-    text: &str,
-    top: &Via,
-    source: &Addr,
-) -> Result<(), NoMemory>
-    ensures { OnOk result (out.new.items ≡ out.old.items ++ top_via_text source.now top.now text.now) }
+fn put_value(page: &mut Page, text: &str, top: &Via, source: &Addr)
+    ensures { Puts page.old (top_via_text source.now top.now text.now) page.new }
 {
-    let ip = ip_string(alloc, source)?;
-    if names(top, ip.as_str()) {
-        out.extend_from_slice(text.as_bytes())?;
-    } else {
-        put_marked(alloc, out, text.as_bytes(), source)?;
+    let mut room = [0; IP_LEN];
+    if names(top, ip_in(source.ip, &mut room)) {
+        page.put(text);
+        return;
     }
-    Ok(())
+    put_marked(page, text.as_bytes(), source);
 }
 
 /// Puts the top Via line.
-pub fn put_top_via(
-    alloc: Global,
-    out: &mut Vec<u8>,
-    text: &str,
-    top: &Via,
-    source: &Addr,
-) -> Result<(), NoMemory>
-    ensures { OnOk result (out.new.items ≡ out.old.items ++ joined (header (codes "Via") (top_via_text source.now top.now text.now) ∷ [])) }
+pub fn put_top_via(page: &mut Page, text: &str, top: &Via, source: &Addr)
+    ensures { Puts page.old (joined (header (codes "Via") (top_via_text source.now top.now text.now) ∷ [])) page.new }
 {
-    out.extend_from_slice(b"Via: ")?;
-    put_value(alloc, out, text, top, source)?;
-    out.extend_from_slice(b"\r\n")?;
-    Ok(())
+    page.put_name("Via");
+    put_value(page, text, top, source);
+    page.end_line();
 }

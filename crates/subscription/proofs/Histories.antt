@@ -11,7 +11,7 @@ use Rattle.subscription.specs.declared.life.Step.TheVariants.{Live, Over}
 use Rattle.subscription.specs.State.{State}
 use Rattle.subscription.specs.Table.{told, accept, fetch, refresh, changed, end, refused_by, is_refusal_of}
 use Rattle.subscription.specs.Written.{is_terminated}
-use Rattle.subscription.specs.History.{Beginning, Accepted, Fetched, Cause, Refreshed, Changed, Ended, Answered, Outcome, of_step, of_answer, begins, befalls, told_from, state_from, state_after, notices, last_number, AreNumbered, NoneFollowsTheEnd, AreWithin}
+use Rattle.subscription.specs.History.{Beginning, Accepted, Fetched, Cause, Refreshed, Changed, Ended, Answered, Lost, Outcome, of_step, of_answer, begins, befalls, told_from, state_from, state_after, notices, last_number, AreNumbered, NoneFollowsTheEnd, AreWithin}
 
 -- ---- what a cause gives
 
@@ -78,6 +78,7 @@ follow (Answered answer ∷ causes) s =
     answer-cases s answer (λ outcome. Follow s.count (outcome.notices ++ told_from causes outcome.state))
     (λ _. follow-nothing s.count causes)
     (λ _. follow causes s)
+follow (Lost ∷ causes) s = follow-nothing s.count causes
 
 pub follow-notices : (beginning : Beginning) (causes : List Cause) → Follow 0 (notices beginning causes)
 unfolding accept fetch
@@ -134,6 +135,7 @@ within (Answered answer ∷ causes) s below =
     answer-cases s answer (λ outcome. Within s.want.max_cseq (outcome.notices ++ told_from causes outcome.state))
     (λ _. within-nothing s.want.max_cseq causes)
     (λ _. within causes s below)
+within (Lost ∷ causes) s below = within-nothing s.want.max_cseq causes
 
 pub within-notices : (beginning : Beginning) (causes : List Cause) → 1 ≤ last_number beginning →
     Within (last_number beginning) (notices beginning causes)
@@ -161,6 +163,16 @@ none-after_refusal (cause ∷ before) after answer (Some other) s there refused 
     ap (λ others. (befalls cause other).notices ++ others)
     (none-after_refusal before after answer (befalls cause other).state s there refused)
 
+-- ---- a loss
+
+pub none-after_loss : (before after : List Cause) (state : Option State) →
+    told_from (before ++ Lost ∷ after) state ≡ told_from before state
+none-after_loss [] after None = refl
+none-after_loss [] after (Some s) = told_from-none after
+none-after_loss (cause ∷ before) after None = refl
+none-after_loss (cause ∷ before) after (Some s) =
+    ap (λ others. (befalls cause s).notices ++ others) (none-after_loss before after (befalls cause s).state)
+
 -- ---- the laws
 
 pub are_numbered : (beginning : Beginning) (causes : List Cause) → AreNumbered (notices beginning causes)
@@ -180,3 +192,8 @@ pub none_after_a_refusal : (beginning : Beginning) (before after : List Cause) (
 none_after_a_refusal beginning before after answer s there refused =
     ap (λ others. (begins beginning).notices ++ others)
     (none-after_refusal before after answer (begins beginning).state s there refused)
+
+pub none_after_a_loss : (beginning : Beginning) (before after : List Cause) →
+    notices beginning (before ++ Lost ∷ after) ≡ notices beginning before
+none_after_a_loss beginning before after =
+    ap (λ others. (begins beginning).notices ++ others) (none-after_loss before after (begins beginning).state)

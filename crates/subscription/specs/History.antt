@@ -1,7 +1,7 @@
 -- A whole life of a subscription: how it begins, the causes that befall it in order, and the NOTIFYs that they give.
 use Rattle.std.specs.Prelude.{◌≡◌, ℕ, ◌≤◌, Bool, true, Option, Some, None, Result, Ok, Err, List, [], ◌∷◌, ◌++◌, map, length, All}
 use Rattle.std.specs.List.{range_with_len}
-use Rattle.sip_read.specs.declared.message.Addr.{Addr}
+use Rattle.sip_text.specs.declared.address.Addr.{Addr}
 use Rattle.sip_read.specs.declared.message.Response.{Response}
 use Rattle.subscription.specs.declared.terms.Usage.{Usage}
 use Rattle.subscription.specs.declared.terms.Want.{Want}
@@ -10,7 +10,7 @@ use Rattle.subscription.specs.declared.notify.Reason.{Reason}
 use Rattle.subscription.specs.declared.life.Step.{Step}
 use Rattle.subscription.specs.declared.life.Step.TheVariants.{Live, Over}
 use Rattle.subscription.specs.State.{State}
-use Rattle.subscription.specs.Table.{accept, fetch, refresh, changed, end, refused_by}
+use Rattle.subscription.specs.Table.{accept, fetch, refresh, changed, end, refused_by, lost}
 use Rattle.subscription.specs.Written.{is_terminated}
 
 pub data Beginning : Type 0 where
@@ -22,6 +22,7 @@ pub data Cause : Type 0 where
   Changed : (moment : ℕ) (is_over : Bool) → Cause
   Ended : (reason : Reason) → Cause
   Answered : (answer : Response) → Cause
+  Lost : Cause
 
 -- the state that follows, where one does, and the NOTIFYs: one or none
 pub record Outcome : Type 0 where
@@ -39,6 +40,9 @@ abbrev pub of_answer : Result Usage State → Outcome
 of_answer (Ok usage) = record { state = None; notices = [] }
 of_answer (Err s) = record { state = Some s; notices = [] }
 
+abbrev pub of_loss : Usage → Outcome
+of_loss usage = record { state = None; notices = [] }
+
 abbrev pub begins : Beginning → Outcome
 begins (Accepted usage want moment granted) = of_step (accept usage want moment granted)
 begins (Fetched usage want) = of_end (fetch usage want)
@@ -48,6 +52,7 @@ befalls (Refreshed cseq target to moment granted) s = of_step (refresh s cseq ta
 befalls (Changed moment is_over) s = of_step (changed s moment is_over)
 befalls (Ended reason) s = of_end (end s reason)
 befalls (Answered answer) s = of_answer (refused_by s answer)
+befalls Lost s = of_loss (lost s)
 
 -- what is told from a state on. Where there is none, no cause is left that could be told.
 abbrev pub told_from : List Cause → Option State → List Notice

@@ -1,7 +1,7 @@
 -- The causes that make, change and end one subscription (RFC 6665 section 4.2): for each the state that follows and the
 -- NOTIFY that tells of it. Times are seconds.
 use Rattle.std.specs.Prelude.{ℕ, ◌+◌, ◌-◌, Bool, true, false, ◌&&◌, if◌then◌else◌, nat_le, ◌==◌, Option, Some, None, unwrap_or, Result, Ok, Err, List, codes, bytes_eq}
-use Rattle.sip_read.specs.declared.message.Addr.{Addr}
+use Rattle.sip_text.specs.declared.address.Addr.{Addr}
 use Rattle.sip_read.specs.declared.message.Response.{Response}
 use Rattle.subscription.specs.declared.terms.Usage.{Usage}
 use Rattle.subscription.specs.declared.terms.Want.{Want}
@@ -59,14 +59,24 @@ abbrev pub is_tag : Option (List ℕ) → List ℕ → Bool
 is_tag None tag = false
 is_tag (Some other) tag = bytes_eq other tag
 
--- A 481 to one of its NOTIFYs: the subscriber knows no such subscription (4.2.2). It answers in the dialog (RFC 3261
--- section 12.2.1.2), so its From tag is the local one.
-unfoldable pub is_refusal_of : State → Response → Bool
-is_refusal_of s answer =
-    answer.status == 481 && (bytes_eq answer.head.cseq_method (codes "NOTIFY")
+-- A response to one of its NOTIFYs. It answers in the dialog (RFC 3261 section 12.2.1.2), so its From tag is the local one.
+unfoldable pub is_answer_to : State → Response → Bool
+is_answer_to s answer =
+    bytes_eq answer.head.cseq_method (codes "NOTIFY")
     && (bytes_eq answer.head.call_id s.usage.call_id && (is_tag answer.head.from.tag s.usage.local_tag
-    && (nat_le 1 answer.head.cseq && nat_le answer.head.cseq s.count))))
+    && (nat_le 1 answer.head.cseq && nat_le answer.head.cseq s.count)))
+
+-- A 481: the subscriber knows no such subscription (4.2.2).
+abbrev pub refuses : Response → Bool
+refuses answer = answer.status == 481
+
+unfoldable pub is_refusal_of : State → Response → Bool
+is_refusal_of s answer = refuses answer && is_answer_to s answer
 
 -- It is gone without a NOTIFY, or as it was.
 unfoldable pub refused_by : State → Response → Result Usage State
 refused_by s answer = if is_refusal_of s answer then Ok s.usage else Err s
+
+-- A NOTIFY of it stayed unanswered (4.2.2): it is gone without another.
+unfoldable pub lost : State → Usage
+lost s = s.usage

@@ -6,7 +6,7 @@
 //! goes on, or the dialog of the one that is over. So nothing can be told after the end.
 //!
 //! Each call is one equation of `specs/Table.antt`. [`laws::whole_life`] says what holds of all calls in a row:
-//! the NOTIFYs are numbered 1, 2, 3 .., and none follows a terminated one or a refusal.
+//! the NOTIFYs are numbered 1, 2, 3 .., and none follows a terminated one, a refusal or a loss.
 //!
 //! Begin with [`Sub`], whose drawing shows its life, then [`Step`] and [`Notice`].
 #![tactic(auto)]

@@ -1,17 +1,17 @@
 //! A live subscription, and what each cause makes of it.
-#![tactic(auto, unfolding(crate::specs::Table::told, crate::specs::Table::accept, crate::specs::Table::fetch, crate::specs::Table::refresh, crate::specs::Table::changed, crate::specs::Table::end, crate::specs::Table::is_refusal_of, crate::specs::Table::refused_by))]
+#![tactic(auto, unfolding(crate::specs::Table::told, crate::specs::Table::accept, crate::specs::Table::fetch, crate::specs::Table::refresh, crate::specs::Table::changed, crate::specs::Table::end, crate::specs::Table::is_answer_to, crate::specs::Table::is_refusal_of, crate::specs::Table::refused_by, crate::specs::Table::lost))]
 
 ghost use Rattle.std.specs.Prelude.{◌≡◌, ◌+◌, ◌<◌, ◌≤◌, ◌^◌};
 ghost use Rattle.subscription.specs.Table as table;
 
 use crate::notify::{Notice, Reason};
 use crate::terms::{Usage, Want};
-use event_headers::Text;
 use sip_read::{Addr, Response};
+use sip_text::Text;
 use std::marker::Model;
 
 /// A live subscription: its dialog, what was asked for, how many NOTIFYs it had, and the second in which its
-/// time is up. Each arrow but the last is one NOTIFY; the sections are those of RFC 6665.
+/// time is up. Each arrow is one NOTIFY, but for those marked untold; the sections are those of RFC 6665.
 ///
 /// ```text
 ///   accept (4.2.1.1)                                fetch (4.4.3)
@@ -21,8 +21,10 @@ use std::marker::Model;
 ///   | active |--- end: timeout (4.2.1.4) -------->| terminated |
 ///   |        |--- changed, over: noresource ----->|            |
 ///   |        |--- the last number: deactivated -->|            |
+///   |        |--- end: deactivated (4.1.3) ------>|            |
 ///   |        |                                    +------------+
 ///   |        |--- a 481 to a NOTIFY (4.2.2) ---->  gone, untold
+///   |        |--- lost: no answer (4.2.2) ------->  gone, untold
 ///   |        |
 ///   |        |---+ refresh (4.2.1.4)
 ///   |        |<--+ changed (4.2.2)
@@ -140,7 +142,7 @@ impl Sub {
     }
 
     /// It ends, and a last NOTIFY says why: its time is up, or the subscriber asked for no more of it (RFC 6665
-    /// section 4.2.1.4).
+    /// section 4.2.1.4), or the notifier stops (section 4.1.3).
     pub fn end(self, reason: Reason) -> (Usage, Notice)
         ensures { result ≡ table.end self reason }
     {
@@ -163,12 +165,28 @@ impl Sub {
     fn is_refused_by(&self, response: &Response) -> bool
         ensures { result ≡ table.is_refusal_of self.now response.now }
     {
+        response.status == 481 && self.is_answered_by(response)
+    }
+
+    /// Whether this response answers one of its NOTIFYs: by its CSeq, its From tag and its Call-ID (RFC 3261
+    /// section 12.2.1.2), whatever its status.
+    pub fn is_answered_by(&self, response: &Response) -> bool
+        ensures { result ≡ table.is_answer_to self.now response.now }
+    {
         let head = &response.head;
-        response.status == 481
-            && head.cseq_method.is("NOTIFY")
+        head.cseq_method.is("NOTIFY")
             && head.call_id.is(self.usage.call_id.as_str())
             && is_tag(&head.from.tag, &self.usage.local_tag)
             && (1..=self.count).contains(&head.cseq)
+    }
+
+    /// The dialog of a subscription of which a NOTIFY stayed unanswered: it is gone without another (RFC 6665
+    /// section 4.2.2).
+    pub fn lost(self) -> Usage
+        ensures { result ≡ table.lost self }
+    {
+        let Sub { usage, .. } = self;
+        usage
     }
 
     /// The second in which its time is up.

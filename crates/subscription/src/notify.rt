@@ -1,6 +1,6 @@
 //! What a NOTIFY tells of its subscription (RFC 6665 section 4.1.3).
 ghost use Rattle.std.specs.Prelude.{◌≡◌, option_map, IsTrue};
-ghost use Rattle.event_headers.specs.Tokens.{is_small_token};
+ghost use Rattle.sip_text.specs.Tokens.{is_small_token};
 ghost use Rattle.subscription.specs.Written.{state_of, reason_text, is_terminated};
 
 /// Why a subscription ended.
@@ -10,7 +10,7 @@ pub enum Reason {
     Timeout,
     /// What it watched is over for good.
     Noresource,
-    /// The dialog has no number left. The subscriber may subscribe again at once.
+    /// The dialog has no number left, or the notifier stops. The subscriber may subscribe again at once.
     Deactivated,
 }
 

@@ -1,7 +1,8 @@
 //! What a subscription was made with: its dialog, and what it tells of.
 
-use event_headers::{EventValue, Text, Values};
+use event_headers::EventValue;
 use sip_read::Addr;
+use sip_text::{Text, Values};
 
 /// The dialog of a subscription as the notifier sees it (RFC 3261 section 12). It has this one usage.
 #[derive(Debug, Drop)]

@@ -2,8 +2,9 @@
 ghost use Rattle.std.specs.Prelude.{◌≡◌, ◌≤◌};
 
 use crate::{Notice, Phase, Reason, Step, Sub, Usage, Want};
-use event_headers::{EventValue, Text, Values};
+use event_headers::EventValue;
 use sip_read::{Addr, Head, Party, Response, Via};
+use sip_text::{Text, Values};
 use std::alloc::Global;
 use std::process::Abort;
 
@@ -191,6 +192,17 @@ fn a_481_to_one_of_its_notifys_ends_it(rt: HostRuntime) {
     let sub = live(&rt, change(&rt, sub, 0, false), 3, 3600);
     let gone = answered(&rt, alloc, sub, 481, 2).is_ok();
     assert!(rt; gone);
+}
+
+#[test]
+fn an_unanswered_notify_ends_it(rt: HostRuntime) {
+    let alloc = rt.alloc();
+    let sub = accepted(&rt, alloc, 2147483647);
+    let first = response(&rt, alloc, 100, 1);
+    let second = response(&rt, alloc, 200, 2);
+    assert!(rt; sub.is_answered_by(&first));
+    assert!(rt; !sub.is_answered_by(&second));
+    assert!(rt; sub.lost().call_id.is("c1"));
 }
 
 #[test]

@@ -5,7 +5,6 @@
 //! whether the notifier writes its page. The runs of `data/runs` are the program's without arguments.
 #![tactic(auto)]
 
-use event_headers::{NoMemory, Text};
 use message_summary::Mailboxes;
 use notifier::{Limits, Setup};
 use package::ClosingCell;
@@ -13,6 +12,7 @@ use refer::Transfers;
 use scripts::{ScriptError, Sink, Source};
 use server::{EitherPackage, Status, run, script_one};
 use sip_read::Addr;
+use sip_text::{NoMemory, Text};
 use std::alloc::Global;
 use std::rt::Files;
 use std::{fs, io};
@@ -47,6 +47,7 @@ fn writes_within(
             ip: [127, 0, 0, 1],
             port: 5060,
         },
+        stop: false,
     };
     let mut names = Vec::new(alloc);
     names.push(String::from_str(alloc, "alice")?)?;
@@ -84,7 +85,7 @@ fn plain_runs(rt: &(impl Files + Print + AllocGlobal)) -> io::Result<()> {
 }
 
 /// The runs with other limits.
-const LIMITED: [(&str, Bounds); 5] = [
+const LIMITED: [(&str, Bounds); 6] = [
     (
         "the_last_number_ends_a_subscription",
         (3, 1024, 4294967295, 64),
@@ -99,6 +100,10 @@ const LIMITED: [(&str, Bounds); 5] = [
     ),
     ("used_up_serials_refuse_fetches_too", (2147483647, 1, 1, 64)),
     ("a_ring_of_one_forgets", (2147483647, 1024, 4294967295, 1)),
+    (
+        "a_full_table_takes_a_silent_refer",
+        (2147483647, 1, 4294967295, 64),
+    ),
 ];
 
 fn limited_runs(rt: &(impl Files + Print + AllocGlobal)) -> io::Result<()> {
@@ -112,20 +117,49 @@ fn limited_runs(rt: &(impl Files + Print + AllocGlobal)) -> io::Result<()> {
 
 const SEED: &str = "00112233445566778899aabbccddeeffFFEEDDCCBBAA99887766554433221100";
 
-/// The run with a seed and two mailboxes.
-fn seeded_run(rt: &(impl Files + Print + AllocGlobal)) -> io::Result<()> {
-    let name = "another_seed_gives_other_tags";
-    let (script, page) = files_of(rt, name)?;
-    let words = words_of(rt.alloc(), &["script", "--seed", SEED, "1", "alice", "bob"]);
-    let is_page = words.is_ok_and(|words| {
-        writes(
-            rt.alloc(),
-            words.as_slice(),
-            script.as_slice(),
-            page.as_slice(),
-        )
-    });
-    tell(rt, name, is_page)
+/// The runs of the program with arguments.
+const CALLED: [(&str, &[&str]); 6] = [
+    (
+        "another_seed_gives_other_tags",
+        &["script", "--seed", SEED, "1", "alice", "bob"],
+    ),
+    (
+        "two_workers_have_a_mailbox_each",
+        &["script", "2", "alice", "bob"],
+    ),
+    (
+        "a_tag_or_a_mailbox_names_the_worker",
+        &["script", "2", "alice", "bob"],
+    ),
+    (
+        "three_workers_keep_what_is_theirs",
+        &["script", "3", "alice", "bob", "dave"],
+    ),
+    (
+        "a_planned_stop_ends_a_subscription",
+        &["script", "--stop", "1", "alice"],
+    ),
+    (
+        "a_planned_stop_ends_all_by_rising_serial",
+        &["script", "--stop", "2", "alice", "bob"],
+    ),
+];
+
+fn called_runs(rt: &(impl Files + Print + AllocGlobal)) -> io::Result<()> {
+    for (name, words) in CALLED {
+        let (script, page) = files_of(rt, name)?;
+        let words = words_of(rt.alloc(), words);
+        let is_page = words.is_ok_and(|words| {
+            writes(
+                rt.alloc(),
+                words.as_slice(),
+                script.as_slice(),
+                page.as_slice(),
+            )
+        });
+        tell(rt, name, is_page)?;
+    }
+    Ok(())
 }
 
 fn words_of(alloc: Global, words: &[&str]) -> Result<Vec<Text>, NoMemory> {
@@ -139,5 +173,5 @@ fn words_of(alloc: Global, words: &[&str]) -> Result<Vec<Text>, NoMemory> {
 fn main(rt: HostRuntime) -> io::Result<()> {
     plain_runs(&rt)?;
     limited_runs(&rt)?;
-    seeded_run(&rt)
+    called_runs(&rt)
 }

@@ -92,6 +92,13 @@ const GOOD: &[(&str, &str)] = &[
     ("m: <sip:a@b>\r\nm: <sip:a@b>\r\n", "\ncontact bad\n"),
     ("", "\nrefer-to absent\n"),
     ("Refer-To: ?\r\n", "\nrefer-to bad\n"),
+    ("Refer-Sub: FALSE ;x=1\r\n", "\nrefer-sub false\n"),
+    ("refer-sub:true\r\n", "\nrefer-sub true\n"),
+    ("Refer-Sub: maybe\r\n", "\nrefer-sub bad\n"),
+    (
+        "Refer-Sub: true\r\nRefer-Sub: true\r\n",
+        "\nrefer-sub bad\n",
+    ),
     (
         "r: <sip:a@b>\r\nRefer-To: <sip:a@b>\r\n",
         "\nrefer-to bad\n",

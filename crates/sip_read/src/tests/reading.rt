@@ -1,6 +1,7 @@
 //! What a datagram is read as, as a text: a message line by line, or the number of its error and what the error says.
 use crate::{Head, Message, ReadError, Request, Response, read};
-use event_headers::{EventValue, Field, Range, Text, Values};
+use event_headers::{EventValue, Range};
+use sip_text::{Field, Text, Values};
 use std::alloc::{AllocError, Global};
 use std::fmt;
 use std::fmt::{Formatter, Write};
@@ -102,6 +103,15 @@ fn write_accept<W: Write>(f: &mut Formatter<W>, accept: &Field<Values<Range>>) -
     }
 }
 
+/// Nothing, where there is no line.
+fn write_refer_sub<W: Write>(f: &mut Formatter<W>, wanted: &Field<bool>) -> fmt::Result {
+    match wanted {
+        Field::Value(wanted) => writeln!(f, "refer-sub {wanted}"),
+        Field::Absent => Ok(()),
+        Field::Bad => writeln!(f, "refer-sub bad"),
+    }
+}
+
 /// As a text, if it is one.
 fn write_body<W: Write>(f: &mut Formatter<W>, body: &[u8]) -> fmt::Result {
     match str::from_utf8(body) {
@@ -128,6 +138,7 @@ fn write_request<W: Write>(f: &mut Formatter<W>, request: &Request) -> fmt::Resu
             ("refer-to", field_text(&request.refer_to)),
         ],
     )?;
+    write_refer_sub(f, &request.refer_sub)?;
     write_texts(f, "require", &request.require)?;
     write_texts(f, "record-route", &request.record_routes)?;
     write_body(f, request.body.as_slice())

@@ -1,8 +1,8 @@
 //! What comes to a desk, as a table has it.
-use event_headers::NoMemory;
 use notifier::Event;
 use package::{Class, MailChange, Progress};
 use sip_read::{Addr, Message, read};
+use sip_text::NoMemory;
 use std::alloc::Global;
 
 /// One event, in few words.
@@ -17,6 +17,7 @@ pub(crate) enum Cue {
     /// How the transfer of this tag goes.
     Step(&'static str, u16, &'static str),
     Tick(u64),
+    Shut,
 }
 
 /// What differs from one SUBSCRIBE to the next.
@@ -96,6 +97,7 @@ fn event_of(alloc: Global, cue: &Cue) -> Option<Event> {
         Cue::Voice(new_count) => mail(alloc, *new_count),
         Cue::Step(tag, code, reason) => progress(alloc, tag, *code, reason),
         Cue::Tick(moment) => Some(Event::Tick(*moment)),
+        Cue::Shut => Some(Event::Shut),
     }
 }
 

@@ -52,7 +52,8 @@ fn mail_without_memory_spends_the_desk(rt: HostRuntime) {
         Cue::Voice(2),
         Cue::Voice(2),
         Cue::Voice(1),
-        Cue::Tick(3600),
+        Cue::Tick(31),
+        Cue::Shut,
     ];
     if let Ok(package) = mailboxes(alloc) {
         let setup = setup(limits(&rt, 2147483647, 1024, 4294967295, 64));

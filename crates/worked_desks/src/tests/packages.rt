@@ -2,12 +2,12 @@
 use crate::tests::cue::{ASKED, Asked, Cue, events_of};
 use crate::tests::presence::Presence;
 use crate::tests::told::brief;
-use event_headers::NoMemory;
 use message_summary::Mailboxes;
 use notifier::{Limits, Setup, play_boxes};
 use package::{ClosingCell, Package};
 use refer::Transfers;
 use sip_read::Addr;
+use sip_text::NoMemory;
 use std::alloc::Global;
 use std::process::Abort;
 
@@ -19,6 +19,7 @@ pub(crate) fn setup(limits: Limits) -> Setup {
             ip: [127, 0, 0, 1],
             port: 5060,
         },
+        stop: false,
     }
 }
 

@@ -2,8 +2,8 @@
 ghost use Rattle.std.specs.Prelude.{codes};
 ghost use Rattle.std.specs.FinMap.{empty};
 
-use event_headers::NoMemory;
 use package::{Change, Outcome, Package};
+use sip_text::NoMemory;
 use std::alloc::Global;
 
 #[derive(Drop)]

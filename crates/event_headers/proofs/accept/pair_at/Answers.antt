@@ -1,5 +1,5 @@
-use Rattle.event_headers.specs.declared.scan.Class.TheVariants as class
-use Rattle.event_headers.proofs.Words.{word_at_takes}
+use Rattle.sip_text.specs.declared.scan.Class.TheVariants as class
+use Rattle.sip_text.proofs.Words.{word_at_takes}
 use Rattle.event_headers.proofs.accept.pair_at.Goals as goal
 
 pub invariant_of-result : goal.invariant_of-result

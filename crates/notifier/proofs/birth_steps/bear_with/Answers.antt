@@ -1,19 +1,28 @@
-use Rattle.std.proofs.Common.{ap, sym, subst, ◌∙◌, map, arith, All}
+use Rattle.std.proofs.Common.{◌+◌, ap, sym, subst, ◌∙◌, map, arith, All}
 use Rattle.std.specs.Prelude.{IfSome}
-use Rattle.notifier.specs.Sound.{IsLive}
+use Rattle.notifier.specs.Sound.{IsLive, IsOwn, AreRising}
+use Rattle.notifier.specs.Start.{tag_of}
 use Rattle.notifier.proofs.Lives.{all_more, born_lives}
+use Rattle.notifier.proofs.Owned.{IsStill, born_keeps, own_more, rising_more}
 use Rattle.notifier.proofs.birth_steps.bear_with.Goals as goal
 
 pub returns-clause-sound : goal.returns-clause-sound
 returns-clause-sound g c =
     let limits = c.are_in_range.ensures in
     let fits = c.requires.sound.next_fits in
-    let lives = born_lives c.args.place.now (map g.P.Package.seen c.begin.new.boxes.items) c.args.ledger.now.clock c.args.serial c.args.tag c.args.source c.args.request.now limits in
+    let lives = born_lives c.args.place.now (map g.P.Package.seen c.begin.new.boxes.items) c.args.ledger.now.clock c.args.serial c.args.tag c.args.source c.args.request.now c.args.kind limits c.requires.kind in
     let live : IfSome c.in_ok-after.after.row (IsLive c.args.ledger.now.clock) = subst (λ o. IfSome o (IsLive c.args.ledger.now.clock)) (sym c.in_ok-after.ensures.row) lives in
+    let keeps = born_keeps c.args.place.now (map g.P.Package.seen c.begin.new.boxes.items) c.args.ledger.now.clock c.args.serial c.args.tag c.args.source c.args.request.now c.args.kind in
+    let next = c.args.ledger.now.next in
+    let still : IfSome c.in_ok-after.after.row (IsStill c.args.serial c.args.tag) = subst (λ o. IfSome o (IsStill c.args.serial c.args.tag)) (sym c.in_ok-after.ensures.row) keeps in
+    let own : IfSome c.in_ok-after.after.row (IsStill next (tag_of c.args.place.now next)) =
+    subst (λ n. IfSome c.in_ok-after.after.row (IsStill n (tag_of c.args.place.now next))) c.requires.serial (subst (λ t. IfSome c.in_ok-after.after.row (IsStill c.args.serial t)) c.requires.tag still) in
     record {
       clock_fits = c.requires.sound.clock_fits;
       next_begins = omega arith;
       next_fits = let room = c.requires.room in let serials = limits.serials in omega arith;
       rows_live = subst (All (IsLive c.args.ledger.now.clock)) (sym c.in_ok-push_some.ensures) (all_more (IsLive c.args.ledger.now.clock) c.args.ledger.now.rows.items c.in_ok-after.after.row c.requires.sound.rows_live live);
+      rows_own = subst (All (IsOwn c.args.place.now (next + 1))) (sym c.in_ok-push_some.ensures) (own_more c.args.place.now next c.args.ledger.now.rows.items c.in_ok-after.after.row c.requires.sound.rows_own own);
+      rows_rise = subst AreRising (sym c.in_ok-push_some.ensures) (rising_more c.args.place.now next (tag_of c.args.place.now next) c.args.ledger.now.rows.items c.in_ok-after.after.row c.requires.sound.rows_rise c.requires.sound.rows_own own);
       ring_fits = ap (λ r. r.capacity) c.in_ok-outs.ensures.ring ∙ c.requires.sound.ring_fits;
     }

@@ -1,7 +1,9 @@
 use Rattle.std.proofs.Common.{[]}
-use Rattle.notifier.specs.Rows.{disowned}
+use Rattle.notifier.specs.Rows.{answered}
 use Rattle.notifier.specs.Book.{replied}
-use Rattle.notifier.proofs.Lives.{sound_told, disowned_lives}
+use Rattle.notifier.proofs.Lives.{answered_lives}
+use Rattle.notifier.proofs.Owned.{answered_keeps}
+use Rattle.notifier.proofs.Soundness.{sound_told}
 use Rattle.notifier.proofs.changes.reply.Goals as goal
 
 pub returns-clause-step : goal.returns-clause-step
@@ -10,5 +12,5 @@ returns-clause-step g c = c.in_ok-all_rows.ensures.step [] c.new-outs.ensures.it
 
 pub returns-clause-sound : goal.returns-clause-sound
 returns-clause-sound g c =
-    sound_told c.args.place.now.limits c.args.ledger.now c.all_rows.new.ledger (disowned c.args.response.now)
-    (disowned_lives c.args.ledger.now.clock c.args.response.now) c.requires c.in_ok-all_rows.ensures.rows c.in_ok-all_rows.ensures.same
+    sound_told c.args.place.now c.args.ledger.now c.all_rows.new.ledger (answered c.args.response.now)
+    (answered_lives c.args.ledger.now.clock c.args.response.now) (answered_keeps c.args.response.now) c.requires c.in_ok-all_rows.ensures.rows c.in_ok-all_rows.ensures.same

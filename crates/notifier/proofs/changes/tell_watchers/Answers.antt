@@ -1,6 +1,8 @@
 use Rattle.std.proofs.Common.{map, []}
 use Rattle.notifier.specs.Rows.{tells_watcher}
-use Rattle.notifier.proofs.Lives.{sound_told, watcher_lives}
+use Rattle.notifier.proofs.Lives.{watcher_lives}
+use Rattle.notifier.proofs.Owned.{watcher_keeps}
+use Rattle.notifier.proofs.Soundness.{sound_told}
 use Rattle.notifier.proofs.changes.tell_watchers.Goals as goal
 
 pub returns-clause-step : goal.returns-clause-step
@@ -9,7 +11,8 @@ returns-clause-step g c = c.in_ok-all_rows.ensures.step [] c.new-outs.ensures.it
 pub returns-clause-sound : goal.returns-clause-sound
 returns-clause-sound g c =
     let boxes = map g.P.Package.seen c.args.ledger.now.boxes.items in
-    sound_told c.args.place.now.limits c.args.ledger.now c.all_rows.new.ledger
+    sound_told c.args.place.now c.args.ledger.now c.all_rows.new.ledger
     (tells_watcher c.args.place.now boxes c.args.ledger.now.clock c.args.name.now c.args.resource.now c.args.is_over)
     (watcher_lives c.args.place.now boxes c.args.ledger.now.clock c.args.name.now c.args.resource.now c.args.is_over)
+    (watcher_keeps c.args.place.now boxes c.args.ledger.now.clock c.args.name.now c.args.resource.now c.args.is_over)
     c.requires c.in_ok-all_rows.ensures.rows c.in_ok-all_rows.ensures.same

@@ -1,6 +1,6 @@
 use Rattle.std.proofs.Common.{map, []}
 use Rattle.notifier.specs.Book.{ticked}
-use Rattle.notifier.proofs.Lives.{sound_ticked}
+use Rattle.notifier.proofs.Soundness.{sound_ticked}
 use Rattle.notifier.proofs.changes.tick.Goals as goal
 
 pub returns-clause-step : goal.returns-clause-step
@@ -9,5 +9,5 @@ returns-clause-step g c = c.in_ok-all_rows.ensures.step [] c.new-outs.ensures.it
 
 pub returns-clause-sound : goal.returns-clause-sound
 returns-clause-sound g c =
-    sound_ticked c.args.place.now.limits c.args.ledger.now c.all_rows.new.ledger c.args.place.now (map g.P.Package.seen c.args.ledger.now.boxes.items) c.args.clock
+    sound_ticked c.args.place.now c.args.ledger.now c.all_rows.new.ledger (map g.P.Package.seen c.args.ledger.now.boxes.items) c.args.clock
     c.requires.on c.requires.fits c.requires.sound c.in_ok-all_rows.ensures.rows c.in_ok-all_rows.ensures.same

@@ -1,12 +1,14 @@
 use Rattle.notifier.specs.Ledger.{book_of}
 use Rattle.notifier.specs.Rows.{only, counted}
-use Rattle.notifier.specs.Book.{heard, refused}
-use Rattle.notifier.proofs.Lives.{sound_told, counted_lives}
+use Rattle.notifier.specs.Book.{denied, refused}
+use Rattle.notifier.proofs.Lives.{counted_lives}
+use Rattle.notifier.proofs.Owned.{counted_keeps}
+use Rattle.notifier.proofs.Soundness.{sound_told}
 use Rattle.notifier.proofs.Steps.{from_book}
 use Rattle.notifier.proofs.dialog.hear_refused.Goals as goal
 
 pub returns-clause-step : goal.returns-clause-step
-unfolding heard
+unfolding denied
 returns-clause-step g c =
     let first = c.in_ok-outs.ensures.step in
     let stepped = refused c.args.place.now (book_of g.P.Package.seen c.args.ledger.now) c.args.source c.args.request.now c.args.refused in
@@ -15,5 +17,5 @@ returns-clause-step g c =
 
 pub returns-clause-sound : goal.returns-clause-sound
 returns-clause-sound g c =
-    sound_told c.args.place.now.limits c.refuse.new.ledger c.all_rows.new.ledger (only c.args.serial (counted c.args.request.now))
-    (counted_lives c.refuse.new.ledger.clock c.args.serial c.args.request.now) c.in_ok-outs.ensures.sound c.in_ok-all_rows.ensures.rows c.in_ok-all_rows.ensures.same
+    sound_told c.args.place.now c.refuse.new.ledger c.all_rows.new.ledger (only c.args.serial (counted c.args.request.now))
+    (counted_lives c.refuse.new.ledger.clock c.args.serial c.args.request.now) (counted_keeps c.args.serial c.args.request.now) c.in_ok-outs.ensures.sound c.in_ok-all_rows.ensures.rows c.in_ok-all_rows.ensures.same

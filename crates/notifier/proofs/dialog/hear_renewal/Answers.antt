@@ -1,13 +1,15 @@
 use Rattle.std.proofs.Common.{map}
 use Rattle.notifier.specs.Ledger.{book_of}
 use Rattle.notifier.specs.Rows.{only, renewed}
-use Rattle.notifier.specs.Book.{heard, keeping}
-use Rattle.notifier.proofs.Lives.{sound_told, renewed_lives}
+use Rattle.notifier.specs.Book.{accepted, keeping}
+use Rattle.notifier.proofs.Lives.{renewed_lives}
+use Rattle.notifier.proofs.Owned.{renewed_keeps}
+use Rattle.notifier.proofs.Soundness.{sound_told}
 use Rattle.notifier.proofs.Steps.{from_book}
 use Rattle.notifier.proofs.dialog.hear_renewal.Goals as goal
 
 pub returns-clause-step : goal.returns-clause-step
-unfolding heard keeping
+unfolding accepted keeping
 returns-clause-step g c =
     let first = c.in_ok-outs.ensures in
     from_book (λ b. only c.args.serial (renewed c.args.place.now b.boxes b.clock c.args.source c.args.request.now)) _ (book_of g.P.Package.seen c.answer_renewal.new.ledger) _
@@ -15,7 +17,8 @@ returns-clause-step g c =
 
 pub returns-clause-sound : goal.returns-clause-sound
 returns-clause-sound g c =
-    sound_told c.args.place.now.limits c.answer_renewal.new.ledger c.all_rows.new.ledger
+    sound_told c.args.place.now c.answer_renewal.new.ledger c.all_rows.new.ledger
     (only c.args.serial (renewed c.args.place.now (map g.P.Package.seen c.answer_renewal.new.ledger.boxes.items) c.answer_renewal.new.ledger.clock c.args.source c.args.request.now))
     (λ row h. renewed_lives c.args.place.now (map g.P.Package.seen c.answer_renewal.new.ledger.boxes.items) c.answer_renewal.new.ledger.clock c.args.serial c.args.source c.args.request.now row c.in_ok-outs.ensures.limits h)
+    (renewed_keeps c.args.place.now (map g.P.Package.seen c.answer_renewal.new.ledger.boxes.items) c.answer_renewal.new.ledger.clock c.args.serial c.args.source c.args.request.now)
     c.in_ok-outs.ensures.sound c.in_ok-all_rows.ensures.rows c.in_ok-all_rows.ensures.same

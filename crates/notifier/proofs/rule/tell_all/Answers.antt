@@ -1,9 +1,8 @@
-use Rattle.std.proofs.Common.{sym, append_assoc, map}
+use Rattle.std.proofs.Common.{sym, map}
 use Rattle.std.proofs.lemmas.List.{append-nil}
 use Rattle.notifier.specs.Causes.{rule_of}
-use Rattle.notifier.specs.Out.{out_of}
 use Rattle.notifier.specs.Rows.{left, said, gone}
-use Rattle.notifier.proofs.RowLists.{left-push, gone-push, outs-push}
+use Rattle.notifier.proofs.RowLists.{left-push, gone-push, outs-on}
 use Rattle.notifier.proofs.rule.tell_all.Goals as goal
 
 pub loop-row-init : goal.loop-row-init
@@ -16,10 +15,8 @@ loop-row-preserved g c =
     let told = c.in_ok-after.ensures in
     let l = left-push rule c.loop-row.yielded c.in-Some.row in
     let e = gone-push rule c.loop-row.yielded c.in-Some.row in
-    let o = outs-push rule c.loop-row.yielded c.in-Some.row in
-    let a = append_assoc c.args.outs.now.items (map out_of (said rule c.loop-row.yielded)) (map out_of (rule c.in-Some.row).notifies) in
     record {
       rows = cc (told.stays, c.in_ok-take_in.ensures.rows);
       gone = cc (told.forgets, c.in_ok-take_in.ensures.gone);
-      outs = cc (told.sends, c.in_ok-take_in.ensures.outs);
+      outs = outs-on rule c.args.outs.now.items _ _ _ c.loop-row.yielded c.in-Some.row c.loop-row.invariant.outs told.sends c.in_ok-take_in.ensures.outs;
     }

@@ -1,5 +1,5 @@
-use Rattle.sip_write.proofs.Joins.{after}
+use Rattle.sip_write.proofs.Pages.{as_line, more_lines}
 use Rattle.sip_write.proofs.answer.put_end.Goals as goal
 
 pub returns : goal.returns
-returns c = after _ _ _ _ _ c.in_ok-put_header.ensures c.in_ok-put_line.ensures
+returns c = more_lines _ _ c.put_header.ensures (as_line _ c.end_line.ensures)

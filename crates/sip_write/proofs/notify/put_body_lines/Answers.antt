@@ -1,5 +1,5 @@
-use Rattle.sip_write.proofs.Joins.{after}
+use Rattle.sip_write.proofs.Pages.{as_line, more_lines}
 use Rattle.sip_write.proofs.notify.put_body_lines.Goals as goal
 
 pub returns : goal.returns
-returns c = after _ _ _ _ _ c.in_ok-put_header.ensures (after _ _ _ _ _ c.in_ok-put_number.ensures c.in_ok-put_line.ensures)
+returns c = more_lines _ _ c.put_header.ensures (more_lines _ _ c.put_count.ensures (as_line _ c.end_line.ensures))

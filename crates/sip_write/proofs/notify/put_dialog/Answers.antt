@@ -1,5 +1,5 @@
-use Rattle.sip_write.proofs.Joins.{after}
+use Rattle.sip_write.proofs.Pages.{more_lines}
 use Rattle.sip_write.proofs.notify.put_dialog.Goals as goal
 
 pub returns : goal.returns
-returns c = after _ _ _ _ _ c.in_ok-put_party.ensures (after _ _ _ _ _ c.in_ok-put_header.ensures (after _ _ _ _ _ c.in_ok-put_call.ensures c.in_ok-put_contact.ensures))
+returns c = more_lines _ _ c.put_party.ensures (more_lines _ _ c.put_header.ensures (more_lines _ _ c.put_call.ensures c.put_contact.ensures))

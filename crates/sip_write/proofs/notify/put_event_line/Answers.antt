@@ -1,6 +1,9 @@
-use Rattle.std.proofs.Common.{codes}
-use Rattle.sip_write.proofs.Joins.{in_pieces}
+use Rattle.std.proofs.Common.{codes, ap}
+use Rattle.event_headers.specs.Written.{parameter_text}
+use Rattle.sip_write.proofs.Pages.{and_then, same, as_header}
 use Rattle.sip_write.proofs.notify.put_event_line.Goals as goal
 
 pub returns : goal.returns
-returns c = in_pieces _ _ _ _ (codes "Event") _ c.in_ok-extend_from_slice.ensures.items c.in_ok-write_event.ensures.ok c.in_ok-extend_from_slice-2.ensures.items
+returns c =
+    as_header (codes "Event") _ (and_then c.put_name.ensures
+    (and_then (and_then (same c.package.ensures c.put.ensures) (same (ap (parameter_text (codes "id")) c.id.ensures) c.put_parameter.ensures)) c.end_line.ensures))

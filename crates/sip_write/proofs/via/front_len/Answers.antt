@@ -1,6 +1,6 @@
 use Rattle.std.proofs.Common.{◌≡◌, ◌-◌, ◌≤◌, ℕ, List, length, take, ap, sym, subst, ◌∙◌, arith}
 use Rattle.std.specs.List.{suffix_len}
-use Rattle.event_headers.specs.Bytes.{is_space}
+use Rattle.sip_text.specs.Bytes.{is_space}
 use Rattle.sip_write.proofs.Cuts.{IsFront, cut_is_front, uncut_is_front, first_cut_le}
 use Rattle.sip_write.proofs.via.front_len.Goals as goal
 

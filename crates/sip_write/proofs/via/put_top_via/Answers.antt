@@ -1,6 +1,6 @@
 use Rattle.std.proofs.Common.{codes}
-use Rattle.sip_write.proofs.Joins.{in_pieces}
+use Rattle.sip_write.proofs.Pages.{and_then, as_header}
 use Rattle.sip_write.proofs.via.put_top_via.Goals as goal
 
 pub returns : goal.returns
-returns c = in_pieces _ _ _ _ (codes "Via") _ c.in_ok-extend_from_slice.ensures.items c.in_ok-put_value.ensures c.in_ok-extend_from_slice-2.ensures.items
+returns c = as_header (codes "Via") _ (and_then c.put_name.ensures (and_then c.put_value.ensures c.end_line.ensures))

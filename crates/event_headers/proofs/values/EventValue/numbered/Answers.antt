@@ -1,5 +1,5 @@
 use Rattle.std.proofs.Common.{rules, ◌≡◌, sym, subst, arith, decimal}
-use Rattle.event_headers.specs.Headers.{IsToken}
+use Rattle.sip_text.specs.Grammar.{IsToken}
 use Rattle.event_headers.proofs.Tokens.{token_tested, decimal_is_token}
 use Rattle.event_headers.proofs.values.EventValue.numbered.Goals as goal
 

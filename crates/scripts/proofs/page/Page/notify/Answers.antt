@@ -1,6 +1,7 @@
 use Rattle.std.proofs.Common.{◌≡◌, ℕ, List, ◌∷◌, ◌++◌, length, Result, Ok, Err, ap, ◌∙◌, append_assoc}
 use Rattle.std.specs.Prelude.{codes, decimal, OnOk}
-use Rattle.scripts.specs.Script.{addr_text, lf}
+use Rattle.sip_text.specs.Addresses.{addr_text}
+use Rattle.scripts.specs.Script.{lf}
 use Rattle.scripts.specs.Page.{notify_text}
 use Rattle.scripts.proofs.page.Page.notify.Goals as goal
 

@@ -2,7 +2,7 @@ use Rattle.std.proofs.Common.{◌≡◌, length, arith, eqb, true, false}
 use Rattle.sip_read.specs.GatheredComputed.{with_item}
 use Rattle.sip_read.specs.Views.{item as item_view, gathered_seen}
 use Rattle.sip_read.proofs.Elements.{element_shortens}
-use Rattle.event_headers.proofs.CommaLists.{comma_shortens}
+use Rattle.sip_text.proofs.CommaLists.{comma_shortens}
 use Rattle.sip_read.proofs.Gatherings.{fails_element, is_done, fails_comma, goes_on}
 use Rattle.sip_read.proofs.gathered.Gathered.add_elements.Goals as goal
 

@@ -1,0 +1,127 @@
+-- That each event a port sent to a worker has its home there.
+use Rattle.std.proofs.Common.{◌≡◌, ⊎_elim, ℕ, zero, suc, ◌<◌, Bool, true, false, ◌||◌, eq-eqb, List, [], ◌∷◌, length, map, get_or, set, Some, refl, ap, sym, ◌∙◌, subst, arith}
+use Rattle.std.specs.Prelude.{slice_get, ◌==◌}
+use Rattle.std.specs.List.{All}
+use Rattle.std.proofs.lemmas.List.{get_or-set_other, get_or-set_same, length-set, get_or-map, length-map}
+use Rattle.std.proofs.lemmas.List.Elements.{All-nil, All-push}
+use Rattle.std.proofs.lemmas.Bool.Decides.{eqb_tells}
+use Rattle.queue_rule.specs.Values.{values, value_item, end_item}
+use Rattle.notifier.specs.declared.event.Event.{Event}
+use Rattle.notifier.specs.Home.{home, is_for_all, comes_to}
+use Rattle.inbox.specs.Seats.{Inbox, SenderSeat, with_sent}
+use Rattle.worker.proofs.Folds.{values_value, values_end}
+use Rattle.crew.specs.Ports.{PortSeats, new_seat, sent_first, Closes, ClosesSome}
+use Rattle.crew.specs.AtHome.{NewLaw, SendLaw, TickLaw, CloseLaw}
+
+-- all that a seat sent comes to worker w of n
+abbrev Comes : ℕ → ℕ → SenderSeat → Type 0
+Comes n w s = All (λ e. comes_to n w e ≡ true) (values s.sent)
+
+comes_more : (n w p : ℕ) (e : Event) (s : SenderSeat) → comes_to n w e ≡ true → Comes n w s → Comes n w (with_sent s (value_item p e))
+comes_more n w p e s here was =
+    let P : Event → Type 0 = λ x. comes_to n w x ≡ true in
+    subst (All P) (sym (values_value s.sent p e)) (All-push P (values s.sent) e was here)
+
+comes_ended : (n w p : ℕ) (s : SenderSeat) → Comes n w s → Comes n w (with_sent s (end_item p))
+comes_ended n w p s was = subst (All (λ e. comes_to n w e ≡ true)) (sym (values_end s.sent p)) was
+
+or_true : (a b : Bool) → b ≡ true → (a || b) ≡ true
+or_true true b e = refl
+or_true false b e = e
+
+true_or : (a b : Bool) → a ≡ true → (a || b) ≡ true
+true_or true b e = refl
+true_or false b e = absurd cc
+
+at_home : (n : ℕ) (e : Event) → comes_to n (home e n) e ≡ true
+at_home n e = or_true (is_for_all e) (home e n == home e n) (eq-eqb (home e n) (home e n) refl)
+
+-- ---- a new port
+
+pub new_law : NewLaw
+new_law inboxes number n w s low =
+    let P : ℕ → Type 0 = λ m. w < m in
+    let inside : w < length inboxes = subst P (length-map inboxes (λ i. new_seat i number)) low in
+    let Q : SenderSeat → Type 0 = λ x. Comes n w x in
+    let i : Inbox = s.inbox in
+    subst Q (sym (get_or-map (λ j. new_seat j number) inboxes w i s inside)) (All-nil (λ e. comes_to n w e ≡ true))
+
+-- ---- a send
+
+stood : (seats : List SenderSeat) (v : ℕ) (s x : SenderSeat) → slice_get seats v ≡ Some x → get_or seats v s ≡ x
+stood [] v s x e = absurd cc
+stood (t ∷ seats) zero s x e = cc
+stood (t ∷ seats) (suc v) s x e = stood seats v s x e
+
+fits : (seats : List SenderSeat) (v : ℕ) (x : SenderSeat) → slice_get seats v ≡ Some x → v < length seats
+fits [] v x e = absurd cc
+fits (t ∷ seats) zero x e = omega arith
+fits (t ∷ seats) (suc v) x e = let k = fits seats v x e in omega arith
+
+pub send_law : SendLaw
+send_law old new n e was sent w s low =
+    let v : ℕ = home e n in let t : SenderSeat = sent.seat in let u : SenderSeat = with_sent t (value_item t.number e) in
+    let seats : new.seats ≡ set old.seats v u = ap (λ (p : PortSeats). p.seats) sent.stands in
+    let inside : w < length old.seats = let l = ap length seats ∙ length-set old.seats v u in omega arith in
+    let here : v < length old.seats = fits old.seats v t sent.stood in
+    let Q : SenderSeat → Type 0 = λ x. Comes n w x in
+    ⊎_elim
+    (λ k. let same : w ≡ v = k.1 in
+    let at : get_or new.seats w s ≡ u = ap (λ l. get_or l w s) seats ∙ ap (λ j. get_or (set old.seats v u) j s) same ∙ get_or-set_same old.seats v u s here in
+    let is : get_or old.seats w s ≡ t = ap (λ j. get_or old.seats j s) same ∙ stood old.seats v s t sent.stood in
+    let P : ℕ → Type 0 = λ j. comes_to n j e ≡ true in
+    subst Q (sym at) (comes_more n w t.number e t (subst P (sym same) (at_home n e)) (subst Q is (was w s inside))))
+    (λ k. let other = k.1 in
+    subst Q (sym (ap (λ l. get_or l w s) seats ∙ get_or-set_other old.seats v w u s other)) (was w s inside))
+    (eqb_tells w v)
+
+-- ---- a tick
+
+len_first : (i : ℕ) (e : Event) (seats : List SenderSeat) → length (sent_first i e seats) ≡ length seats
+len_first zero e seats = refl
+len_first (suc i) e [] = refl
+len_first (suc i) e (s ∷ seats) = ap suc (len_first i e seats)
+
+tick_at : (n o i w : ℕ) (e : Event) (seats : List SenderSeat) (s : SenderSeat) → comes_to n o e ≡ true → w < length seats → Comes n o (get_or seats w s) → Comes n o (get_or (sent_first i e seats) w s)
+tick_at n o zero w e seats s here low was = was
+tick_at n o (suc i) w e [] s here low was = absurd (omega arith)
+tick_at n o (suc i) zero e (t ∷ seats) s here low was = comes_more n o t.number e t here was
+tick_at n o (suc i) (suc w) e (t ∷ seats) s here low was = tick_at n o i w e seats s here (omega arith) was
+
+pub tick_law : TickLaw
+tick_law old n i e all was w s low =
+    let inside : w < length old.seats = let l = len_first i e old.seats in omega arith in
+    tick_at n w i w e old.seats s (true_or (is_for_all e) (home e n == w) all) inside (was w s inside)
+
+-- ---- closing
+
+ended_at : (n o w : ℕ) (old : List SenderSeat) (s : SenderSeat) → (w < length old → Comes n o (get_or old w s)) → w < length old → Comes n o (get_or (map (λ x. with_sent x (end_item x.number)) old) w s)
+ended_at n o w [] s was low = absurd (omega arith)
+ended_at n o zero (t ∷ old) s was low = comes_ended n o t.number t (was low)
+ended_at n o (suc w) (t ∷ old) s was low = ended_at n o w old s (λ k. was (omega arith)) (omega arith)
+
+some_at : (n o w : ℕ) (old new : List SenderSeat) (s : SenderSeat) → ClosesSome old new → (w < length old → Comes n o (get_or old w s)) → w < length new → Comes n o (get_or new w s)
+some_at n o w [] new s none was low = absurd (let e = ap length none in omega arith)
+some_at n o zero (t ∷ old) new s (u, rest, is, told, more) was low =
+    let Q : SenderSeat → Type 0 = λ x. Comes n o x in
+    let at : get_or new zero s ≡ u = ap (λ l. get_or l zero s) is in
+    let before : Q t = was (omega arith) in
+    subst Q (sym at) (⊎_elim (λ e. subst Q (sym e) before) (λ e. subst Q (sym e) (comes_ended n o t.number t before)) told)
+some_at n o (suc w) (t ∷ old) new s (u, rest, is, told, more) was low =
+    let Q : SenderSeat → Type 0 = λ x. Comes n o x in
+    let at : get_or new (suc w) s ≡ get_or rest w s = ap (λ l. get_or l (suc w) s) is in
+    let inside : w < length rest = let e = ap length is in omega arith in
+    subst Q (sym at) (some_at n o w old rest s more (λ k. was (omega arith)) inside)
+
+all_at : (n w k : ℕ) (old new : PortSeats) (s : SenderSeat) → k ≡ old.still_open → Closes old new → (w < length old.seats → Comes n w (get_or old.seats w s)) → w < length new.seats → Comes n w (get_or new.seats w s)
+all_at n w zero old new s e closes was low =
+    let same = closes.1 (sym e) in
+    let P : PortSeats → Type 0 = λ p. w < length p.seats → Comes n w (get_or p.seats w s) in subst P (sym same) was low
+all_at n w (suc k) old new s e closes was low =
+    let is = closes.0 (omega arith) in
+    let inside : w < length old.seats = let l = ap length is ∙ length-map old.seats (λ x. with_sent x (end_item x.number)) in omega arith in
+    let P : List SenderSeat → Type 0 = λ l. Comes n w (get_or l w s) in subst P (sym is) (ended_at n w w old.seats s was inside)
+
+pub close_law : CloseLaw
+close_law old new n was closes w s low =
+    ⊎_elim (λ k. all_at n w old.still_open old new s refl k (was w s) low) (λ k. some_at n w w old.seats new.seats s k (was w s) low) closes

@@ -1,0 +1,47 @@
+-- How seats are made for all workers.
+use Rattle.std.proofs.Common.{◌≡◌, ℕ, zero, suc, ◌+◌, ◌<◌, List, [], ◌∷◌, ◌++◌, length, get_or, refl, ap, sym, ◌∙◌, subst, arith, below_more, length-append}
+use Rattle.std.proofs.lemmas.List.{get_or_append_left, map-append}
+use Rattle.std.proofs.Math.Seq.{get_or-append_seam}
+use Rattle.inbox.specs.Seats.{Inbox, SenderSeat, new_senders}
+use Rattle.crew.specs.Ports.{PortSeats, seated, new_seat, port_of, AreDealt, TakeSeats}
+
+pub new_senders-length : (inbox : Inbox) (n : ℕ) → length (new_senders inbox n) ≡ n
+new_senders-length inbox zero = refl
+new_senders-length inbox (suc n) = length-append (new_senders inbox n) (new_seat inbox n ∷ []) ∙ (let h = new_senders-length inbox n in omega arith)
+
+pub new_senders-at : (inbox : Inbox) (n k : ℕ) (d : SenderSeat) → k < n → get_or (new_senders inbox n) k d ≡ new_seat inbox k
+new_senders-at inbox zero k d low = absurd (omega arith)
+new_senders-at inbox (suc n) k d low =
+    let size = new_senders-length inbox n in
+    let P : ℕ → Type 0 = λ j. get_or (new_senders inbox (suc n)) j d ≡ new_seat inbox j in
+    below_more P n
+    (λ j less. get_or_append_left (new_senders inbox n) (new_seat inbox n ∷ []) d j (omega arith) ∙ new_senders-at inbox n j d less)
+    (ap (λ j. get_or (new_senders inbox n ++ new_seat inbox n ∷ []) j d) (sym size) ∙ get_or-append_seam (new_senders inbox n) (new_seat inbox n) [] d)
+    k (omega arith)
+
+-- a fact of each element, by its place, with one element more
+pub each_more : {S : Type 0} (R : ℕ → S → Type 0) (xs ys : List S) (x : S) (n m : ℕ) → n ≡ length xs → m ≡ n + 1 → ys ≡ xs ++ x ∷ []
+    → ((k : ℕ) (e : S) → k < n → R k (get_or xs k e)) → R n x → (k : ℕ) (e : S) → k < m → R k (get_or ys k e)
+each_more {S} R xs ys x n m len one is old here k e low =
+    let P : ℕ → Type 0 = λ j. R j (get_or ys j e) in
+    let last : get_or ys n e ≡ x = ap (λ l. get_or l n e) is ∙ ap (λ j. get_or (xs ++ x ∷ []) j e) len ∙ get_or-append_seam xs x [] e in
+    below_more P n
+    (λ j less. let fits : j < length xs = omega arith in
+    let same : get_or ys j e ≡ get_or xs j e = ap (λ l. get_or l j e) is ∙ get_or_append_left xs (x ∷ []) e j fits in
+    let Q : S → Type 0 = λ y. R j y in subst Q (sym same) (old j e less))
+    (let Q : S → Type 0 = λ y. R n y in subst Q (sym last) here) k (omega arith)
+
+-- each port with a seat of one inbox more
+pub dealt_more : (old new : List PortSeats) (inboxes : List Inbox) (inbox : Inbox) (n : ℕ) → length new ≡ length old → AreDealt old inboxes n
+    → TakeSeats old new (new_senders inbox n) n → AreDealt new (inboxes ++ inbox ∷ []) n
+dealt_more old new inboxes inbox n size was taken = record {
+  len = size ∙ was.len;
+  each = λ s d low.
+      taken s d (new_seat inbox s) low
+      ∙ ap (λ p. seated p (get_or (new_senders inbox n) s (new_seat inbox s))) (was.each s d low)
+      ∙ ap (λ q. seated (port_of inboxes s) q) (new_senders-at inbox n s (new_seat inbox s) low)
+      ∙ (λ i. record {
+        still_open = sym (length-append inboxes (inbox ∷ [])) i;
+        seats = sym (map-append (λ b. new_seat b s) inboxes (inbox ∷ [])) i;
+      });
+}

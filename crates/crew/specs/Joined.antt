@@ -1,0 +1,64 @@
+-- What the report of a crew tells.
+use Rattle.std.specs.Prelude.{◌≡◌, ◌<◌, ℕ, true, List, length, get_or}
+use Rattle.queue_rule.specs.declared.items.Item.{Item}
+use Rattle.queue_rule.specs.Items.{items_of, has_end, StartsWith, TookInOrder}
+use Rattle.queue_rule.specs.Values.{values}
+use Rattle.notifier.specs.declared.event.Event.{Event}
+use Rattle.notifier.specs.declared.event.Out.{Out}
+use Rattle.inbox.specs.Seats.{SenderSeat, ReceiverSeat}
+use Rattle.outbox.specs.Seats.{TakerSeat}
+use Rattle.worker.specs.Worked.{AllFrom, Ends, handled_of, outs_for}
+use Rattle.crew.specs.Ports.{PortSeats}
+use Rattle.crew.specs.Started.{Hired}
+use Rattle.crew.specs.declared.report.WorkerReport.{WorkerReport}
+use Rattle.worker.specs.declared.end.End.{End}
+use Rattle.worker.specs.declared.end.End.TheVariants.{Closed, NoMemory, Abandoned}
+
+-- the taker is of the worker's outbox, and has its end mark
+pub record HasEndOf (taker : TakerSeat) (h : Hired) : Type 0 where
+  pub outbox : h.posts.outbox ≡ taker.outbox
+  pub mark : has_end (items_of h.posts.number taker.got) ≡ true
+
+-- the seat is one of a port of the worker's inbox
+pub record IsSeatOf (reads : ReceiverSeat) (seat : SenderSeat) : Type 0 where
+  pub inbox : seat.inbox ≡ reads.inbox
+  pub number : seat.number < reads.ports
+
+-- a closed port of the crew: it has a seat of each worker's inbox
+pub record IsPortOf (crew : List Hired) (port : PortSeats) : Type 0 where
+  pub closed : port.still_open ≡ 0
+  pub len : length port.seats ≡ length crew
+  pub each : (w : ℕ) (s : SenderSeat) (h : Hired) → w < length crew
+      → IsSeatOf (get_or crew w h).reads (get_or port.seats w s)
+
+-- what the report tells of its worker: what it took is of its inbox, how it ended, and that the taker got all outs of the
+-- events that it handled, and no others
+pub record Reported (h : Hired) (got : List (Item Out)) (report : WorkerReport) : Type 0 where
+  pub inbox : report.receiver.inbox ≡ h.reads.inbox
+  pub ports : report.receiver.ports ≡ h.reads.ports
+  pub among : AllFrom h.reads.ports report.receiver.taken
+  pub ends : Ends h.start.place.stop h.reads.ports report.receiver.taken report.handled report.end
+  pub outs : values (items_of h.posts.number got)
+      ≡ outs_for h.start (handled_of h.start h.reads.ports report.receiver.taken report.handled)
+  pub total : report.made
+      ≡ length (outs_for h.start (handled_of h.start h.reads.ports report.receiver.taken report.handled))
+
+-- what came of what a port sent: all, but of a worker that was abandoned the beginning
+abbrev pub Arrived : End → List (Item Event) → List (Item Event) → Type 0
+Arrived Closed sent came = came ≡ sent
+Arrived (NoMemory j) sent came = came ≡ sent
+Arrived (Abandoned full) sent came = StartsWith sent came
+
+-- what the report tells of a port's seat: what its worker took of the port, beside what the port sent; where the port's end
+-- mark was taken it is all, too
+pub record IsHeard (report : WorkerReport) (seat : SenderSeat) : Type 0 where
+  pub arrived : Arrived report.end seat.sent (items_of seat.number report.receiver.taken)
+  pub came : TookInOrder seat.number report.receiver.taken seat.sent
+
+-- a report for each worker, which tells of the worker, and of each port's seat of its inbox
+pub record IsJoined (crew : List Hired) (ports : List PortSeats) (got : List (Item Out)) (reports : List WorkerReport) : Type 0 where
+  pub len : length reports ≡ length crew
+  pub reported : (w : ℕ) (h : Hired) (r : WorkerReport) → w < length crew
+      → Reported (get_or crew w h) got (get_or reports w r)
+  pub heard : (p w : ℕ) (q : PortSeats) (s : SenderSeat) (r : WorkerReport) → p < length ports → w < length crew
+      → IsHeard (get_or reports w r) (get_or (get_or ports p q).seats w s)

@@ -1,0 +1,10 @@
+pub mod Numbers
+pub mod Ports
+pub mod PortErrors
+pub mod Ready
+pub mod Started
+pub mod Joined
+pub mod Settled
+pub mod Kept
+pub mod One
+pub mod AtHome

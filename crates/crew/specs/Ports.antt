@@ -1,0 +1,71 @@
+-- What contracts see of a port of a crew.
+use Rattle.std.specs.Prelude.{◌≡◌, ◌⊎◌, ◌<◌, ◌+◌, ℕ, List, [], ◌∷◌, ◌++◌, length, map, get_or, take, drop, slice_get, slice_set, Some}
+use Rattle.notifier.specs.declared.event.Event.{Event}
+use Rattle.queue_rule.specs.Values.{end_item, value_item}
+use Rattle.inbox.specs.Seats.{Inbox, SenderSeat, with_sent}
+
+-- a port's seats in the order of the workers, and how many of them are open: all or none
+pub record PortSeats : Type 0 where
+  pub still_open : ℕ
+  pub seats : List SenderSeat
+
+abbrev pub no_seats : PortSeats
+no_seats = record { still_open = 0; seats = [] }
+
+-- with one seat more
+abbrev pub seated : PortSeats → SenderSeat → PortSeats
+seated p s = record { still_open = p.still_open + 1; seats = p.seats ++ s ∷ [] }
+
+-- a port's seat of this inbox, which has sent nothing
+abbrev pub new_seat : Inbox → ℕ → SenderSeat
+new_seat inbox number = record { inbox = inbox; number = number; sent = [] }
+
+-- the open port of this number, with a seat of each inbox
+abbrev pub port_of : List Inbox → ℕ → PortSeats
+port_of inboxes number = record { still_open = length inboxes; seats = map (λ i. new_seat i number) inboxes }
+
+-- these are n open ports, each with a seat of each inbox
+pub record AreDealt (ports : List PortSeats) (inboxes : List Inbox) (n : ℕ) : Type 0 where
+  pub len : length ports ≡ n
+  pub each : (s : ℕ) (d : PortSeats) → s < n → get_or ports s d ≡ port_of inboxes s
+
+-- each port has taken the seat of its number
+abbrev pub TakeSeats : List PortSeats → List PortSeats → List SenderSeat → ℕ → Type 0
+TakeSeats old new seats n = (k : ℕ) (d : PortSeats) (s : SenderSeat) → k < n → get_or new k d ≡ seated (get_or old k d) (get_or seats k s)
+
+-- no port is closed
+abbrev pub AllOpen : List PortSeats → Type 0
+AllOpen ports = (k : ℕ) (d : PortSeats) → k < length ports → (get_or ports k d).still_open ≡ length (get_or ports k d).seats
+
+-- each port may take a seat more
+abbrev pub HaveRoom : List PortSeats → Type 0
+HaveRoom ports = (k : ℕ) (d : PortSeats) → k < length ports → (get_or ports k d).still_open < 256
+
+-- one item more at the w-th of these seats, and nothing else
+pub record SendsAt (old : List SenderSeat) (w : ℕ) (event : Event) (new : List SenderSeat) : Type 0 where
+  pub seat : SenderSeat
+  pub stood : slice_get old w ≡ Some seat
+  pub stands : new ≡ slice_set old w (with_sent seat (value_item seat.number event))
+
+-- the first i of these seats have sent the event
+abbrev pub sent_first : ℕ → Event → List SenderSeat → List SenderSeat
+sent_first i event seats = map (λ s. with_sent s (value_item s.number event)) (take i seats) ++ drop i seats
+
+-- one item more at the w-th seat, and nothing else
+pub record SendsTo (old : PortSeats) (w : ℕ) (event : Event) (new : PortSeats) : Type 0 where
+  pub seat : SenderSeat
+  pub stood : slice_get old.seats w ≡ Some seat
+  pub stands : new ≡ record { still_open = old.still_open; seats = slice_set old.seats w (with_sent seat (value_item seat.number event)) }
+
+-- the event is added to the first i inboxes
+abbrev pub sends_first : ℕ → Event → PortSeats → PortSeats
+sends_first i event p = record { still_open = p.still_open; seats = sent_first i event p.seats }
+
+-- each seat has its end mark, or is as it was
+abbrev pub ClosesSome : List SenderSeat → List SenderSeat → Type 0
+ClosesSome [] new = new ≡ []
+ClosesSome (s ∷ old) new = (t : SenderSeat) × (rest : List SenderSeat) × (new ≡ t ∷ rest) × ((t ≡ s) ⊎ (t ≡ with_sent s (end_item s.number))) × ClosesSome old rest
+
+-- each seat has its end mark; a closed port is as it was
+abbrev pub Closes : PortSeats → PortSeats → Type 0
+Closes old new = (0 < old.still_open → new.seats ≡ map (λ s. with_sent s (end_item s.number)) old.seats) × (old.still_open ≡ 0 → new ≡ old)

@@ -1,0 +1,20 @@
+-- What a worker is launched with.
+use Rattle.std.specs.Prelude.{◌≡◌, ℕ, Bool, List, map, Option, Some}
+use Rattle.package.specs.Content.{Seen}
+use Rattle.notifier.specs.declared.place.Setup.{Setup}
+use Rattle.notifier.specs.Standing.{Standing, first_standing}
+use Rattle.notifier.specs.Start.{Start, place_of}
+use Rattle.inbox.specs.Seats.{ReceiverSeat, new_receiver}
+use Rattle.outbox.specs.Seats.{PosterSeat}
+
+-- the worker of this number, with these boxes
+abbrev pub start_of : {P : Type 0} → (P → Seen) → Setup → ℕ → List P → Start
+start_of seen setup worker boxes = record { place = place_of setup worker; boxes = map seen boxes }
+
+-- a new desk of this start, an inbox of which nothing was taken, and this poster
+pub record IsReady (start : Start) (ports : ℕ) (posts : PosterSeat) (begun : Start) (stop : Bool) (desk : Option Standing) (reads : ReceiverSeat) (posts' : PosterSeat) : Type 0 where
+  pub begins : begun ≡ start
+  pub stops : stop ≡ start.place.stop
+  pub stands : desk ≡ Some (first_standing start)
+  pub hears : reads ≡ new_receiver reads.inbox ports
+  pub tells : posts' ≡ posts

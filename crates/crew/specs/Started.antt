@@ -1,0 +1,37 @@
+-- How a crew stands at its start.
+use Rattle.std.specs.Prelude.{◌≡◌, ℕ, ◌<◌, Bool, List, [], length, map, get_or, Option, Some}
+use Rattle.notifier.specs.Start.{Start}
+use Rattle.notifier.specs.Standing.{Standing, first_standing}
+use Rattle.inbox.specs.Seats.{ReceiverSeat, new_receiver}
+use Rattle.outbox.specs.Seats.{PosterSeat, TakerSeat, new_taker}
+use Rattle.crew.specs.Ports.{PortSeats, AreDealt}
+use Rattle.worker.specs.declared.launching.Began.{Began}
+
+-- a worker as it was launched: its start, and its ends of the inbox and the outbox
+pub record Hired : Type 0 where
+  pub start : Start
+  pub reads : ReceiverSeat
+  pub posts : PosterSeat
+
+abbrev pub hired : Began → Hired
+hired p = record { start = p.token.start; reads = p.inbox.value; posts = p.outbox.value }
+
+-- nothing was taken or posted yet, and the desk is new
+pub record IsFit (start : Start) (stop : Bool) (desk : Option Standing) (reads : ReceiverSeat) (posts : PosterSeat) : Type 0 where
+  pub stops : stop ≡ start.place.stop
+  pub stands : desk ≡ Some (first_standing start)
+  pub untaken : reads.taken ≡ []
+  pub unposted : posts.posted ≡ []
+
+-- the worker of this number, of n ports, of which nothing was taken and posted
+pub record IsHired (start : Start) (n : ℕ) (taker : TakerSeat) (w : ℕ) (h : Hired) : Type 0 where
+  pub begins : h.start ≡ start
+  pub hears : h.reads ≡ new_receiver h.reads.inbox n
+  pub tells : h.posts ≡ record { outbox = taker.outbox; number = w; posted = [] }
+
+-- the workers have these starts, each of the n ports is open and has a seat of each worker's inbox, and all lists are empty
+pub record IsStarted (start : ℕ → Start) (workers n : ℕ) (crew : List Hired) (ports : List PortSeats) (taker : TakerSeat) : Type 0 where
+  pub takes : taker ≡ new_taker taker.outbox workers
+  pub len : length crew ≡ workers
+  pub each : (w : ℕ) (h : Hired) → w < workers → IsHired (start w) n taker w (get_or crew w h)
+  pub dealt : AreDealt ports (map (λ (h : Hired). h.reads.inbox) crew) n

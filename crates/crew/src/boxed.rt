@@ -1,0 +1,40 @@
+//! Crews over boxed packages.
+ghost use Rattle.std.specs.Prelude.{◌≡◌, ◌≤◌, ℕ, map, get_or, vec_len, IfOk};
+ghost use Rattle.package.specs.Content.{Seen};
+ghost use Rattle.notifier.specs.Start.{place_of};
+ghost use Rattle.crew.specs.Started.{IsStarted};
+
+use crate::errors::StartError;
+use crate::port::Port;
+use crate::start::Crew;
+use notifier::Setup;
+use outbox::Taker;
+use package::Package;
+use std::alloc::Global;
+use std::sync::{Arc, Wait};
+use std::thread::Threads;
+use worker::Gate;
+
+/// [`Crew::start`] over boxed packages.
+pub fn start_boxes<R, G>(
+    rt: R,
+    alloc: Global,
+    setup: &Setup,
+    ports: u32,
+    boxes: Vec<Vec<Box<dyn Package>>>,
+    gate: Arc<G, Global>,
+) -> Result<(Crew, Vec<Port>, Taker), StartError>
+where
+    R: Threads + Wait + Copy + Send + 'static,
+    G: Gate + Drop + 'static,
+    requires few_ports { ports ≤ 256 }
+    requires few_workers { vec_len boxes ≤ 256 }
+    ensures { IfOk result (λ r. (b : _) → IsStarted
+        (λ w. record {
+          place = place_of setup.now w;
+          boxes = map {B = Seen} (λ x. seen x) (get_or boxes.items w b).items;
+        })
+        (vec_len boxes) ports r.0 r.1.items r.2) }
+{
+    Crew::start(rt, alloc, setup, ports, boxes, gate)
+}

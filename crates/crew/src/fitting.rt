@@ -1,0 +1,96 @@
+//! What a crew is launched with.
+ghost use Rattle.std.specs.Prelude.{◌≡◌, ◌<◌, ◌≤◌, ℕ, [], map, get_or, vec_len, vec_capacity, IfOk};
+ghost use Rattle.outbox.specs.Seats.{new_taker};
+ghost use Rattle.crew.specs.Ports.{AreDealt};
+ghost use Rattle.crew.specs.Ready.{start_of, IsReady};
+
+use crate::port::Port;
+use crate::report::WorkerReport;
+use crate::seating::make_seats;
+use notifier::Setup;
+use outbox::Taker;
+use package::Package;
+use sip_text::NoMemory;
+use std::alloc::Global;
+use std::sync::Arc;
+use std::thread::PromisedHandle;
+use worker::{Began, Done, Seat};
+
+/// This many ports, each without a seat.
+fn open_ports(alloc: Global, count: u32) -> Result<Vec<Port>, NoMemory>
+    ensures { IfOk result (λ ports. AreDealt ports.items [] count) }
+{
+    let mut ports = Vec::new(alloc);
+    for at in 0..count {
+        let _ = at;
+        ports.push(Port::new(alloc))?;
+    }
+    Ok(ports)
+}
+
+/// This many handles of the gate.
+fn gates_for<G: Drop>(
+    alloc: Global,
+    gate: &Arc<G, Global>,
+    count: usize,
+) -> Result<Vec<Arc<G, Global>>, NoMemory>
+    ensures { IfOk result (λ gates. vec_len gates ≡ count) }
+{
+    let mut gates = Vec::new(alloc);
+    for at in 0..count {
+        let _ = at;
+        gates.push(Arc::try_clone(gate)?)?;
+    }
+    Ok(gates)
+}
+
+/// All that a crew is launched with, and room for all that it keeps.
+#[derive(Drop)]
+pub(crate) struct Fitted<P: Package, G> {
+    pub(crate) seats: Vec<Seat<P>>,
+    pub(crate) gates: Vec<Arc<G, Global>>,
+    pub(crate) ports: Vec<Port>,
+    pub(crate) taker: Taker,
+    // room for the handles
+    pub(crate) workers: Vec<PromisedHandle<Done, Began>>,
+    // room for what `join` tells, which takes no memory
+    pub(crate) reports: Vec<WorkerReport>,
+}
+
+/// Makes all that a crew is launched with.
+pub(crate) fn fit_out<P: Package, G: Drop>(
+    alloc: Global,
+    setup: &Setup,
+    ports: u32,
+    boxes: Vec<Vec<P>>,
+    gate: &Arc<G, Global>,
+) -> Result<Fitted<P, G>, NoMemory>
+    requires few_ports { ports ≤ 256 }
+    requires few_workers { vec_len boxes ≤ 256 }
+    ensures workers { IfOk result (λ f. (vec_len boxes ≤ vec_capacity f.workers) × (f.workers.items ≡ [])) }
+    ensures reports { IfOk result (λ f. (vec_len boxes ≤ vec_capacity f.reports) × (f.reports.items ≡ [])) }
+    ensures len { IfOk result (λ f. (vec_len f.seats ≡ vec_len boxes) × (vec_len f.gates ≡ vec_len boxes)) }
+    ensures taker { IfOk result (λ f. f.taker ≡ new_taker f.taker.outbox (vec_len boxes)) }
+    ensures ready { IfOk result (λ f. (k : ℕ) (s : _) (b : _) → k < vec_len boxes →
+        IsReady (start_of P.seen setup.now k (get_or boxes.items k b).items) ports
+        (record { outbox = f.taker.outbox; number = k; posted = [] }) (get_or f.seats.items k s).token.start (get_or f.seats.items k s).stop
+        (get_or f.seats.items k s).desk (get_or f.seats.items k s).receiver (get_or f.seats.items k s).poster) }
+    ensures dealt { IfOk result (λ f. AreDealt f.ports.items (map (λ s. s.receiver.inbox) f.seats.items) ports) }
+{
+    let count = boxes.len();
+    let workers = Vec::with_capacity(alloc, count)?;
+    let reports = Vec::with_capacity(alloc, count)?;
+    let gates = gates_for(alloc, gate, count)?;
+    let mut dealt = open_ports(alloc, ports)?;
+    let capacity = setup.limits.outbox();
+    let (posters, taker) = outbox::make(alloc, capacity, count as u32)?;
+    let seats = make_seats(alloc, setup, boxes, posters, dealt.as_mut_slice())?;
+    Ok(Fitted {
+        seats,
+        gates,
+        ports: dealt,
+        taker,
+        workers,
+        reports,
+    })
+}

@@ -1,0 +1,172 @@
+//! Ports of a crew.
+ghost use Rattle.std.specs.Prelude.{◌≡◌, ◌<◌, ◌≤◌, false, length, reverse, OnOk, MatchBool, MatchResult, vec_len};
+ghost use Rattle.notifier.specs.declared.event.Event.TheVariants as event;
+ghost use Rattle.notifier.specs.Home as spec;
+ghost use Rattle.crew.specs.Ports.{no_seats, seated, AllOpen, HaveRoom, TakeSeats, Closes, ClosesSome, SendsTo, SendsAt, sent_first, sends_first};
+ghost use Rattle.crew.specs.PortErrors.{GivesBack, TicksFirst};
+
+use crate::errors::{SendError, TickError};
+use homes::home;
+use inbox::{Gone, Left, Sender, Sent};
+use notifier::Event;
+use sip_text::NoMemory;
+use std::alloc::Global;
+use std::marker::Model;
+use std::sync::Wait;
+
+/// A port of a crew: its seat in each worker's inbox. Contracts see the seats in the order of the workers, each with what it
+/// has sent, and how many are open: all, or none once it is closed.
+#[derive(Drop)]
+pub struct Port {
+    senders: Vec<Sender>,
+    // Of a closed port, from the last worker's on. It has room for all, so that closing takes no memory.
+    sents: Vec<Sent>,
+}
+
+impl Model for Port {
+    ghost use Rattle.std.specs.Prelude.{◌++◌, ◌≡◌, ◌<◌, ◌≤◌, ◌+◌, length, reverse, vec_len, vec_capacity};
+    ghost use Rattle.crew.specs.Ports.{PortSeats};
+
+    ghost Value = { PortSeats };
+
+    ghost view = { λ p. record { still_open = vec_len p.senders; seats = p.senders.items ++ reverse p.sents.items } };
+
+    ghost invariant = { λ p. (vec_len p.senders + vec_len p.sents ≤ vec_capacity p.sents) × (0 < vec_len p.senders → vec_len p.sents ≡ 0) × (vec_len p.senders ≤ 256) };
+}
+
+impl Port {
+    /// A port without a seat.
+    pub(crate) fn new(alloc: Global) -> Port
+        ensures { result ≡ no_seats }
+    {
+        Port {
+            senders: Vec::new(alloc),
+            sents: Vec::new(alloc),
+        }
+    }
+
+    /// Takes a seat in one inbox more.
+    pub(crate) fn seat(&mut self, sender: Sender) -> Result<(), NoMemory>
+        requires still_open { self.old.still_open ≡ length self.old.seats }
+        requires room { self.old.still_open < 256 }
+        ensures { OnOk result (self.new ≡ seated self.old sender) }
+    {
+        self.sents.try_reserve(self.senders.len() + 1)?;
+        self.senders.push(sender)?;
+        Ok(())
+    }
+
+    /// The seats of a closed port, from the last worker's on.
+    pub(crate) fn into_sents(self) -> Vec<Sent>
+        requires { self.still_open ≡ 0 }
+        ensures { reverse result.items ≡ self.seats }
+    {
+        self.sents
+    }
+
+    /// Whether it was closed. It takes no memory and waits for nothing.
+    pub fn is_closed(&self) -> bool
+        ensures { MatchBool result (self.now.still_open ≡ 0) (0 < self.now.still_open) }
+    {
+        self.senders.is_empty()
+    }
+}
+
+impl Port {
+    /// Puts the end mark into each inbox, and waits while one is full. The port is closed then, also where a worker is gone,
+    /// which is [`Left`]. Closing again answers Ok and changes nothing.
+    pub fn close<R: Wait>(&mut self, rt: &R) -> Result<(), Left>
+        ensures closed { self.new.still_open ≡ 0 }
+        ensures ends { MatchResult result (λ _. Closes self.old self.new) (λ _. ClosesSome self.old.seats self.new.seats) }
+    {
+        let mut all_there = true;
+        while let Some(sender) = self.senders.pop() {
+            let (sent, is_there) = sender.finish(rt);
+            self.sents.push_reserved(sent);
+            all_there = all_there && is_there;
+        }
+        if all_there { Ok(()) } else { Err(Left) }
+    }
+}
+
+/// Sends an event by the seat at this place. Where the worker is gone it comes back.
+fn send_at<R: Wait>(rt: &R, senders: &mut [Sender], at: usize, event: Event) -> Result<(), Event>
+    requires { at < length senders.old }
+    ensures { MatchResult result
+        (λ _. SendsAt senders.old at event senders.new)
+        (λ back. (back ≡ event) × (senders.new ≡ senders.old)) }
+{
+    let sender = &mut senders[at];
+    match sender.send(rt, event) {
+        Ok(()) => Ok(()),
+        Err(Gone { event }) => Err(event),
+    }
+}
+
+/// Sends the time by each seat in order. Where a worker is gone it answers how many inboxes took it, and the rest get none.
+fn tick_all<R: Wait>(rt: &R, senders: &mut [Sender], now: u64) -> Result<(), u32>
+    requires { length senders.old ≤ 256 }
+    ensures { MatchResult result
+        (λ _. senders.new ≡ sent_first (length senders.old) (event.Tick now) senders.old)
+        (λ i. (i < length senders.old) × (senders.new ≡ sent_first i (event.Tick now) senders.old)) }
+{
+    for at in 0..senders.len() {
+        if let Err(back) = send_at(rt, senders, at, Event::Tick(now)) {
+            drop(back);
+            return Err(at as u32);
+        }
+    }
+    Ok(())
+}
+
+impl Port {
+    /// Sends an event to its home, and waits while that inbox is full. Where the port is closed or the worker gone the event
+    /// comes back. A tick has no home, and goes by [`Port::tick`].
+    pub fn send<R: Wait>(&mut self, rt: &R, event: Event) -> Result<(), SendError>
+        requires told { spec.is_for_all event ≡ false }
+        ensures { MatchResult result
+            (λ _. (0 < self.old.still_open) × SendsTo self.old (spec.home event self.old.still_open) event self.new)
+            (λ error. (self.new ≡ self.old) × GivesBack self.old event error) }
+    {
+        let count = self.senders.len();
+        if count == 0 {
+            return Err(SendError::Closed(event));
+        }
+        let at = home(&event, count as u32);
+        match send_at(rt, self.senders.as_mut_slice(), at as usize, event) {
+            Ok(()) => Ok(()),
+            Err(back) => Err(SendError::Gone(back)),
+        }
+    }
+
+    /// Tells each worker in order that it is this second, and waits while an inbox is full.
+    pub fn tick<R: Wait>(&mut self, rt: &R, now: u64) -> Result<(), TickError>
+        ensures { MatchResult result
+            (λ _. (0 < self.old.still_open) × (self.new ≡ sends_first self.old.still_open (event.Tick now) self.old))
+            (λ error. TicksFirst self.old (event.Tick now) self.new error) }
+    {
+        if self.is_closed() {
+            return Err(TickError::Closed);
+        }
+        match tick_all(rt, self.senders.as_mut_slice(), now) {
+            Ok(()) => Ok(()),
+            Err(count) => Err(TickError::Gone(count)),
+        }
+    }
+}
+
+/// Gives each port its seat in an inbox.
+pub(crate) fn deal_out(ports: &mut [Port], senders: Vec<Sender>) -> Result<(), NoMemory>
+    requires len { vec_len senders ≡ length ports.old }
+    requires still_open { AllOpen ports.old }
+    requires room { HaveRoom ports.old }
+    ensures { OnOk result (TakeSeats ports.old ports.new senders.items (length ports.old)) }
+{
+    let mut at = 0;
+    for sender in senders {
+        let port = &mut ports[at];
+        port.seat(sender)?;
+        at += 1;
+    }
+    Ok(())
+}

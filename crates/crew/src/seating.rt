@@ -1,0 +1,84 @@
+//! What the workers of a crew are launched with.
+ghost use Rattle.std.specs.Prelude.{◌≡◌, ◌<◌, ◌≤◌, ℕ, [], length, map, get_or, vec_len, IfOk};
+ghost use Rattle.outbox.specs.Seats.{PosterSeat};
+ghost use Rattle.crew.specs.Ports.{PortSeats, AreDealt, AllOpen, HaveRoom, TakeSeats};
+ghost use Rattle.inbox.specs.Seats.{new_senders};
+ghost use Rattle.crew.specs.Ready.{start_of, IsReady};
+
+use crate::port::{Port, deal_out};
+use notifier::{Desk, Setup};
+use outbox::Poster;
+use package::Package;
+use sip_text::NoMemory;
+use std::alloc::Global;
+use worker::{Opening, Seat, StartToken};
+
+/// What one worker is launched with: a new desk with these boxes, an inbox of these ports, and this poster.
+fn make_seat<P: Package>(
+    alloc: Global,
+    setup: &Setup,
+    worker: u32,
+    boxes: Vec<P>,
+    poster: Poster,
+    ports: &mut [Port],
+) -> Result<Seat<P>, NoMemory>
+    requires few { length ports.old ≤ 256 }
+    requires still_open { AllOpen ports.old }
+    requires room { HaveRoom ports.old }
+    ensures ready { IfOk result (λ s. IsReady (start_of P.seen setup.now worker boxes.items)
+        (length ports.old) poster s.token.start s.stop s.desk s.receiver s.poster) }
+    ensures dealt { IfOk result (λ s. TakeSeats ports.old ports.new
+        (new_senders s.receiver.inbox (length ports.old)) (length ports.old)) }
+{
+    let capacity = setup.limits.inbox();
+    let (senders, receiver) = inbox::make(alloc, capacity, ports.len() as u32)?;
+    deal_out(ports, senders)?;
+    let opening = Opening {
+        setup: *setup,
+        worker,
+        boxes,
+    };
+    let token = StartToken::of(&opening);
+    let Opening { boxes, .. } = opening;
+    let desk = Desk::new(alloc, setup, worker, boxes)?;
+    Ok(Seat {
+        token,
+        worker,
+        stop: setup.stop,
+        desk,
+        receiver,
+        poster,
+    })
+}
+
+/// What the workers are launched with, in their order.
+pub(crate) fn make_seats<P: Package>(
+    alloc: Global,
+    setup: &Setup,
+    boxes: Vec<Vec<P>>,
+    posters: Vec<Poster>,
+    ports: &mut [Port],
+) -> Result<Vec<Seat<P>>, NoMemory>
+    requires few { length ports.old ≤ 256 }
+    requires few_workers { vec_len boxes ≤ 256 }
+    requires posters { vec_len posters ≡ vec_len boxes }
+    requires none { AreDealt ports.old [] (length ports.old) }
+    ensures len { IfOk result (λ seats. vec_len seats ≡ vec_len boxes) }
+    ensures ready { IfOk result (λ seats. (k : ℕ) (s : _) (b : _) (p : PosterSeat) → k < vec_len boxes →
+        IsReady (start_of P.seen setup.now k (get_or boxes.items k b).items) (length ports.old)
+        (get_or posters.items k p) (get_or seats.items k s).token.start (get_or seats.items k s).stop
+        (get_or seats.items k s).desk (get_or seats.items k s).receiver (get_or seats.items k s).poster) }
+    ensures dealt { IfOk result (λ seats. AreDealt ports.new (map (λ s. s.receiver.inbox) seats.items) (length ports.old)) }
+{
+    let mut seats = Vec::with_capacity(alloc, boxes.len())?;
+    let mut rest = posters.into_iter();
+    let mut worker = 0;
+    for held in boxes {
+        let Some(poster) = rest.next() else {
+            unreachable!()
+        };
+        seats.push(make_seat(alloc, setup, worker, held, poster, ports)?)?;
+        worker += 1;
+    }
+    Ok(seats)
+}

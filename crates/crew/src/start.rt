@@ -1,0 +1,165 @@
+//! How a crew is started.
+ghost use Rattle.std.specs.Prelude.{◌≡◌, ◌↔◌, ◌<◌, ◌≤◌, ℕ, true, [], map, get_or, vec_len, vec_capacity, IfOk, Err};
+ghost use Rattle.crew.specs.Ready.{start_of};
+ghost use Rattle.crew.specs.Started.{hired, IsFit, IsStarted};
+
+use crate::errors::StartError;
+use crate::fitting::{Fitted, fit_out};
+use crate::port::Port;
+use crate::report::WorkerReport;
+use notifier::Setup;
+use outbox::{Posted, Taker};
+use package::Package;
+use std::alloc::Global;
+use std::marker::Model;
+use std::sync::{Arc, Wait};
+use std::thread;
+use std::thread::{PromisedHandle, Threads};
+use worker::{Began, Done, Gate, Seat, launch};
+
+/// Workers that run. Contracts see what each began with. Where it is dropped the workers go on, each in its own thread, until
+/// their ports have ended.
+#[derive(Drop)]
+pub struct Crew {
+    workers: Vec<PromisedHandle<Done, Began>>,
+    reports: Vec<WorkerReport>,
+}
+
+impl Model for Crew {
+    ghost use Rattle.std.specs.Prelude.{◌≡◌, ◌≤◌, List, [], map, vec_len, vec_capacity};
+    ghost use Rattle.std.specs.Coded.{codes};
+    ghost use Rattle.package.specs.Code.{coded_contents};
+    ghost use Rattle.crew.specs.Started.{Hired, hired};
+
+    ghost Value = { List Hired };
+
+    ghost coded = { Prim.hlevel (codes, coded_contents) };
+
+    ghost view = { λ c. map (λ h. hired h.promise) c.workers.items };
+
+    ghost invariant = { λ c. (vec_len c.workers ≤ vec_capacity c.reports) × (c.reports.items ≡ []) };
+}
+
+/// Launches the workers, in their order. False where a thread was refused; then fewer run, and the seats of the others are
+/// dropped.
+fn launch_all<R, P, G>(
+    rt: R,
+    alloc: Global,
+    seats: Vec<Seat<P>>,
+    gates: Vec<Arc<G, Global>>,
+    mut workers: Vec<PromisedHandle<Done, Began>>,
+) -> (Vec<PromisedHandle<Done, Began>>, bool)
+where
+    R: Threads + Wait + Copy + Send + 'static,
+    P: Package + 'static,
+    G: Gate + Drop + 'static,
+    requires room { vec_len seats ≤ vec_capacity workers }
+    requires empty { workers.items ≡ [] }
+    requires gates { vec_len gates ≡ vec_len seats }
+    requires ready { (k : ℕ) (s : _) → k < vec_len seats → IsFit (get_or seats.items k s).token.start (get_or seats.items k s).stop
+        (get_or seats.items k s).desk (get_or seats.items k s).receiver (get_or seats.items k s).poster }
+    ensures all { result.1 ≡ true → vec_len result.0 ≡ vec_len seats }
+    ensures launched { (k : ℕ) (h : _) (s : _) → k < vec_len result.0 →
+        hired (get_or result.0.items k h).promise ≡ record {
+          start = (get_or seats.items k s).token.start;
+          reads = (get_or seats.items k s).receiver;
+          posts = (get_or seats.items k s).poster;
+        } }
+{
+    let mut rest = gates.into_iter();
+    for seat in seats {
+        let Some(gate) = rest.next() else {
+            unreachable!()
+        };
+        let Ok(worker) = launch(rt, alloc, seat, gate) else {
+            return (workers, false);
+        };
+        workers.push_reserved(worker);
+    }
+    (workers, true)
+}
+
+/// Joins workers whose ports are gone. Their end marks are taken first: an outbox that holds one item is full with the first
+/// worker's, and the others could not end.
+fn stop_all<R: Threads + Wait>(
+    rt: &R,
+    workers: Vec<PromisedHandle<Done, Began>>,
+    taker: &mut Taker,
+) {
+    let mut left = workers.len();
+    for _ in rt.forever() {
+        if left == 0 {
+            break;
+        }
+        match taker.take(rt) {
+            Some(Posted::Ended(_)) => left -= 1,
+            Some(Posted::Out(..)) => {}
+            None => thread::yield_now(),
+        }
+    }
+    for worker in workers {
+        let done = worker.join(rt);
+        drop(done);
+    }
+}
+
+impl Crew {
+    /// The handles of the workers, and room for their reports.
+    pub(crate) fn into_parts(self) -> (Vec<PromisedHandle<Done, Began>>, Vec<WorkerReport>)
+        ensures workers { map (λ h. hired h.promise) result.0.items ≡ self }
+        ensures room { vec_len result.0 ≤ vec_capacity result.1 }
+        ensures empty { result.1.items ≡ [] }
+    {
+        let Crew { workers, reports } = self;
+        (workers, reports)
+    }
+}
+
+impl Crew {
+    /// Starts a worker for each entry of `boxes`, and makes this many ports and the taker of what the workers post. The gate
+    /// is passed before each event. Where it is refused what was started has ended and is joined, and the boxes are dropped.
+    pub fn start<R, P, G>(
+        rt: R,
+        alloc: Global,
+        setup: &Setup,
+        ports: u32,
+        boxes: Vec<Vec<P>>,
+        gate: Arc<G, Global>,
+    ) -> Result<(Crew, Vec<Port>, Taker), StartError>
+    where
+        R: Threads + Wait + Copy + Send + 'static,
+        P: Package + 'static,
+        G: Gate + Drop + 'static,
+        requires few_ports { ports ≤ 256 }
+        requires few_workers { vec_len boxes ≤ 256 }
+        ensures started { IfOk result (λ r. (b : _) → IsStarted
+            (λ w. start_of P.seen setup.now w (get_or boxes.items w b).items) (vec_len boxes) ports r.0 r.1.items r.2) }
+        ensures no_workers { result ≡ Err StartError.NoWorkers ↔ vec_len boxes ≡ 0 }
+        ensures no_ports { result ≡ Err StartError.NoPorts ↔ (0 < vec_len boxes) × (ports ≡ 0) }
+    {
+        if boxes.is_empty() {
+            return Err(StartError::NoWorkers);
+        }
+        if ports == 0 {
+            return Err(StartError::NoPorts);
+        }
+        let Ok(fitted) = fit_out(alloc, setup, ports, boxes, &gate) else {
+            return Err(StartError::NoMemory);
+        };
+        let Fitted {
+            seats,
+            gates,
+            ports,
+            mut taker,
+            workers,
+            reports,
+        } = fitted;
+        let (workers, is_whole) = launch_all(rt, alloc, seats, gates, workers);
+        if !is_whole {
+            drop(ports);
+            stop_all(&rt, workers, &mut taker);
+            return Err(StartError::NoThread);
+        }
+        Ok((Crew { workers, reports }, ports, taker))
+    }
+}

@@ -1,0 +1,34 @@
+-- The laws of lives and of isolation, of what was got.
+use Rattle.std.proofs.Common.{◌≡◌, ℕ, List, length, take, ap, sym, subst, arith}
+use Rattle.std.proofs.lemmas.Grind.{common_steps}
+use Rattle.notifier.specs.declared.event.Event.{Event}
+use Rattle.notifier.specs.declared.event.Out.{Out}
+use Rattle.notifier.specs.Start.{tag_of}
+use Rattle.inbox.specs.Events.{events_of}
+use Rattle.worker.specs.Worked.{Ends}
+use Rattle.worker.specs.declared.end.End.{End}
+use Rattle.lives.specs.Notices.{newest_first, notices}
+use Rattle.lives.specs.Laws.{AreNotifies, notifies_with}
+use Rattle.lives.proofs.Outs.{life_law}
+use Rattle.isolation.specs.Own.{own}
+use Rattle.isolation.specs.Renaming.{renamed}
+use Rattle.isolation.proofs.SentOut.{outs_law}
+use Rattle.crew_laws.specs.Laws.{events_handled, its_tag, AllLaw, LifeLaw, AloneLaw}
+
+take_all : {A : Type 0} (n : ℕ) (xs : List A) → n ≡ length xs → take n xs ≡ xs
+take_all n xs e = grind (arith, common_steps)
+
+pub all_law : AllLaw
+all_law h got report r closed =
+    let ends = subst (λ (end : End). Ends h.start.place.stop h.reads.ports report.receiver.taken report.handled end) closed r.ends in
+    take_all report.handled (events_of h.start.place.stop h.reads.ports report.receiver.taken) ends.1
+
+pub joined_life_law : LifeLaw
+joined_life_law h got report serial ok small r =
+    subst (λ (outs : List Out). AreNotifies (its_tag h serial) (notices h.start serial (newest_first (events_handled h report))) (notifies_with (its_tag h serial) outs))
+    (sym r.outs) (life_law h.start serial (events_handled h report) ok small)
+
+pub alone_law : AloneLaw
+alone_law h got report other serial x ok small r born like apart =
+    subst (λ (outs : List Out). AreNotifies (its_tag h serial) (notices other 1 (renamed (its_tag h serial) (tag_of other.place 1) (own h.start serial x (newest_first (events_handled h report))))) (notifies_with (its_tag h serial) outs))
+    (sym r.outs) (outs_law h.start other serial x (events_handled h report) ok small born like apart)

@@ -1,0 +1,27 @@
+//! Laws of a crew: what its taker got, by `Crew::join`'s report alone, is what the lives of subscriptions tell.
+//!
+//! `crew` says of the end of a crew that the outs that the taker got of a worker are those of a one-thread notifier for the
+//! events that the worker handled. [`life`] says so of each subscription in its own words, and [`alone`] that neither the
+//! number of workers nor any other event shows in it. What the taker may rely on at any moment before, `worlds::world` says.
+//! No function here does anything: each is a theorem over the definitions of `crew`, `lives` and `isolation`.
+//!
+//! Begin with `specs/Laws`.
+#![tactic(auto)]
+
+ghost use Rattle.crew_laws.specs.Laws.{AllLaw, AloneLaw, LifeLaw};
+
+/// A worker that ended as Closed handled all events that it took, and the planned stop.
+pub fn all()
+    ensures { AllLaw }
+{}
+
+/// The NOTIFYs of a subscription that the taker of a joined crew got are those of its life over the events that its worker
+/// handled, one for one and in order.
+pub fn life()
+    ensures { LifeLaw }
+{}
+
+/// They are what the subscription would be told of its own events alone, by one worker, as its first.
+pub fn alone()
+    ensures { AloneLaw }
+{}

@@ -1,0 +1,4 @@
+mod Plain
+mod Names
+pub mod Homes
+pub mod HomeExamples

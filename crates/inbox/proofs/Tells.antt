@@ -1,0 +1,36 @@
+-- What a step tells, as the ends' contracts say it.
+use Rattle.std.proofs.Common.{◌≡◌, ◌<◌, ◌∙◌, ℕ, List, [], ◌∷◌, ◌++◌, ap, subst}
+use Rattle.queue_rule.specs.declared.items.Item.{Item}
+use Rattle.queue_rule.specs.declared.items.Entry.{Entry}
+use Rattle.queue_rule.specs.declared.items.Entry.TheVariants.{Value, End}
+use Rattle.queue_rule.specs.declared.views.View.{View}
+use Rattle.queue_rule.specs.Rule.{TakesItem}
+use Rattle.notifier.specs.declared.event.Event.{Event as Notice}
+use Rattle.inbox.specs.declared.ends.Taken.TheVariants.{Event, Ended}
+use Rattle.inbox.specs.Seats.{Inbox, ReceiverSeat}
+use Rattle.inbox.specs.Took.{Took}
+
+module _ (inbox : Inbox) (ports : ℕ) where
+  abbrev seat : List (Item Notice) → ReceiverSeat
+  seat taken = record { inbox = inbox; ports = ports; taken = taken }
+
+  -- the entry of the item that was taken is written out
+  taken_is : (v w : View Notice) (x : Item Notice) (entry : Entry Notice) → x.entry ≡ entry → TakesItem v x w
+      → seat w.taken ≡ seat (v.taken ++ record { from = x.from; entry = entry } ∷ [])
+  taken_is v w x entry same next = ap (λ (u : View Notice). seat u.taken) next.0
+      ∙ ap (λ (y : Entry Notice). seat (v.taken ++ record { from = x.from; entry = y } ∷ [])) same
+
+  pub took_event : (v w : View Notice) (x : Item Notice) (r : ReceiverSeat) (e : Notice) → seat v.taken ≡ r → v.senders ≡ ports
+      → x.entry ≡ Value e → TakesItem v x w → Took r (Event e) (seat w.taken)
+  took_event v w x r e is count same next =
+      let P : ReceiverSeat → Type 0 = λ r. Took r (Event e) (seat w.taken) in
+      subst P is (x.from, taken_is v w x (Value e) same next, (subst (λ n. x.from < n) count next.1, next.2))
+
+  pub took_end : (v w : View Notice) (x : Item Notice) (r : ReceiverSeat) → seat v.taken ≡ r → v.senders ≡ ports
+      → x.entry ≡ End → TakesItem v x w → Took r (Ended x.from) (seat w.taken)
+  took_end v w x r is count same next =
+      let P : ReceiverSeat → Type 0 = λ r. Took r (Ended x.from) (seat w.taken) in
+      subst P is (taken_is v w x End same next, (subst (λ n. x.from < n) count next.1, next.2))
+
+  pub took_nothing : (v w : View Notice) (r : ReceiverSeat) → w ≡ v → seat v.taken ≡ r → seat w.taken ≡ r
+  took_nothing v w r same is = ap (λ (u : View Notice). seat u.taken) same ∙ is

@@ -1,0 +1,11 @@
+pub mod Renamed
+pub mod Mine
+pub mod Others
+pub mod Befalls
+pub mod Births
+pub mod Law
+pub mod Repeats
+pub mod OwnKeys
+pub mod SentOut
+pub mod Homes
+pub mod WorkedAlone

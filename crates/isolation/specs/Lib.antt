@@ -1,0 +1,5 @@
+pub mod Own
+pub mod Renaming
+pub mod Apart
+pub mod Laws
+pub mod Together

@@ -1,0 +1,55 @@
+//! Isolation: what a subscription's watcher is told depends on the subscription's own events alone.
+//!
+//! A notifier serves many watchers at once, and a crew of them many more. [`alone`] says that none is told anything else for
+//! that: all that goes out to a watcher, but for the tag that its subscription has, is what would go out if nothing had
+//! happened but its own events. Those are its SUBSCRIBE or REFER, what comes in its dialog, what changes its mailbox or its
+//! transfer, the time, and the planned stop. [`same`] is the form that serves an operator: in two runs in which they are the
+//! same it is told the same, whatever else happened there; and with several workers they all come to one ([`together`]). No
+//! function here does anything: each is a theorem over definitions.
+//!
+//! What the laws ask is that its requests aren't taken for somebody else's (`specs/Apart`), which [`again`] shows to hold of
+//! whoever retransmits. What they don't promise is a place: a full table keeps a new subscription out.
+//!
+//! Begin with `specs/Own` and `specs/Laws`, then `specs/Together`. `proofs/WorkedAlone` computes examples, and what goes wrong
+//! without a premise.
+#![tactic(auto)]
+
+ghost use Rattle.isolation.specs.Laws.{AloneLaw, AgainLaw, SameLaw, OwnKeysLaw, OutsLaw};
+ghost use Rattle.isolation.specs.Together.{TogetherLaw, NowhereElseLaw};
+
+/// What the watcher of a subscription is told of all events is what it would be told of the subscription's own events alone,
+/// as the first of a notifier with the same limits and the same of its resource.
+pub fn alone()
+    ensures { AloneLaw }
+{}
+
+/// All that a notifier sends with a subscription's tag are the NOTIFYs that its own events alone give.
+pub fn outs()
+    ensures { OutsLaw }
+{}
+
+/// Where a subscription's own events in two runs are the same but for its tag, its watcher is told the same: whatever else
+/// happened in either run, and whichever worker and serial it had.
+pub fn same()
+    ensures { SameLaw }
+{}
+
+/// A request that a subscription could hear doesn't matter to it when it comes again.
+pub fn again()
+    ensures { AgainLaw }
+{}
+
+/// The first law where no two requests have one key.
+pub fn by_keys()
+    ensures { OwnKeysLaw }
+{}
+
+/// With several workers, what concerns a subscription goes to the worker where it was born.
+pub fn together()
+    ensures { TogetherLaw }
+{}
+
+/// With several workers, no other gets anything that concerns it, but what goes to all.
+pub fn nowhere_else()
+    ensures { NowhereElseLaw }
+{}

@@ -1,0 +1,190 @@
+-- A row keeps its serial and its tag as long as it stays, and serials rise.
+use Rattle.std.proofs.Common.{◌≡◌, ℕ, ◌+◌, ◌<◌, List, [], ◌∷◌, ◌++◌, Bool, true, false, if◌then◌else◌, Option, Some, None, option_to_list, All, refl, sym, ap, subst, ◌∙◌, arith}
+use Rattle.std.specs.Prelude.{IfSome}
+use Rattle.std.proofs.lemmas.List.{append-nil}
+use Rattle.std.proofs.lemmas.List.Elements.{All-nil, All-cons, All-head, All-tail, All-push}
+use Rattle.sip_text.specs.declared.address.Addr.{Addr}
+use Rattle.sip_read.specs.declared.message.Request.{Request}
+use Rattle.sip_read.specs.declared.message.Response.{Response}
+use Rattle.subscription.specs.declared.terms.Usage.{Usage}
+use Rattle.subscription.specs.declared.terms.Want.{Want}
+use Rattle.subscription.specs.declared.notify.Reason.{Reason}
+use Rattle.subscription.specs.declared.notify.Reason.TheVariants.{Timeout, Deactivated}
+use Rattle.subscription.specs.declared.life.Step.{Step}
+use Rattle.subscription.specs.declared.life.Step.TheVariants.{Live, Over}
+use Rattle.subscription.specs.State.{State}
+use Rattle.subscription.specs.Table.{accept, fetch, end, over, changed, refuses}
+use Rattle.package.specs.Content.{Maps, SeenBy, is_final}
+use Rattle.notifier.specs.declared.place.Place.{Place}
+use Rattle.notifier.specs.declared.row.Row.{Row}
+use Rattle.notifier.specs.declared.request.Birth.{Birth}
+use Rattle.notifier.specs.declared.request.Birth.TheVariants.{Watch, Fetch, Transfer, Unwatched}
+use Rattle.notifier.specs.Limits.{Limits}
+use Rattle.notifier.specs.Start.{tag_of}
+use Rattle.notifier.specs.Rows.{Told, wherever, has_serial, opened, with_sub, turned, tells, stays, goes, left, only, counted, closed, takes_answer, is_answered_by, answered, renewed, watches, tells_change, tells_watcher, is_due, is_overdue, ends, times_out, stops, usage_after}
+use Rattle.notifier.specs.Book.{new_usage, new_want, new_row, first_step, first_told}
+use Rattle.notifier.specs.Sound.{IsOwn, AreRising}
+use Rattle.notifier.proofs.Lives.{all_left, all_more}
+use Rattle.notifier.proofs.Renewal.{tag_told, tag_renewed}
+
+-- the row that stays has this serial and this tag
+abbrev pub IsStill : ℕ → List ℕ → Row → Type 0
+IsStill serial tag after = (after.serial ≡ serial) × (after.sub.usage.local_tag ≡ tag)
+
+abbrev pub Keeps : (Row → Told) → Type 0
+Keeps rule = (row : Row) → IfSome (rule row).row (IsStill row.serial row.sub.usage.local_tag)
+
+some_weaker : {A : Type 0} (P Q : A → Type 0) (o : Option A) → IfSome o P → ((a : A) → P a → Q a) → IfSome o Q
+some_weaker P Q None h f = tt
+some_weaker P Q (Some a) h f = f a h
+
+-- ---- all rows
+
+own_later : (place : Place) (next : ℕ) (rows : List Row) → All (IsOwn place next) rows → All (IsOwn place (next + 1)) rows
+own_later place next [] own = All-nil (IsOwn place (next + 1))
+own_later place next (row ∷ rows) own =
+    let h = All-head (IsOwn place next) row rows own in
+    All-cons (IsOwn place (next + 1)) row rows (record { given = let g : row.serial < next = h.given in omega arith; tagged = h.tagged })
+    (own_later place next rows (All-tail (IsOwn place next) row rows own))
+
+own_still : (place : Place) (next : ℕ) (row after : Row) → IsOwn place next row → IsStill row.serial row.sub.usage.local_tag after → IsOwn place next after
+own_still place next row after own still = record {
+  given = subst (λ n. n < next) (sym still.0) own.given;
+  tagged = still.1 ∙ own.tagged ∙ ap (tag_of place) (sym still.0);
+}
+
+pub own_left : (place : Place) (next : ℕ) (rule : Row → Told) → Keeps rule → (rows : List Row) → All (IsOwn place next) rows → All (IsOwn place next) (left rule rows)
+own_left place next rule keeps rows h =
+    all_left rule (IsOwn place next) (IsOwn place next) (λ row own. some_weaker (IsStill row.serial row.sub.usage.local_tag) (IsOwn place next) (rule row).row (keeps row) (λ after still. own_still place next row after own still)) rows h
+
+rising_some : (n : ℕ) (tag : List ℕ) (o : Option Row) (rows : List Row) → IfSome o (IsStill n tag) → All (λ other. n < other.serial) rows → AreRising rows → AreRising (option_to_list o ++ rows)
+rising_some n tag None rows still above rising = rising
+rising_some n tag (Some row) rows still above rising = (subst (λ m. All (λ other. m < other.serial) rows) (sym still.0) above, rising)
+
+pub rising_left : (rule : Row → Told) → Keeps rule → (rows : List Row) → AreRising rows → AreRising (left rule rows)
+unfolding left
+rising_left rule keeps [] h = tt
+rising_left rule keeps (row ∷ rows) h =
+    rising_some row.serial row.sub.usage.local_tag (rule row).row (left rule rows) (keeps row)
+    (all_left rule (λ other. row.serial < other.serial) (λ other. row.serial < other.serial)
+    (λ other above. some_weaker (IsStill other.serial other.sub.usage.local_tag) (λ after. row.serial < after.serial) (rule other).row (keeps other) (λ after still. subst (λ m. row.serial < m) (sym still.0) above)) rows h.0)
+    (rising_left rule keeps rows h.1)
+
+rising_push : (rows : List Row) (row : Row) → AreRising rows → All (λ other. other.serial < row.serial) rows → AreRising (rows ++ row ∷ [])
+rising_push [] row h below = (All-nil (λ other. row.serial < other.serial), tt)
+rising_push (first ∷ rows) row h below =
+    (All-push (λ other. first.serial < other.serial) rows row h.0 (All-head (λ other. other.serial < row.serial) first rows below), rising_push rows row h.1 (All-tail (λ other. other.serial < row.serial) first rows below))
+
+all_below : (place : Place) (next : ℕ) (row : Row) → row.serial ≡ next → (rows : List Row) → All (IsOwn place next) rows → All (λ other. other.serial < row.serial) rows
+all_below place next row e [] own = All-nil (λ other. other.serial < row.serial)
+all_below place next row e (other ∷ rows) own =
+    All-cons (λ o. o.serial < row.serial) other rows (subst (λ n. other.serial < n) (sym e) (All-head (IsOwn place next) other rows own).given)
+    (all_below place next row e rows (All-tail (IsOwn place next) other rows own))
+
+-- with a new row of the next serial, if one stays
+pub rising_more : (place : Place) (next : ℕ) (tag : List ℕ) (rows : List Row) (o : Option Row) → AreRising rows → All (IsOwn place next) rows → IfSome o (IsStill next tag) → AreRising (rows ++ option_to_list o)
+rising_more place next tag rows None h own still = subst AreRising (sym (append-nil rows)) h
+rising_more place next tag rows (Some row) h own still = rising_push rows row h (all_below place next row still.0 rows own)
+
+-- ---- the rules
+
+wherever_keeps : (test : Row → Bool) (rule : Row → Told) → Keeps rule → Keeps (wherever test rule)
+unfolding wherever stays
+wherever_keeps test rule keeps row = by (test row)
+  where
+    by : (b : Bool) → IfSome (if b then rule row else stays row).row (IsStill row.serial row.sub.usage.local_tag)
+    by true = keeps row
+    by false = (refl, refl)
+
+only_keeps : (serial : ℕ) (rule : Row → Told) → Keeps rule → Keeps (only serial rule)
+unfolding only
+only_keeps serial rule keeps = wherever_keeps (has_serial serial) rule keeps
+
+pub counted_keeps : (serial : ℕ) (r : Request) → Keeps (only serial (counted r))
+unfolding counted stays
+counted_keeps serial r = only_keeps serial (counted r) (λ row. (refl, refl))
+
+takes_answer_keeps : (response : Response) → Keeps (takes_answer response)
+unfolding takes_answer closed stays goes
+takes_answer_keeps response row = by (refuses response) (is_final response.status)
+  where
+    by : (b c : Bool) → IfSome (if b then goes else if c then stays (closed response.head.cseq row) else stays row).row (IsStill row.serial row.sub.usage.local_tag)
+    by true c = tt
+    by false true = (refl, refl)
+    by false false = (refl, refl)
+
+pub answered_keeps : (response : Response) → Keeps (answered response)
+unfolding answered
+answered_keeps response = wherever_keeps (is_answered_by response) (takes_answer response) (takes_answer_keeps response)
+
+tag_changed : (s : State) (clock : ℕ) (is_over : Bool) → (usage_after (changed s clock is_over)).local_tag ≡ s.usage.local_tag
+unfolding changed end
+tag_changed s clock true = refl
+tag_changed s clock false = tag_told _ _
+
+step_keeps : (limits : Limits) (clock : ℕ) (usage : Usage) (want : Want) (r : Request) (kind : Birth) → IfSome (first_step limits clock usage want r kind) (λ step. (usage_after step).local_tag ≡ usage.local_tag)
+unfolding first_step accept fetch
+step_keeps limits clock usage want r Watch = tag_told _ _
+step_keeps limits clock usage want r Fetch = refl
+step_keeps limits clock usage want r Transfer = tag_told _ _
+step_keeps limits clock usage want r Unwatched = tt
+
+module _ {maps : Maps} where
+  turned_keeps : (place : Place) (boxes : List (SeenBy maps)) (clock : ℕ) (to : Addr) (want : Want) (row_of : State → Row) (next : Step) (serial : ℕ) (tag : List ℕ)
+      → ((s : State) → ((row_of s).serial ≡ serial) × ((row_of s).sub ≡ s)) → (usage_after next).local_tag ≡ tag → IfSome (turned place boxes clock to want row_of next).row (IsStill serial tag)
+  unfolding turned opened
+  turned_keeps place boxes clock to want row_of (Live s notice) serial tag same t = ((same s).0, ap (λ x. x.usage.local_tag) (same s).1 ∙ t)
+  turned_keeps place boxes clock to want row_of (Over usage notice) serial tag same t = tt
+
+  pub renewed_keeps : (place : Place) (boxes : List (SeenBy maps)) (clock serial : ℕ) (source : Addr) (r : Request) → Keeps (only serial (renewed place boxes clock source r))
+  unfolding renewed
+  renewed_keeps place boxes clock serial source r =
+      only_keeps serial (renewed place boxes clock source r) (λ row. turned_keeps place boxes clock source row.sub.want _ _ row.serial row.sub.usage.local_tag (λ s. (refl, refl)) (tag_renewed place clock source r row.sub))
+
+  tells_keeps : (place : Place) (boxes : List (SeenBy maps)) (clock : ℕ) (row : Row) (next : Step) → (usage_after next).local_tag ≡ row.sub.usage.local_tag
+      → IfSome (tells place boxes clock row next).row (IsStill row.serial row.sub.usage.local_tag)
+  unfolding tells
+  tells_keeps place boxes clock row next t = turned_keeps place boxes clock row.sub.want.to row.sub.want (with_sub row) next row.serial row.sub.usage.local_tag (λ s. (refl, refl)) t
+
+  pub watcher_keeps : (place : Place) (boxes : List (SeenBy maps)) (clock : ℕ) (name resource : List ℕ) (is_over : Bool) → Keeps (tells_watcher place boxes clock name resource is_over)
+  unfolding tells_watcher tells_change
+  watcher_keeps place boxes clock name resource is_over =
+      wherever_keeps (watches name resource) (tells_change place boxes clock is_over) (λ row. tells_keeps place boxes clock row (changed row.sub clock is_over) (tag_changed row.sub clock is_over))
+
+  ends_keeps : (place : Place) (boxes : List (SeenBy maps)) (clock : ℕ) (reason : Reason) → Keeps (ends place boxes clock reason)
+  unfolding ends end
+  ends_keeps place boxes clock reason row = tells_keeps place boxes clock row (over (end row.sub reason)) refl
+
+  pub due_keeps : (place : Place) (boxes : List (SeenBy maps)) (clock : ℕ) → Keeps (times_out place boxes clock)
+  unfolding times_out goes
+  due_keeps place boxes clock row = by (is_overdue clock row)
+    where
+      by : (b : Bool) → IfSome (if b then goes else wherever (is_due clock) (ends place boxes clock Timeout) row).row (IsStill row.serial row.sub.usage.local_tag)
+      by true = tt
+      by false = wherever_keeps (is_due clock) (ends place boxes clock Timeout) (ends_keeps place boxes clock Timeout) row
+
+  pub stops_keeps : (place : Place) (boxes : List (SeenBy maps)) (clock : ℕ) → Keeps (stops place boxes clock)
+  unfolding stops
+  stops_keeps place boxes clock = ends_keeps place boxes clock Deactivated
+
+  -- ---- a new row
+
+  first_row_keeps : (place : Place) (boxes : List (SeenBy maps)) (clock serial : ℕ) (tag : List ℕ) (source : Addr) (r : Request) (next : Option Step) → IfSome next (λ step. (usage_after step).local_tag ≡ tag)
+      → IfSome (first_told place boxes clock tag source r serial next).row (IsStill serial tag)
+  unfolding first_told goes new_row
+  first_row_keeps place boxes clock serial tag source r None t = tt
+  first_row_keeps place boxes clock serial tag source r (Some next) t = turned_keeps place boxes clock source (new_want place tag source r) (new_row serial r) next serial tag (λ s. (refl, refl)) t
+
+  pub born_keeps : (place : Place) (boxes : List (SeenBy maps)) (clock serial : ℕ) (tag : List ℕ) (source : Addr) (r : Request) (kind : Birth)
+      → IfSome (first_told place boxes clock tag source r serial (first_step place.limits clock (new_usage tag r) (new_want place tag source r) r kind)).row (IsStill serial tag)
+  unfolding new_usage
+  born_keeps place boxes clock serial tag source r kind =
+      first_row_keeps place boxes clock serial tag source r (first_step place.limits clock (new_usage tag r) (new_want place tag source r) r kind)
+      (step_keeps place.limits clock (new_usage tag r) (new_want place tag source r) r kind)
+
+-- the new row is of its serial, and so are the others as before
+pub own_more : (place : Place) (next : ℕ) (rows : List Row) (o : Option Row) → All (IsOwn place next) rows → IfSome o (IsStill next (tag_of place next)) → All (IsOwn place (next + 1)) (rows ++ option_to_list o)
+own_more place next rows o own still =
+    all_more (IsOwn place (next + 1)) rows o (own_later place next rows own)
+    (some_weaker (IsStill next (tag_of place next)) (IsOwn place (next + 1)) o still
+    (λ after is. record { given = subst (λ n. n < next + 1) (sym is.0) (omega arith); tagged = is.1 ∙ ap (tag_of place) (sym is.0) }))

@@ -1,0 +1,3 @@
+pub mod ItemLists
+pub mod Keeps
+pub mod Ended

@@ -1,0 +1,18 @@
+-- What a replay is seen as.
+use Rattle.std.specs.Prelude.{◌≡◌, List, Option, None, Some}
+use Rattle.notifier.specs.declared.event.Event.{Event}
+use Rattle.notifier.specs.Run.{run_from}
+use Rattle.notifier.specs.Standing.{Standing}
+
+-- the desk as it was new, the events that it handled since, and the desk now: nothing where it is spent
+pub record Recorded : Type 0 where
+  pub start : Option Standing
+  pub events : List Event
+  pub now : Option Standing
+
+-- unless the desk is spent, its book is the run of its start over its events. For a new desk, whose book is empty, that is
+-- the definition `run`
+abbrev pub IsRun : Option Standing → List Event → Option Standing → Type 0
+IsRun None events now = now ≡ None
+IsRun (Some start) events None = Unit {0}
+IsRun (Some start) events (Some now) = now ≡ record { place = start.place; book = run_from start.place start.book events }

@@ -1,0 +1,17 @@
+pub mod Pieces
+pub mod Quoted
+pub mod ParameterValues
+pub mod Parameters
+pub mod Lists
+pub mod Groups
+pub mod OverViews
+pub mod Utf8
+pub mod Found
+pub mod CommaLists
+pub mod Words
+pub mod Trims
+pub mod Framing
+pub mod Cuts
+pub mod PlainNumbers
+pub mod Addresses
+pub mod Tied

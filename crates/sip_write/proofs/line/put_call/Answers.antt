@@ -1,5 +1,0 @@
-use Rattle.sip_write.proofs.Joins.{after}
-use Rattle.sip_write.proofs.line.put_call.Goals as goal
-
-pub returns : goal.returns
-returns c = after _ _ _ _ _ c.in_ok-put_header.ensures c.in_ok-put_sequence.ensures

@@ -1,0 +1,25 @@
+//! Worlds: what the taker of a crew's outs may rely on, in whatever order ports, workers and taker go on.
+#![tactic(auto)]
+
+ghost use Rattle.worlds.specs.Laws.{InboxLaw, OutboxLaw, WorldLaw, RisingLaw};
+
+/// Of each worker's inbox: what was taken and what is held are, port by port and in order, what the port sent.
+pub fn inboxes()
+    ensures { InboxLaw }
+{}
+
+/// Of the outbox: what the taker got and what is held are, worker by worker and in order, what the worker posted.
+pub fn outbox()
+    ensures { OutboxLaw }
+{}
+
+/// Whatever the order of the steps, the NOTIFYs of a subscription among those posted are the first that its life tells over the
+/// events that its worker took, and those that the taker got are the first of these.
+pub fn world()
+    ensures { WorldLaw }
+{}
+
+/// The NOTIFYs of a subscription that the taker got are numbered 1, 2, 3 and so on, and none follows a terminated one.
+pub fn rising()
+    ensures { RisingLaw }
+{}
