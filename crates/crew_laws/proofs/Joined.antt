@@ -1,7 +1,6 @@
 -- The laws of lives and of isolation, of what was got.
-use Rattle.std.proofs.Common.{◌≡◌, ℕ, List, length, take, ap, sym, subst, arith}
+use Rattle.std.proofs.Common.{◌≡◌, ℕ, List, length, take, sym, subst, arith}
 use Rattle.std.proofs.lemmas.Grind.{common_steps}
-use Rattle.notifier.specs.declared.event.Event.{Event}
 use Rattle.notifier.specs.declared.event.Out.{Out}
 use Rattle.notifier.specs.Start.{tag_of}
 use Rattle.inbox.specs.Events.{events_of}

@@ -2,12 +2,14 @@
 //!
 //! `crew` says of the end of a crew that the outs that the taker got of a worker are those of a one-thread notifier for the
 //! events that the worker handled. [`life`] says so of each subscription in its own words, and [`alone`] that neither the
-//! number of workers nor any other event shows in it. What the taker may rely on at any moment before, `worlds::world` says.
+//! number of workers nor any other event shows in it; [`nowhere_else`] says that no other worker took any of its own events.
+//! What the taker may rely on at any moment before, `worlds::world` says.
 //! No function here does anything: each is a theorem over the definitions of `crew`, `lives` and `isolation`.
 //!
-//! Begin with `specs/Laws`.
+//! Begin with `specs/Laws`, then `specs/Elsewhere`.
 #![tactic(auto)]
 
+ghost use Rattle.crew_laws.specs.Elsewhere.{EveryPortLaw, NowhereElseLaw};
 ghost use Rattle.crew_laws.specs.Laws.{AllLaw, AloneLaw, LifeLaw};
 
 /// A worker that ended as Closed handled all events that it took, and the planned stop.
@@ -24,4 +26,15 @@ pub fn life()
 /// They are what the subscription would be told of its own events alone, by one worker, as its first.
 pub fn alone()
     ensures { AloneLaw }
+{}
+
+/// No other worker took any of its own events but ticks and the planned stop, where every port of the crew was handed to
+/// `Crew::join`: whatever the number of workers, it is told by one.
+pub fn nowhere_else()
+    ensures { NowhereElseLaw }
+{}
+
+/// The ports of a new crew, each closed and handed in, are every port.
+pub fn every_port()
+    ensures { EveryPortLaw }
 {}

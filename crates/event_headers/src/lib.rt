@@ -16,8 +16,6 @@ mod event;
 mod expires;
 pub mod laws;
 mod state;
-#[cfg(test)]
-mod tests;
 mod values;
 mod written_range;
 

@@ -1,4 +1,3 @@
-mod Plain
 mod Names
 pub mod Homes
 pub mod HomeExamples

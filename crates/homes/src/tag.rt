@@ -1,41 +1,16 @@
 //! The worker that a tag names.
 ghost use Rattle.std.specs.Prelude.{◌≡◌, ◌≢◌, ◌<◌, ◌^◌, ℕ, decimal, option_map, IfSome, MatchOption};
-ghost use Rattle.std.specs.List.{list_all};
-ghost use Rattle.std.specs.Char.{is_ascii_digit};
 ghost use Rattle.notifier.specs.Home as spec;
-ghost use Rattle.homes.specs.Numbers.{is_plain};
 
 use notifier::Event;
-use sip_text::Text;
-
-/// Whether it is a number in decimal without leading zeros.
-fn is_plain(word: &[u8]) -> bool
-    ensures { result ≡ is_plain word.now }
-{
-    match word {
-        [] => false,
-        [b'0', rest @ ..] => rest.is_empty(),
-        _ => all_digits(word),
-    }
-}
-
-fn all_digits(word: &[u8]) -> bool
-    ensures { result ≡ list_all is_ascii_digit word.now }
-{
-    word.iter().all(|byte| byte.is_ascii_digit())
-}
+use sip_text::{Text, plain_number};
 
 /// The number that the word is in decimal, without leading zeros.
 fn number_of(word: &str) -> Option<u32>
     ensures { MatchOption result ((n : ℕ) → n < 2 ^ 32 → word.now ≢ decimal n) (λ n. word.now ≡ decimal n) }
 {
-    if !is_plain(word.as_bytes()) {
-        return None;
-    }
-    match word.parse::<u32>() {
-        Ok(number) => Some(number),
-        Err(_) => None,
-    }
+    let number = plain_number(word.as_bytes())?;
+    u32::try_from(number).ok()
 }
 
 /// The one of the workers that a tag names: `w`, its number in decimal, `-`, and anything.

@@ -1,16 +1,9 @@
 -- What a take tells: the worker's seat before, what it answers, the seat after.
-use Rattle.std.specs.Prelude.{◌≡◌, ◌<◌, ℕ, false}
-use Rattle.inbox.specs.declared.ends.Taken.{Taken}
-use Rattle.inbox.specs.declared.ends.Taken.TheVariants.{Event, Ended}
-use Rattle.queue_rule.specs.Items.{items_of, has_end}
-use Rattle.queue_rule.specs.Values.{value_item, end_item}
-use Rattle.inbox.specs.Seats.{ReceiverSeat, with_taken}
-
--- the port is one of this inbox, and its end mark was not taken yet
-abbrev pub IsOpen : ReceiverSeat → ℕ → Type 0
-IsOpen r port = (port < r.ports) × (has_end (items_of port r.taken) ≡ false)
+use Rattle.many_to_one.specs.Took as ends
+use Rattle.many_to_one.specs.declared.ends.Taken.{Taken}
+use Rattle.notifier.specs.declared.event.Event.{Event}
+use Rattle.inbox.specs.Seats.{ReceiverSeat}
 
 -- what was taken grew by just what is answered: an event of some open port, or the end mark of one
-abbrev pub Took : ReceiverSeat → Taken → ReceiverSeat → Type 0
-Took old (Event event) new = (port : ℕ) × (new ≡ with_taken old (value_item port event)) × IsOpen old port
-Took old (Ended port) new = (new ≡ with_taken old (end_item port)) × IsOpen old port
+abbrev pub Took : ReceiverSeat → Taken Event → ReceiverSeat → Type 0
+Took old taken new = ends.Took old taken new

@@ -1,119 +1,27 @@
 //! The ends of an inbox.
 #![tactic(auto)]
 
-ghost use Rattle.std.specs.Prelude.{◌≡◌, ◌<◌, IfOk, MatchOption, MatchResult, MatchBool};
-ghost use Rattle.queue_rule.specs.Items.{TookInOrder};
-ghost use Rattle.queue_rule.specs.Values.{value_item, end_item};
-ghost use Rattle.inbox.specs.Seats.{with_sent, new_senders, new_receiver};
-ghost use Rattle.inbox.specs.Took.{Took};
+ghost use Rattle.std.specs.Prelude.{◌≡◌, ◌<◌, IfOk};
+ghost use Rattle.inbox.specs.Seats.{new_senders, new_receiver};
 
-use crossbeam_channel::{Pass, RuledReceiver, RuledSender, bounded_with};
 use notifier::Event;
-use queue_rule::{Compares, Entry, InOrder, Roles, Sends, Takes};
 use sip_text::NoMemory;
 use std::alloc::Global;
-use std::marker::Model;
-use std::sync::Wait;
-use std::thread;
-use thiserror::Error;
-
-// How often a call tries, and yields, before it sleeps: a thread that sleeps is woken by a system call.
-const TRIES: u32 = 8;
-
-type Item = queue_rule::Item<Event>;
-
-type View = queue_rule::View<Event>;
-
-/// The receiver is gone. It holds the event that was not sent.
-#[derive(Debug, Drop, Error)]
-#[error("the receiver is gone")]
-pub struct Gone {
-    pub event: Event,
-}
-
-/// Every sender is gone, and all that they sent was taken.
-#[derive(Clone, Copy, Debug, PartialEq, Eq, Error)]
-#[error("every sender is gone")]
-pub struct Left;
-
-/// What the worker took.
-#[derive(Debug, Drop)]
-pub enum Taken {
-    /// An event.
-    Event(Event),
-    /// The end mark of the port with this number.
-    Ended(u32),
-}
 
 /// A port's end, which has not put its end mark.
-#[derive(Drop)]
-pub struct Sender {
-    number: u32,
-    end: RuledSender<Item, View, InOrder>,
-    seat: Pass<Item, View>,
-}
-
-impl Model for Sender {
-    ghost use Rattle.std.specs.Prelude.{◌≡◌, false};
-    ghost use Rattle.crossbeam_channel.specs.Claims.{view as known, IsSeatAt};
-    ghost use Rattle.crossbeam_channel.specs.Ends.{sends_on};
-    ghost use Rattle.queue_rule.specs.Items.{has_end};
-    ghost use Rattle.queue_rule.specs.Rule.{sender_view};
-    ghost use Rattle.inbox.specs.Seats.{SenderSeat, inbox_of};
-
-    ghost Value = { SenderSeat };
-
-    ghost view = { λ s. record { inbox = inbox_of (sends_on s.end); number = s.number; sent = (known s.seat).sent } };
-
-    ghost invariant = { λ s. IsSeatAt (sends_on s.end) s.seat
-        × (known s.seat ≡ sender_view s.number (known s.seat).sent)
-        × (has_end (known s.seat).sent ≡ false) };
-}
+pub type Sender = many_to_one::Sender<Event>;
 
 /// What is left of a port's end that is done: the channel's end and the port's seat.
-#[derive(Drop)]
-pub struct Sent {
-    number: u32,
-    end: RuledSender<Item, View, InOrder>,
-    seat: Pass<Item, View>,
-}
-
-impl Model for Sent {
-    ghost use Rattle.std.specs.Prelude.{◌≡◌};
-    ghost use Rattle.crossbeam_channel.specs.Claims.{view as known, IsSeatAt};
-    ghost use Rattle.crossbeam_channel.specs.Ends.{sends_on};
-    ghost use Rattle.queue_rule.specs.Rule.{sender_view};
-    ghost use Rattle.inbox.specs.Seats.{SenderSeat, inbox_of};
-
-    ghost Value = { SenderSeat };
-
-    ghost view = { λ s. record { inbox = inbox_of (sends_on s.end); number = s.number; sent = (known s.seat).sent } };
-
-    ghost invariant = { λ s. IsSeatAt (sends_on s.end) s.seat × (known s.seat ≡ sender_view s.number (known s.seat).sent) };
-}
+pub type Sent = many_to_one::Sent<Event>;
 
 /// The worker's end.
-#[derive(Drop)]
-pub struct Receiver {
-    ports: u32,
-    end: RuledReceiver<Item, View, InOrder>,
-    seat: Pass<Item, View>,
-}
+pub type Receiver = many_to_one::Receiver<Event>;
 
-impl Model for Receiver {
-    ghost use Rattle.std.specs.Prelude.{◌≡◌, true};
-    ghost use Rattle.crossbeam_channel.specs.Claims.{view as known, IsSeatAt};
-    ghost use Rattle.crossbeam_channel.specs.Ends.{receives_on};
-    ghost use Rattle.inbox.specs.Seats.{ReceiverSeat, inbox_of};
+/// The receiver is gone. It holds the event that was not sent.
+pub type Gone = many_to_one::Gone<Event>;
 
-    ghost Value = { ReceiverSeat };
-
-    ghost view = { λ r. record { inbox = inbox_of (receives_on r.end); ports = r.ports; taken = (known r.seat).taken } };
-
-    ghost invariant = { λ r. IsSeatAt (receives_on r.end) r.seat
-        × ((known r.seat).is_receiver ≡ true)
-        × ((known r.seat).senders ≡ r.ports) };
-}
+/// What the worker took.
+pub type Taken = many_to_one::Taken<Event>;
 
 /// An inbox of this many ports, numbered from 0, which holds `capacity` items at most. Nothing was sent.
 pub fn make(alloc: Global, capacity: u32, ports: u32) -> Result<(Vec<Sender>, Receiver), NoMemory>
@@ -121,162 +29,5 @@ pub fn make(alloc: Global, capacity: u32, ports: u32) -> Result<(Vec<Sender>, Re
     ensures { IfOk result
         (λ ends. (ends.0.items ≡ new_senders ends.1.inbox ports) × (ends.1 ≡ new_receiver ends.1.inbox ports)) }
 {
-    let (end, receiver, mut seat) = bounded_with::<Item, View, InOrder, Global>(
-        alloc,
-        capacity as usize,
-    )?;
-    let mut senders = Vec::new(alloc);
-    for number in 0..ports {
-        let theirs = end.try_clone()?;
-        let port = end.another::<Roles>(&mut seat);
-        let sender = Sender {
-            number,
-            end: theirs,
-            seat: port,
-        };
-        senders.push(sender)?;
-    }
-    Ok((
-        senders,
-        Receiver {
-            ports,
-            end: receiver,
-            seat,
-        },
-    ))
-}
-
-impl Sender {
-    // One try. The event comes back where the inbox is full, and where the receiver is gone.
-    fn try_send<R: Wait>(&mut self, rt: &R, event: Event) -> Result<(), Event>
-        ensures { MatchResult result
-            (λ _. self.new ≡ with_sent self.old (value_item self.old.number event))
-            (λ back. (back ≡ event) × (self.new ≡ self.old)) }
-    {
-        let item = Item {
-            from: self.number,
-            entry: Entry::Value(event),
-        };
-        match self.end.try_send_as::<Sends, R>(rt, &mut self.seat, item) {
-            Ok(()) => Ok(()),
-            Err(error) => match error.into_inner().entry {
-                Entry::Value(event) => Err(event),
-                Entry::End => unreachable!(),
-            },
-        }
-    }
-
-    // Sleeps while the inbox is full.
-    fn send_or_sleep<R: Wait>(&mut self, rt: &R, event: Event) -> Result<(), Gone>
-        ensures { MatchResult result
-            (λ _. self.new ≡ with_sent self.old (value_item self.old.number event))
-            (λ gone. (gone.event ≡ event) × (self.new ≡ self.old)) }
-    {
-        let item = Item {
-            from: self.number,
-            entry: Entry::Value(event),
-        };
-        match self.end.send_as::<Sends, R>(rt, &mut self.seat, item) {
-            Ok(()) => Ok(()),
-            Err(error) => match error.into_inner().entry {
-                Entry::Value(event) => Err(Gone { event }),
-                Entry::End => unreachable!(),
-            },
-        }
-    }
-
-    /// Sends an event, and waits while the inbox is full. Where the receiver is gone, the event comes back and nothing
-    /// has changed.
-    pub fn send<R: Wait>(&mut self, rt: &R, mut event: Event) -> Result<(), Gone>
-        ensures { MatchResult result
-            (λ _. self.new ≡ with_sent self.old (value_item self.old.number event))
-            (λ gone. (gone.event ≡ event) × (self.new ≡ self.old)) }
-    {
-        for _ in 0..TRIES {
-            match self.try_send(rt, event) {
-                Ok(()) => return Ok(()),
-                Err(back) => event = back,
-            }
-            thread::yield_now();
-        }
-        self.send_or_sleep(rt, event)
-    }
-
-    /// Puts the port's end mark, and waits while the inbox is full. `false` where the receiver is gone: then nothing
-    /// was put.
-    pub fn finish<R: Wait>(self, rt: &R) -> (Sent, bool)
-        ensures { MatchBool result.1 (result.0 ≡ with_sent self (end_item self.number)) (result.0 ≡ self) }
-    {
-        let Sender {
-            number,
-            end,
-            mut seat,
-        } = self;
-        let item = Item {
-            from: number,
-            entry: Entry::End,
-        };
-        let is_put = end.send_as::<Sends, R>(rt, &mut seat, item).is_ok();
-        (Sent { number, end, seat }, is_put)
-    }
-}
-
-impl Receiver {
-    /// How many ports the inbox has.
-    pub fn ports(&self) -> u32
-        ensures { result ≡ self.now.ports }
-    {
-        self.ports
-    }
-
-    // One try. None where the inbox is empty.
-    fn try_take<R: Wait>(&mut self, rt: &R) -> Option<Taken>
-        ensures { MatchOption result (self.new ≡ self.old) (λ taken. Took self.old taken self.new) }
-    {
-        match self.end.try_recv_as::<Takes, R>(rt, &mut self.seat) {
-            Ok(Item { from, entry }) => match entry {
-                Entry::Value(event) => Some(Taken::Event(event)),
-                Entry::End => Some(Taken::Ended(from)),
-            },
-            Err(_) => None,
-        }
-    }
-
-    // Sleeps while the inbox is empty.
-    fn take_or_sleep<R: Wait>(&mut self, rt: &R) -> Result<Taken, Left>
-        ensures { MatchResult result (λ taken. Took self.old taken self.new) (λ _. self.new ≡ self.old) }
-    {
-        match self.end.recv_as::<Takes, R>(rt, &mut self.seat) {
-            Ok(Item { from, entry }) => match entry {
-                Entry::Value(event) => Ok(Taken::Event(event)),
-                Entry::End => Ok(Taken::Ended(from)),
-            },
-            Err(_) => Err(Left),
-        }
-    }
-
-    /// Takes the next item, and waits while there is none. After `Left` nothing has changed.
-    pub fn take<R: Wait>(&mut self, rt: &R) -> Result<Taken, Left>
-        ensures { MatchResult result (λ taken. Took self.old taken self.new) (λ _. self.new ≡ self.old) }
-    {
-        for _ in 0..TRIES {
-            if let Some(taken) = self.try_take(rt) {
-                return Ok(taken);
-            }
-            thread::yield_now();
-        }
-        self.take_or_sleep(rt)
-    }
-
-    /// Takes over the seat of a port of this inbox. So it is known how what was taken stands to what the port had
-    /// sent: it is the beginning of that, and all of it where the port's end mark was taken.
-    pub fn settle(&mut self, sent: Sent)
-        requires { sent.inbox ≡ self.old.inbox }
-        ensures same { self.new ≡ self.old }
-        ensures took { TookInOrder sent.number self.old.taken sent.sent }
-    {
-        let Sent { end, seat, .. } = sent;
-        end.absorb::<Roles>(&mut self.seat, seat);
-        end.learn_as::<Compares>(&mut self.seat);
-    }
+    many_to_one::make::<Event>(alloc, capacity, ports)
 }

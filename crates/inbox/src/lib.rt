@@ -12,4 +12,5 @@
 
 mod ends;
 
-pub use ends::{Gone, Left, Receiver, Sender, Sent, Taken, make};
+pub use ends::{Gone, Receiver, Sender, Sent, Taken, make};
+pub use many_to_one::Left;

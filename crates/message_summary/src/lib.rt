@@ -12,6 +12,3 @@ mod body;
 pub mod mailboxes;
 
 pub use mailboxes::Mailboxes;
-
-#[cfg(test)]
-mod tests;

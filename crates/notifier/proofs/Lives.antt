@@ -44,7 +44,7 @@ all_more P rows (Some row) h s = All-push P rows row h s
 
 -- ---- one row
 
-only_keeps : (serial : ℕ) (rule : Row → Told) (P : Row → Type 0) (row : Row) → P row → IfSome (rule row).row P → IfSome (only serial rule row).row P
+pub only_keeps : (serial : ℕ) (rule : Row → Told) (P : Row → Type 0) (row : Row) → P row → IfSome (rule row).row P → IfSome (only serial rule row).row P
 unfolding only wherever stays
 only_keeps serial rule P row h k = by (row.serial == serial)
   where

@@ -34,7 +34,7 @@ IsStill serial tag after = (after.serial ≡ serial) × (after.sub.usage.local_t
 abbrev pub Keeps : (Row → Told) → Type 0
 Keeps rule = (row : Row) → IfSome (rule row).row (IsStill row.serial row.sub.usage.local_tag)
 
-some_weaker : {A : Type 0} (P Q : A → Type 0) (o : Option A) → IfSome o P → ((a : A) → P a → Q a) → IfSome o Q
+pub some_weaker : {A : Type 0} (P Q : A → Type 0) (o : Option A) → IfSome o P → ((a : A) → P a → Q a) → IfSome o Q
 some_weaker P Q None h f = tt
 some_weaker P Q (Some a) h f = f a h
 
@@ -75,7 +75,7 @@ rising_push [] row h below = (All-nil (λ other. row.serial < other.serial), tt)
 rising_push (first ∷ rows) row h below =
     (All-push (λ other. first.serial < other.serial) rows row h.0 (All-head (λ other. other.serial < row.serial) first rows below), rising_push rows row h.1 (All-tail (λ other. other.serial < row.serial) first rows below))
 
-all_below : (place : Place) (next : ℕ) (row : Row) → row.serial ≡ next → (rows : List Row) → All (IsOwn place next) rows → All (λ other. other.serial < row.serial) rows
+pub all_below : (place : Place) (next : ℕ) (row : Row) → row.serial ≡ next → (rows : List Row) → All (IsOwn place next) rows → All (λ other. other.serial < row.serial) rows
 all_below place next row e [] own = All-nil (λ other. other.serial < row.serial)
 all_below place next row e (other ∷ rows) own =
     All-cons (λ o. o.serial < row.serial) other rows (subst (λ n. other.serial < n) (sym e) (All-head (IsOwn place next) other rows own).given)

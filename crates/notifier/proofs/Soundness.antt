@@ -1,5 +1,6 @@
 -- A ledger whose rows were told is sound.
-use Rattle.std.proofs.Common.{◌≡◌, ℕ, ◌+◌, ◌<◌, ◌≤◌, List, All, sym, ap, subst, ◌∙◌, arith}
+use Rattle.std.proofs.lemmas.List.Elements.{All-nil}
+use Rattle.std.proofs.Common.{◌≡◌, ℕ, ◌+◌, ◌<◌, ◌≤◌, List, [], All, sym, ap, subst, ◌∙◌, arith}
 use Rattle.std.specs.Prelude.{IfSome, ◌^◌}
 use Rattle.package.specs.Content.{Maps, SeenBy}
 use Rattle.notifier.specs.declared.place.Place.{Place}
@@ -7,32 +8,48 @@ use Rattle.notifier.specs.declared.row.Row.{Row}
 use Rattle.notifier.specs.declared.ledger.Ledger.{Ledger}
 use Rattle.notifier.specs.Rows.{Told, left, times_out}
 use Rattle.notifier.specs.Ledger.{IsSound}
+use Rattle.notifier.specs.Stored.{rows_of, IsIndexed}
 use Rattle.notifier.specs.Sound.{IsLive, IsOwn, AreRising}
 use Rattle.notifier.proofs.Lives.{all_left, due_lives}
 use Rattle.notifier.proofs.Owned.{Keeps, own_left, rising_left, due_keeps}
 
 pub sound_told : {P : Type 0} (place : Place) (a b : Ledger P) (rule : Row → Told) → ((row : Row) → IsLive a.clock row → IfSome (rule row).row (IsLive a.clock)) → Keeps rule → IsSound place a
-    → b.rows.items ≡ left rule a.rows.items → (b.clock ≡ a.clock) × (b.next ≡ a.next) × (b.ring ≡ a.ring) → IsSound place b
-sound_told place a b rule lives keeps s rows same = record {
+    → rows_of b.rows ≡ left rule (rows_of a.rows) → IsIndexed b.rows → (b.clock ≡ a.clock) × (b.next ≡ a.next) × (b.ring ≡ a.ring) → IsSound place b
+sound_told place a b rule lives keeps s rows indexed same = record {
   clock_fits = subst (λ n. n < 2 ^ 63) (sym same.0) s.clock_fits;
   next_begins = subst (λ n. 1 ≤ n) (sym same.1) s.next_begins;
   next_fits = subst (λ n. n ≤ 2 ^ 32) (sym same.1) s.next_fits;
-  rows_live = subst (λ n. All (IsLive n) b.rows.items) (sym same.0) (subst (All (IsLive a.clock)) (sym rows) (all_left rule (IsLive a.clock) (IsLive a.clock) lives a.rows.items s.rows_live));
-  rows_own = subst (λ n. All (IsOwn place n) b.rows.items) (sym same.1) (subst (All (IsOwn place a.next)) (sym rows) (own_left place a.next rule keeps a.rows.items s.rows_own));
-  rows_rise = subst AreRising (sym rows) (rising_left rule keeps a.rows.items s.rows_rise);
+  rows_indexed = indexed;
+  rows_live = subst (λ n. All (IsLive n) (rows_of b.rows)) (sym same.0) (subst (All (IsLive a.clock)) (sym rows) (all_left rule (IsLive a.clock) (IsLive a.clock) lives (rows_of a.rows) s.rows_live));
+  rows_own = subst (λ n. All (IsOwn place n) (rows_of b.rows)) (sym same.1) (subst (All (IsOwn place a.next)) (sym rows) (own_left place a.next rule keeps (rows_of a.rows) s.rows_own));
+  rows_rise = subst AreRising (sym rows) (rising_left rule keeps (rows_of a.rows) s.rows_rise);
   ring_fits = ap (λ r. r.capacity) same.2 ∙ s.ring_fits;
 }
 
 -- the clock went on to a moment before these rows were told of it
 pub sound_ticked : {maps : Maps} {P : Type 0} (place : Place) (a b : Ledger P) (boxes : List (SeenBy maps)) (clock : ℕ) → a.clock ≤ clock → clock < 2 ^ 63 → IsSound place a
-    → b.rows.items ≡ left (times_out place boxes clock) a.rows.items → (b.clock ≡ clock) × (b.next ≡ a.next) × (b.ring ≡ a.ring) → IsSound place b
-sound_ticked place a b boxes clock on fits s rows same = record {
+    → rows_of b.rows ≡ left (times_out place boxes clock) (rows_of a.rows) → IsIndexed b.rows → (b.clock ≡ clock) × (b.next ≡ a.next) × (b.ring ≡ a.ring) → IsSound place b
+sound_ticked place a b boxes clock on fits s rows indexed same = record {
   clock_fits = subst (λ n. n < 2 ^ 63) (sym same.0) fits;
   next_begins = subst (λ n. 1 ≤ n) (sym same.1) s.next_begins;
   next_fits = subst (λ n. n ≤ 2 ^ 32) (sym same.1) s.next_fits;
-  rows_live = subst (λ n. All (IsLive n) b.rows.items) (sym same.0) (subst (All (IsLive clock)) (sym rows)
-      (all_left (times_out place boxes clock) (IsLive a.clock) (IsLive clock) (λ row h. due_lives place boxes clock row (let t : row.sub.due ≤ a.clock + 4294967295 = h.time_fits in omega arith)) a.rows.items s.rows_live));
-  rows_own = subst (λ n. All (IsOwn place n) b.rows.items) (sym same.1) (subst (All (IsOwn place a.next)) (sym rows) (own_left place a.next (times_out place boxes clock) (due_keeps place boxes clock) a.rows.items s.rows_own));
-  rows_rise = subst AreRising (sym rows) (rising_left (times_out place boxes clock) (due_keeps place boxes clock) a.rows.items s.rows_rise);
+  rows_indexed = indexed;
+  rows_live = subst (λ n. All (IsLive n) (rows_of b.rows)) (sym same.0) (subst (All (IsLive clock)) (sym rows)
+      (all_left (times_out place boxes clock) (IsLive a.clock) (IsLive clock) (λ row h. due_lives place boxes clock row (let t : row.sub.due ≤ a.clock + 4294967295 = h.time_fits in omega arith)) (rows_of a.rows) s.rows_live));
+  rows_own = subst (λ n. All (IsOwn place n) (rows_of b.rows)) (sym same.1) (subst (All (IsOwn place a.next)) (sym rows) (own_left place a.next (times_out place boxes clock) (due_keeps place boxes clock) (rows_of a.rows) s.rows_own));
+  rows_rise = subst AreRising (sym rows) (rising_left (times_out place boxes clock) (due_keeps place boxes clock) (rows_of a.rows) s.rows_rise);
   ring_fits = ap (λ r. r.capacity) same.2 ∙ s.ring_fits;
+}
+
+-- a ledger without rows
+pub sound_empty : {P : Type 0} (place : Place) (ledger : Ledger P) → IsIndexed ledger.rows → rows_of ledger.rows ≡ [] → ledger.clock < 2 ^ 63 → 1 ≤ ledger.next → ledger.next ≤ 2 ^ 32 → ledger.ring.capacity ≡ place.limits.kept → IsSound place ledger
+sound_empty place ledger indexed none clock begins fits ring = record {
+  clock_fits = clock;
+  next_begins = begins;
+  next_fits = fits;
+  rows_indexed = indexed;
+  rows_live = subst (All (IsLive ledger.clock)) (sym none) (All-nil (IsLive ledger.clock));
+  rows_own = subst (All (IsOwn place ledger.next)) (sym none) (All-nil (IsOwn place ledger.next));
+  rows_rise = subst AreRising (sym none) tt;
+  ring_fits = ring;
 }

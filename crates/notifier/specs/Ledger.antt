@@ -6,6 +6,7 @@ use Rattle.notifier.specs.declared.event.Out.{Out}
 use Rattle.notifier.specs.declared.place.Place.{Place}
 use Rattle.notifier.specs.Out.{out_of}
 use Rattle.notifier.specs.Book.{Book, SteppedBy}
+use Rattle.notifier.specs.Stored.{rows_of, IsIndexed}
 use Rattle.notifier.specs.Sound.{IsLive, IsOwn, AreRising}
 
 module _ {P : Type 0} (seen : P → Seen) where
@@ -13,7 +14,7 @@ module _ {P : Type 0} (seen : P → Seen) where
   book_of ledger = record {
     clock = ledger.clock;
     next = ledger.next;
-    rows = ledger.rows.items;
+    rows = rows_of ledger.rows;
     boxes = map seen ledger.boxes.items;
     ring = ledger.ring.items;
   }
@@ -23,12 +24,13 @@ pub record IsStep (stepped : SteppedBy finite_maps) (book : Book) (outs : List O
   pub book_is : book ≡ stepped.book
   pub outs_are : outs ≡ map out_of stepped.outs
 
--- the numbers stay within their types, each row is of its serial, serials rise, and the ring has the room of the limits
+-- the numbers stay within their types, each index leads to its rows, each row is of its serial, serials rise, and the ring has the room of the limits
 pub record IsSound {P : Type 0} (place : Place) (ledger : Ledger P) : Type 0 where
   pub clock_fits : ledger.clock < 2 ^ 63
   pub next_begins : 1 ≤ ledger.next
   pub next_fits : ledger.next ≤ 2 ^ 32
-  pub rows_live : All (IsLive ledger.clock) ledger.rows.items
-  pub rows_own : All (IsOwn place ledger.next) ledger.rows.items
-  pub rows_rise : AreRising ledger.rows.items
+  pub rows_indexed : IsIndexed ledger.rows
+  pub rows_live : All (IsLive ledger.clock) (rows_of ledger.rows)
+  pub rows_own : All (IsOwn place ledger.next) (rows_of ledger.rows)
+  pub rows_rise : AreRising (rows_of ledger.rows)
   pub ring_fits : ledger.ring.capacity ≡ place.limits.kept

@@ -8,6 +8,9 @@ pub mod Requests
 pub mod Answers
 pub mod Out
 pub mod Rows
+pub mod Watchers
+pub mod Stored
+pub mod Among
 pub mod Told
 pub mod Sound
 pub mod Home

@@ -3,6 +3,7 @@ use Rattle.std.specs.Prelude.{ℕ, min, Bool, true, false, not, ◌&&◌, ◌||�
 use Rattle.std.specs.List.{list_any, before_first, after_first, starts_with}
 use Rattle.std.specs.Str.{str_eq_ignore_ascii_case}
 use Rattle.event_headers.specs.Values.{EventValue, Range}
+use Rattle.event_headers.specs.Covering.{covers}
 use Rattle.sip_read.specs.declared.message.Request.{Request}
 use Rattle.package.specs.Content.{Maps, SeenBy, refer_package}
 use Rattle.package.specs.Boxes.{first_box}
@@ -122,35 +123,10 @@ misfit r =
 
 -- ---- a request outside a dialog
 
-abbrev pub is_star : List ℕ → Bool
-is_star word = bytes_eq word (codes "*")
-
-abbrev pub is_semicolon : ℕ → Bool
-is_semicolon c = c == 59
-
-abbrev pub is_space : ℕ → Bool
-is_space c = c == 32
-
-abbrev pub is_tab : ℕ → Bool
-is_tab c = c == 9
-
--- a content type ends where its parameters begin, or at a blank
-abbrev pub bare_type : List ℕ → List ℕ
-bare_type content_type = before_first is_tab (before_first is_space (before_first is_semicolon content_type))
-
-abbrev pub is_slash : ℕ → Bool
-is_slash c = c == 47
-
--- a range covers a type (RFC 3261 section 20.1)
-unfoldable pub covers : List ℕ → Range → Bool
-covers bare range =
-    (is_star range.main || str_eq_ignore_ascii_case range.main (before_first is_slash bare))
-    && (is_star range.sub || str_eq_ignore_ascii_case range.sub (after_first is_slash bare))
-
--- without an Accept any type will do
+-- one of the ranges covers the type (RFC 3261 section 20.1); without an Accept any type will do
 abbrev pub is_acceptable : List ℕ → Option (List Range) → Bool
 is_acceptable content_type None = true
-is_acceptable content_type (Some ranges) = list_any (covers (bare_type content_type)) ranges
+is_acceptable content_type (Some ranges) = list_any (λ range. covers range content_type) ranges
 
 module _ {maps : Maps} where
   -- no package of that name, a package for REFER alone, no content type that is wanted, no such resource, too brief a time

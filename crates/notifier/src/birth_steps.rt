@@ -100,7 +100,7 @@ fn bear_with<P: Package>(
         &tag,
     )?;
     let ends = after.row.is_none();
-    push_some(&mut ledger.rows, after.row)?;
+    ledger.rows.push_some(alloc, after.row)?;
     push_some(&mut outs, after.out)?;
     ledger.next += 1;
     forget_ended(alloc, &mut ledger.boxes, &tag, kind, ends)?;

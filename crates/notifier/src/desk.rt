@@ -10,6 +10,7 @@ use crate::event::{Event, Out};
 use crate::event_steps::act;
 use crate::ledger::Ledger;
 use crate::place::{Place, Setup};
+use crate::rows::Rows;
 use circular_buffer::HeapCircularBuffer;
 use package::Package;
 use sip_text::NoMemory;
@@ -86,7 +87,7 @@ impl<P: Package> Desk<P> {
         let ledger = Ledger {
             clock: 0,
             next: 1,
-            rows: Vec::new(alloc),
+            rows: Rows::new(alloc),
             boxes,
             ring,
         };

@@ -1,7 +1,7 @@
 //! Requests in a dialog (RFC 3261 section 12.2.2), and refusals.
 #![tactic(auto, unfolding(crate::specs::Book::refused, crate::specs::Book::keeping, crate::specs::Book::all_rows, crate::specs::Book::in_dialog, crate::specs::Book::unless_denied, crate::specs::Book::served, crate::specs::Out::out_of, crate::specs::Rows::is_dialog))]
 
-ghost use Rattle.std.specs.Prelude.{◌≡◌, ◌∷◌, [], map, option_map, find, IfOk, OnOk};
+ghost use Rattle.std.specs.Prelude.{◌≡◌, ◌^◌, ◌∷◌, [], All, map, option_map, find, IfOk, OnOk};
 ghost use Rattle.notifier.specs.Book as spec;
 ghost use Rattle.notifier.specs.Answers as answers;
 ghost use Rattle.notifier.specs.Limits.{AreLimits};
@@ -11,6 +11,8 @@ ghost use Rattle.notifier.specs.Fields as fields;
 ghost use Rattle.notifier.specs.Ledger.{book_of, IsStep, IsSound};
 ghost use Rattle.notifier.specs.Requests.{key_of_request};
 ghost use Rattle.notifier.specs.Rows as rows;
+ghost use Rattle.notifier.specs.Sound.{IsOwn};
+ghost use Rattle.notifier.specs.Stored.{rows_of, IsIndexed};
 
 use crate::answer::{refusal_answer, renewal_answer};
 use crate::event::Out;
@@ -19,8 +21,10 @@ use crate::place::Place;
 use crate::refusal::Refusal;
 use crate::request::unheard;
 use crate::row::{Key, Row};
+use crate::rows::Rows;
 use crate::rule::Cause;
 use crate::telling::{all_rows, answer};
+use crate::touched::serial_in;
 use package::Package;
 use sip_read::{Addr, Request};
 use sip_text::{NoMemory, Text};
@@ -46,10 +50,17 @@ fn is_dialog(request: &Request, tag: &Text, row: &Row) -> bool
 }
 
 /// The row of the dialog of a request with this To tag.
-fn find_dialog<'a>(live: &'a [Row], request: &Request, tag: &Text) -> Option<&'a Row>
-    ensures { option_map (λ row. row.now) result ≡ find (rows.is_dialog request.now tag.now) live.now }
+fn find_dialog<'a>(place: &Place, live: &'a Rows, request: &Request, tag: &Text) -> Option<&'a Row>
+    requires indexed { IsIndexed live.now }
+    requires own { All (IsOwn place.now (2 ^ 32)) (rows_of live.now) }
+    ensures { option_map (λ row. row.now) result ≡ find (rows.is_dialog request.now tag.now) (rows_of live.now) }
 {
-    live.iter().find(|row| is_dialog(request, tag, row))
+    let row = live.row(serial_in(place.worker, tag.as_str())?)?;
+    if is_dialog(request, tag, row) {
+        Some(row)
+    } else {
+        None
+    }
 }
 
 /// Refuses a request.
@@ -179,10 +190,10 @@ pub fn serve_in_dialog<P: Package>(
 ) -> Result<Vec<Out>, NoMemory>
     requires key { key ≡ key_of_request request.now }
     requires sound { IsSound place.now ledger.old }
-    ensures step { IfOk result (λ outs. IsStep (spec.served place.now (book_of P.seen ledger.old) source request.now (spec.in_dialog place.now.limits request.now (find (rows.is_dialog request.now tag.now) ledger.old.rows.items))) (book_of P.seen ledger.new) outs.items) }
+    ensures step { IfOk result (λ outs. IsStep (spec.served place.now (book_of P.seen ledger.old) source request.now (spec.in_dialog place.now.limits request.now (find (rows.is_dialog request.now tag.now) (rows_of ledger.old.rows)))) (book_of P.seen ledger.new) outs.items) }
     ensures sound { OnOk result (IsSound place.now ledger.new) }
 {
-    let Some(row) = find_dialog(ledger.rows.as_slice(), request, tag) else {
+    let Some(row) = find_dialog(place, &ledger.rows, request, tag) else {
         return refuse(
             alloc,
             place,

@@ -1,6 +1,7 @@
 //! The stored parts of a desk.
 
-use crate::row::{Kept, Row};
+use crate::row::Kept;
+use crate::rows::Rows;
 use circular_buffer::HeapCircularBuffer;
 use package::Package;
 
@@ -11,8 +12,7 @@ pub struct Ledger<P: Package> {
     pub clock: u64,
     /// The next serial.
     pub next: u64,
-    /// By rising serial.
-    pub rows: Vec<Row>,
+    pub rows: Rows,
     pub boxes: Vec<P>,
     /// Newest first.
     pub ring: HeapCircularBuffer<Kept>,

@@ -29,11 +29,15 @@ pub mod refusal;
 mod request;
 mod request_steps;
 pub mod row;
+mod rows;
 mod rule;
 mod rules;
 mod tag;
 mod telling;
+mod timers;
+mod touched;
 mod uri;
+mod watchers;
 pub mod whole_run;
 
 pub use desk::{Desk, DeskError};

@@ -1,8 +1,9 @@
 //! Requests outside a dialog that no package takes.
-#![tactic(auto, unfolding(crate::specs::Requests::covers, crate::specs::Requests::misplaced_at, crate::specs::Requests::event_of))]
+#![tactic(auto, unfolding(crate::specs::Requests::misplaced_at, crate::specs::Requests::event_of))]
 
 ghost use Rattle.std.specs.Prelude.{◌≡◌, map, Some};
-ghost use Rattle.std.specs.List.{before_first, after_first, list_any};
+ghost use Rattle.std.specs.List.{list_any};
+ghost use Rattle.event_headers.specs.Covering.{covers as covers_type};
 ghost use Rattle.notifier.specs.Fields.{value_of};
 ghost use Rattle.notifier.specs.Requests as spec;
 
@@ -11,74 +12,16 @@ use crate::limits::Limits;
 use crate::refusal::Refusal;
 use crate::request::{is_refer, is_too_brief, package_of};
 use crate::uri::user_part;
-use event_headers::Range;
+use event_headers::{Range, covers};
 use package::Package;
 use sip_read::Request;
 use sip_text::{Field, Values};
 
-fn before_semicolon(text: &str) -> &str
-    ensures { result.now ≡ before_first spec.is_semicolon text.now }
+/// Whether one of the ranges covers the content type.
+fn is_covered(content_type: &str, ranges: &[Range]) -> bool
+    ensures { result ≡ list_any (λ range. covers_type range content_type.now) ranges.now }
 {
-    match text.split_once(';') {
-        Some((before, _)) => before,
-        None => text,
-    }
-}
-
-fn before_space(text: &str) -> &str
-    ensures { result.now ≡ before_first spec.is_space text.now }
-{
-    match text.split_once(' ') {
-        Some((before, _)) => before,
-        None => text,
-    }
-}
-
-fn before_tab(text: &str) -> &str
-    ensures { result.now ≡ before_first spec.is_tab text.now }
-{
-    match text.split_once('\t') {
-        Some((before, _)) => before,
-        None => text,
-    }
-}
-
-fn before_slash(text: &str) -> &str
-    ensures { result.now ≡ before_first spec.is_slash text.now }
-{
-    match text.split_once('/') {
-        Some((before, _)) => before,
-        None => text,
-    }
-}
-
-fn after_slash(text: &str) -> &str
-    ensures { result.now ≡ after_first spec.is_slash text.now }
-{
-    match text.split_once('/') {
-        Some((_, after)) => after,
-        None => "",
-    }
-}
-
-/// The content type without its parameters.
-fn bare_type(content_type: &str) -> &str
-    ensures { result.now ≡ spec.bare_type content_type.now }
-{
-    before_tab(before_space(before_semicolon(content_type)))
-}
-
-fn covers(bare: &str, range: &Range) -> bool
-    ensures { result ≡ spec.covers bare.now range.now }
-{
-    (range.main() == "*" || range.main().eq_ignore_ascii_case(before_slash(bare)))
-        && (range.sub() == "*" || range.sub().eq_ignore_ascii_case(after_slash(bare)))
-}
-
-fn is_covered(bare: &str, ranges: &[Range]) -> bool
-    ensures { result ≡ list_any (spec.covers bare.now) ranges.now }
-{
-    ranges.iter().any(|range| covers(bare, range))
+    ranges.iter().any(|range| covers(range, content_type))
 }
 
 /// Whether an Accept lets this content type pass.
@@ -86,7 +29,7 @@ fn is_acceptable(content_type: &str, accept: &Field<Values<Range>>) -> bool
     ensures { result ≡ spec.is_acceptable content_type.now (value_of accept.now) }
 {
     match accept {
-        Field::Value(ranges) => is_covered(bare_type(content_type), ranges.as_slice()),
+        Field::Value(ranges) => is_covered(content_type, ranges.as_slice()),
         _ => true,
     }
 }

@@ -1,14 +1,20 @@
 //! What an event makes of the live subscriptions, by one rule for each row.
-ghost use Rattle.std.specs.Prelude.{◌≡◌, ◌++◌, ◌<◌, ◌^◌, map, All, IfOk, OnOk, option_to_list};
+ghost use Rattle.std.specs.Prelude.{◌≡◌, ◌++◌, [], ◌<◌, ◌^◌, map, All, IfOk, IfSome, OnOk, option_to_list};
+ghost use Rattle.std.specs.Option.{option_and_then};
+ghost use Rattle.notifier.specs.Among.{among, said_at, gone_with, RiseFrom};
 ghost use Rattle.notifier.specs.Causes.{rule_of, CanTell};
 ghost use Rattle.notifier.specs.Out.{out_of};
 ghost use Rattle.notifier.specs.Rows as spec;
+ghost use Rattle.notifier.specs.Stored.{rows_of, row_at, IsIndexed, Turns};
 ghost use Rattle.notifier.specs.Told.{IsTold};
 
 use crate::event::Out;
 use crate::place::Place;
 use crate::row::Row;
+use crate::rows::Rows;
 use crate::rules::{After, count, renew, stop, take_answer, tell_watcher, time_out};
+use crate::timers::{alarm, move_timer, stop_timer};
+use crate::watchers::unwatch_text;
 use package::Package;
 use sip_read::{Addr, Request, Response};
 use sip_text::{NoMemory, Text};
@@ -67,48 +73,122 @@ pub fn push_some<T: Drop>(items: &mut Vec<T>, item: Option<T>) -> Result<(), NoM
     Ok(())
 }
 
-/// The rows that stay, and the tags of the transfers that go.
+/// What a row that is told gives beside what stays of it.
 #[derive(Drop)]
-pub struct Left {
-    pub rows: Vec<Row>,
-    pub gone: Vec<Text>,
+pub struct Word {
+    /// Its NOTIFY.
+    pub out: Option<Out>,
+    /// The tag of its transfer, where the row goes and has one.
+    pub gone: Option<Text>,
 }
 
-impl Left {
-    fn take_in(&mut self, outs: &mut Vec<Out>, after: After) -> Result<(), NoMemory>
-        ensures rows { OnOk result (self.new.rows.items ≡ self.old.rows.items ++ option_to_list after.row) }
-        ensures gone { OnOk result (self.new.gone.items ≡ self.old.gone.items ++ option_to_list after.gone) }
-        ensures outs { OnOk result (outs.new.items ≡ outs.old.items ++ option_to_list after.out) }
-    {
-        push_some(&mut self.rows, after.row)?;
-        push_some(outs, after.out)?;
-        push_some(&mut self.gone, after.gone)
+/// There is no row to tell.
+fn silence() -> Word
+    ensures out { option_to_list result.out ≡ [] }
+    ensures gone { option_to_list result.gone ≡ [] }
+{
+    Word {
+        out: None,
+        gone: None,
     }
 }
 
-/// Tells each row. The NOTIFYs go behind the outs that are there.
-pub fn tell_all<P: Package>(
+/// Tells the row with this serial, and moves what leads to it.
+fn turn<P: Package>(
     alloc: Global,
     place: &Place,
     boxes: &Vec<P>,
     clock: u64,
     cause: &Cause<'_>,
-    rows: Vec<Row>,
-    outs: &mut Vec<Out>,
-) -> Result<Left, NoMemory>
+    rows: &mut Rows,
+    serial: u32,
+) -> Result<Word, NoMemory>
     requires clock { clock < 2 ^ 63 }
-    requires live { All (CanTell clock cause.now) rows.items }
-    ensures rows { IfOk result (λ left. left.rows.items ≡ spec.left (rule_of place.now (map P.seen boxes.now.items) clock cause.now) rows.items) }
-    ensures gone { IfOk result (λ left. left.gone.items ≡ spec.gone (rule_of place.now (map P.seen boxes.now.items) clock cause.now) rows.items) }
-    ensures outs { OnOk result (outs.new.items ≡ outs.old.items ++ map out_of (spec.said (rule_of place.now (map P.seen boxes.now.items) clock cause.now) rows.items)) }
+    requires indexed { IsIndexed rows.old }
+    requires live { IfSome (row_at rows.old serial) (CanTell clock cause.now) }
+    ensures turns { OnOk result (Turns rows.old rows.new serial (option_and_then (λ r. (rule_of place.now (map P.seen boxes.now.items) clock cause.now r).row) (row_at rows.old serial))) }
+    ensures indexed { OnOk result (IsIndexed rows.new) }
+    ensures out { IfOk result (λ word. option_to_list word.out ≡ map out_of (said_at (rule_of place.now (map P.seen boxes.now.items) clock cause.now) (row_at rows.old serial))) }
+    ensures gone { IfOk result (λ word. option_to_list word.gone ≡ gone_with (rule_of place.now (map P.seen boxes.now.items) clock cause.now) (row_at rows.old serial)) }
 {
-    let mut left = Left {
-        rows: Vec::new(alloc),
-        gone: Vec::new(alloc),
+    let Some(key) = rows.order.get(&serial).copied() else {
+        return Ok(silence());
     };
-    for row in rows {
-        let after = tell(alloc, place, boxes, clock, cause, row)?;
-        left.take_in(outs, after)?;
+    let Some(row) = rows.slab.try_remove(key) else {
+        return Ok(silence());
+    };
+    let before = alarm(&row);
+    let resource = row.sub.want().resource.copy(alloc)?;
+    let After {
+        row: after,
+        out,
+        gone,
+    } = tell(alloc, place, boxes, clock, cause, row)?;
+    let word = Word { out, gone };
+    match after {
+        Some(row) => {
+            drop(resource);
+            let after = alarm(&row);
+            rows.slab.insert_reserved(row);
+            move_timer(&mut rows.timers, serial, before, after)?;
+            Ok(word)
+        }
+        None => {
+            rows.order.remove(&serial);
+            stop_timer(&mut rows.timers, serial, before);
+            unwatch_text(&mut rows.watchers, resource, serial);
+            Ok(word)
+        }
     }
-    Ok(left)
+}
+
+/// Tells the row with this serial: all others stay.
+fn tell_one<P: Package>(
+    alloc: Global,
+    place: &Place,
+    boxes: &Vec<P>,
+    clock: u64,
+    cause: &Cause<'_>,
+    rows: &mut Rows,
+    serial: u32,
+) -> Result<Word, NoMemory>
+    requires clock { clock < 2 ^ 63 }
+    requires indexed { IsIndexed rows.old }
+    requires live { All (CanTell clock cause.now) (rows_of rows.old) }
+    ensures rows { OnOk result (rows_of rows.new ≡ spec.left (spec.only serial (rule_of place.now (map P.seen boxes.now.items) clock cause.now)) (rows_of rows.old)) }
+    ensures indexed { OnOk result (IsIndexed rows.new) }
+    ensures out { IfOk result (λ word. option_to_list word.out ≡ map out_of (spec.said (spec.only serial (rule_of place.now (map P.seen boxes.now.items) clock cause.now)) (rows_of rows.old))) }
+    ensures gone { IfOk result (λ word. option_to_list word.gone ≡ spec.gone (spec.only serial (rule_of place.now (map P.seen boxes.now.items) clock cause.now)) (rows_of rows.old)) }
+{
+    turn(alloc, place, boxes, clock, cause, rows, serial)
+}
+
+/// Tells the rows with these serials. The NOTIFYs go behind the outs that are there, and the tags of the transfers that go come
+/// back.
+pub fn tell_each<P: Package>(
+    alloc: Global,
+    place: &Place,
+    boxes: &Vec<P>,
+    clock: u64,
+    cause: &Cause<'_>,
+    rows: &mut Rows,
+    serials: &[u32],
+    outs: &mut Vec<Out>,
+) -> Result<Vec<Text>, NoMemory>
+    requires clock { clock < 2 ^ 63 }
+    requires indexed { IsIndexed rows.old }
+    requires live { All (CanTell clock cause.now) (rows_of rows.old) }
+    requires rise { RiseFrom 0 serials.now }
+    ensures rows { OnOk result (rows_of rows.new ≡ spec.left (among serials.now (rule_of place.now (map P.seen boxes.now.items) clock cause.now)) (rows_of rows.old)) }
+    ensures indexed { OnOk result (IsIndexed rows.new) }
+    ensures gone { IfOk result (λ tags. tags.items ≡ spec.gone (among serials.now (rule_of place.now (map P.seen boxes.now.items) clock cause.now)) (rows_of rows.old)) }
+    ensures outs { OnOk result (outs.new.items ≡ outs.old.items ++ map out_of (spec.said (among serials.now (rule_of place.now (map P.seen boxes.now.items) clock cause.now)) (rows_of rows.old))) }
+{
+    let mut tags = Vec::new(alloc);
+    for serial in serials {
+        let word = tell_one(alloc, place, boxes, clock, cause, rows, *serial)?;
+        push_some(outs, word.out)?;
+        push_some(&mut tags, word.gone)?;
+    }
+    Ok(tags)
 }

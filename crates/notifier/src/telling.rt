@@ -1,13 +1,15 @@
 //! What is done with all rows of a ledger at once, and answers.
 #![tactic(auto, unfolding(crate::specs::Rows::forgetting))]
 
-ghost use Rattle.std.specs.Prelude.{◌≡◌, ◌++◌, ◌∷◌, [], ◌<◌, ◌^◌, List, map, All, IfOk, OnOk};
+ghost use Rattle.std.specs.Prelude.{◌≡◌, ◌++◌, ◌∷◌, [], ◌<◌, ◌≤◌, ◌^◌, List, map, All, IfOk, OnOk};
 ghost use Rattle.notifier.specs.Answers.{ring_with};
 ghost use Rattle.notifier.specs.Causes.{rule_of, CanTell};
 ghost use Rattle.notifier.specs.Book as book;
 ghost use Rattle.notifier.specs.Ledger.{book_of, IsStep};
 ghost use Rattle.notifier.specs.Out.{Send, out_of};
 ghost use Rattle.notifier.specs.Rows as spec;
+ghost use Rattle.notifier.specs.Sound.{IsOwn};
+ghost use Rattle.notifier.specs.Stored.{rows_of, IsIndexed};
 ghost use Rattle.circular_buffer.specs.Buffer.{buffer};
 
 use crate::boxes::change_first;
@@ -16,14 +18,15 @@ use crate::kept::keep;
 use crate::ledger::Ledger;
 use crate::limits::Limits;
 use crate::place::Place;
-use crate::row::{Kept, Key, Row};
-use crate::rule::{Cause, tell_all};
+use crate::row::{Kept, Key};
+use crate::rows::Rows;
+use crate::rule::{Cause, tell_each};
+use crate::touched::touched;
 use circular_buffer::HeapCircularBuffer;
 use package::{Change, Package};
 use sip_read::Addr;
 use sip_text::{NoMemory, Octets, Text};
 use std::alloc::Global;
-use std::mem;
 
 /// Forgets these transfers.
 fn forget_all<P: Package>(
@@ -39,26 +42,37 @@ fn forget_all<P: Package>(
     Ok(())
 }
 
-/// Tells all rows, and then forgets the transfers of those that go. The NOTIFYs go behind the outs that are there.
+/// Tells all rows that a cause may change, and then forgets the transfers of those that go. The NOTIFYs go behind the outs that are there.
 pub fn tell_rows<P: Package>(
     alloc: Global,
     place: &Place,
     clock: u64,
-    rows: &mut Vec<Row>,
+    rows: &mut Rows,
     boxes: &mut Vec<P>,
     cause: &Cause<'_>,
     outs: &mut Vec<Out>,
 ) -> Result<(), NoMemory>
     requires clock { clock < 2 ^ 63 }
-    requires live { All (CanTell clock cause.now) rows.old.items }
-    ensures rows { OnOk result (rows.new.items ≡ spec.left (rule_of place.now (map P.seen boxes.old.items) clock cause.now) rows.old.items) }
-    ensures boxes { OnOk result (map P.seen boxes.new.items ≡ spec.forgetting (spec.gone (rule_of place.now (map P.seen boxes.old.items) clock cause.now) rows.old.items) (map P.seen boxes.old.items)) }
-    ensures outs { OnOk result (outs.new.items ≡ outs.old.items ++ map out_of (spec.said (rule_of place.now (map P.seen boxes.old.items) clock cause.now) rows.old.items)) }
+    requires indexed { IsIndexed rows.old }
+    requires own { All (IsOwn place.now (2 ^ 32)) (rows_of rows.old) }
+    requires live { All (CanTell clock cause.now) (rows_of rows.old) }
+    ensures indexed { OnOk result (IsIndexed rows.new) }
+    ensures rows { OnOk result (rows_of rows.new ≡ spec.left (rule_of place.now (map P.seen boxes.old.items) clock cause.now) (rows_of rows.old)) }
+    ensures boxes { OnOk result (map P.seen boxes.new.items ≡ spec.forgetting (spec.gone (rule_of place.now (map P.seen boxes.old.items) clock cause.now) (rows_of rows.old)) (map P.seen boxes.old.items)) }
+    ensures outs { OnOk result (outs.new.items ≡ outs.old.items ++ map out_of (spec.said (rule_of place.now (map P.seen boxes.old.items) clock cause.now) (rows_of rows.old))) }
 {
-    let told = mem::replace(rows, Vec::new(alloc));
-    let left = tell_all(alloc, place, boxes, clock, cause, told, outs)?;
-    *rows = left.rows;
-    forget_all(alloc, boxes, left.gone)
+    let serials = touched(alloc, place.worker, rows, clock, cause)?;
+    let tags = tell_each(
+        alloc,
+        place,
+        boxes,
+        clock,
+        cause,
+        rows,
+        serials.as_slice(),
+        outs,
+    )?;
+    forget_all(alloc, boxes, tags)
 }
 
 pub fn copy_bytes(alloc: Global, bytes: &Octets) -> Result<Octets, NoMemory>
@@ -97,9 +111,13 @@ pub fn all_rows<P: Package>(
     outs: &mut Vec<Out>,
 ) -> Result<(), NoMemory>
     requires clock { ledger.old.clock < 2 ^ 63 }
-    requires live { All (CanTell ledger.old.clock cause.now) ledger.old.rows.items }
+    requires next { ledger.old.next ≤ 2 ^ 32 }
+    requires indexed { IsIndexed ledger.old.rows }
+    requires own { All (IsOwn place.now ledger.old.next) (rows_of ledger.old.rows) }
+    requires live { All (CanTell ledger.old.clock cause.now) (rows_of ledger.old.rows) }
     ensures step { OnOk result ((sends : List Send) → outs.old.items ≡ map out_of sends → IsStep (book.all_rows (book_of P.seen ledger.old) (rule_of place.now (map P.seen ledger.old.boxes.items) ledger.old.clock cause.now) sends) (book_of P.seen ledger.new) outs.new.items) }
-    ensures rows { OnOk result (ledger.new.rows.items ≡ spec.left (rule_of place.now (map P.seen ledger.old.boxes.items) ledger.old.clock cause.now) ledger.old.rows.items) }
+    ensures rows { OnOk result (rows_of ledger.new.rows ≡ spec.left (rule_of place.now (map P.seen ledger.old.boxes.items) ledger.old.clock cause.now) (rows_of ledger.old.rows)) }
+    ensures indexed { OnOk result (IsIndexed ledger.new.rows) }
     ensures same { OnOk result ((ledger.new.clock ≡ ledger.old.clock) × (ledger.new.next ≡ ledger.old.next) × (ledger.new.ring ≡ ledger.old.ring)) }
 {
     tell_rows(

@@ -28,6 +28,3 @@ pub use counts::{Class, Counts, MailCounts};
 pub use interface::Package;
 pub use mail_change::MailChange;
 pub use progress::Progress;
-
-#[cfg(test)]
-mod tests;

@@ -13,6 +13,3 @@ mod status;
 pub mod transfers;
 
 pub use transfers::Transfers;
-
-#[cfg(test)]
-mod tests;

@@ -11,9 +11,4 @@ use Rattle.sip_read.specs.Message.{Tells}
 pub body_fails : (first : First) (g : Gathered) (rest : List ℕ) (head : Head) → doubled g ≡ None → head_of g.vias g.top g.from g.to g.call_id g.cseq ≡ Ok head → (e : ReadError) → Tells e (body_of g.content_length rest) → Tells e (message_of first g rest)
 unfolding message_of
 body_fails first g rest head none is errors.NoMemory h = tt
-body_fails first g rest head none is errors.BadLine h = rw (none, is, h) refl
-body_fails first g rest head none is errors.NotSip h = rw (none, is, h) refl
-body_fails first g rest head none is (errors.Missing n) h = rw (none, is, h) refl
-body_fails first g rest head none is (errors.Twice n) h = rw (none, is, h) refl
-body_fails first g rest head none is errors.ShortBody h = rw (none, is, h) refl
-body_fails first g rest head none is errors.TooLong h = rw (none, is, h) refl
+body_fails first g rest head none is e h = rw (none, is, h) refl

@@ -1,7 +1,6 @@
 -- What the reader computes is what the bytes are.
 use Rattle.std.proofs.Common.{◌≡◌, ℕ, ◌≤◌, ◌<◌, Bool, true, false, eqb, ltb, cond, List, [], ◌∷◌, length, take, Option, Some, None, option_map, Result, Ok, Err, refl, sym, ap, subst, ◌∙◌, arith, map, inl, inr}
 use Rattle.std.specs.Prelude.{◌⊎◌}
-use Rattle.std.specs.List.{filter_map}
 use Rattle.std.proofs.lemmas.Bool.{ltb-true, lt-ltb, ltb-false, le-ltb, ne_eqb}
 use Rattle.std.proofs.lemmas.List.{length-append}
 use Rattle.sip_text.specs.declared.field.Field.{Field}
@@ -19,6 +18,7 @@ use Rattle.sip_read.specs.declared.error.HeaderName.{HeaderName}
 use Rattle.sip_read.specs.declared.error.HeaderName.TheVariants as names
 use Rattle.sip_read.specs.declared.error.ReadError.{ReadError}
 use Rattle.sip_read.specs.declared.error.ReadError.TheVariants as errors
+use Rattle.sip_read.specs.declared.header.Header.TheVariants as headers
 use Rattle.sip_read.specs.declared.message.Head.{Head}
 use Rattle.sip_read.specs.declared.message.Message.{Message}
 use Rattle.sip_read.specs.declared.message.Message.TheVariants as messages
@@ -33,10 +33,10 @@ use Rattle.sip_read.specs.FieldsComputed.{event_kept, expires_kept, accept_kept}
 use Rattle.sip_read.specs.FirstLine.{First, request, status}
 use Rattle.sip_read.specs.FirstLineComputed.{first_at}
 use Rattle.sip_read.specs.GatheredComputed.{Gathered, nothing, with_items, gather}
-use Rattle.sip_read.specs.Items.{Item}
+use Rattle.sip_read.specs.Items.{Item, values_of}
 use Rattle.sip_read.specs.ItemsComputed.{section_of, items_of}
 use Rattle.sip_read.specs.LinesComputed.{lines_of}
-use Rattle.sip_read.specs.Message.{HasItems, HasHead, via_in, from_in, to_in, call_id_in, cseq_in, length_in, contact_in, event_in, expires_in, accept_in, refer_to_in, refer_sub_in, doubled, joined_lines, with_commas, IsHead, IsBody, IsField, IsKept, IsRequest, IsResponse, Reads, Wrong, Says, Answers, IsReading}
+use Rattle.sip_read.specs.Message.{HasItems, HasHead, doubled, joined_lines, with_commas, IsHead, IsBody, IsField, IsKept, IsRequest, IsResponse, Reads, Wrong, Says, Answers, IsReading}
 use Rattle.sip_read.specs.MessageComputed.{◌then◌, or_else, refused, head_of, body_of, value_or_bad, accept_field, request_of, finished, message_of, read_of}
 use Rattle.sip_read.specs.MessageComputed as computed
 use Rattle.sip_read.specs.OnceComputed.{is_several, field_of}
@@ -83,7 +83,7 @@ several_capped (x ∷ []) = sym (le-ltb 1 (length (x ∷ [])) (omega arith))
 several_capped (x ∷ y ∷ ys) = sym (lt-ltb 1 (length (x ∷ y ∷ ys)) (omega arith))
 
 doubled_same : (xs : List Item) → computed.doubled (gathered_of xs) ≡ doubled xs
-doubled_same xs = rw (several_ltb (filter_map from_in xs), several_ltb (filter_map to_in xs), several_ltb (filter_map call_id_in xs), several_ltb (filter_map cseq_in xs), several_capped (filter_map length_in xs)) refl
+doubled_same xs = rw (several_ltb (values_of headers.From xs), several_ltb (values_of headers.To xs), several_ltb (values_of headers.CallId xs), several_ltb (values_of headers.CSeq xs), several_capped (values_of headers.ContentLength xs)) refl
 
 cond_none : (b : Bool) (n : HeaderName) (o : Option HeaderName) → cond b (Some n) o ≡ None → (b ≡ false) × (o ≡ None)
 cond_none true n o e = absurd cc
@@ -163,15 +163,15 @@ decide (a ∷ h) (b ∷ []) (d ∷ []) (g ∷ []) (k ∷ []) lf lt li lc =
     )
 
 abbrev head_items : List Item → Result Head ReadError
-head_items xs = head5 (filter_map via_in xs) (filter_map from_in xs) (filter_map to_in xs) (filter_map call_id_in xs) (filter_map cseq_in xs)
+head_items xs = head5 (values_of headers.Via xs) (values_of headers.From xs) (values_of headers.To xs) (values_of headers.CallId xs) (values_of headers.CSeq xs)
 
-decide_items : (xs : List Item) → doubled xs ≡ None → Decided (filter_map via_in xs) (filter_map from_in xs) (filter_map to_in xs) (filter_map call_id_in xs) (filter_map cseq_in xs)
+decide_items : (xs : List Item) → doubled xs ≡ None → Decided (values_of headers.Via xs) (values_of headers.From xs) (values_of headers.To xs) (values_of headers.CallId xs) (values_of headers.CSeq xs)
 decide_items xs none =
-    let s = single (length (filter_map from_in xs)) (length (filter_map to_in xs)) (length (filter_map call_id_in xs)) (length (filter_map cseq_in xs)) (length (filter_map length_in xs)) none in
-    decide (filter_map via_in xs) (filter_map from_in xs) (filter_map to_in xs) (filter_map call_id_in xs) (filter_map cseq_in xs) s.from s.to s.call_id s.cseq
+    let s = single (length (values_of headers.From xs)) (length (values_of headers.To xs)) (length (values_of headers.CallId xs)) (length (values_of headers.CSeq xs)) (length (values_of headers.ContentLength xs)) none in
+    decide (values_of headers.Via xs) (values_of headers.From xs) (values_of headers.To xs) (values_of headers.CallId xs) (values_of headers.CSeq xs) s.from s.to s.call_id s.cseq
 
-lengths_single : (xs : List Item) → doubled xs ≡ None → length (filter_map length_in xs) ≤ 1
-lengths_single xs none = (single (length (filter_map from_in xs)) (length (filter_map to_in xs)) (length (filter_map call_id_in xs)) (length (filter_map cseq_in xs)) (length (filter_map length_in xs)) none).lengths
+lengths_single : (xs : List Item) → doubled xs ≡ None → length (values_of headers.ContentLength xs) ≤ 1
+lengths_single xs none = (single (length (values_of headers.From xs)) (length (values_of headers.To xs)) (length (values_of headers.CallId xs)) (length (values_of headers.CSeq xs)) (length (values_of headers.ContentLength xs)) none).lengths
 
 -- a head with other Via values
 abbrev head_with : List (List ℕ) → Via → Head → Head
@@ -186,8 +186,8 @@ head_told xs head h =
     let found : head_items xs ≡ Ok (head_with (h.top.text ∷ texts h.others) (via_of h.top) head) = rw (h.hops, h.from, h.to, h.call_id, h.cseq) refl in
     found ∙ ap (λ (x : Head). Ok x) (same_head (h.top.text ∷ texts h.others) (via_of h.top) head h.vias h.top_via)
 
-head_single : (xs : List Item) (head : Head) → IsHead xs head → length (filter_map length_in xs) ≤ 1 → doubled xs ≡ None
-head_single xs head h l = not_doubled (length (filter_map from_in xs)) (length (filter_map to_in xs)) (length (filter_map call_id_in xs)) (length (filter_map cseq_in xs)) (length (filter_map length_in xs))
+head_single : (xs : List Item) (head : Head) → IsHead xs head → length (values_of headers.ContentLength xs) ≤ 1 → doubled xs ≡ None
+head_single xs head h l = not_doubled (length (values_of headers.From xs)) (length (values_of headers.To xs)) (length (values_of headers.CallId xs)) (length (values_of headers.CSeq xs)) (length (values_of headers.ContentLength xs))
     (record { from = omega (arith, ap length h.from); to = omega (arith, ap length h.to); call_id = omega (arith, ap length h.call_id); cseq = omega (arith, ap length h.cseq); lengths = l })
 
 -- ---- the body
@@ -266,21 +266,21 @@ rest_small bytes first xs rest h =
 -- ---- what the function gives is right
 
 module _ (bytes : List ℕ) (xs : List Item) (rest : List ℕ) where
-  is_head : (head : Head) → Has (filter_map via_in xs) (filter_map from_in xs) (filter_map to_in xs) (filter_map call_id_in xs) (filter_map cseq_in xs) head → IsHead xs head
+  is_head : (head : Head) → Has (values_of headers.Via xs) (values_of headers.From xs) (values_of headers.To xs) (values_of headers.CallId xs) (values_of headers.CSeq xs) head → IsHead xs head
   is_head head h = record { top = h.top; others = h.others; hops = h.hops; vias = h.vias; top_via = h.top_via; from = h.from; to = h.to; call_id = h.call_id; cseq = h.cseq }
 
-  says_finished : (first : First) → HasHead bytes first xs rest → (head : Head) → IsHead xs head → (body : List ℕ) → IsBody (filter_map length_in xs) rest body → Reads bytes (finished first head (gathered_of xs).fields body)
+  says_finished : (first : First) → HasHead bytes first xs rest → (head : Head) → IsHead xs head → (body : List ℕ) → IsBody (values_of headers.ContentLength xs) rest body → Reads bytes (finished first head (gathered_of xs).fields body)
   says_finished (request method uri) cut head is body is_body = record {
     items = xs;
     rest = rest;
     cut = cut;
     head = is;
-    event = field_takes (IsKept IsEvent EventFits) event_kept (kept_takes IsEvent EventFits event_of event_fits event_takes event_again event_fit event_large) (kept_again IsEvent EventFits event_of event_fits event_takes event_again event_fit event_large) (filter_map event_in xs);
-    expires = field_takes (IsKept IsExpires Fits) expires_kept (kept_takes IsExpires Fits expires_of expires_fits expires_takes expires_again expires_fit expires_large) (kept_again IsExpires Fits expires_of expires_fits expires_takes expires_again expires_fit expires_large) (filter_map expires_in xs);
-    accept = subst (IsField (IsKept IsAccept RangesFit) (joined_lines (filter_map accept_in xs))) (sym (accept_same (filter_map accept_in xs))) (field_takes (IsKept IsAccept RangesFit) accept_kept (kept_takes IsAccept RangesFit accept_of ranges_fit accept_takes accept_again ranges_are_fit ranges_are_large) (kept_again IsAccept RangesFit accept_of ranges_fit accept_takes accept_again ranges_are_fit ranges_are_large) (joined_lines (filter_map accept_in xs)));
-    contact = field_takes IsContact contact_of contact_takes contact_again (filter_map contact_in xs);
-    refer_to = field_takes IsContact contact_of contact_takes contact_again (filter_map refer_to_in xs);
-    refer_sub = field_takes IsReferSub refer_sub_of refer_sub_takes refer_sub_again (filter_map refer_sub_in xs);
+    event = field_takes (IsKept IsEvent EventFits) event_kept (kept_takes IsEvent EventFits event_of event_fits event_takes event_again event_fit event_large) (kept_again IsEvent EventFits event_of event_fits event_takes event_again event_fit event_large) (values_of headers.Event xs);
+    expires = field_takes (IsKept IsExpires Fits) expires_kept (kept_takes IsExpires Fits expires_of expires_fits expires_takes expires_again expires_fit expires_large) (kept_again IsExpires Fits expires_of expires_fits expires_takes expires_again expires_fit expires_large) (values_of headers.Expires xs);
+    accept = subst (IsField (IsKept IsAccept RangesFit) (joined_lines (values_of headers.Accept xs))) (sym (accept_same (values_of headers.Accept xs))) (field_takes (IsKept IsAccept RangesFit) accept_kept (kept_takes IsAccept RangesFit accept_of ranges_fit accept_takes accept_again ranges_are_fit ranges_are_large) (kept_again IsAccept RangesFit accept_of ranges_fit accept_takes accept_again ranges_are_fit ranges_are_large) (joined_lines (values_of headers.Accept xs)));
+    contact = field_takes IsContact contact_of contact_takes contact_again (values_of headers.Contact xs);
+    refer_to = field_takes IsContact contact_of contact_takes contact_again (values_of headers.ReferTo xs);
+    refer_sub = field_takes IsReferSub refer_sub_of refer_sub_takes refer_sub_again (values_of headers.ReferSub xs);
     require = refl;
     record_routes = refl;
     body = is_body;
@@ -288,14 +288,14 @@ module _ (bytes : List ℕ) (xs : List Item) (rest : List ℕ) where
   says_finished (status code reason) cut head is body is_body = record { items = xs; rest = rest; cut = cut; head = is; body = body; is_body = is_body }
 
   module _ (first : First) (cut : HasHead bytes first xs rest) where
-    says_present : doubled xs ≡ None → (head : Head) → Has (filter_map via_in xs) (filter_map from_in xs) (filter_map to_in xs) (filter_map call_id_in xs) (filter_map cseq_in xs) head
-        → Says bytes (body_of (once_of (map capped (filter_map length_in xs))) rest then λ b. Ok (finished first head (gathered_of xs).fields b))
-    says_present none head has = elim (body_cases (filter_map length_in xs) rest (lengths_single xs none) (rest_small bytes first xs rest cut)) [
+    says_present : doubled xs ≡ None → (head : Head) → Has (values_of headers.Via xs) (values_of headers.From xs) (values_of headers.To xs) (values_of headers.CallId xs) (values_of headers.CSeq xs) head
+        → Says bytes (body_of (once_of (map capped (values_of headers.ContentLength xs))) rest then λ b. Ok (finished first head (gathered_of xs).fields b))
+    says_present none head has = elim (body_cases (values_of headers.ContentLength xs) rest (lengths_single xs none) (rest_small bytes first xs rest cut)) [
       | inl w ↦ rw w.told (first, xs, rest, (cut, none), has.none, w.is)
       | inr w ↦ rw w.1.told (says_finished first cut head (is_head head has) w.0 w.1.is)
     ]
 
-    checked : (o : Option HeaderName) → doubled xs ≡ o → Says bytes (refused o (head_items xs then λ h. body_of (once_of (map capped (filter_map length_in xs))) rest then λ b. Ok (finished first h (gathered_of xs).fields b)))
+    checked : (o : Option HeaderName) → doubled xs ≡ o → Says bytes (refused o (head_items xs then λ h. body_of (once_of (map capped (values_of headers.ContentLength xs))) rest then λ b. Ok (finished first h (gathered_of xs).fields b)))
     checked (Some n) e = (first, xs, rest, cut, e)
     checked None e = elim (decide_items xs e) [
       | inl w ↦ rw w.1.told (first, xs, rest, (cut, e), w.1.first)
@@ -327,7 +327,7 @@ says bytes = size (ltb 65535 (length bytes)) refl where
   line small (Some s) is = section small s.0 s.1 is (section_of s.1) refl
 
   size : (b : Bool) → ltb 65535 (length bytes) ≡ b → Says bytes (cond b (Err errors.TooLong) (or_else errors.NotSip (first_at bytes) then λ s. or_else errors.BadLine (gather nothing s.1) then λ h. message_of s.0 h.0 h.1))
-  size true large = ltb-true _ _ large
+  size true large = λ short. let over = ltb-true _ _ large in omega (arith, short, over)
   size false small = line (ltb-false _ _ small) (first_at bytes) refl
 
 -- ---- and nothing else is
@@ -340,7 +340,7 @@ read_head bytes first xs rest h =
 
 -- a message that none of whose headers stands too often
 read_single : (bytes : List ℕ) (first : First) (xs : List Item) (rest : List ℕ) → HasHead bytes first xs rest → doubled xs ≡ None
-    → read_of bytes ≡ (head_items xs then λ h. body_of (once_of (map capped (filter_map length_in xs))) rest then λ b. Ok (finished first h (gathered_of xs).fields b))
+    → read_of bytes ≡ (head_items xs then λ h. body_of (once_of (map capped (values_of headers.ContentLength xs))) rest then λ b. Ok (finished first h (gathered_of xs).fields b))
 unfolding message_of
 read_single bytes first xs rest cut none = read_head bytes first xs rest cut ∙ rw (doubled_same xs, none) refl
 
@@ -356,13 +356,13 @@ told_request : (bytes : List ℕ) (r : Request) → IsRequest bytes r → read_o
 told_request bytes r is =
     let xs = is.items in
     let fs = (gathered_of xs).fields in
-    let b = body_told (filter_map length_in xs) is.rest r.body (rest_small bytes (request r.method r.uri) xs is.rest is.cut) is.body in
-    let event = field_told (IsKept IsEvent EventFits) event_kept (kept_takes IsEvent EventFits event_of event_fits event_takes event_again event_fit event_large) (kept_again IsEvent EventFits event_of event_fits event_takes event_again event_fit event_large) (filter_map event_in xs) r.event is.event in
-    let expires = field_told (IsKept IsExpires Fits) expires_kept (kept_takes IsExpires Fits expires_of expires_fits expires_takes expires_again expires_fit expires_large) (kept_again IsExpires Fits expires_of expires_fits expires_takes expires_again expires_fit expires_large) (filter_map expires_in xs) r.expires is.expires in
-    let accept = accept_same (filter_map accept_in xs) ∙ field_told (IsKept IsAccept RangesFit) accept_kept (kept_takes IsAccept RangesFit accept_of ranges_fit accept_takes accept_again ranges_are_fit ranges_are_large) (kept_again IsAccept RangesFit accept_of ranges_fit accept_takes accept_again ranges_are_fit ranges_are_large) (joined_lines (filter_map accept_in xs)) r.accept is.accept in
-    let contact = field_told IsContact contact_of contact_takes contact_again (filter_map contact_in xs) r.contact is.contact in
-    let refer_to = field_told IsContact contact_of contact_takes contact_again (filter_map refer_to_in xs) r.refer_to is.refer_to in
-    let refer_sub = field_told IsReferSub refer_sub_of refer_sub_takes refer_sub_again (filter_map refer_sub_in xs) r.refer_sub is.refer_sub in
+    let b = body_told (values_of headers.ContentLength xs) is.rest r.body (rest_small bytes (request r.method r.uri) xs is.rest is.cut) is.body in
+    let event = field_told (IsKept IsEvent EventFits) event_kept (kept_takes IsEvent EventFits event_of event_fits event_takes event_again event_fit event_large) (kept_again IsEvent EventFits event_of event_fits event_takes event_again event_fit event_large) (values_of headers.Event xs) r.event is.event in
+    let expires = field_told (IsKept IsExpires Fits) expires_kept (kept_takes IsExpires Fits expires_of expires_fits expires_takes expires_again expires_fit expires_large) (kept_again IsExpires Fits expires_of expires_fits expires_takes expires_again expires_fit expires_large) (values_of headers.Expires xs) r.expires is.expires in
+    let accept = accept_same (values_of headers.Accept xs) ∙ field_told (IsKept IsAccept RangesFit) accept_kept (kept_takes IsAccept RangesFit accept_of ranges_fit accept_takes accept_again ranges_are_fit ranges_are_large) (kept_again IsAccept RangesFit accept_of ranges_fit accept_takes accept_again ranges_are_fit ranges_are_large) (joined_lines (values_of headers.Accept xs)) r.accept is.accept in
+    let contact = field_told IsContact contact_of contact_takes contact_again (values_of headers.Contact xs) r.contact is.contact in
+    let refer_to = field_told IsContact contact_of contact_takes contact_again (values_of headers.ReferTo xs) r.refer_to is.refer_to in
+    let refer_sub = field_told IsReferSub refer_sub_of refer_sub_takes refer_sub_again (values_of headers.ReferSub xs) r.refer_sub is.refer_sub in
     let found : read_of bytes ≡ Ok (messages.Request (request_of r.method r.uri r.head fs r.body)) = read_single bytes (request r.method r.uri) xs is.rest is.cut (head_single xs r.head is.head b.1) ∙ rw (head_told xs r.head is.head, b.0) refl in
     found ∙ ap (λ (q : Request). Ok (messages.Request q)) (same_request r (field_of fs.event) (field_of fs.expires) (accept_field fs.accept) (field_of fs.contact) (field_of fs.refer_to) (field_of fs.refer_sub) fs.require fs.record_routes
     event expires accept contact refer_to refer_sub (sym is.require) (sym is.record_routes))
@@ -370,7 +370,7 @@ told_request bytes r is =
 told_response : (bytes : List ℕ) (r : Response) → IsResponse bytes r → read_of bytes ≡ Ok (messages.Response r)
 told_response bytes r is =
     let xs = is.items in
-    let b = body_told (filter_map length_in xs) is.rest is.body (rest_small bytes (status r.status r.reason) xs is.rest is.cut) is.is_body in
+    let b = body_told (values_of headers.ContentLength xs) is.rest is.body (rest_small bytes (status r.status r.reason) xs is.rest is.cut) is.is_body in
     read_single bytes (status r.status r.reason) xs is.rest is.cut (head_single xs r.head is.head b.1) ∙ rw (head_told xs r.head is.head, b.0) refl
 
 no_first : (bytes : List ℕ) → ((first : First) (t : List ℕ) → first_at bytes ≡ Some (first, t) → ⊥) → first_at bytes ≡ None
@@ -387,7 +387,10 @@ no_section t h = step (section_of t) (λ xs r e. h xs r (section_takes t xs r e)
 
 told_err : (bytes : List ℕ) (e : ReadError) → Wrong bytes e → read_of bytes ≡ Err e
 unfolding read_of message_of
-told_err bytes errors.TooLong w = rw (lt-ltb 65535 (length bytes) w) refl
+told_err bytes errors.TooLong w = rw (over (ltb 65535 (length bytes)) refl) refl where
+  over : (b : Bool) → ltb 65535 (length bytes) ≡ b → b ≡ true
+  over true e = refl
+  over false e = absurd (w (ltb-false _ _ e))
 told_err bytes errors.NotSip w =
     let small : ltb 65535 (length bytes) ≡ false = le-ltb _ _ w.0 in
     rw (small, no_first bytes (λ s section e. w.1 s section (w.0, first_takes bytes s section e))) refl
@@ -402,7 +405,7 @@ told_err bytes (errors.Missing n) w = elim (decide_items w.1 w.3.1) [
 ]
 told_err bytes errors.ShortBody w = elim (decide_items w.1 w.3.1) [
   | inl z ↦ (let first = z.1.first in let wanted = w.4 in absurd (cc (first, wanted)))
-  | inr z ↦ read_single bytes w.0 w.1 w.2 w.3.0 w.3.1 ∙ rw (z.1.told, short_told (filter_map length_in w.1) w.2 w.5.0 (rest_small bytes w.0 w.1 w.2 w.3.0) w.5.1 w.5.2) refl
+  | inr z ↦ read_single bytes w.0 w.1 w.2 w.3.0 w.3.1 ∙ rw (z.1.told, short_told (values_of headers.ContentLength w.1) w.2 w.5.0 (rest_small bytes w.0 w.1 w.2 w.3.0) w.5.1 w.5.2) refl
 ]
 told_err bytes errors.NoMemory w = absurd w
 
@@ -414,11 +417,6 @@ told bytes (Err e) h = told_err bytes e h
 -- ---- for the call
 
 pub reading : (bytes : List ℕ) (r : Result Message ReadError) → Answers (λ m. m) r (read_of bytes) → IsReading bytes r
-reading bytes (Ok m) h = subst (Says bytes) h (says bytes)
 reading bytes (Err errors.NoMemory) h = tt
-reading bytes (Err errors.NotSip) h = subst (Says bytes) h (says bytes)
-reading bytes (Err errors.BadLine) h = subst (Says bytes) h (says bytes)
-reading bytes (Err (errors.Missing n)) h = subst (Says bytes) h (says bytes)
-reading bytes (Err (errors.Twice n)) h = subst (Says bytes) h (says bytes)
-reading bytes (Err errors.ShortBody) h = subst (Says bytes) h (says bytes)
-reading bytes (Err errors.TooLong) h = subst (Says bytes) h (says bytes)
+reading bytes (Err e) h = subst (Says bytes) h (says bytes)
+reading bytes (Ok m) h = subst (Says bytes) h (says bytes)

@@ -1,16 +1,16 @@
 -- What is gathered from a list of values, header by header.
 use Rattle.std.proofs.Common.{◌≡◌, ℕ, ◌^◌, List, [], ◌∷◌, ◌++◌, Option, Some, None, refl, ◌∙◌, append_assoc, map, min}
-use Rattle.std.specs.List.{filter_map}
 use Rattle.std.proofs.lemmas.List.{append-nil}
 use Rattle.sip_text.specs.Grammar.{number_of}
+use Rattle.sip_read.specs.declared.header.Header.TheVariants as headers
 use Rattle.sip_read.specs.declared.message.Via.{Via}
 use Rattle.sip_read.specs.declared.once.Once.{Once}
 use Rattle.sip_read.specs.declared.once.Once.TheVariants as once
 use Rattle.sip_read.specs.AddressesComputed.{contact_of}
 use Rattle.sip_read.specs.FieldsComputed.{event_kept, expires_kept}
 use Rattle.sip_read.specs.GatheredComputed.{Fields, Gathered, nothing, accept_more, first_or, with_item, with_items}
-use Rattle.sip_read.specs.Items.{Item, via, from, to, call_id, cseq, content_length, contact, event, expires, accept, refer_to, refer_sub, require, record_route}
-use Rattle.sip_read.specs.Message.{via_in, from_in, to_in, call_id_in, cseq_in, length_in, contact_in, event_in, expires_in, accept_in, refer_to_in, refer_sub_in, require_in, route_in, with_commas}
+use Rattle.sip_read.specs.Items.{Item, item, values_of}
+use Rattle.sip_read.specs.Message.{with_commas}
 use Rattle.sip_read.specs.OnceComputed.{once_all}
 use Rattle.sip_read.specs.ValuesComputed.{refer_sub_of}
 use Rattle.sip_read.specs.Vias.{Hop, via_of}
@@ -33,44 +33,35 @@ texts hs = map (λ h. h.text) hs
 
 abbrev fields_with : Fields → List Item → Fields
 fields_with f xs = record {
-  event = once_all f.event (map event_kept (filter_map event_in xs));
-  expires = once_all f.expires (map expires_kept (filter_map expires_in xs));
-  accept = accept_all f.accept (filter_map accept_in xs);
-  contact = once_all f.contact (map contact_of (filter_map contact_in xs));
-  refer_to = once_all f.refer_to (map contact_of (filter_map refer_to_in xs));
-  refer_sub = once_all f.refer_sub (map refer_sub_of (filter_map refer_sub_in xs));
-  require = f.require ++ filter_map require_in xs;
-  record_routes = f.record_routes ++ filter_map route_in xs;
+  event = once_all f.event (map event_kept (values_of headers.Event xs));
+  expires = once_all f.expires (map expires_kept (values_of headers.Expires xs));
+  accept = accept_all f.accept (values_of headers.Accept xs);
+  contact = once_all f.contact (map contact_of (values_of headers.Contact xs));
+  refer_to = once_all f.refer_to (map contact_of (values_of headers.ReferTo xs));
+  refer_sub = once_all f.refer_sub (map refer_sub_of (values_of headers.ReferSub xs));
+  require = f.require ++ values_of headers.Require xs;
+  record_routes = f.record_routes ++ values_of headers.RecordRoute xs;
 }
 
 abbrev gathered_with : Gathered → List Item → Gathered
 gathered_with g xs = record {
-  vias = g.vias ++ texts (filter_map via_in xs);
-  top = first_all g.top (filter_map via_in xs);
-  from = once_all g.from (filter_map from_in xs);
-  to = once_all g.to (filter_map to_in xs);
-  call_id = once_all g.call_id (filter_map call_id_in xs);
-  cseq = once_all g.cseq (filter_map cseq_in xs);
-  content_length = once_all g.content_length (map capped (filter_map length_in xs));
+  vias = g.vias ++ texts (values_of headers.Via xs);
+  top = first_all g.top (values_of headers.Via xs);
+  from = once_all g.from (values_of headers.From xs);
+  to = once_all g.to (values_of headers.To xs);
+  call_id = once_all g.call_id (values_of headers.CallId xs);
+  cseq = once_all g.cseq (values_of headers.CSeq xs);
+  content_length = once_all g.content_length (map capped (values_of headers.ContentLength xs));
   fields = fields_with g.fields xs;
 }
 
 pub gathered_all : (g : Gathered) (xs : List Item) → with_items g xs ≡ gathered_with g xs
 gathered_all g [] = rw (append-nil g.vias, append-nil g.fields.require, append-nil g.fields.record_routes) refl
-gathered_all g (via h ∷ xs) = gathered_all (with_item g (via h)) xs ∙ rw (append_assoc g.vias (h.text ∷ []) (texts (filter_map via_in xs))) refl
-gathered_all g (from p ∷ xs) = gathered_all (with_item g (from p)) xs
-gathered_all g (to p ∷ xs) = gathered_all (with_item g (to p)) xs
-gathered_all g (call_id v ∷ xs) = gathered_all (with_item g (call_id v)) xs
-gathered_all g (cseq s ∷ xs) = gathered_all (with_item g (cseq s)) xs
-gathered_all g (content_length d ∷ xs) = gathered_all (with_item g (content_length d)) xs
-gathered_all g (contact v ∷ xs) = gathered_all (with_item g (contact v)) xs
-gathered_all g (event v ∷ xs) = gathered_all (with_item g (event v)) xs
-gathered_all g (expires v ∷ xs) = gathered_all (with_item g (expires v)) xs
-gathered_all g (accept v ∷ xs) = gathered_all (with_item g (accept v)) xs
-gathered_all g (refer_to v ∷ xs) = gathered_all (with_item g (refer_to v)) xs
-gathered_all g (refer_sub v ∷ xs) = gathered_all (with_item g (refer_sub v)) xs
-gathered_all g (require v ∷ xs) = gathered_all (with_item g (require v)) xs ∙ rw (append_assoc g.fields.require (v ∷ []) (filter_map require_in xs)) refl
-gathered_all g (record_route v ∷ xs) = gathered_all (with_item g (record_route v)) xs ∙ rw (append_assoc g.fields.record_routes (v ∷ []) (filter_map route_in xs)) refl
+gathered_all g ((item headers.Via h) ∷ xs) = gathered_all (with_item g (item headers.Via h)) xs ∙ rw (append_assoc g.vias (h.text ∷ []) (texts (values_of headers.Via xs))) refl
+gathered_all g ((item headers.Require v) ∷ xs) = gathered_all (with_item g (item headers.Require v)) xs ∙ rw (append_assoc g.fields.require (v ∷ []) (values_of headers.Require xs)) refl
+gathered_all g ((item headers.RecordRoute v) ∷ xs) =
+    gathered_all (with_item g (item headers.RecordRoute v)) xs ∙ rw (append_assoc g.fields.record_routes (v ∷ []) (values_of headers.RecordRoute xs)) refl
+gathered_all g (x ∷ xs) = gathered_all (with_item g x) xs
 
 -- ---- values that may stand once
 
@@ -115,40 +106,40 @@ all_accept (v ∷ vs) = accept_goes_on v vs
 
 abbrev pub fields_of : List Item → Fields
 fields_of xs = record {
-  event = once_of (map event_kept (filter_map event_in xs));
-  expires = once_of (map expires_kept (filter_map expires_in xs));
-  accept = accept_of_lines (filter_map accept_in xs);
-  contact = once_of (map contact_of (filter_map contact_in xs));
-  refer_to = once_of (map contact_of (filter_map refer_to_in xs));
-  refer_sub = once_of (map refer_sub_of (filter_map refer_sub_in xs));
-  require = filter_map require_in xs;
-  record_routes = filter_map route_in xs;
+  event = once_of (map event_kept (values_of headers.Event xs));
+  expires = once_of (map expires_kept (values_of headers.Expires xs));
+  accept = accept_of_lines (values_of headers.Accept xs);
+  contact = once_of (map contact_of (values_of headers.Contact xs));
+  refer_to = once_of (map contact_of (values_of headers.ReferTo xs));
+  refer_sub = once_of (map refer_sub_of (values_of headers.ReferSub xs));
+  require = values_of headers.Require xs;
+  record_routes = values_of headers.RecordRoute xs;
 }
 
 abbrev pub gathered_of : List Item → Gathered
 gathered_of xs = record {
-  vias = texts (filter_map via_in xs);
-  top = top_of (filter_map via_in xs);
-  from = once_of (filter_map from_in xs);
-  to = once_of (filter_map to_in xs);
-  call_id = once_of (filter_map call_id_in xs);
-  cseq = once_of (filter_map cseq_in xs);
-  content_length = once_of (map capped (filter_map length_in xs));
+  vias = texts (values_of headers.Via xs);
+  top = top_of (values_of headers.Via xs);
+  from = once_of (values_of headers.From xs);
+  to = once_of (values_of headers.To xs);
+  call_id = once_of (values_of headers.CallId xs);
+  cseq = once_of (values_of headers.CSeq xs);
+  content_length = once_of (map capped (values_of headers.ContentLength xs));
   fields = fields_of xs;
 }
 
 pub gathered_is : (xs : List Item) → with_items nothing xs ≡ gathered_of xs
 gathered_is xs = gathered_all nothing xs ∙ rw (
-  all_first (filter_map via_in xs),
-  all_once (filter_map from_in xs),
-  all_once (filter_map to_in xs),
-  all_once (filter_map call_id_in xs),
-  all_once (filter_map cseq_in xs),
-  all_once (map capped (filter_map length_in xs)),
-  all_once (map event_kept (filter_map event_in xs)),
-  all_once (map expires_kept (filter_map expires_in xs)),
-  all_accept (filter_map accept_in xs),
-  all_once (map contact_of (filter_map contact_in xs)),
-  all_once (map contact_of (filter_map refer_to_in xs)),
-  all_once (map refer_sub_of (filter_map refer_sub_in xs)),
+  all_first (values_of headers.Via xs),
+  all_once (values_of headers.From xs),
+  all_once (values_of headers.To xs),
+  all_once (values_of headers.CallId xs),
+  all_once (values_of headers.CSeq xs),
+  all_once (map capped (values_of headers.ContentLength xs)),
+  all_once (map event_kept (values_of headers.Event xs)),
+  all_once (map expires_kept (values_of headers.Expires xs)),
+  all_accept (values_of headers.Accept xs),
+  all_once (map contact_of (values_of headers.Contact xs)),
+  all_once (map contact_of (values_of headers.ReferTo xs)),
+  all_once (map refer_sub_of (values_of headers.ReferSub xs)),
 ) refl

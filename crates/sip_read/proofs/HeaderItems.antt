@@ -17,8 +17,8 @@ use Rattle.sip_read.specs.declared.header.Header.TheVariants as headers
 use Rattle.sip_read.specs.declared.item.Listed.TheVariants as listed
 use Rattle.sip_read.specs.AddressesComputed.{party_of}
 use Rattle.sip_read.specs.Headers.{header_named}
-use Rattle.sip_read.specs.Items.{Item, from, to, call_id, cseq, content_length, contact, event, expires, accept, refer_to, refer_sub, AreValues, IsLine, AreItems}
-use Rattle.sip_read.specs.ItemsComputed.{alone, values_of, line_items, items_of}
+use Rattle.sip_read.specs.Items.{Item, item, AreValues, IsLine, AreItems}
+use Rattle.sip_read.specs.ItemsComputed.{single_of, alone, line_values, line_items, items_of}
 use Rattle.sip_read.specs.LinesComputed.{header_of}
 use Rattle.sip_read.specs.ValuesComputed.{call_id_of, sequence_of}
 use Rattle.sip_read.proofs.Calls.{call_id_takes, call_id_again, sequence_takes, sequence_again}
@@ -36,42 +36,39 @@ alone_some : {A : Type 0} (f : A → Item) (o : Option A) (xs : List Item) → a
 alone_some f (Some x) xs e = (x, refl, sym (some_is (f x ∷ []) xs e))
 alone_some f None xs e = absurd cc
 
+pub single_alone : (header : Header) (v : List ℕ) (x : Item) → single_of header v ≡ Some x → line_values header v ≡ Some (x ∷ [])
+single_alone headers.Via v x e = absurd cc
+single_alone headers.Require v x e = absurd cc
+single_alone headers.RecordRoute v x e = absurd cc
+single_alone headers.Other v x e = absurd cc
+single_alone header v x e = ap alone e
+
 raw : (x : Item) (xs : List Item) → alone (Some x) ≡ Some xs → xs ≡ x ∷ []
 raw x xs e = sym (some_is (x ∷ []) xs e)
 
-pub values_take : (n : Header) (v : List ℕ) (xs : List Item) → IsTrimmed v → values_of n v ≡ Some xs → AreValues n v xs
+pub values_take : (n : Header) (v : List ℕ) (xs : List Item) → IsTrimmed v → line_values n v ≡ Some xs → AreValues n v xs
 values_take headers.Via v xs t e = listed_take listed.Via v xs t.0 e
-values_take headers.From v xs t e = let m = alone_some from (party_of v) xs e in (m.0, party_takes v m.0 m.1, m.2)
-values_take headers.To v xs t e = let m = alone_some to (party_of v) xs e in (m.0, party_takes v m.0 m.1, m.2)
-values_take headers.CallId v xs t e = let m = alone_some call_id (call_id_of v) xs e in let w = call_id_takes v m.0 m.1 in (w.1, m.2 ∙ ap (λ (l : List ℕ). call_id l ∷ []) w.0)
-values_take headers.CSeq v xs t e = let m = alone_some cseq (sequence_of v) xs e in (m.0, sequence_takes v m.0 m.1, m.2)
-values_take headers.ContentLength v xs t e = let m = alone_some content_length (all_of (is_in class.Digit) v) xs e in let w = all_takes class.Digit v m.0 m.1 in (w.1, m.2 ∙ ap (λ (l : List ℕ). content_length l ∷ []) w.0)
-values_take headers.Contact v xs t e = raw (contact v) xs e
-values_take headers.Event v xs t e = raw (event v) xs e
-values_take headers.Expires v xs t e = raw (expires v) xs e
-values_take headers.Accept v xs t e = raw (accept v) xs e
-values_take headers.ReferTo v xs t e = raw (refer_to v) xs e
-values_take headers.ReferSub v xs t e = raw (refer_sub v) xs e
+values_take headers.From v xs t e = let m = alone_some (item headers.From) (party_of v) xs e in (m.0, party_takes v m.0 m.1, m.2)
+values_take headers.To v xs t e = let m = alone_some (item headers.To) (party_of v) xs e in (m.0, party_takes v m.0 m.1, m.2)
+values_take headers.CallId v xs t e = let m = alone_some (item headers.CallId) (call_id_of v) xs e in let w = call_id_takes v m.0 m.1 in (w.1, m.2 ∙ ap (λ (l : List ℕ). item headers.CallId l ∷ []) w.0)
+values_take headers.CSeq v xs t e = let m = alone_some (item headers.CSeq) (sequence_of v) xs e in (m.0, sequence_takes v m.0 m.1, m.2)
+values_take headers.ContentLength v xs t e = let m = alone_some (item headers.ContentLength) (all_of (is_in class.Digit) v) xs e in let w = all_takes class.Digit v m.0 m.1 in (w.1, m.2 ∙ ap (λ (l : List ℕ). item headers.ContentLength l ∷ []) w.0)
 values_take headers.Require v xs t e = listed_take listed.Require v xs t.0 e
 values_take headers.RecordRoute v xs t e = listed_take listed.RecordRoute v xs t.0 e
 values_take headers.Other v xs t e = sym (some_is [] xs e)
+values_take header v xs t e = raw (item header v) xs e
 
-pub values_again : (n : Header) (v : List ℕ) (xs : List Item) → IsUtf8 v → AreValues n v xs → values_of n v ≡ Some xs
+pub values_again : (n : Header) (v : List ℕ) (xs : List Item) → IsUtf8 v → AreValues n v xs → line_values n v ≡ Some xs
 values_again headers.Via v xs u h = listed_again listed.Via v xs u h
 values_again headers.From v xs u h = rw (party_again v h.0 u h.1, h.2) refl
 values_again headers.To v xs u h = rw (party_again v h.0 u h.1, h.2) refl
 values_again headers.CallId v xs u h = rw (call_id_again v h.0, h.1) refl
 values_again headers.CSeq v xs u h = rw (sequence_again v h.0 h.1, h.2) refl
 values_again headers.ContentLength v xs u h = rw (all_again class.Digit v h.0, h.1) refl
-values_again headers.Contact v xs u h = rw h refl
-values_again headers.Event v xs u h = rw h refl
-values_again headers.Expires v xs u h = rw h refl
-values_again headers.Accept v xs u h = rw h refl
-values_again headers.ReferTo v xs u h = rw h refl
-values_again headers.ReferSub v xs u h = rw h refl
 values_again headers.Require v xs u h = listed_again listed.Require v xs u h
 values_again headers.RecordRoute v xs u h = listed_again listed.RecordRoute v xs u h
 values_again headers.Other v xs u h = rw h refl
+values_again header v xs u h = rw h refl
 
 -- ---- a line
 
@@ -90,10 +87,10 @@ value_text line xs h =
 pub line_takes : (line : List ℕ) (xs : List Item) → line_items line ≡ Some xs → IsLine line xs
 unfolding line_items
 line_takes line xs e = step (is_utf8 line) refl e where
-  step : (b : Bool) → is_utf8 line ≡ b → cond b (header_of line >>= λ h. values_of (header_named h.0) h.1) None ≡ Some xs → IsLine line xs
+  step : (b : Bool) → is_utf8 line ≡ b → cond b (header_of line >>= λ h. line_values (header_named h.0) h.1) None ≡ Some xs → IsLine line xs
   step false no_text e = absurd cc
   step true text e =
-      let b = bind_some (header_of line) (λ h. values_of (header_named h.0) h.1) xs e in
+      let b = bind_some (header_of line) (λ h. line_values (header_named h.0) h.1) xs e in
       let h = header_takes line b.0.0 b.0.1 b.1 in
       record {
         name = b.0.0;

@@ -14,6 +14,7 @@ pub mod HeaderItems
 pub mod Gatherings
 pub mod GatheredLists
 pub mod Exact
+pub mod BadLines
 pub mod Assembling
 pub mod Kept
 pub mod PlainLines

@@ -43,14 +43,14 @@ lines_take (suc n) t lines rest e =
 
 -- ---- and found again
 
-lines_begin : (wire : List ℕ) (lines : List (List ℕ)) (rest : List ℕ) → AreLines wire lines → begins_space (wire ++ 13 ∷ 10 ∷ rest) ≡ false
+pub lines_begin : (wire : List ℕ) (lines : List (List ℕ)) (rest : List ℕ) → AreLines wire lines → begins_space (wire ++ 13 ∷ 10 ∷ rest) ≡ false
 lines_begin wire [] rest h = rw h refl
 lines_begin wire (line ∷ lines) rest h =
     let b = wire_begins h.2 h.3 in
     let at : wire ≡ b.0 ∷ (b.1 ++ 13 ∷ 10 ∷ h.1) = h.5 ∙ ap (λ (l : List ℕ). l ++ 13 ∷ 10 ∷ h.1) b.2 in
     rw at b.3
 
-begins_some : (line : List ℕ) → BeginsLine line → eqb (length line) 0 ≡ false
+pub begins_some : (line : List ℕ) → BeginsLine line → eqb (length line) 0 ≡ false
 begins_some line b = ne_eqb (length line) 0 (λ e. omega (arith, e, ap length b.2))
 
 pub lines_again : (lines : List (List ℕ)) (t rest : List ℕ) (n : ℕ) → HasLines t lines rest → length t ≤ n → lines_at n t ≡ Some (lines, rest)

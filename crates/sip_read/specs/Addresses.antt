@@ -1,5 +1,6 @@
 -- Addresses, and the values that are one: From, To, Contact, Refer-To and Record-Route (RFC 3261 sections 20.10, 20.20, 20.30 and 20.39, RFC 3515).
 use Rattle.std.specs.Prelude.{◌≡◌, ◌≢◌, ℕ, true, List, [], ◌∷◌, ◌++◌, ◌⊎◌, codes}
+use Rattle.std.specs.Str.{byte}
 use Rattle.sip_text.specs.declared.scan.Class.{Class}
 use Rattle.sip_text.specs.declared.scan.Class.TheVariants as class
 use Rattle.sip_text.specs.Bytes.{is_in, is_letter}
@@ -9,7 +10,7 @@ use Rattle.sip_read.specs.declared.message.Party.{Party}
 -- a uri as far as the reader looks at it, of bytes of the class:
 --   uri = letter *(letter / digit / "+" / "-" / ".") ":" 1*(33 to 126 but DQUOTE "<" ">")
 abbrev pub IsUri : Class → List ℕ → Type 0
-IsUri k uri = (x : ℕ) × (scheme rest : List ℕ) × (is_letter x ≡ true) × AllPassing (is_in class.Scheme) scheme × (rest ≢ []) × (uri ≡ x ∷ (scheme ++ 58 ∷ rest)) × AllPassing (is_in k) uri
+IsUri k uri = (x : ℕ) × (scheme rest : List ℕ) × (is_letter x ≡ true) × AllPassing (is_in class.Scheme) scheme × (rest ≢ []) × (uri ≡ x ∷ (scheme ++ byte ":" ∷ rest)) × AllPassing (is_in k) uri
 
 --   display = [quoted / 1*(any but DQUOTE "<" ">" "," ";")]
 abbrev pub IsDisplay : List ℕ → Type 0
@@ -19,7 +20,7 @@ IsDisplay display = IsQuoted display ⊎ AllPassing (is_in class.Display) displa
 --   address = display WS "<" uri ">" / bare
 abbrev pub IsAddress : List ℕ → List ℕ → Type 0
 IsAddress text uri =
-    ((display spaces : List ℕ) × IsDisplay display × AreSpaces spaces × IsUri class.Uri uri × (text ≡ display ++ (spaces ++ 60 ∷ (uri ++ 62 ∷ []))))
+    ((display spaces : List ℕ) × IsDisplay display × AreSpaces spaces × IsUri class.Uri uri × (text ≡ display ++ (spaces ++ byte "<" ∷ (uri ++ byte ">" ∷ []))))
     ⊎ (IsUri class.Bare uri × (text ≡ uri))
 
 -- From and To, with at most one tag, which is a token:
@@ -56,4 +57,4 @@ pub record IsRoute (text : List ℕ) : Type 0 where
   pub are_spaces : AreSpaces spaces
   pub is_uri : IsUri class.Uri uri
   pub are : AreParameters behind parameters
-  pub whole : text ≡ display ++ (spaces ++ 60 ∷ (uri ++ 62 ∷ behind))
+  pub whole : text ≡ display ++ (spaces ++ byte "<" ∷ (uri ++ byte ">" ∷ behind))

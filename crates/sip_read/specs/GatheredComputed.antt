@@ -4,13 +4,14 @@ use Rattle.sip_text.specs.Grammar.{number_of}
 use Rattle.sip_text.specs.Reading.{◌>>=◌}
 use Rattle.event_headers.specs.Values.{EventValue}
 use Rattle.sip_read.specs.declared.call.Sequence.{Sequence}
+use Rattle.sip_read.specs.declared.header.Header.TheVariants as headers
 use Rattle.sip_read.specs.declared.message.Party.{Party}
 use Rattle.sip_read.specs.declared.message.Via.{Via}
 use Rattle.sip_read.specs.declared.once.Once.{Once}
 use Rattle.sip_read.specs.declared.once.Once.TheVariants as once
 use Rattle.sip_read.specs.AddressesComputed.{contact_of}
 use Rattle.sip_read.specs.FieldsComputed.{event_kept, expires_kept}
-use Rattle.sip_read.specs.Items.{Item, via, from, to, call_id, cseq, content_length, contact, event, expires, accept, refer_to, refer_sub, require, record_route}
+use Rattle.sip_read.specs.Items.{Item, item}
 use Rattle.sip_read.specs.ItemsComputed.{line_items, section_of}
 use Rattle.sip_read.specs.LinesComputed.{unfolded_of}
 use Rattle.sip_read.specs.OnceComputed.{once_more}
@@ -54,36 +55,24 @@ first_or None x = Some x
 first_or (Some y) x = Some y
 
 abbrev pub with_field : Fields → Item → Fields
-with_field f (event v) = record f { event = once_more f.event (event_kept v) }
-with_field f (expires v) = record f { expires = once_more f.expires (expires_kept v) }
-with_field f (accept v) = record f { accept = accept_more f.accept v }
-with_field f (contact v) = record f { contact = once_more f.contact (contact_of v) }
-with_field f (refer_to v) = record f { refer_to = once_more f.refer_to (contact_of v) }
-with_field f (refer_sub v) = record f { refer_sub = once_more f.refer_sub (refer_sub_of v) }
-with_field f (require v) = record f { require = f.require ++ v ∷ [] }
-with_field f (record_route v) = record f { record_routes = f.record_routes ++ v ∷ [] }
-with_field f (via h) = f
-with_field f (from p) = f
-with_field f (to p) = f
-with_field f (call_id v) = f
-with_field f (cseq s) = f
-with_field f (content_length d) = f
+with_field f (item headers.Event v) = record f { event = once_more f.event (event_kept v) }
+with_field f (item headers.Expires v) = record f { expires = once_more f.expires (expires_kept v) }
+with_field f (item headers.Accept v) = record f { accept = accept_more f.accept v }
+with_field f (item headers.Contact v) = record f { contact = once_more f.contact (contact_of v) }
+with_field f (item headers.ReferTo v) = record f { refer_to = once_more f.refer_to (contact_of v) }
+with_field f (item headers.ReferSub v) = record f { refer_sub = once_more f.refer_sub (refer_sub_of v) }
+with_field f (item headers.Require v) = record f { require = f.require ++ v ∷ [] }
+with_field f (item headers.RecordRoute v) = record f { record_routes = f.record_routes ++ v ∷ [] }
+with_field f _ = f
 
 abbrev pub with_item : Gathered → Item → Gathered
-with_item g (via h) = record g { vias = g.vias ++ h.text ∷ []; top = first_or g.top (via_of h) }
-with_item g (from p) = record g { from = once_more g.from p }
-with_item g (to p) = record g { to = once_more g.to p }
-with_item g (call_id v) = record g { call_id = once_more g.call_id v }
-with_item g (cseq s) = record g { cseq = once_more g.cseq s }
-with_item g (content_length d) = record g { content_length = once_more g.content_length (min (number_of d) (2 ^ 32)) }
-with_item g (event v) = record g { fields = with_field g.fields (event v) }
-with_item g (expires v) = record g { fields = with_field g.fields (expires v) }
-with_item g (accept v) = record g { fields = with_field g.fields (accept v) }
-with_item g (contact v) = record g { fields = with_field g.fields (contact v) }
-with_item g (refer_to v) = record g { fields = with_field g.fields (refer_to v) }
-with_item g (refer_sub v) = record g { fields = with_field g.fields (refer_sub v) }
-with_item g (require v) = record g { fields = with_field g.fields (require v) }
-with_item g (record_route v) = record g { fields = with_field g.fields (record_route v) }
+with_item g (item headers.Via h) = record g { vias = g.vias ++ h.text ∷ []; top = first_or g.top (via_of h) }
+with_item g (item headers.From p) = record g { from = once_more g.from p }
+with_item g (item headers.To p) = record g { to = once_more g.to p }
+with_item g (item headers.CallId v) = record g { call_id = once_more g.call_id v }
+with_item g (item headers.CSeq s) = record g { cseq = once_more g.cseq s }
+with_item g (item headers.ContentLength d) = record g { content_length = once_more g.content_length (min (number_of d) (2 ^ 32)) }
+with_item g x = record g { fields = with_field g.fields x }
 
 abbrev pub with_items : Gathered → List Item → Gathered
 with_items g [] = g

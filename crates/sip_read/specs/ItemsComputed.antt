@@ -8,7 +8,7 @@ use Rattle.sip_read.specs.declared.header.Header.{Header}
 use Rattle.sip_read.specs.declared.header.Header.TheVariants as headers
 use Rattle.sip_read.specs.declared.item.Listed.{Listed}
 use Rattle.sip_read.specs.declared.item.Listed.TheVariants as listed
-use Rattle.sip_read.specs.Items.{Item, via, from, to, call_id, cseq, content_length, contact, event, expires, accept, refer_to, refer_sub, require, record_route}
+use Rattle.sip_read.specs.Items.{Item, item}
 use Rattle.sip_read.specs.AddressesComputed.{bracketed_at, party_of}
 use Rattle.sip_read.specs.Headers.{header_named}
 use Rattle.sip_read.specs.LinesComputed.{header_of, lines_of}
@@ -30,13 +30,13 @@ route_at t = do
   Some (text, ps.1)
 
 abbrev pub with_via : Option (Hop × List ℕ) → Option (Item × List ℕ)
-with_via o = o >>= λ x. Some (via x.0, x.1)
+with_via o = o >>= λ x. Some (item headers.Via x.0, x.1)
 
 abbrev pub with_require : Option (List ℕ × List ℕ) → Option (Item × List ℕ)
-with_require o = o >>= λ x. Some (require x.0, x.1)
+with_require o = o >>= λ x. Some (item headers.Require x.0, x.1)
 
 abbrev pub with_route : Option (List ℕ × List ℕ) → Option (Item × List ℕ)
-with_route o = o >>= λ x. Some (record_route x.0, x.1)
+with_route o = o >>= λ x. Some (item headers.RecordRoute x.0, x.1)
 
 abbrev pub element_at : Listed → List ℕ → Option (Item × List ℕ)
 element_at listed.Via t = with_via (hop_at t)
@@ -46,44 +46,29 @@ element_at listed.RecordRoute t = with_route (route_at t)
 -- the one value of a line of this header
 abbrev pub single_of : Header → List ℕ → Option Item
 single_of headers.Via v = None
-single_of headers.From v = option_map from (party_of v)
-single_of headers.To v = option_map to (party_of v)
-single_of headers.CallId v = option_map call_id (call_id_of v)
-single_of headers.CSeq v = option_map cseq (sequence_of v)
-single_of headers.ContentLength v = option_map content_length (all_of (is_in class.Digit) v)
-single_of headers.Contact v = Some (contact v)
-single_of headers.Event v = Some (event v)
-single_of headers.Expires v = Some (expires v)
-single_of headers.Accept v = Some (accept v)
-single_of headers.ReferTo v = Some (refer_to v)
-single_of headers.ReferSub v = Some (refer_sub v)
+single_of headers.From v = option_map (item headers.From) (party_of v)
+single_of headers.To v = option_map (item headers.To) (party_of v)
+single_of headers.CallId v = option_map (item headers.CallId) (call_id_of v)
+single_of headers.CSeq v = option_map (item headers.CSeq) (sequence_of v)
+single_of headers.ContentLength v = option_map (item headers.ContentLength) (all_of (is_in class.Digit) v)
 single_of headers.Require v = None
 single_of headers.RecordRoute v = None
 single_of headers.Other v = None
+single_of header v = Some (item header v)
 
 abbrev pub alone : Option Item → Option (List Item)
 alone o = option_map (λ x. x ∷ []) o
 
-abbrev pub values_of : Header → List ℕ → Option (List Item)
-values_of headers.Via v = elements_of (element_at listed.Via) v
-values_of headers.From v = alone (single_of headers.From v)
-values_of headers.To v = alone (single_of headers.To v)
-values_of headers.CallId v = alone (single_of headers.CallId v)
-values_of headers.CSeq v = alone (single_of headers.CSeq v)
-values_of headers.ContentLength v = alone (single_of headers.ContentLength v)
-values_of headers.Contact v = alone (single_of headers.Contact v)
-values_of headers.Event v = alone (single_of headers.Event v)
-values_of headers.Expires v = alone (single_of headers.Expires v)
-values_of headers.Accept v = alone (single_of headers.Accept v)
-values_of headers.ReferTo v = alone (single_of headers.ReferTo v)
-values_of headers.ReferSub v = alone (single_of headers.ReferSub v)
-values_of headers.Require v = elements_of (element_at listed.Require) v
-values_of headers.RecordRoute v = elements_of (element_at listed.RecordRoute) v
-values_of headers.Other v = Some []
+abbrev pub line_values : Header → List ℕ → Option (List Item)
+line_values headers.Via v = elements_of (element_at listed.Via) v
+line_values headers.Require v = elements_of (element_at listed.Require) v
+line_values headers.RecordRoute v = elements_of (element_at listed.RecordRoute) v
+line_values headers.Other v = Some []
+line_values header v = alone (single_of header v)
 
 -- the values of a line
 unfoldable pub line_items : List ℕ → Option (List Item)
-line_items line = if is_utf8 line then (header_of line >>= λ h. values_of (header_named h.0) h.1) else None
+line_items line = if is_utf8 line then (header_of line >>= λ h. line_values (header_named h.0) h.1) else None
 
 -- the values of lines
 unfoldable pub items_of : List (List ℕ) → Option (List Item)

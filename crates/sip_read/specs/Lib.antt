@@ -8,6 +8,7 @@ pub mod ReferSub
 pub mod Items
 pub mod FirstLine
 pub mod Message
+pub mod BadLines
 pub mod LinesComputed
 pub mod AddressesComputed
 pub mod ViasComputed

@@ -1,36 +1,39 @@
 -- Which datagrams are which message, and which are none (RFC 3261 sections 7, 18 and 20). Each relation says that there is some way to cut the bytes.
 use Rattle.std.specs.Prelude.{◌≡◌, ℕ, ◌<◌, ◌≤◌, List, [], ◌∷◌, ◌++◌, map, length, take, nat_lt, ◌==◌, Option, Some, None, Result, Ok, Err, find}
-use Rattle.std.specs.List.{filter_map}
+use Rattle.std.specs.Str.{byte}
 use Rattle.sip_text.specs.declared.field.Field.{Field}
 use Rattle.sip_text.specs.declared.field.Field.TheVariants as field
 use Rattle.sip_text.specs.declared.scan.Class.TheVariants as class
 use Rattle.sip_text.specs.Bytes.{is_in}
 use Rattle.sip_text.specs.Grammar.{AllPassing, number_of}
 use Rattle.event_headers.specs.Headers.{IsEvent, EventFits, IsExpires, Fits, IsAccept, RangesFit}
-use Rattle.sip_read.specs.declared.call.Sequence.{Sequence}
 use Rattle.sip_read.specs.declared.error.HeaderName.{HeaderName}
 use Rattle.sip_read.specs.declared.error.HeaderName.TheVariants as names
 use Rattle.sip_read.specs.declared.error.ReadError.{ReadError}
 use Rattle.sip_read.specs.declared.error.ReadError.TheVariants as errors
+use Rattle.sip_read.specs.declared.header.Header.TheVariants as headers
 use Rattle.sip_read.specs.declared.message.Head.{Head}
 use Rattle.sip_read.specs.declared.message.Message.{Message}
 use Rattle.sip_read.specs.declared.message.Message.TheVariants as messages
-use Rattle.sip_read.specs.declared.message.Party.{Party}
 use Rattle.sip_read.specs.declared.message.Request.{Request}
 use Rattle.sip_read.specs.declared.message.Response.{Response}
 use Rattle.sip_read.specs.Addresses.{IsContact}
 use Rattle.sip_read.specs.FirstLine.{First, request, status, IsFirstLine}
 use Rattle.sip_read.specs.Folding.{HasLines}
-use Rattle.sip_read.specs.Items.{Item, via, from, to, call_id, cseq, content_length, contact, event, expires, accept, refer_to, refer_sub, require, record_route, AreItems}
+use Rattle.sip_read.specs.Items.{Item, values_of, AreItems}
 use Rattle.sip_read.specs.ReferSub.{IsReferSub}
 use Rattle.sip_read.specs.Vias.{Hop, via_of}
 
 -- ---- the datagram cut
 
+-- no UDP datagram has more bytes
+abbrev pub IsShort : List ℕ → Type 0
+IsShort bytes = length bytes ≤ 65535
+
 -- a first line, which ends at the first CRLF: no control character but HT stands before that
 --   first-line CRLF section
 abbrev pub HasFirst : List ℕ → First → List ℕ → Type 0
-HasFirst bytes first section = (length bytes ≤ 65535) × ((line : List ℕ) × AllPassing (is_in class.Line) line × IsFirstLine line first × (bytes ≡ line ++ 13 ∷ 10 ∷ section))
+HasFirst bytes first section = IsShort bytes × ((line : List ℕ) × AllPassing (is_in class.Line) line × IsFirstLine line first × (bytes ≡ line ++ byte "\r" ∷ byte "\n" ∷ section))
 
 -- header lines, each with its values, an empty line, and the rest
 abbrev pub HasItems : List ℕ → List Item → List ℕ → Type 0
@@ -40,74 +43,16 @@ HasItems section xs rest = (lines : List (List ℕ)) × HasLines section lines r
 abbrev pub HasHead : List ℕ → First → List Item → List ℕ → Type 0
 HasHead bytes first xs rest = (section : List ℕ) × HasFirst bytes first section × HasItems section xs rest
 
--- ---- the values of each header, in order
-
-abbrev pub via_in : Item → Option Hop
-via_in (via h) = Some h
-via_in _ = None
-
-abbrev pub from_in : Item → Option Party
-from_in (from p) = Some p
-from_in _ = None
-
-abbrev pub to_in : Item → Option Party
-to_in (to p) = Some p
-to_in _ = None
-
-abbrev pub call_id_in : Item → Option (List ℕ)
-call_id_in (call_id v) = Some v
-call_id_in _ = None
-
-abbrev pub cseq_in : Item → Option Sequence
-cseq_in (cseq s) = Some s
-cseq_in _ = None
-
-abbrev pub length_in : Item → Option (List ℕ)
-length_in (content_length d) = Some d
-length_in _ = None
-
-abbrev pub contact_in : Item → Option (List ℕ)
-contact_in (contact v) = Some v
-contact_in _ = None
-
-abbrev pub event_in : Item → Option (List ℕ)
-event_in (event v) = Some v
-event_in _ = None
-
-abbrev pub expires_in : Item → Option (List ℕ)
-expires_in (expires v) = Some v
-expires_in _ = None
-
-abbrev pub accept_in : Item → Option (List ℕ)
-accept_in (accept v) = Some v
-accept_in _ = None
-
-abbrev pub refer_to_in : Item → Option (List ℕ)
-refer_to_in (refer_to v) = Some v
-refer_to_in _ = None
-
-abbrev pub refer_sub_in : Item → Option (List ℕ)
-refer_sub_in (refer_sub v) = Some v
-refer_sub_in _ = None
-
-abbrev pub require_in : Item → Option (List ℕ)
-require_in (require v) = Some v
-require_in _ = None
-
-abbrev pub route_in : Item → Option (List ℕ)
-route_in (record_route v) = Some v
-route_in _ = None
-
 -- ---- what has to stand, and what may stand once
 
 -- how many values of a header there are
 abbrev pub count : List Item → HeaderName → ℕ
-count xs names.Via = length (filter_map via_in xs)
-count xs names.From = length (filter_map from_in xs)
-count xs names.To = length (filter_map to_in xs)
-count xs names.CallId = length (filter_map call_id_in xs)
-count xs names.CSeq = length (filter_map cseq_in xs)
-count xs names.ContentLength = length (filter_map length_in xs)
+count xs names.Via = length (values_of headers.Via xs)
+count xs names.From = length (values_of headers.From xs)
+count xs names.To = length (values_of headers.To xs)
+count xs names.CallId = length (values_of headers.CallId xs)
+count xs names.CSeq = length (values_of headers.CSeq xs)
+count xs names.ContentLength = length (values_of headers.ContentLength xs)
 
 -- the first header that may stand once and stands twice
 abbrev pub doubled : List Item → Option HeaderName
@@ -121,13 +66,13 @@ absent xs = find (λ n. count xs n == 0) (names.Via ∷ names.From ∷ names.To 
 pub record IsHead (xs : List Item) (head : Head) : Type 0 where
   pub top : Hop
   pub others : List Hop
-  pub hops : filter_map via_in xs ≡ top ∷ others
+  pub hops : values_of headers.Via xs ≡ top ∷ others
   pub vias : head.vias ≡ top.text ∷ map (λ h. h.text) others
   pub top_via : head.top ≡ via_of top
-  pub from : filter_map from_in xs ≡ head.from ∷ []
-  pub to : filter_map to_in xs ≡ head.to ∷ []
-  pub call_id : filter_map call_id_in xs ≡ head.call_id ∷ []
-  pub cseq : filter_map cseq_in xs ≡ record { number = head.cseq; method = head.cseq_method } ∷ []
+  pub from : values_of headers.From xs ≡ head.from ∷ []
+  pub to : values_of headers.To xs ≡ head.to ∷ []
+  pub call_id : values_of headers.CallId xs ≡ head.call_id ∷ []
+  pub cseq : values_of headers.CSeq xs ≡ record { number = head.cseq; method = head.cseq_method } ∷ []
 
 -- the body: what the Content-Length leaves of the rest
 abbrev pub IsBody : List (List ℕ) → List ℕ → List ℕ → Type 0
@@ -152,7 +97,7 @@ IsKept Is FitsIn v x = Is v x × FitsIn x
 -- texts with commas between them
 abbrev pub with_commas : List ℕ → List (List ℕ) → List ℕ
 with_commas text [] = text
-with_commas text (v ∷ vs) = with_commas (text ++ 44 ∷ v) vs
+with_commas text (v ∷ vs) = with_commas (text ++ byte "," ∷ v) vs
 
 -- Accept: its lines joined with commas are one value
 abbrev pub joined_lines : List (List ℕ) → List (List ℕ)
@@ -166,15 +111,15 @@ pub record IsRequest (bytes : List ℕ) (r : Request) : Type 0 where
   pub rest : List ℕ
   pub cut : HasHead bytes (request r.method r.uri) items rest
   pub head : IsHead items r.head
-  pub event : IsField (IsKept IsEvent EventFits) (filter_map event_in items) r.event
-  pub expires : IsField (IsKept IsExpires Fits) (filter_map expires_in items) r.expires
-  pub accept : IsField (IsKept IsAccept RangesFit) (joined_lines (filter_map accept_in items)) r.accept
-  pub contact : IsField IsContact (filter_map contact_in items) r.contact
-  pub refer_to : IsField IsContact (filter_map refer_to_in items) r.refer_to
-  pub refer_sub : IsField IsReferSub (filter_map refer_sub_in items) r.refer_sub
-  pub require : r.require ≡ filter_map require_in items
-  pub record_routes : r.record_routes ≡ filter_map route_in items
-  pub body : IsBody (filter_map length_in items) rest r.body
+  pub event : IsField (IsKept IsEvent EventFits) (values_of headers.Event items) r.event
+  pub expires : IsField (IsKept IsExpires Fits) (values_of headers.Expires items) r.expires
+  pub accept : IsField (IsKept IsAccept RangesFit) (joined_lines (values_of headers.Accept items)) r.accept
+  pub contact : IsField IsContact (values_of headers.Contact items) r.contact
+  pub refer_to : IsField IsContact (values_of headers.ReferTo items) r.refer_to
+  pub refer_sub : IsField IsReferSub (values_of headers.ReferSub items) r.refer_sub
+  pub require : r.require ≡ values_of headers.Require items
+  pub record_routes : r.record_routes ≡ values_of headers.RecordRoute items
+  pub body : IsBody (values_of headers.ContentLength items) rest r.body
 
 pub record IsResponse (bytes : List ℕ) (r : Response) : Type 0 where
   pub items : List Item
@@ -182,7 +127,7 @@ pub record IsResponse (bytes : List ℕ) (r : Response) : Type 0 where
   pub cut : HasHead bytes (status r.status r.reason) items rest
   pub head : IsHead items r.head
   pub body : List ℕ
-  pub is_body : IsBody (filter_map length_in items) rest body
+  pub is_body : IsBody (values_of headers.ContentLength items) rest body
 
 -- the bytes are this message
 abbrev pub Reads : List ℕ → Message → Type 0
@@ -197,12 +142,12 @@ HasSingle bytes first xs rest = HasHead bytes first xs rest × (doubled xs ≡ N
 
 -- the bytes are wrong in this way
 abbrev pub Wrong : List ℕ → ReadError → Type 0
-Wrong bytes errors.TooLong = 65535 < length bytes
-Wrong bytes errors.NotSip = (length bytes ≤ 65535) × ((first : First) (section : List ℕ) → HasFirst bytes first section → ⊥)
+Wrong bytes errors.TooLong = IsShort bytes → ⊥
+Wrong bytes errors.NotSip = IsShort bytes × ((first : First) (section : List ℕ) → HasFirst bytes first section → ⊥)
 Wrong bytes errors.BadLine = (first : First) × (section : List ℕ) × HasFirst bytes first section × ((xs : List Item) (rest : List ℕ) → HasItems section xs rest → ⊥)
 Wrong bytes (errors.Twice n) = (first : First) × (xs : List Item) × (rest : List ℕ) × HasHead bytes first xs rest × (doubled xs ≡ Some n)
 Wrong bytes (errors.Missing n) = (first : First) × (xs : List Item) × (rest : List ℕ) × HasSingle bytes first xs rest × (absent xs ≡ Some n)
-Wrong bytes errors.ShortBody = (first : First) × (xs : List Item) × (rest : List ℕ) × HasSingle bytes first xs rest × (absent xs ≡ None) × ((d : List ℕ) × (filter_map length_in xs ≡ d ∷ []) × (length rest < number_of d))
+Wrong bytes errors.ShortBody = (first : First) × (xs : List Item) × (rest : List ℕ) × HasSingle bytes first xs rest × (absent xs ≡ None) × ((d : List ℕ) × (values_of headers.ContentLength xs ≡ d ∷ []) × (length rest < number_of d))
 Wrong bytes errors.NoMemory = ⊥
 
 -- what the bytes are: this message, or wrong in this way
@@ -216,28 +161,17 @@ IsExact = (bytes : List ℕ) → (r : Result Message ReadError) × Says bytes r 
 
 -- ---- what a call answers
 
--- this error was answered, unless a growth was refused
+-- want of memory, or this error
 abbrev pub Tells : {Y : Type 0} → ReadError → Result Y ReadError → Type 0
-Tells errors.NoMemory read = Unit {0}
-Tells errors.BadLine read = read ≡ Err errors.BadLine
-Tells errors.NotSip read = read ≡ Err errors.NotSip
-Tells (errors.Missing n) read = read ≡ Err (errors.Missing n)
-Tells (errors.Twice n) read = read ≡ Err (errors.Twice n)
-Tells errors.ShortBody read = read ≡ Err errors.ShortBody
-Tells errors.TooLong read = read ≡ Err errors.TooLong
+Tells errors.NoMemory said = Unit {0}
+Tells e said = said ≡ Err e
 
--- this was answered, seen by view, unless a growth was refused
+-- want of memory, or what is said, where an answer's value is seen by view
 abbrev pub Answers : {X Y : Type 0} → (X → Y) → Result X ReadError → Result Y ReadError → Type 0
-Answers view (Ok x) read = read ≡ Ok (view x)
-Answers view (Err e) read = Tells e read
+Answers view (Ok x) said = said ≡ Ok (view x)
+Answers view (Err e) said = Tells e said
 
--- what was answered is what the bytes are, unless a growth was refused
+-- want of memory, or what the bytes say
 abbrev pub IsReading : List ℕ → Result Message ReadError → Type 0
-IsReading bytes (Ok m) = Reads bytes m
 IsReading bytes (Err errors.NoMemory) = Unit {0}
-IsReading bytes (Err errors.BadLine) = Wrong bytes errors.BadLine
-IsReading bytes (Err errors.NotSip) = Wrong bytes errors.NotSip
-IsReading bytes (Err (errors.Missing n)) = Wrong bytes (errors.Missing n)
-IsReading bytes (Err (errors.Twice n)) = Wrong bytes (errors.Twice n)
-IsReading bytes (Err errors.ShortBody) = Wrong bytes errors.ShortBody
-IsReading bytes (Err errors.TooLong) = Wrong bytes errors.TooLong
+IsReading bytes answer = Says bytes answer

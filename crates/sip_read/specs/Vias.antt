@@ -1,7 +1,7 @@
 -- Via values (RFC 3261 section 20.42, RFC 3581).
 use Rattle.std.specs.Prelude.{◌≡◌, ℕ, Bool, true, ◌&&◌, not, List, ◌∷◌, ◌++◌, Option, Some, None, find, is_some, codes}
 use Rattle.std.specs.List.{list_any}
-use Rattle.std.specs.Str.{str_eq_ignore_ascii_case}
+use Rattle.std.specs.Str.{byte, str_eq_ignore_ascii_case}
 use Rattle.sip_text.specs.declared.scan.Class.TheVariants as class
 use Rattle.sip_text.specs.Grammar.{AreSpaces, IsWord, Parameter, AreParameters, has_name}
 use Rattle.sip_read.specs.declared.message.Via.{Via}
@@ -38,7 +38,7 @@ pub record IsSlashed (word text : List ℕ) : Type 0 where
   pub same : str_eq_ignore_ascii_case name word ≡ true
   pub spaces_left : AreSpaces left
   pub spaces_right : AreSpaces right
-  pub whole : text ≡ name ++ (left ++ 47 ∷ right)
+  pub whole : text ≡ name ++ (left ++ byte "/" ∷ right)
 
 -- the protocol and what stands before the host
 --   protocol = "SIP" WS "/" WS "2.0" WS "/" WS token 1*WSP

@@ -7,6 +7,7 @@ use Rattle.sip_read.specs.declared.first_line.First.{First as FirstText}
 use Rattle.sip_read.specs.declared.first_line.First.TheVariants as firsts
 use Rattle.sip_read.specs.declared.gathered.Fields.{Fields as FieldsHeld}
 use Rattle.sip_read.specs.declared.gathered.Gathered.{Gathered as GatheredHeld}
+use Rattle.sip_read.specs.declared.header.Header.TheVariants as headers
 use Rattle.sip_read.specs.declared.item.Item.{Item as ItemText}
 use Rattle.sip_read.specs.declared.item.Item.TheVariants as items
 use Rattle.sip_read.specs.declared.message.Party.{Party}
@@ -27,20 +28,20 @@ abbrev pub hop : HopText → Hop
 hop h = record { text = h.text.now; sent_by = h.sent_by.now; branch = option_map (λ t. t.now) h.branch; bare_rport = h.bare_rport }
 
 abbrev pub item : ItemText → spec.Item
-item (items.Via h) = spec.via (hop h)
-item (items.From p) = spec.from (party p)
-item (items.To p) = spec.to (party p)
-item (items.CallId v) = spec.call_id v.now
-item (items.CSeq s) = spec.cseq (sequence s)
-item (items.ContentLength v) = spec.content_length v.now
-item (items.Contact v) = spec.contact v.now
-item (items.Event v) = spec.event v.now
-item (items.Expires v) = spec.expires v.now
-item (items.Accept v) = spec.accept v.now
-item (items.ReferTo v) = spec.refer_to v.now
-item (items.ReferSub v) = spec.refer_sub v.now
-item (items.Require v) = spec.require v.now
-item (items.RecordRoute v) = spec.record_route v.now
+item (items.Via h) = spec.item headers.Via (hop h)
+item (items.From p) = spec.item headers.From (party p)
+item (items.To p) = spec.item headers.To (party p)
+item (items.CallId v) = spec.item headers.CallId v.now
+item (items.CSeq s) = spec.item headers.CSeq (sequence s)
+item (items.ContentLength v) = spec.item headers.ContentLength v.now
+item (items.Contact v) = spec.item headers.Contact v.now
+item (items.Event v) = spec.item headers.Event v.now
+item (items.Expires v) = spec.item headers.Expires v.now
+item (items.Accept v) = spec.item headers.Accept v.now
+item (items.ReferTo v) = spec.item headers.ReferTo v.now
+item (items.ReferSub v) = spec.item headers.ReferSub v.now
+item (items.Require v) = spec.item headers.Require v.now
+item (items.RecordRoute v) = spec.item headers.RecordRoute v.now
 
 abbrev pub first : FirstText → First
 first (firsts.Request method uri) = request method.now uri.now

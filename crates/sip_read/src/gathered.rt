@@ -3,7 +3,7 @@ ghost use Rattle.std.specs.Prelude.{◌≡◌, ◌+◌, ◌<◌, ◌≤◌, ℕ,
 ghost use Rattle.sip_text.specs.Bytes.{Gives};
 ghost use Rattle.sip_read.specs.OnceComputed.{once_more};
 ghost use Rattle.sip_read.specs.GatheredComputed.{nothing, fields_nothing, with_item, with_field, accept_more, Adds, gather_line, gather};
-ghost use Rattle.sip_read.specs.ItemsComputed.{element_at, values_of, line_items};
+ghost use Rattle.sip_read.specs.ItemsComputed.{element_at, line_values, line_items};
 ghost use Rattle.sip_read.specs.AddressesComputed.{contact_of as contact_text};
 ghost use Rattle.sip_text.specs.Reading.{elements_of};
 ghost use Rattle.sip_read.specs.Views.{item as item_view, party as party_view, fields_seen, gathered_seen, gathered_pair};
@@ -193,14 +193,14 @@ impl Gathered {
 
     /// Takes in the values of a header's line, and tells whether they are in its grammar.
     fn add_values(&mut self, alloc: Global, header: Header, value: &[u8]) -> Result<bool, NoMemory>
-        ensures { IfOk result (Adds (gathered_seen self.old) (values_of header value.now) (gathered_seen self.new)) }
+        ensures { IfOk result (Adds (gathered_seen self.old) (line_values header value.now) (gathered_seen self.new)) }
     {
         match header {
             Header::Via => self.add_elements(alloc, Listed::Via, value),
             Header::Require => self.add_elements(alloc, Listed::Require, value),
             Header::RecordRoute => self.add_elements(alloc, Listed::RecordRoute, value),
             Header::Other => Ok(true),
-            single => match single_of(alloc, single, value)? {
+            _ => match single_of(alloc, header, value)? {
                 Some(item) => {
                     self.add(alloc, item)?;
                     Ok(true)

@@ -25,8 +25,6 @@ mod line;
 pub mod message;
 mod once;
 mod party;
-#[cfg(test)]
-mod tests;
 mod value;
 mod via;
 

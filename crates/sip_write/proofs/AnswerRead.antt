@@ -14,13 +14,14 @@ use Rattle.event_headers.specs.Headers.{Fits}
 use Rattle.event_headers.specs.Written.{parameter_text, comma_joined}
 use Rattle.sip_text.proofs.Trims.{all-append}
 use Rattle.sip_read.specs.declared.call.Sequence.{Sequence}
+use Rattle.sip_read.specs.declared.header.Header.TheVariants as headers
 use Rattle.sip_text.specs.declared.address.Addr.{Addr}
 use Rattle.sip_read.specs.declared.message.Party.{Party}
 use Rattle.sip_read.specs.Addresses.{IsParty}
 use Rattle.sip_read.specs.Calls.{is_visible, IsSequence}
 use Rattle.sip_read.specs.FirstLine.{status, IsStatusLine}
-use Rattle.sip_read.specs.Items.{Item, via, from, to, call_id, cseq, content_length, contact, expires, refer_sub, record_route}
-use Rattle.sip_read.specs.Message.{HasHead, IsBody, via_in, from_in, to_in, call_id_in, cseq_in, length_in}
+use Rattle.sip_read.specs.Items.{Item, item, value_in, values_of}
+use Rattle.sip_read.specs.Message.{HasHead, IsBody}
 use Rattle.sip_read.specs.Vias.{Hop, via_of, IsHop}
 use Rattle.sip_read.proofs.PlainLines.{on_wire, IsPlain, plain_head}
 use Rattle.sip_write.specs.declared.status.Status.{Status}
@@ -125,20 +126,20 @@ first_of_all P x xs h = h 0 x (omega arith)
 others_of_all : {X : Type 0} (P : X → Type 0) (x : X) (xs : List X) → All P (x ∷ xs) → All P xs
 others_of_all P x xs h = λ k d lt. h (suc k) d (omega (arith, lt))
 
-via_line : (text : List ℕ) (h : Hop) → IsHop text h → IsFieldText text → IsPlain (header (codes "Via") text) (via h ∷ [])
-via_line text h is field = plain (codes "Via") text (via h ∷ []) (literal_name 86 (codes "ia") refl) field ((h, is, refl), field.trimmed.0)
+via_line : (text : List ℕ) (h : Hop) → IsHop text h → IsFieldText text → IsPlain (header (codes "Via") text) (item headers.Via h ∷ [])
+via_line text h is field = plain (codes "Via") text (item headers.Via h ∷ []) (literal_name 86 (codes "ia") refl) field ((h, is, refl), field.trimmed.0)
 
-vias_laid : (hops : List Hop) (lines : List (List ℕ)) (xs : List Item) → All IsViaField hops → Laid lines xs → Laid (map (header (codes "Via")) (map (λ h. h.text) hops) ++ lines) (map via hops ++ xs)
+vias_laid : (hops : List Hop) (lines : List (List ℕ)) (xs : List Item) → All IsViaField hops → Laid lines xs → Laid (map (header (codes "Via")) (map (λ h. h.text) hops) ++ lines) (map (item headers.Via) hops ++ xs)
 vias_laid [] lines xs all h = h
 vias_laid (hop ∷ hops) lines xs all h =
     let k = first_of_all IsViaField hop hops all in
     one (via_line hop.text hop k.0 k.1) (vias_laid hops lines xs (others_of_all IsViaField hop hops all) h)
 
-routes_laid : (routes : List (List ℕ)) (lines : List (List ℕ)) (xs : List Item) → All IsRouteField routes → Laid lines xs → Laid (map (header (codes "Record-Route")) routes ++ lines) (map record_route routes ++ xs)
+routes_laid : (routes : List (List ℕ)) (lines : List (List ℕ)) (xs : List Item) → All IsRouteField routes → Laid lines xs → Laid (map (header (codes "Record-Route")) routes ++ lines) (map (item headers.RecordRoute) routes ++ xs)
 routes_laid [] lines xs all h = h
 routes_laid (route ∷ routes) lines xs all h =
     let k = first_of_all IsRouteField route routes all in
-    one (plain (codes "Record-Route") route (record_route route ∷ []) (literal_name 82 (codes "ecord-Route") refl) k.1 ((k.0, refl), k.1.trimmed.0)) (routes_laid routes lines xs (others_of_all IsRouteField route routes all) h)
+    one (plain (codes "Record-Route") route (item headers.RecordRoute route ∷ []) (literal_name 82 (codes "ecord-Route") refl) k.1 ((k.0, refl), k.1.trimmed.0)) (routes_laid routes lines xs (others_of_all IsRouteField route routes all) h)
 
 -- ---- To
 
@@ -163,16 +164,16 @@ listed None = []
 listed (Some x) = x ∷ []
 
 contact_laid : (me : Option Addr) (lines : List (List ℕ)) (xs : List Item) → IfSome me IsAddr → Laid lines xs
-    → Laid (header_of (codes "Contact") (option_map contact_text me) ++ lines) (map contact (listed (option_map contact_text me)) ++ xs)
+    → Laid (header_of (codes "Contact") (option_map contact_text me) ++ lines) (map (item headers.Contact) (listed (option_map contact_text me)) ++ xs)
 contact_laid None lines xs is h = h
 contact_laid (Some me) lines xs is h =
-    one (plain (codes "Contact") (contact_text me) (contact (contact_text me) ∷ []) (literal_name 67 (codes "ontact") refl) (visible_field _ (contact_visible me is)) refl) h
+    one (plain (codes "Contact") (contact_text me) (item headers.Contact (contact_text me) ∷ []) (literal_name 67 (codes "ontact") refl) (visible_field _ (contact_visible me is)) refl) h
 
 expires_laid : (seconds : Option ℕ) (lines : List (List ℕ)) (xs : List Item) → IfSome seconds Fits → Laid lines xs
-    → Laid (header_of (codes "Expires") (option_map decimal seconds) ++ lines) (map expires (listed (option_map decimal seconds)) ++ xs)
+    → Laid (header_of (codes "Expires") (option_map decimal seconds) ++ lines) (map (item headers.Expires) (listed (option_map decimal seconds)) ++ xs)
 expires_laid None lines xs is h = h
 expires_laid (Some n) lines xs is h =
-    one (plain (codes "Expires") (decimal n) (expires (decimal n) ∷ []) (literal_name 69 (codes "xpires") refl) (visible_field _ (decimal_visible n (omega (arith, is)))) refl) h
+    one (plain (codes "Expires") (decimal n) (item headers.Expires (decimal n) ∷ []) (literal_name 69 (codes "xpires") refl) (visible_field _ (decimal_visible n (omega (arith, is)))) refl) h
 
 least_laid : (seconds : Option ℕ) (lines : List (List ℕ)) (xs : List Item) → IfSome seconds Fits → Laid lines xs → Laid (header_of (codes "Min-Expires") (option_map decimal seconds) ++ lines) xs
 least_laid None lines xs is h = h
@@ -212,9 +213,9 @@ unsupported_laid None lines xs is h = h
 unsupported_laid (Some ts) lines xs is h = none (plain (codes "Unsupported") (comma_joined ts) [] (literal_name 85 (codes "nsupported") refl) (list_field ts is) refl) h
 
 refer_sub_laid : (without : Bool) (lines : List (List ℕ)) (xs : List Item) → Laid lines xs
-    → Laid (header_of (codes "Refer-Sub") (refer_sub_text without) ++ lines) (map refer_sub (listed (refer_sub_text without)) ++ xs)
+    → Laid (header_of (codes "Refer-Sub") (refer_sub_text without) ++ lines) (map (item headers.ReferSub) (listed (refer_sub_text without)) ++ xs)
 refer_sub_laid false lines xs h = h
-refer_sub_laid true lines xs h = one (plain (codes "Refer-Sub") (codes "false") (refer_sub (codes "false") ∷ []) (literal_name 82 (codes "efer-Sub") refl) (visible_field (codes "false") refl) refl) h
+refer_sub_laid true lines xs h = one (plain (codes "Refer-Sub") (codes "false") (item headers.ReferSub (codes "false") ∷ []) (literal_name 82 (codes "efer-Sub") refl) (visible_field (codes "false") refl) refl) h
 
 -- ---- all lines
 
@@ -273,15 +274,15 @@ abbrev sequence : AnswerText → Sequence
 sequence a = record { number = a.head.cseq; method = a.head.cseq_method }
 
 abbrev core : AnswerText → List Item
-core a = from a.head.from ∷ to (answer_to a) ∷ call_id a.head.call_id ∷ cseq (sequence a) ∷ []
+core a = item headers.From a.head.from ∷ item headers.To (answer_to a) ∷ item headers.CallId a.head.call_id ∷ item headers.CSeq (sequence a) ∷ []
 
 -- the items of the last lines
 abbrev last_items : AnswerText → List Item
-last_items a = map refer_sub (listed (refer_sub_text a.without_subscription)) ++ content_length (codes "0") ∷ []
+last_items a = map (item headers.ReferSub) (listed (refer_sub_text a.without_subscription)) ++ item headers.ContentLength (codes "0") ∷ []
 
 abbrev items : AnswerText → Hop → List Hop → List Item
 items a top others =
-    via (marked_hop a top) ∷ (map via others ++ (map record_route a.record_routes ++ (core a ++ (map contact (listed (option_map contact_text a.contact)) ++ (map expires (listed (option_map decimal a.expires)) ++ last_items a)))))
+    item headers.Via (marked_hop a top) ∷ (map (item headers.Via) others ++ (map (item headers.RecordRoute) a.record_routes ++ (core a ++ (map (item headers.Contact) (listed (option_map contact_text a.contact)) ++ (map (item headers.Expires) (listed (option_map decimal a.expires)) ++ last_items a)))))
 
 abbrev nones : {X Y : Type 0} → (Item → Option Y) → (X → Item) → Type 0
 nones {X} f g = (x : X) → f (g x) ≡ None
@@ -290,29 +291,29 @@ passed : {X Y : Type 0} (f : Item → Option Y) (g : X → Item) → nones f g �
 passed f g h [] = refl
 passed f g h (x ∷ xs) = rw (h x) (passed f g h xs)
 
-hops_found : (hops : List Hop) → filter_map via_in (map via hops) ≡ hops
+hops_found : (hops : List Hop) → values_of headers.Via (map (item headers.Via) hops) ≡ hops
 hops_found [] = refl
 hops_found (hop ∷ hops) = ap (λ (l : List Hop). hop ∷ l) (hops_found hops)
 
 -- what a header's values are among all items
-module _ {Y : Type 0} (f : Item → Option Y) (route : nones f record_route) (met : nones f contact) (timed : nones f expires) (wanted : nones f refer_sub) where
+module _ {Y : Type 0} (f : Item → Option Y) (route : nones f (item headers.RecordRoute)) (met : nones f (item headers.Contact)) (timed : nones f (item headers.Expires)) (wanted : nones f (item headers.ReferSub)) where
   found : (a : AnswerText) (top : Hop) (others : List Hop)
-      → filter_map f (items a top others) ≡ filter_map f (via (marked_hop a top) ∷ []) ++ (filter_map f (map via others) ++ (filter_map f (core a) ++ filter_map f (content_length (codes "0") ∷ [])))
+      → filter_map f (items a top others) ≡ filter_map f (item headers.Via (marked_hop a top) ∷ []) ++ (filter_map f (map (item headers.Via) others) ++ (filter_map f (core a) ++ filter_map f (item headers.ContentLength (codes "0") ∷ [])))
   found a top others =
-      let contacts : List Item = map contact (listed (option_map contact_text a.contact)) in
-      let times : List Item = map expires (listed (option_map decimal a.expires)) in
-      let size : List Item = content_length (codes "0") ∷ [] in
-      let wishes : List Item = map refer_sub (listed (refer_sub_text a.without_subscription)) in
+      let contacts : List Item = map (item headers.Contact) (listed (option_map contact_text a.contact)) in
+      let times : List Item = map (item headers.Expires) (listed (option_map decimal a.expires)) in
+      let size : List Item = item headers.ContentLength (codes "0") ∷ [] in
+      let wishes : List Item = map (item headers.ReferSub) (listed (refer_sub_text a.without_subscription)) in
       let last : List Item = wishes ++ size in
-      let w : filter_map f wishes ≡ [] = passed f refer_sub wanted (listed (refer_sub_text a.without_subscription)) in
-      let routes : List Item = map record_route a.record_routes in
-      let r : filter_map f routes ≡ [] = passed f record_route route a.record_routes in
-      let c : filter_map f contacts ≡ [] = passed f contact met (listed (option_map contact_text a.contact)) in
-      let t : filter_map f times ≡ [] = passed f expires timed (listed (option_map decimal a.expires)) in
-      filter_map-append f (via (marked_hop a top) ∷ []) (map via others ++ (routes ++ (core a ++ (contacts ++ (times ++ last)))))
-      ∙ ap (λ (l : List Y). filter_map f (via (marked_hop a top) ∷ []) ++ l)
-      (filter_map-append f (map via others) (routes ++ (core a ++ (contacts ++ (times ++ last))))
-      ∙ ap (λ (l : List Y). filter_map f (map via others) ++ l)
+      let w : filter_map f wishes ≡ [] = passed f (item headers.ReferSub) wanted (listed (refer_sub_text a.without_subscription)) in
+      let routes : List Item = map (item headers.RecordRoute) a.record_routes in
+      let r : filter_map f routes ≡ [] = passed f (item headers.RecordRoute) route a.record_routes in
+      let c : filter_map f contacts ≡ [] = passed f (item headers.Contact) met (listed (option_map contact_text a.contact)) in
+      let t : filter_map f times ≡ [] = passed f (item headers.Expires) timed (listed (option_map decimal a.expires)) in
+      filter_map-append f (item headers.Via (marked_hop a top) ∷ []) (map (item headers.Via) others ++ (routes ++ (core a ++ (contacts ++ (times ++ last)))))
+      ∙ ap (λ (l : List Y). filter_map f (item headers.Via (marked_hop a top) ∷ []) ++ l)
+      (filter_map-append f (map (item headers.Via) others) (routes ++ (core a ++ (contacts ++ (times ++ last))))
+      ∙ ap (λ (l : List Y). filter_map f (map (item headers.Via) others) ++ l)
       (filter_map-append f routes (core a ++ (contacts ++ (times ++ last))) ∙ ap (λ (l : List Y). l ++ filter_map f (core a ++ (contacts ++ (times ++ last)))) r
       ∙ filter_map-append f (core a) (contacts ++ (times ++ last))
       ∙ ap (λ (l : List Y). filter_map f (core a) ++ l)
@@ -321,15 +322,15 @@ module _ {Y : Type 0} (f : Item → Option Y) (route : nones f record_route) (me
       ∙ filter_map-append f wishes size ∙ ap (λ (l : List Y). l ++ filter_map f size) w)))
 
   -- of a header other than Via
-  alone : nones f via → (a : AnswerText) (top : Hop) (others : List Hop) → filter_map f (items a top others) ≡ filter_map f (core a) ++ filter_map f (content_length (codes "0") ∷ [])
+  alone : nones f (item headers.Via) → (a : AnswerText) (top : Hop) (others : List Hop) → filter_map f (items a top others) ≡ filter_map f (core a) ++ filter_map f (item headers.ContentLength (codes "0") ∷ [])
   alone hop a top others =
       found a top others
-      ∙ ap (λ (l : List Y). l ++ (filter_map f (map via others) ++ (filter_map f (core a) ++ filter_map f (content_length (codes "0") ∷ [])))) (passed f via hop (marked_hop a top ∷ []))
-      ∙ ap (λ (l : List Y). l ++ (filter_map f (core a) ++ filter_map f (content_length (codes "0") ∷ []))) (passed f via hop others)
+      ∙ ap (λ (l : List Y). l ++ (filter_map f (map (item headers.Via) others) ++ (filter_map f (core a) ++ filter_map f (item headers.ContentLength (codes "0") ∷ [])))) (passed f (item headers.Via) hop (marked_hop a top ∷ []))
+      ∙ ap (λ (l : List Y). l ++ (filter_map f (core a) ++ filter_map f (item headers.ContentLength (codes "0") ∷ []))) (passed f (item headers.Via) hop others)
 
-hops_are : (a : AnswerText) (top : Hop) (others : List Hop) → filter_map via_in (items a top others) ≡ marked_hop a top ∷ others
+hops_are : (a : AnswerText) (top : Hop) (others : List Hop) → values_of headers.Via (items a top others) ≡ marked_hop a top ∷ others
 hops_are a top others =
-    found via_in (λ x. refl) (λ x. refl) (λ x. refl) (λ x. refl) a top others
+    found (value_in headers.Via) (λ x. refl) (λ x. refl) (λ x. refl) (λ x. refl) a top others
     ∙ ap (λ (l : List Hop). marked_hop a top ∷ (l ++ [])) (hops_found others) ∙ ap (λ (l : List Hop). marked_hop a top ∷ l) (append-nil others)
 
 -- ---- the whole
@@ -340,7 +341,7 @@ sequence_is a small w =
     record { digits = decimal a.head.cseq; gap = 32 ∷ []; are_digits = s.0; are_spaces = (refl, cons_some 32 []); method = w; number = sym s.1; small = small; whole = refl }
 
 behind_laid : (a : AnswerText) (top : Hop) (others : List Hop) → IsAnswer a top others
-    → Laid (dialog_lines a ++ options_then a size_line) (core a ++ (map contact (listed (option_map contact_text a.contact)) ++ (map expires (listed (option_map decimal a.expires)) ++ last_items a)))
+    → Laid (dialog_lines a ++ options_then a size_line) (core a ++ (map (item headers.Contact) (listed (option_map contact_text a.contact)) ++ (map (item headers.Expires) (listed (option_map decimal a.expires)) ++ last_items a)))
 unfolding options_then
 behind_laid a top others h =
     let small : a.head.cseq < 2 ^ 64 = omega (arith, h.number) in
@@ -348,7 +349,7 @@ behind_laid a top others h =
     let method : AllPassing is_visible a.head.cseq_method = all_within (is_in class.Token) is_visible token_visible a.head.cseq_method h.method.0 in
     let cseq_field = spaced_field (decimal a.head.cseq) a.head.cseq_method (decimal_visible a.head.cseq small) s.0.1 method h.method.1 in
     let to_field = field_more a.head.to.text (parameter_text (codes "tag") (added_tag a.head.to.tag a.tag)) h.to.1 (tag_field a.head.to.tag a.tag h.tag) in
-    let size : List Item = content_length (codes "0") ∷ [] in
+    let size : List Item = item headers.ContentLength (codes "0") ∷ [] in
     let last : List Item = last_items a in
     let from_refer_sub : List (List ℕ) = header_of (codes "Refer-Sub") (refer_sub_text a.without_subscription) ++ size_line in
     let from_unsupported : List (List ℕ) = header_of (codes "Unsupported") (option_map comma_joined a.unsupported) ++ from_refer_sub in
@@ -356,13 +357,13 @@ behind_laid a top others h =
     let from_allow : List (List ℕ) = header_of (codes "Allow") (option_map comma_joined a.allow) ++ from_events in
     let from_least : List (List ℕ) = header_of (codes "Min-Expires") (option_map decimal a.min_expires) ++ from_allow in
     let from_expires : List (List ℕ) = header_of (codes "Expires") (option_map decimal a.expires) ++ from_least in
-    let zero_line : IsPlain (header (codes "Content-Length") (codes "0")) (content_length (codes "0") ∷ []) =
-    plain (codes "Content-Length") (codes "0") (content_length (codes "0") ∷ []) (literal_name 67 (codes "ontent-Length") refl) (visible_field (codes "0") refl) ((refl, cons_some 48 []), refl) in
-    one (plain (codes "From") a.head.from.text (from a.head.from ∷ []) (literal_name 70 (codes "rom") refl) h.from.1 (a.head.from, h.from.0, refl))
-    (one (plain (codes "To") _ (to (answer_to a) ∷ []) (literal_name 84 (codes "o") refl) to_field (answer_to a, to_is a.head.to.text a.head.to.tag a.tag (party_is a.head.to h.to.0) h.tag, refl))
-    (one (plain (codes "Call-ID") a.head.call_id (call_id a.head.call_id ∷ []) (literal_name 67 (codes "all-ID") refl) (visible_field a.head.call_id h.call_id.0) (h.call_id, refl))
-    (one (plain (codes "CSeq") _ (cseq (sequence a) ∷ []) (literal_name 67 (codes "Seq") refl) cseq_field (sequence a, sequence_is a h.number h.method, refl))
-    (contact_laid a.contact from_expires (map expires (listed (option_map decimal a.expires)) ++ last) h.contact
+    let zero_line : IsPlain (header (codes "Content-Length") (codes "0")) (item headers.ContentLength (codes "0") ∷ []) =
+    plain (codes "Content-Length") (codes "0") (item headers.ContentLength (codes "0") ∷ []) (literal_name 67 (codes "ontent-Length") refl) (visible_field (codes "0") refl) ((refl, cons_some 48 []), refl) in
+    one (plain (codes "From") a.head.from.text (item headers.From a.head.from ∷ []) (literal_name 70 (codes "rom") refl) h.from.1 (a.head.from, h.from.0, refl))
+    (one (plain (codes "To") _ (item headers.To (answer_to a) ∷ []) (literal_name 84 (codes "o") refl) to_field (answer_to a, to_is a.head.to.text a.head.to.tag a.tag (party_is a.head.to h.to.0) h.tag, refl))
+    (one (plain (codes "Call-ID") a.head.call_id (item headers.CallId a.head.call_id ∷ []) (literal_name 67 (codes "all-ID") refl) (visible_field a.head.call_id h.call_id.0) (h.call_id, refl))
+    (one (plain (codes "CSeq") _ (item headers.CSeq (sequence a) ∷ []) (literal_name 67 (codes "Seq") refl) cseq_field (sequence a, sequence_is a h.number h.method, refl))
+    (contact_laid a.contact from_expires (map (item headers.Expires) (listed (option_map decimal a.expires)) ++ last) h.contact
     (expires_laid a.expires from_least last h.expires
     (least_laid a.min_expires from_allow last h.min_expires
     (allow_laid a.allow from_events last h.allow
@@ -378,9 +379,9 @@ all_laid a top others h =
     let again = top_again a.source top.text top h.source h.is_top.0 in
     let field = top_field a.source top.text top h.source h.is_top.0 h.is_top.1 (hop_starts text (marked_hop a top) again) in
     let lines : List (List ℕ) = dialog_lines a ++ options_then a size_line in
-    let xs : List Item = core a ++ (map contact (listed (option_map contact_text a.contact)) ++ (map expires (listed (option_map decimal a.expires)) ++ last_items a)) in
+    let xs : List Item = core a ++ (map (item headers.Contact) (listed (option_map contact_text a.contact)) ++ (map (item headers.Expires) (listed (option_map decimal a.expires)) ++ last_items a)) in
     one (via_line text (marked_hop a top) again field)
-    (vias_laid others (map (header (codes "Record-Route")) a.record_routes ++ lines) (map record_route a.record_routes ++ xs) h.are_others
+    (vias_laid others (map (header (codes "Record-Route")) a.record_routes ++ lines) (map (item headers.RecordRoute) a.record_routes ++ xs) h.are_others
     (routes_laid a.record_routes lines xs h.record_routes (behind_laid a top others h)))
 
 pub answer_again : AnswerIsReadAgain
@@ -399,11 +400,11 @@ answer_again a top others h small =
         hops = hops_are a top others;
         vias = refl;
         top_via = refl;
-        from = alone from_in (λ x. refl) (λ x. refl) (λ x. refl) (λ x. refl) (λ x. refl) a top others;
-        to = alone to_in (λ x. refl) (λ x. refl) (λ x. refl) (λ x. refl) (λ x. refl) a top others;
-        call_id = alone call_id_in (λ x. refl) (λ x. refl) (λ x. refl) (λ x. refl) (λ x. refl) a top others;
-        cseq = alone cseq_in (λ x. refl) (λ x. refl) (λ x. refl) (λ x. refl) (λ x. refl) a top others;
+        from = alone (value_in headers.From) (λ x. refl) (λ x. refl) (λ x. refl) (λ x. refl) (λ x. refl) a top others;
+        to = alone (value_in headers.To) (λ x. refl) (λ x. refl) (λ x. refl) (λ x. refl) (λ x. refl) a top others;
+        call_id = alone (value_in headers.CallId) (λ x. refl) (λ x. refl) (λ x. refl) (λ x. refl) (λ x. refl) a top others;
+        cseq = alone (value_in headers.CSeq) (λ x. refl) (λ x. refl) (λ x. refl) (λ x. refl) (λ x. refl) a top others;
       };
       body = [];
-      is_body = subst (λ (ds : List (List ℕ)). IsBody ds [] []) (sym (alone length_in (λ x. refl) (λ x. refl) (λ x. refl) (λ x. refl) (λ x. refl) a top others)) (omega arith, refl);
+      is_body = subst (λ (ds : List (List ℕ)). IsBody ds [] []) (sym (alone (value_in headers.ContentLength) (λ x. refl) (λ x. refl) (λ x. refl) (λ x. refl) (λ x. refl) a top others)) (omega arith, refl);
     }

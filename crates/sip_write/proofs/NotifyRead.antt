@@ -14,12 +14,13 @@ use Rattle.event_headers.specs.Written.{parameter_text, event_text, state_text}
 use Rattle.sip_text.proofs.Trims.{all-append}
 use Rattle.event_headers.proofs.WrittenTexts.{event_again_read}
 use Rattle.sip_read.specs.declared.call.Sequence.{Sequence}
+use Rattle.sip_read.specs.declared.header.Header.TheVariants as headers
 use Rattle.sip_text.specs.declared.address.Addr.{Addr}
 use Rattle.sip_read.specs.declared.message.Party.{Party}
 use Rattle.sip_read.specs.Addresses.{IsParty, IsContact}
 use Rattle.sip_read.specs.Calls.{is_visible, IsSequence}
 use Rattle.sip_read.specs.FirstLine.{request, IsRequestLine}
-use Rattle.sip_read.specs.Items.{Item, via, from, to, call_id, cseq, content_length, contact, event}
+use Rattle.sip_read.specs.Items.{Item, item}
 use Rattle.sip_read.specs.Message.{HasHead}
 use Rattle.sip_read.specs.Vias.{Hop, IsHop}
 use Rattle.sip_read.proofs.PlainLines.{on_wire, IsPlain, ArePlain, plain_head}
@@ -156,8 +157,8 @@ via_field n me tag small =
     (all-append is_visible (addr_text n.me) _ (addr_visible n.me me) behind)
     (some_before (addr_text n.me) _ (addr_some n.me))
 
-via_line : (n : NotifyText) → IsAddr n.me → AllPassing (is_in class.Token) n.local_tag → n.number < 2 ^ 64 → IsPlain (header (codes "Via") (via_text n)) (via (hop n) ∷ [])
-via_line n me tag small = plain (codes "Via") (via_text n) (via (hop n) ∷ []) (literal_name 86 (codes "ia") refl) (via_field n me tag small) ((hop n, hop_is n me tag small, refl), refl)
+via_line : (n : NotifyText) → IsAddr n.me → AllPassing (is_in class.Token) n.local_tag → n.number < 2 ^ 64 → IsPlain (header (codes "Via") (via_text n)) (item headers.Via (hop n) ∷ [])
+via_line n me tag small = plain (codes "Via") (via_text n) (item headers.Via (hop n) ∷ []) (literal_name 86 (codes "ia") refl) (via_field n me tag small) ((hop n, hop_is n me tag small, refl), refl)
 
 -- ---- the party of this server
 
@@ -265,8 +266,8 @@ sequence n = record { number = n.number; method = codes "NOTIFY" }
 
 abbrev items : NotifyText → Party → List Item
 items n remote =
-    via (hop n) ∷ from (local_party n) ∷ to remote ∷ call_id n.call_id ∷ cseq (sequence n) ∷ contact (contact_text n.me) ∷ event (event_text n.event)
-    ∷ content_length (decimal (length n.body)) ∷ []
+    item headers.Via (hop n) ∷ item headers.From (local_party n) ∷ item headers.To remote ∷ item headers.CallId n.call_id ∷ item headers.CSeq (sequence n) ∷ item headers.Contact (contact_text n.me) ∷ item headers.Event (event_text n.event)
+    ∷ item headers.ContentLength (decimal (length n.body)) ∷ []
 
 sequence_is : (n : NotifyText) → n.number < 2 ^ 31 → IsSequence (decimal n.number ++ codes " NOTIFY") (sequence n)
 sequence_is n small =
@@ -291,7 +292,7 @@ tail_lines n = dialog_lines n ++ (event_lines n ++ header (codes "Content-Type")
 
 tail_items : NotifyText → Party → List Item
 tail_items n remote =
-    from (local_party n) ∷ to remote ∷ call_id n.call_id ∷ cseq (sequence n) ∷ contact (contact_text n.me) ∷ event (event_text n.event) ∷ content_length (decimal (length n.body)) ∷ []
+    item headers.From (local_party n) ∷ item headers.To remote ∷ item headers.CallId n.call_id ∷ item headers.CSeq (sequence n) ∷ item headers.Contact (contact_text n.me) ∷ item headers.Event (event_text n.event) ∷ item headers.ContentLength (decimal (length n.body)) ∷ []
 
 tail_laid : (n : NotifyText) (remote : Party) → IsNotify n remote → length n.body < 2 ^ 64 → Laid (tail_lines n) (tail_items n remote)
 unfolding tail_lines tail_items
@@ -301,15 +302,15 @@ tail_laid n remote h small =
     let s = spelled n.number number in
     let from_field = field_more n.local (parameter_text (codes "tag") (Some n.local_tag)) h.local_text (visible_field _ (tag_visible n.local_tag h.local_tag)) in
     let cseq_field = spaced_field (decimal n.number) (codes "NOTIFY") (decimal_visible n.number number) s.0.1 refl (cons_some 78 (codes "OTIFY")) in
-    one (plain (codes "From") _ (from (local_party n) ∷ []) (literal_name 70 (codes "rom") refl) from_field (local_party n, tagged n.local n.local_tag h.local h.local_tag, refl))
-    (one (plain (codes "To") n.remote (to remote ∷ []) (literal_name 84 (codes "o") refl) h.remote_text (remote, h.is_remote, refl))
-    (one (plain (codes "Call-ID") n.call_id (call_id n.call_id ∷ []) (literal_name 67 (codes "all-ID") refl) (visible_field n.call_id h.call_id.0) (h.call_id, refl))
-    (one (plain (codes "CSeq") _ (cseq (sequence n) ∷ []) (literal_name 67 (codes "Seq") refl) cseq_field (sequence n, sequence_is n h.number, refl))
-    (one (plain (codes "Contact") (contact_text n.me) (contact (contact_text n.me) ∷ []) (literal_name 67 (codes "ontact") refl) (visible_field _ (contact_visible n.me h.me)) refl)
-    (one (plain (codes "Event") (event_text n.event) (event (event_text n.event) ∷ []) (literal_name 69 (codes "vent") refl) (visible_field _ (event_visible n.event h.event)) refl)
+    one (plain (codes "From") _ (item headers.From (local_party n) ∷ []) (literal_name 70 (codes "rom") refl) from_field (local_party n, tagged n.local n.local_tag h.local h.local_tag, refl))
+    (one (plain (codes "To") n.remote (item headers.To remote ∷ []) (literal_name 84 (codes "o") refl) h.remote_text (remote, h.is_remote, refl))
+    (one (plain (codes "Call-ID") n.call_id (item headers.CallId n.call_id ∷ []) (literal_name 67 (codes "all-ID") refl) (visible_field n.call_id h.call_id.0) (h.call_id, refl))
+    (one (plain (codes "CSeq") _ (item headers.CSeq (sequence n) ∷ []) (literal_name 67 (codes "Seq") refl) cseq_field (sequence n, sequence_is n h.number, refl))
+    (one (plain (codes "Contact") (contact_text n.me) (item headers.Contact (contact_text n.me) ∷ []) (literal_name 67 (codes "ontact") refl) (visible_field _ (contact_visible n.me h.me)) refl)
+    (one (plain (codes "Event") (event_text n.event) (item headers.Event (event_text n.event) ∷ []) (literal_name 69 (codes "vent") refl) (visible_field _ (event_visible n.event h.event)) refl)
     (none (plain (codes "Subscription-State") (state_text n.state) [] (literal_name 83 (codes "ubscription-State") refl) (visible_field _ (state_visible n.state h.state)) refl)
     (none (plain (codes "Content-Type") n.content_type [] (literal_name 67 (codes "ontent-Type") refl) h.content_type refl)
-    (one (plain (codes "Content-Length") (decimal (length n.body)) (content_length (decimal (length n.body)) ∷ []) (literal_name 67 (codes "ontent-Length") refl) (visible_field _ (decimal_visible (length n.body) small)) (size.0, refl))
+    (one (plain (codes "Content-Length") (decimal (length n.body)) (item headers.ContentLength (decimal (length n.body)) ∷ []) (literal_name 67 (codes "ontent-Length") refl) (visible_field _ (decimal_visible (length n.body) small)) (size.0, refl))
     done))))))))
 
 lines_plain : (n : NotifyText) (remote : Party) → IsNotify n remote → length n.body < 2 ^ 64 → ArePlain (middle_lines n) (items n remote)

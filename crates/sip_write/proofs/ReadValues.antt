@@ -25,8 +25,8 @@ use Rattle.sip_read.specs.Addresses.{IsUri, IsAddress, IsParty, IsContact, IsRou
 use Rattle.sip_read.specs.Calls.{IsCallId}
 use Rattle.sip_read.specs.Folding.{Unfolds, unbroken, continued, AreLines}
 use Rattle.sip_read.specs.Headers.{header_named}
-use Rattle.sip_read.specs.Items.{Item, via, from, to, call_id, cseq, content_length, contact, event, expires, accept, refer_to, require, record_route, IsElement, AreValues, IsLine, AreItems}
-use Rattle.sip_read.specs.Message.{IsField, via_in, from_in, to_in, call_id_in, cseq_in, require_in, route_in}
+use Rattle.sip_read.specs.Items.{Item, value_in, IsElement, AreValues, IsLine, AreItems}
+use Rattle.sip_read.specs.Message.{IsField}
 use Rattle.sip_read.specs.Vias.{Hop, IsHop}
 use Rattle.sip_write.specs.AnswerAgain.{IsViaField, IsRouteField, IsPartyField, IsAnswer}
 use Rattle.sip_write.specs.ReadAgain.{IsFieldText}
@@ -99,13 +99,13 @@ abbrev IsSequenceField : Sequence → Type 0
 IsSequenceField s = (s.number < 2 ^ 31) × IsWord class.Token s.method
 
 record IsGood (x : Item) : Type 0 where
-  via : IfSome (via_in x) IsViaField
-  from : IfSome (from_in x) IsPartyField
-  to : IfSome (to_in x) IsPartyField
-  call_id : IfSome (call_id_in x) IsCallId
-  cseq : IfSome (cseq_in x) IsSequenceField
-  require : IfSome (require_in x) IsToken
-  route : IfSome (route_in x) IsRouteField
+  via : IfSome (value_in headers.Via x) IsViaField
+  from : IfSome (value_in headers.From x) IsPartyField
+  to : IfSome (value_in headers.To x) IsPartyField
+  call_id : IfSome (value_in headers.CallId x) IsCallId
+  cseq : IfSome (value_in headers.CSeq x) IsSequenceField
+  require : IfSome (value_in headers.Require x) IsToken
+  route : IfSome (value_in headers.RecordRoute x) IsRouteField
 
 abbrev AreGood : List Item → Type 0
 AreGood [] = Unit {0}
@@ -191,13 +191,8 @@ values_good headers.CallId v xs field are = subst AreGood (sym are.1) (record { 
 values_good headers.CSeq v xs field are =
     subst AreGood (sym are.2) (record { via = tt; from = tt; to = tt; call_id = tt; cseq = ((are.1).small, (are.1).method); require = tt; route = tt }, tt)
 values_good headers.ContentLength v xs field are = subst AreGood (sym are.1) (record { via = tt; from = tt; to = tt; call_id = tt; cseq = tt; require = tt; route = tt }, tt)
-values_good headers.Contact v xs field are = subst AreGood (sym are) (record { via = tt; from = tt; to = tt; call_id = tt; cseq = tt; require = tt; route = tt }, tt)
-values_good headers.Event v xs field are = subst AreGood (sym are) (record { via = tt; from = tt; to = tt; call_id = tt; cseq = tt; require = tt; route = tt }, tt)
-values_good headers.Expires v xs field are = subst AreGood (sym are) (record { via = tt; from = tt; to = tt; call_id = tt; cseq = tt; require = tt; route = tt }, tt)
-values_good headers.Accept v xs field are = subst AreGood (sym are) (record { via = tt; from = tt; to = tt; call_id = tt; cseq = tt; require = tt; route = tt }, tt)
-values_good headers.ReferTo v xs field are = subst AreGood (sym are) (record { via = tt; from = tt; to = tt; call_id = tt; cseq = tt; require = tt; route = tt }, tt)
-values_good headers.ReferSub v xs field are = subst AreGood (sym are) (record { via = tt; from = tt; to = tt; call_id = tt; cseq = tt; require = tt; route = tt }, tt)
 values_good headers.Other v xs field are = subst AreGood (sym are) tt
+values_good k v xs field are = subst AreGood (sym are) (record { via = tt; from = tt; to = tt; call_id = tt; cseq = tt; require = tt; route = tt }, tt)
 
 line_good : (line : List ℕ) (xs : List Item) → IsLine line xs → AllPassing (is_in class.Line) line → AreGood xs
 line_good line xs is bytes =
@@ -273,8 +268,8 @@ read_in_grammar bytes r is =
     let cut = is.cut.2 in
     let good : AreGood is.items = lines_good (cut.1).0 cut.0 is.items (cut.1).1 cut.2 in
     let head = is.head in
-    let hops = found_good via_in IsViaField (λ x g. g.via) is.items good in
-    let sequences = first_good IsSequenceField _ [] _ head.cseq (found_good cseq_in IsSequenceField (λ x g. g.cseq) is.items good) in
+    let hops = found_good (value_in headers.Via) IsViaField (λ x g. g.via) is.items good in
+    let sequences = first_good IsSequenceField _ [] _ head.cseq (found_good (value_in headers.CSeq) IsSequenceField (λ x g. g.cseq) is.items good) in
     record {
       top = head.top;
       others = head.others;
@@ -282,13 +277,13 @@ read_in_grammar bytes r is =
       top_via = head.top_via;
       is_top = first_good IsViaField head.top head.others _ head.hops hops;
       are_others = others_good IsViaField head.top head.others _ head.hops hops;
-      from = first_good IsPartyField _ [] _ head.from (found_good from_in IsPartyField (λ x g. g.from) is.items good);
-      to = first_good IsPartyField _ [] _ head.to (found_good to_in IsPartyField (λ x g. g.to) is.items good);
-      call_id = first_good IsCallId _ [] _ head.call_id (found_good call_id_in IsCallId (λ x g. g.call_id) is.items good);
+      from = first_good IsPartyField _ [] _ head.from (found_good (value_in headers.From) IsPartyField (λ x g. g.from) is.items good);
+      to = first_good IsPartyField _ [] _ head.to (found_good (value_in headers.To) IsPartyField (λ x g. g.to) is.items good);
+      call_id = first_good IsCallId _ [] _ head.call_id (found_good (value_in headers.CallId) IsCallId (λ x g. g.call_id) is.items good);
       number = sequences.0;
       method = sequences.1;
-      record_routes = subst (All IsRouteField) (sym is.record_routes) (found_good route_in IsRouteField (λ x g. g.route) is.items good);
-      require = subst (All IsToken) (sym is.require) (found_good require_in IsToken (λ x g. g.require) is.items good);
+      record_routes = subst (All IsRouteField) (sym is.record_routes) (found_good (value_in headers.RecordRoute) IsRouteField (λ x g. g.route) is.items good);
+      require = subst (All IsToken) (sym is.require) (found_good (value_in headers.Require) IsToken (λ x g. g.require) is.items good);
       contact = λ uri e. contact_word _ r.contact uri is.contact e;
     }
 

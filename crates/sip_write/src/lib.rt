@@ -18,8 +18,6 @@ pub mod notify;
 mod page;
 pub mod quoting;
 pub mod status;
-#[cfg(test)]
-mod tests;
 mod via;
 
 pub use answer::{Answer, write_response};

@@ -19,6 +19,3 @@ pub mod terms;
 pub use life::{Step, Sub};
 pub use notify::{Notice, Phase, Reason};
 pub use terms::{Usage, Want};
-
-#[cfg(test)]
-mod tests;

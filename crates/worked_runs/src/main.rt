@@ -170,8 +170,35 @@ fn words_of(alloc: Global, words: &[&str]) -> Result<Vec<Text>, NoMemory> {
     Ok(texts)
 }
 
+/// The runs of one script by so many workers.
+const COUNTED: [(&str, &str); 3] = [
+    ("one_worker_tells_both", "1"),
+    ("two_workers_tell_the_same", "2"),
+    ("three_workers_tell_the_same", "3"),
+];
+
+/// But for their tags, alice and bob are told the same in each page: numbers, states and bodies.
+fn counted_runs(rt: &(impl Files + Print + AllocGlobal)) -> io::Result<()> {
+    let script = fs::read(rt, "the_number_of_workers_does_not_show.script")?;
+    for (name, workers) in COUNTED {
+        let page = fs::read(rt, format!(in rt.alloc(); "{name}.page")?)?;
+        let words = words_of(rt.alloc(), &["script", workers, "alice", "bob"]);
+        let is_page = words.is_ok_and(|words| {
+            writes(
+                rt.alloc(),
+                words.as_slice(),
+                script.as_slice(),
+                page.as_slice(),
+            )
+        });
+        tell(rt, name, is_page)?;
+    }
+    Ok(())
+}
+
 fn main(rt: HostRuntime) -> io::Result<()> {
     plain_runs(&rt)?;
     limited_runs(&rt)?;
-    called_runs(&rt)
+    called_runs(&rt)?;
+    counted_runs(&rt)
 }

@@ -13,16 +13,16 @@ use Rattle.notifier.specs.Standing.{Standing, first_standing}
 use Rattle.notifier.specs.Start.{Start}
 use Rattle.inbox.specs.Seats.{ReceiverSeat}
 use Rattle.inbox.specs.Took.{Took}
-use Rattle.inbox.specs.declared.ends.Taken.{Taken}
-use Rattle.inbox.specs.declared.ends.Taken.TheVariants as taken
+use Rattle.many_to_one.specs.declared.ends.Taken.{Taken}
+use Rattle.many_to_one.specs.declared.ends.Taken.TheVariants as taken
 use Rattle.outbox.specs.Seats.{PosterSeat}
 use Rattle.queue_rule.specs.Values.{values, values_by, value_item, end_item}
 use Rattle.worker.specs.Worked.{outs_for, KeepsQueues, AllFrom}
 use Rattle.worker.specs.Loop.{standing_after, HandlesOne, Serving, Stopped}
 use Rattle.worker.proofs.Folds.{values_value, values_end, values_by-append, run_push, outs_push, take_front, take_within, take_whole}
 
-pub took_as : (r r' : ReceiverSeat) (t u : Taken) → t ≡ u → Took r t r' → Took r u r'
-took_as r r' t u is took = let P : Taken → Type 0 = λ v. Took r v r' in subst P is took
+pub took_as : (r r' : ReceiverSeat) (t u : Taken Event) → t ≡ u → Took r t r' → Took r u r'
+took_as r r' t u is took = let P : Taken Event → Type 0 = λ v. Took r v r' in subst P is took
 
 from_more : (n m p : ℕ) (xs ys : List (Item Event)) (x : Item Event) → m ≡ n → ys ≡ xs ++ x ∷ [] → x.from < m → AllFrom n xs → AllFrom n ys
 from_more n m p xs ys x ports is low was =

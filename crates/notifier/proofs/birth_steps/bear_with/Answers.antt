@@ -1,10 +1,20 @@
-use Rattle.std.proofs.Common.{◌+◌, ap, sym, subst, ◌∙◌, map, arith, All}
+use Rattle.std.proofs.Common.{◌+◌, ◌<◌, ap, sym, subst, ◌∙◌, map, arith, All}
 use Rattle.std.specs.Prelude.{IfSome}
 use Rattle.notifier.specs.Sound.{IsLive, IsOwn, AreRising}
 use Rattle.notifier.specs.Start.{tag_of}
+use Rattle.notifier.specs.Stored.{rows_of}
 use Rattle.notifier.proofs.Lives.{all_more, born_lives}
-use Rattle.notifier.proofs.Owned.{IsStill, born_keeps, own_more, rising_more}
+use Rattle.notifier.proofs.Owned.{IsStill, some_weaker, all_below, born_keeps, own_more, rising_more}
 use Rattle.notifier.proofs.birth_steps.bear_with.Goals as goal
+
+pub push_some-requires-clause-last : goal.push_some-requires-clause-last
+push_some-requires-clause-last g c =
+    let next = c.args.ledger.now.next in
+    let rows = rows_of c.args.ledger.now.rows in
+    let keeps = born_keeps c.args.place.now (map g.P.Package.seen c.begin.new.boxes.items) c.args.ledger.now.clock c.args.serial c.args.tag c.args.source c.args.request.now c.args.kind in
+    let still : IfSome c.in_ok-after.after.row (IsStill c.args.serial c.args.tag) = subst (λ o. IfSome o (IsStill c.args.serial c.args.tag)) (sym c.in_ok-after.ensures.row) keeps in
+    some_weaker (IsStill c.args.serial c.args.tag) (λ row. All (λ r. r.serial < row.serial) rows) c.in_ok-after.after.row still
+    (λ row is. all_below c.args.place.now next row (is.0 ∙ c.requires.serial) rows c.requires.sound.rows_own)
 
 pub returns-clause-sound : goal.returns-clause-sound
 returns-clause-sound g c =
@@ -21,8 +31,9 @@ returns-clause-sound g c =
       clock_fits = c.requires.sound.clock_fits;
       next_begins = omega arith;
       next_fits = let room = c.requires.room in let serials = limits.serials in omega arith;
-      rows_live = subst (All (IsLive c.args.ledger.now.clock)) (sym c.in_ok-push_some.ensures) (all_more (IsLive c.args.ledger.now.clock) c.args.ledger.now.rows.items c.in_ok-after.after.row c.requires.sound.rows_live live);
-      rows_own = subst (All (IsOwn c.args.place.now (next + 1))) (sym c.in_ok-push_some.ensures) (own_more c.args.place.now next c.args.ledger.now.rows.items c.in_ok-after.after.row c.requires.sound.rows_own own);
-      rows_rise = subst AreRising (sym c.in_ok-push_some.ensures) (rising_more c.args.place.now next (tag_of c.args.place.now next) c.args.ledger.now.rows.items c.in_ok-after.after.row c.requires.sound.rows_rise c.requires.sound.rows_own own);
+      rows_indexed = c.in_ok-push_some.ensures.indexed;
+      rows_live = subst (All (IsLive c.args.ledger.now.clock)) (sym c.in_ok-push_some.ensures.rows) (all_more (IsLive c.args.ledger.now.clock) (rows_of c.args.ledger.now.rows) c.in_ok-after.after.row c.requires.sound.rows_live live);
+      rows_own = subst (All (IsOwn c.args.place.now (next + 1))) (sym c.in_ok-push_some.ensures.rows) (own_more c.args.place.now next (rows_of c.args.ledger.now.rows) c.in_ok-after.after.row c.requires.sound.rows_own own);
+      rows_rise = subst AreRising (sym c.in_ok-push_some.ensures.rows) (rising_more c.args.place.now next (tag_of c.args.place.now next) (rows_of c.args.ledger.now.rows) c.in_ok-after.after.row c.requires.sound.rows_rise c.requires.sound.rows_own own);
       ring_fits = ap (λ r. r.capacity) c.in_ok-outs.ensures.ring ∙ c.requires.sound.ring_fits;
     }

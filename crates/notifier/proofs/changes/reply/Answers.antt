@@ -13,4 +13,4 @@ returns-clause-step g c = c.in_ok-all_rows.ensures.step [] c.new-outs.ensures.it
 pub returns-clause-sound : goal.returns-clause-sound
 returns-clause-sound g c =
     sound_told c.args.place.now c.args.ledger.now c.all_rows.new.ledger (answered c.args.response.now)
-    (answered_lives c.args.ledger.now.clock c.args.response.now) (answered_keeps c.args.response.now) c.requires c.in_ok-all_rows.ensures.rows c.in_ok-all_rows.ensures.same
+    (answered_lives c.args.ledger.now.clock c.args.response.now) (answered_keeps c.args.response.now) c.requires c.in_ok-all_rows.ensures.rows c.in_ok-all_rows.ensures.indexed c.in_ok-all_rows.ensures.same

@@ -15,4 +15,4 @@ returns-clause-sound g c =
     let boxes = map g.P.Package.seen c.args.ledger.now.boxes.items in
     sound_told c.args.place.now c.args.ledger.now c.all_rows.new.ledger (stops c.args.place.now boxes c.args.ledger.now.clock)
     (stops_lives c.args.place.now boxes c.args.ledger.now.clock) (stops_keeps c.args.place.now boxes c.args.ledger.now.clock)
-    c.requires c.in_ok-all_rows.ensures.rows c.in_ok-all_rows.ensures.same
+    c.requires c.in_ok-all_rows.ensures.rows c.in_ok-all_rows.ensures.indexed c.in_ok-all_rows.ensures.same

@@ -15,4 +15,4 @@ returns-clause-sound g c =
     (tells_watcher c.args.place.now boxes c.args.ledger.now.clock c.args.name.now c.args.resource.now c.args.is_over)
     (watcher_lives c.args.place.now boxes c.args.ledger.now.clock c.args.name.now c.args.resource.now c.args.is_over)
     (watcher_keeps c.args.place.now boxes c.args.ledger.now.clock c.args.name.now c.args.resource.now c.args.is_over)
-    c.requires c.in_ok-all_rows.ensures.rows c.in_ok-all_rows.ensures.same
+    c.requires c.in_ok-all_rows.ensures.rows c.in_ok-all_rows.ensures.indexed c.in_ok-all_rows.ensures.same

@@ -10,4 +10,4 @@ returns-clause-step g c = c.in_ok-all_rows.ensures.step [] c.new-outs.ensures.it
 pub returns-clause-sound : goal.returns-clause-sound
 returns-clause-sound g c =
     sound_ticked c.args.place.now c.args.ledger.now c.all_rows.new.ledger (map g.P.Package.seen c.args.ledger.now.boxes.items) c.args.clock
-    c.requires.on c.requires.fits c.requires.sound c.in_ok-all_rows.ensures.rows c.in_ok-all_rows.ensures.same
+    c.requires.on c.requires.fits c.requires.sound c.in_ok-all_rows.ensures.rows c.in_ok-all_rows.ensures.indexed c.in_ok-all_rows.ensures.same

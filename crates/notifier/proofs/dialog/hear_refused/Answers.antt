@@ -18,4 +18,4 @@ returns-clause-step g c =
 pub returns-clause-sound : goal.returns-clause-sound
 returns-clause-sound g c =
     sound_told c.args.place.now c.refuse.new.ledger c.all_rows.new.ledger (only c.args.serial (counted c.args.request.now))
-    (counted_lives c.refuse.new.ledger.clock c.args.serial c.args.request.now) (counted_keeps c.args.serial c.args.request.now) c.in_ok-outs.ensures.sound c.in_ok-all_rows.ensures.rows c.in_ok-all_rows.ensures.same
+    (counted_lives c.refuse.new.ledger.clock c.args.serial c.args.request.now) (counted_keeps c.args.serial c.args.request.now) c.in_ok-outs.ensures.sound c.in_ok-all_rows.ensures.rows c.in_ok-all_rows.ensures.indexed c.in_ok-all_rows.ensures.same

@@ -21,4 +21,4 @@ returns-clause-sound g c =
     (only c.args.serial (renewed c.args.place.now (map g.P.Package.seen c.answer_renewal.new.ledger.boxes.items) c.answer_renewal.new.ledger.clock c.args.source c.args.request.now))
     (λ row h. renewed_lives c.args.place.now (map g.P.Package.seen c.answer_renewal.new.ledger.boxes.items) c.answer_renewal.new.ledger.clock c.args.serial c.args.source c.args.request.now row c.in_ok-outs.ensures.limits h)
     (renewed_keeps c.args.place.now (map g.P.Package.seen c.answer_renewal.new.ledger.boxes.items) c.answer_renewal.new.ledger.clock c.args.serial c.args.source c.args.request.now)
-    c.in_ok-outs.ensures.sound c.in_ok-all_rows.ensures.rows c.in_ok-all_rows.ensures.same
+    c.in_ok-outs.ensures.sound c.in_ok-all_rows.ensures.rows c.in_ok-all_rows.ensures.indexed c.in_ok-all_rows.ensures.same

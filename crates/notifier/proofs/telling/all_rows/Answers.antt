@@ -1,9 +1,14 @@
-use Rattle.std.proofs.Common.{map}
+use Rattle.std.proofs.Common.{◌^◌, map}
 use Rattle.notifier.specs.Causes.{rule_of}
 use Rattle.notifier.specs.Ledger.{book_of}
+use Rattle.notifier.specs.Stored.{rows_of}
+use Rattle.notifier.proofs.Dialogs.{own_upto}
 use Rattle.notifier.proofs.Renewal.{if_ok_all}
 use Rattle.notifier.proofs.Steps.{all_rows_step}
 use Rattle.notifier.proofs.telling.all_rows.Goals as goal
+
+pub tell_rows-requires-clause-own : goal.tell_rows-requires-clause-own
+tell_rows-requires-clause-own g c = λ κs lives. own_upto c.args.place.now c.args.ledger.now.next (2 ^ 32) (rows_of c.args.ledger.now.rows) c.requires.next c.requires.own
 
 pub returns-clause-step : goal.returns-clause-step
 returns-clause-step g c =

@@ -1,0 +1,10 @@
+use Rattle.emitting.proofs.Emitting.{Running}
+use Rattle.emitting.proofs.sending.emit.Given as goal
+
+abbrev pub invariant-loop : goal.invariant-loop
+invariant-loop g l =
+    Running l.fn.taker l.taker l.left (g.W.Wire.given l.fn.wire) (g.W.Wire.given l.wire)
+    (record { taken = g.W.Wire.taken l.fn.wire; failures = g.W.Wire.failures l.fn.wire })
+    (record { taken = g.W.Wire.taken l.wire; failures = g.W.Wire.failures l.wire })
+    (record { contents = g.F.Write.contents l.fn.sink.writer; failures = l.fn.sink.failures })
+    (record { contents = g.F.Write.contents l.sink.writer; failures = l.sink.failures }) l.report

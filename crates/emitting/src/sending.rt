@@ -1,0 +1,137 @@
+//! What sends out what workers post.
+ghost use Rattle.std.specs.Prelude.{◌≡◌, ◌+◌, ◌∷◌, [], true};
+ghost use Rattle.queue_rule.specs.Ended.{count_ended, AllEnded};
+ghost use Rattle.wires.specs.Wires.{Grows};
+ghost use Rattle.emitting.specs.Emitted.{Fates, IsEmitted, MayMeet, Writes, counted, sent_datagrams, count, fails_to_send, fails_to_start, rises};
+
+use crate::writing::write_start;
+use notifier::Out;
+use outbox::{Posted, Taker};
+use scripts::Sink;
+use std::io::Write;
+use std::sync::Wait;
+use std::thread;
+use wires::Wire;
+
+/// What became of an out.
+#[derive(Clone, Copy, Debug, PartialEq, Eq)]
+pub enum Fate {
+    /// It was an answer or a NOTIFY, and was sent.
+    Sent,
+    /// It was the start of a transfer, and was written.
+    Started,
+    /// The wire or the writer failed at it.
+    Failed,
+}
+
+/// What became of all outs.
+#[derive(Clone, Copy, Debug, PartialEq, Eq)]
+pub struct EmitReport {
+    /// How many answers and NOTIFYs were sent.
+    pub sent: u64,
+    /// How many transfers were written.
+    pub starts: u64,
+    /// At how many outs the wire or the writer failed.
+    pub failed: u64,
+}
+
+/// Sends an answer or a NOTIFY, or writes the line of a transfer that starts and flushes it. It takes no memory.
+pub fn put_out<R: Wait, W: Wire, F: Write>(
+    rt: &R,
+    wire: &mut W,
+    sink: &mut Sink<F>,
+    out: &Out,
+) -> Fate
+    ensures fate { MayMeet out.now result }
+    ensures given { Grows (W.given wire.old) (W.given wire.new) [] }
+    ensures taken { Grows (W.taken wire.old) (W.taken wire.new) (sent_datagrams ((out.now, result) ∷ [])) }
+    ensures wire_failures { W.failures wire.new
+        ≡ rises (count fails_to_send ((out.now, result) ∷ [])) (W.failures wire.old) }
+    ensures failures { sink.new.failures
+        ≡ rises (count fails_to_start ((out.now, result) ∷ [])) sink.old.failures }
+    ensures writes { Writes (F.contents sink.old.writer) (F.contents sink.new.writer) out.now result }
+    ensures flushed { result ≡ Fate.Started → sink.new.is_flushed ≡ true }
+{
+    match out {
+        Out::Answer { to, bytes } => match wire.send(rt, *to, bytes.as_slice()) {
+            Ok(()) => Fate::Sent,
+            Err(_) => Fate::Failed,
+        },
+        Out::Notify { to, bytes, .. } => match wire.send(rt, *to, bytes.as_slice()) {
+            Ok(()) => Fate::Sent,
+            Err(_) => Fate::Failed,
+        },
+        Out::Start { tag, refer_to } => match write_start(sink, tag.as_str(), refer_to.as_str()) {
+            Ok(()) => Fate::Started,
+            Err(_) => Fate::Failed,
+        },
+    }
+}
+
+/// One more. It waits for good where there is no such number.
+fn count_up<R: Wait>(rt: &R, count: u64) -> u64
+    ensures { result ≡ count + 1 }
+{
+    if let Some(sum) = count.checked_add(1) {
+        return sum;
+    }
+    for _ in rt.forever() {}
+    unreachable!()
+}
+
+impl EmitReport {
+    /// One out more.
+    fn add<R: Wait>(&mut self, rt: &R, fate: Fate)
+        ensures { self.new ≡ counted self.old fate }
+    {
+        match fate {
+            Fate::Sent => self.sent = count_up(rt, self.sent),
+            Fate::Started => self.starts = count_up(rt, self.starts),
+            Fate::Failed => self.failed = count_up(rt, self.failed),
+        }
+    }
+}
+
+/// Sends out what the workers post, in the order in which it is taken, until each worker has ended: answers and NOTIFYs by the
+/// wire, and a line for each transfer that starts. What fails is counted, and the rest goes on. Where nothing is posted the
+/// thread yields. No worker's end mark was taken yet.
+pub fn emit<R: Wait, W: Wire, F: Write>(
+    rt: &R,
+    wire: &mut W,
+    sink: &mut Sink<F>,
+    taker: &mut Taker,
+    workers: u32,
+) -> EmitReport
+    requires workers { workers ≡ taker.old.workers }
+    requires none_ended { count_ended taker.old.workers taker.old.got ≡ 0 }
+    ensures emitted { (log : Fates) × IsEmitted log taker.old.got taker.new.got
+        (record { taken = W.taken wire.old; failures = W.failures wire.old })
+        (record { taken = W.taken wire.new; failures = W.failures wire.new })
+        (record { contents = F.contents sink.old.writer; failures = sink.old.failures })
+        (record { contents = F.contents sink.new.writer; failures = sink.new.failures }) result }
+    ensures given { Grows (W.given wire.old) (W.given wire.new) [] }
+    ensures outbox { taker.new.outbox ≡ taker.old.outbox }
+    ensures workers { taker.new.workers ≡ taker.old.workers }
+    ensures ended { AllEnded taker.old.workers taker.new.got }
+{
+    let mut report = EmitReport {
+        sent: 0,
+        starts: 0,
+        failed: 0,
+    };
+    let mut left = workers;
+    for _ in rt.forever() {
+        if left == 0 {
+            return report;
+        }
+        match taker.take(rt) {
+            Some(Posted::Ended(_)) => left -= 1,
+            Some(Posted::Out(_, out)) => {
+                let fate = put_out(rt, wire, sink, &out);
+                report.add(rt, fate);
+            }
+            None => thread::yield_now(),
+        }
+    }
+    unreachable!()
+}

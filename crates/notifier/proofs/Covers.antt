@@ -1,0 +1,157 @@
+-- The serials that a cause looks for cover what it does to the rows.
+use Rattle.std.proofs.Common.{◌≡◌, ◌∙◌, ◌↔◌, ◌⊎◌, sym, ap, refl, inl, inr, ℕ, ◌+◌, ◌-◌, ◌<◌, ◌≤◌, ◌^◌, min, Bool, true, false, ◌&&◌, ◌||◌, ◌==◌, List, [], ◌∷◌, Option, Some, None, All, nat_le, bytes_eq, eq-eqb, arith, IsTrue, is_some, fold, option_to_list, codes}
+use Rattle.std.proofs.lemmas.Bool.Decides.{nat_tests}
+use Rattle.std.proofs.lemmas.List.Elements.{All-nil, All-cons, All-head, All-tail}
+use Rattle.std.specs.List.{list_any}
+use Rattle.std.specs.BTreeSet as sorted
+use Rattle.sip_read.specs.declared.message.Response.{Response}
+use Rattle.subscription.specs.Table.{is_answer_to, is_tag}
+use Rattle.package.specs.Content.{Maps, SeenBy}
+use Rattle.notifier.specs.declared.place.Place.{Place}
+use Rattle.notifier.specs.declared.row.Row.{Row}
+use Rattle.notifier.specs.declared.row.Unanswered.{Unanswered}
+use Rattle.notifier.specs.declared.rows.Rows.{Rows}
+use Rattle.notifier.specs.Start.{patience}
+use Rattle.notifier.specs.Rows.{Told, wherever, stays, only, answered, takes_answer, is_answered_by, watches, tells_change, tells_watcher, is_due, is_late, is_overdue, ends, times_out}
+use Rattle.subscription.specs.declared.notify.Reason.TheVariants.{Timeout}
+use Rattle.notifier.specs.Among.{has, Cover}
+use Rattle.notifier.specs.Stored.{rows_of, row_at, with_serial, by_time, gives_up, alarm_of, is_timed_at, is_of, IsIndexed, IsTimed}
+use Rattle.notifier.specs.Watchers.{watched}
+use Rattle.notifier.proofs.Passes.{only-other}
+use Rattle.notifier.proofs.Rising.{with_serial-same}
+use Rattle.notifier.proofs.Turning.{with_serial-rows}
+
+tested : (b : Bool) → (b ≡ true) ⊎ (b ≡ false)
+tested true = inl refl
+tested false = inr refl
+
+split_and : (a b : Bool) → (a && b) ≡ true → (a ≡ true) × (b ≡ true)
+split_and true b e = (refl, e)
+split_and false b e = absurd (cc)
+
+same_number : (a b : ℕ) → (a == b) ≡ true → a ≡ b
+same_number a b e = grind (arith, nat_tests)
+
+other_stays : (test : Row → Bool) (rule : Row → Told) (row : Row) → test row ≡ false → wherever test rule row ≡ stays row
+unfolding wherever
+other_stays test rule row e = rw e refl
+
+upto : (a b : ℕ) → nat_le a b ≡ true → a ≤ b
+upto a b e = grind (arith, nat_tests)
+
+-- before its alarm nothing of a row is up
+before_alarm : (clock : ℕ) (row : Row) → clock < 2 ^ 63 → nat_le (alarm_of row) clock ≡ false → (nat_le row.sub.due clock ≡ false) × (is_overdue clock row ≡ false)
+unfolding alarm_of gives_up is_overdue
+before_alarm clock row fits e = all row.unanswered row.sub.due e
+  where
+    first_at_most : (n : ℕ) (due : ℕ) → clock < min due n → (clock < due) × (clock < n)
+    first_at_most n due h = (omega arith, omega arith)
+
+    none_late : (notify : Unanswered) → clock < min (notify.moment + patience) (2 ^ 64 - 1) → is_late clock notify ≡ false
+    none_late notify h = let x : clock < notify.moment + 32 = omega arith in grind (arith, nat_tests)
+
+    above : (a b : ℕ) → nat_le a b ≡ false → b < a
+    above a b h = grind (arith, nat_tests)
+
+    not_le : (a b : ℕ) → b < a → nat_le a b ≡ false
+    not_le a b h = grind (arith, nat_tests)
+
+    both : (notifys : List Unanswered) (due : ℕ) → clock < fold (λ first notify. min first (gives_up notify)) due notifys → (clock < due) × (list_any (is_late clock) notifys ≡ false)
+    both [] due h = (h, refl)
+    both (n ∷ ns) due h =
+        let rest = both ns (min due (gives_up n)) h in
+        let here = first_at_most (gives_up n) due rest.0 in
+        (here.0, rw (none_late n here.1) rest.1)
+
+    all : (notifys : List Unanswered) (due : ℕ) → nat_le (fold (λ first notify. min first (gives_up notify)) due notifys) clock ≡ false → (nat_le due clock ≡ false) × (list_any (is_late clock) notifys ≡ false)
+    all notifys due h = let r = both notifys due (above _ _ h) in (not_le due clock r.0, r.1)
+
+-- what a search finds holds what all hold, and has the serial
+pub found_all : (P : Row → Type 0) (s : ℕ) (rows : List Row) (row : Row) → All P rows → with_serial s rows ≡ Some row → P row × (row.serial ≡ s)
+found_all P s [] row all e = absurd (cc)
+found_all P s (r ∷ rows) row all e = by_test (r.serial == s) refl (found_all P s rows row (All-tail P r rows all))
+  where
+    by_test : (b : Bool) → (r.serial == s) ≡ b → (with_serial s rows ≡ Some row → P row × (row.serial ≡ s)) → P row × (row.serial ≡ s)
+    by_test true h later =
+        let here : with_serial s (r ∷ rows) ≡ Some r = with_serial-same s r rows (same_number r.serial s h) in
+        let same : r ≡ row = cc in
+        rw (← same) (All-head P r rows all, same_number r.serial s h)
+    by_test false h later = later (rw h at e)
+
+-- ---- one serial
+
+any_true : (rows : List Row) → All (λ row. Unit {0}) rows
+any_true [] = All-nil (λ row. Unit {0})
+any_true (row ∷ rows) = All-cons (λ row. Unit {0}) row rows tt (any_true rows)
+
+pub only_covers : (serial : ℕ) (rule : Row → Told) (rows : List Row) → Cover (serial ∷ []) (only serial rule) rows
+only_covers serial rule rows s row found = by_test (serial == s) refl
+  where
+    own : row.serial ≡ s
+    own = (found_all (λ row. Unit {0}) s rows row (any_true rows) found).1
+
+    by_test : (b : Bool) → (serial == s) ≡ b → (has s (serial ∷ []) ≡ true) ⊎ (only serial rule row ≡ stays row)
+    by_test true e = inl (rw e refl)
+    by_test false e = inr (only-other serial rule row (λ q. let x = eq-eqb serial s (sym q ∙ own) in absurd (cc)))
+
+-- ---- a response
+
+module _ (response : Response) (serial : Option ℕ) where
+  -- a row whose NOTIFY it answers has this serial
+  abbrev pub Leads : Row → Type 0
+  Leads row = (tag : List ℕ) → response.head.from.tag ≡ Some tag → bytes_eq tag row.sub.usage.local_tag ≡ true → serial ≡ Some row.serial
+
+  tag_answered : (row : Row) → is_answered_by response row ≡ true → is_tag response.head.from.tag row.sub.usage.local_tag ≡ true
+  unfolding is_answer_to
+  tag_answered row e =
+      let a = split_and (bytes_eq response.head.cseq_method (codes "NOTIFY")) _ e in
+      let b = split_and (bytes_eq response.head.call_id row.sub.usage.call_id) _ a.1 in
+      (split_and (is_tag response.head.from.tag row.sub.usage.local_tag) _ b.1).0
+
+  led : (row : Row) → Leads row → (tag : Option (List ℕ)) → response.head.from.tag ≡ tag → is_tag tag row.sub.usage.local_tag ≡ true → serial ≡ Some row.serial
+  led row leads None e h = absurd (cc)
+  led row leads (Some tag) e h = leads tag e h
+
+  pub answered_covers : (rows : List Row) → All Leads rows → Cover (option_to_list serial) (answered response) rows
+  unfolding answered
+  answered_covers rows leads s row found = elim (tested (is_answered_by response row)) [
+    | inl e ↦
+        let at = found_all Leads s rows row leads found in
+        let same : serial ≡ Some row.serial = led row at.0 response.head.from.tag refl (tag_answered row e) in
+        inl (rw same (ap (λ b. b || false) (eq-eqb row.serial s at.1)))
+    | inr e ↦ inr (other_stays (is_answered_by response) (takes_answer response) row e)
+  ]
+
+-- ---- a change
+
+module _ {maps : Maps} (place : Place) (boxes : List (SeenBy maps)) (clock : ℕ) (old : Rows) (i : IsIndexed old) (serials : List ℕ) where
+  there : (s : ℕ) (row : Row) → with_serial s (rows_of old) ≡ Some row → row_at old s ≡ Some row
+  there s row found = sym (with_serial-rows old s i) ∙ found
+
+  pub change_covers : (name resource : List ℕ) (is_over : Bool) → ((s : ℕ) → has s serials ≡ watched old.watchers resource s) → Cover serials (tells_watcher place boxes clock name resource is_over) (rows_of old)
+  unfolding tells_watcher
+  change_covers name resource is_over all s row found = elim (tested (watches name resource row)) [
+    | inl e ↦
+        let both = split_and (bytes_eq row.sub.want.event.package name) (bytes_eq row.sub.want.resource resource) e in
+        inl (all s ∙ i.watching resource s ∙ ap (is_of resource) (there s row found) ∙ both.1)
+    | inr e ↦ inr (other_stays (watches name resource) (tells_change place boxes clock is_over) row e)
+  ]
+
+  -- ---- time
+
+  pub time_covers : clock < 2 ^ 63 → ((s : ℕ) → IsTrue (has s serials) ↔ IsTimed old.timers clock s) → Cover serials (times_out place boxes clock) (rows_of old)
+  unfolding times_out
+  time_covers fits all s row found = elim (tested (nat_le (alarm_of row) clock)) [
+    | inl e ↦
+        let timer : sorted.contains by_time old.timers (alarm_of row, s) ≡ true =
+        i.timed (alarm_of row) s ∙ ap (is_timed_at (alarm_of row)) (there s row found) ∙ eq-eqb (alarm_of row) (alarm_of row) refl in
+        inl ((all s).1 (alarm_of row, (upto (alarm_of row) clock e, timer)))
+    | inr e ↦
+        let quiet = before_alarm clock row fits e in
+        inr (rw quiet.1 (other_stays (is_due clock) (ends place boxes clock Timeout) row quiet.0))
+  ]
+
+  -- ---- the planned stop
+
+  pub stop_covers : (rule : Row → Told) → ((s : ℕ) → IsTrue (is_some (row_at old s)) → IsTrue (has s serials)) → Cover serials rule (rows_of old)
+  stop_covers rule all s row found = inl (all s (ap is_some (there s row found)))

@@ -1,0 +1,162 @@
+-- What each cause leaves of a row that stays: its serial, what it watches, and that it can be told again.
+use Rattle.std.proofs.Common.{◌≡◌, ◌∙◌, ℕ, Bool, true, false, if◌then◌else◌, ◌==◌, List, Option, Some, None, All, IfSome, refl, ap}
+use Rattle.sip_text.specs.declared.address.Addr.{Addr}
+use Rattle.sip_read.specs.declared.message.Request.{Request}
+use Rattle.sip_read.specs.declared.message.Response.{Response}
+use Rattle.subscription.specs.declared.terms.Want.{Want}
+use Rattle.subscription.specs.declared.notify.Notice.{Notice}
+use Rattle.subscription.specs.declared.notify.Reason.{Reason}
+use Rattle.subscription.specs.declared.notify.Reason.TheVariants.{Timeout, Deactivated}
+use Rattle.subscription.specs.declared.life.Step.{Step}
+use Rattle.subscription.specs.declared.life.Step.TheVariants.{Live, Over}
+use Rattle.subscription.specs.State.{State}
+use Rattle.subscription.specs.Table.{told, refresh, end, over, changed, refuses}
+use Rattle.package.specs.Content.{Maps, SeenBy, is_final}
+use Rattle.notifier.specs.declared.place.Place.{Place}
+use Rattle.notifier.specs.declared.row.Row.{Row}
+use Rattle.notifier.specs.declared.rule.Cause.{Cause}
+use Rattle.notifier.specs.declared.rule.Cause.TheVariants.{Response as Answer, Refused, Renewal, Change, Time, Stop}
+use Rattle.notifier.specs.Causes.{rule_of, CanTell}
+use Rattle.notifier.specs.Fields.{value_of}
+use Rattle.notifier.specs.Requests.{asks_nothing, granted}
+use Rattle.notifier.specs.Rows.{Told, wherever, has_serial, opened, with_sub, turned, tells, stays, goes, left, only, counted, closed, takes_answer, is_answered_by, answered, renewed, renewed_sub, watches, tells_change, tells_watcher, is_due, is_overdue, ends, times_out, stops}
+use Rattle.notifier.proofs.Lives.{all_left, only_keeps, watcher_lives}
+use Rattle.notifier.proofs.Owned.{Keeps, IsStill, some_weaker, answered_keeps, counted_keeps, renewed_keeps, watcher_keeps, due_keeps, stops_keeps}
+use Rattle.notifier.proofs.Passes.{KeepsSerials}
+
+-- ---- what a row watches
+
+abbrev pub KeepsResource : (Row → Told) → Type 0
+KeepsResource rule = (row : Row) → IfSome (rule row).row (λ after. after.sub.want.resource ≡ row.sub.want.resource)
+
+wherever_same : (test : Row → Bool) (rule : Row → Told) → KeepsResource rule → KeepsResource (wherever test rule)
+unfolding wherever stays
+wherever_same test rule same row = by (test row)
+  where
+    by : (b : Bool) → IfSome (if b then rule row else stays row).row (λ after. after.sub.want.resource ≡ row.sub.want.resource)
+    by true = same row
+    by false = refl
+
+only_same : (serial : ℕ) (rule : Row → Told) → KeepsResource rule → KeepsResource (only serial rule)
+unfolding only
+only_same serial rule same = wherever_same (has_serial serial) rule same
+
+counted_same : (serial : ℕ) (r : Request) → KeepsResource (only serial (counted r))
+unfolding counted stays
+counted_same serial r = only_same serial (counted r) (λ row. refl)
+
+takes_same : (response : Response) → KeepsResource (takes_answer response)
+unfolding takes_answer closed stays goes
+takes_same response row = by (refuses response) (is_final response.status)
+  where
+    by : (b c : Bool) → IfSome (if b then goes else if c then stays (closed response.head.cseq row) else stays row).row (λ after. after.sub.want.resource ≡ row.sub.want.resource)
+    by true c = tt
+    by false true = refl
+    by false false = refl
+
+answered_same : (response : Response) → KeepsResource (answered response)
+unfolding answered
+answered_same response = wherever_same (is_answered_by response) (takes_answer response) (takes_same response)
+
+-- a step that goes on watches this resource
+abbrev pub StepOf : List ℕ → Step → Type 0
+StepOf resource (Live s notice) = s.want.resource ≡ resource
+StepOf resource (Over usage notice) = Unit {0}
+
+told_same : (s : State) (time : ℕ) → StepOf s.want.resource (told s time)
+unfolding told
+told_same s time = by (s.count == s.want.max_cseq) _ _
+  where
+    by : (c : Bool) (m n : Notice) → StepOf s.want.resource (if c then Over s.usage m else Live s n)
+    by true m n = tt
+    by false m n = refl
+
+renewed_sub_same : (place : Place) (clock : ℕ) (source : Addr) (r : Request) (s : State) → StepOf s.want.resource (renewed_sub place clock source r s)
+unfolding renewed_sub refresh end
+renewed_sub_same place clock source r s = by (asks_nothing place.limits r)
+  where
+    by : (b : Bool) → StepOf s.want.resource (if b then over (end s Timeout) else refresh s r.head.cseq (value_of r.contact) source clock (granted place.limits r))
+    by true = tt
+    by false = told_same _ _
+
+changed_same : (s : State) (clock : ℕ) (is_over : Bool) → StepOf s.want.resource (changed s clock is_over)
+unfolding changed end
+changed_same s clock true = tt
+changed_same s clock false = told_same _ _
+
+module _ {maps : Maps} (place : Place) (boxes : List (SeenBy maps)) (clock : ℕ) where
+  turned_same : (to : Addr) (want : Want) (row_of : State → Row) (next : Step) (resource : List ℕ) → ((s : State) → (row_of s).sub ≡ s) → StepOf resource next
+      → IfSome (turned place boxes clock to want row_of next).row (λ after. after.sub.want.resource ≡ resource)
+  unfolding turned opened
+  turned_same to want row_of (Live s notice) resource same h = ap (λ x. x.want.resource) (same s) ∙ h
+  turned_same to want row_of (Over usage notice) resource same h = tt
+
+  renewed_same : (serial : ℕ) (source : Addr) (r : Request) → KeepsResource (only serial (renewed place boxes clock source r))
+  unfolding renewed
+  renewed_same serial source r =
+      only_same serial (renewed place boxes clock source r) (λ row. turned_same source row.sub.want _ _ row.sub.want.resource (λ s. refl) (renewed_sub_same place clock source r row.sub))
+
+  tells_same : (row : Row) (next : Step) → StepOf row.sub.want.resource next → IfSome (tells place boxes clock row next).row (λ after. after.sub.want.resource ≡ row.sub.want.resource)
+  unfolding tells
+  tells_same row next h = turned_same row.sub.want.to row.sub.want (with_sub row) next row.sub.want.resource (λ s. refl) h
+
+  watcher_same : (name resource : List ℕ) (is_over : Bool) → KeepsResource (tells_watcher place boxes clock name resource is_over)
+  unfolding tells_watcher tells_change
+  watcher_same name resource is_over =
+      wherever_same (watches name resource) (tells_change place boxes clock is_over) (λ row. tells_same row (changed row.sub clock is_over) (changed_same row.sub clock is_over))
+
+  ends_same : (reason : Reason) → KeepsResource (ends place boxes clock reason)
+  unfolding ends end
+  ends_same reason row = tells_same row (over (end row.sub reason)) tt
+
+  times_out_same : KeepsResource (times_out place boxes clock)
+  unfolding times_out goes
+  times_out_same row = by (is_overdue clock row)
+    where
+      by : (b : Bool) → IfSome (if b then goes else wherever (is_due clock) (ends place boxes clock Timeout) row).row (λ after. after.sub.want.resource ≡ row.sub.want.resource)
+      by true = tt
+      by false = wherever_same (is_due clock) (ends place boxes clock Timeout) (ends_same Timeout) row
+
+  stops_same : KeepsResource (stops place boxes clock)
+  unfolding stops
+  stops_same = ends_same Deactivated
+
+  -- ---- every cause
+
+  pub cause_same : (cause : Cause) → KeepsResource (rule_of place boxes clock cause)
+  cause_same (Answer response) = answered_same response.now
+  cause_same (Refused serial r) = counted_same serial r.now
+  cause_same (Renewal serial source r) = renewed_same serial source r.now
+  cause_same (Change name resource is_over) = watcher_same name.now resource.now is_over
+  cause_same Time = times_out_same
+  cause_same Stop = stops_same
+
+  cause_keeps : (cause : Cause) → Keeps (rule_of place boxes clock cause)
+  cause_keeps (Answer response) = answered_keeps response.now
+  cause_keeps (Refused serial r) = counted_keeps serial r.now
+  cause_keeps (Renewal serial source r) = renewed_keeps place boxes clock serial source r.now
+  cause_keeps (Change name resource is_over) = watcher_keeps place boxes clock name.now resource.now is_over
+  cause_keeps Time = due_keeps place boxes clock
+  cause_keeps Stop = stops_keeps place boxes clock
+
+  pub cause_serials : (cause : Cause) → KeepsSerials (rule_of place boxes clock cause)
+  cause_serials cause row =
+      some_weaker (IsStill row.serial row.sub.usage.local_tag) (λ after. after.serial ≡ row.serial) (rule_of place boxes clock cause row).row (cause_keeps cause row) (λ after still. still.0)
+
+  any_row : (o : Option Row) → IfSome o (λ row. Unit {0})
+  any_row None = tt
+  any_row (Some row) = tt
+
+  still_tellable : (cause : Cause) (row : Row) → CanTell clock cause row → IfSome (rule_of place boxes clock cause row).row (CanTell clock cause)
+  still_tellable (Answer response) row h = any_row (answered response.now row).row
+  still_tellable (Refused serial r) row h = any_row (only serial (counted r.now) row).row
+  still_tellable (Renewal serial source r) row h = any_row (only serial (renewed place boxes clock source r.now) row).row
+  still_tellable (Change name resource is_over) row h = watcher_lives place boxes clock name.now resource.now is_over row h
+  still_tellable Time row h = any_row (times_out place boxes clock row).row
+  still_tellable Stop row h = any_row (stops place boxes clock row).row
+
+  -- after one serial was told, the others can be told
+  pub tellable_left : (cause : Cause) (serial : ℕ) (rows : List Row) → All (CanTell clock cause) rows → All (CanTell clock cause) (left (only serial (rule_of place boxes clock cause)) rows)
+  tellable_left cause serial rows h =
+      all_left (only serial (rule_of place boxes clock cause)) (CanTell clock cause) (CanTell clock cause)
+      (λ row can. only_keeps serial (rule_of place boxes clock cause) (CanTell clock cause) row can (still_tellable cause row can)) rows h

@@ -1,0 +1,42 @@
+-- One entry of the watchers changes.
+use Rattle.std.proofs.Common.{◌≡◌, ◌∙◌, ap, refl, ℕ, Bool, true, false, cond, ◌&&◌, List, Option, ◌==◌, String, length, [], ◌∷◌, arith}
+use Rattle.std.proofs.lemmas.Slice.Eq.{bytes_eq-Decides}
+use Rattle.std.specs.List.{list_any}
+use Rattle.std.specs.Map.{update}
+use Rattle.std.specs.Ordering.{nat_cmp}
+use Rattle.std.specs.Str.{bytes_eq}
+use Rattle.std.specs.BTreeMap.{is_at}
+use Rattle.std.specs.BTreeSet as sorted
+use Rattle.std.specs.BTreeSet.{BTreeSet}
+use Rattle.std.specs.HashMap.{HashMap, get_by_text}
+use Rattle.notifier.specs.Watchers.{is_in, watched}
+use Rattle.notifier.proofs.Times.{number_cond}
+
+module _ {Y S : Type 0} (m n : HashMap (String Y) (BTreeSet ℕ) S) (bs : List ℕ) (w : Option (BTreeSet ℕ)) (h : (cs : List ℕ) → get_by_text n cs ≡ update bytes_eq (get_by_text m) bs w cs) (value : Bool) (serial : ℕ) (here : (s : ℕ) → is_in w s ≡ cond (serial == s) value (is_in (get_by_text m bs) s)) where
+  at_test : (q : List ℕ) (s : ℕ) (b : Bool) → bytes_eq bs q ≡ b → is_in (cond b w (get_by_text m q)) s ≡ cond (b && (serial == s)) value (watched m q s)
+  at_test q s true e =
+      let same : bs ≡ q = (bytes_eq-Decides bs q).0 e in
+      here s ∙ ap (λ x. cond (serial == s) value (is_in (get_by_text m x) s)) same
+  at_test q s false e = refl
+
+  pub watched_by : (q : List ℕ) (s : ℕ) → watched n q s ≡ cond (bytes_eq bs q && (serial == s)) value (watched m q s)
+  watched_by q s = ap (λ o. is_in o s) (h q) ∙ at_test q s (bytes_eq bs q) refl
+
+-- a set with one number more, or less
+pub set_by : (set new : BTreeSet ℕ) (serial : ℕ) (value : Bool) → ((q : ℕ) → sorted.contains nat_cmp new q ≡ cond (is_at (nat_cmp serial) q) value (sorted.contains nat_cmp set q)) → (s : ℕ) → sorted.contains nat_cmp new s ≡ cond (serial == s) value (sorted.contains nat_cmp set s)
+set_by set new serial value h s = number_cond serial s value (sorted.contains nat_cmp set s) (sorted.contains nat_cmp new s) (h s)
+
+-- one change and then another of the same entry
+pub updated_twice : {V : Type 0} (f g h : List ℕ → Option V) (bs : List ℕ) (v w : Option V) → ((cs : List ℕ) → g cs ≡ update bytes_eq f bs v cs) → ((cs : List ℕ) → h cs ≡ update bytes_eq g bs w cs) → (cs : List ℕ) → h cs ≡ update bytes_eq f bs w cs
+updated_twice {V} f g h bs v w a b cs = b cs ∙ ap (cond (bytes_eq bs cs) w) (a cs) ∙ twice (bytes_eq bs cs) (f cs)
+  where
+    twice : (b : Bool) (x : Option V) → cond b w (cond b v x) ≡ cond b w x
+    twice true x = refl
+    twice false x = refl
+
+pub empty_set : (set : BTreeSet ℕ) (s : ℕ) → length set.keys ≡ 0 → sorted.contains nat_cmp set s ≡ false
+empty_set set s e = none set.keys e
+  where
+    none : (ks : List ℕ) → length ks ≡ 0 → list_any (is_at (nat_cmp s)) ks ≡ false
+    none [] e = refl
+    none (k ∷ ks) e = absurd (omega arith)

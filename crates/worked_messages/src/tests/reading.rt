@@ -1,0 +1,161 @@
+//! What a datagram is read as, as a text: a message line by line, or the number of its error and what the error says.
+use event_headers::{EventValue, Range};
+use sip_read::{Head, Message, ReadError, Request, Response, read};
+use sip_text::{Field, Text, Values};
+use std::alloc::{AllocError, Global};
+use std::fmt;
+use std::fmt::{Formatter, Write};
+
+#[derive(Drop)]
+struct Reading(Result<Message, ReadError>);
+
+impl fmt::Display for Reading {
+    fn fmt<W: Write>(&self, f: &mut Formatter<W>) -> fmt::Result {
+        match &self.0 {
+            Ok(Message::Request(request)) => write_request(f, request),
+            Ok(Message::Response(response)) => write_response(f, response),
+            Err(error) => writeln!(f, "error {}: {error}", error.number()),
+        }
+    }
+}
+
+fn some_text(text: &Option<Text>) -> &str {
+    match text {
+        Some(text) => text.as_str(),
+        None => "none",
+    }
+}
+
+fn field_text(field: &Field<Text>) -> &str {
+    match field {
+        Field::Value(text) => text.as_str(),
+        Field::Absent => "absent",
+        Field::Bad => "bad",
+    }
+}
+
+fn write_texts<W: Write>(f: &mut Formatter<W>, name: &str, texts: &Values<Text>) -> fmt::Result {
+    for text in texts.as_slice() {
+        writeln!(f, "{name} {}", text.as_str())?;
+    }
+    Ok(())
+}
+
+fn write_lines<W: Write>(f: &mut Formatter<W>, lines: &[(&str, &str)]) -> fmt::Result {
+    for (name, value) in lines {
+        writeln!(f, "{name} {value}")?;
+    }
+    Ok(())
+}
+
+fn write_head<W: Write>(f: &mut Formatter<W>, head: &Head) -> fmt::Result {
+    write_texts(f, "via", &head.vias)?;
+    write_lines(
+        f,
+        &[
+            ("sent by", head.top.sent_by.as_str()),
+            ("branch", some_text(&head.top.branch)),
+            ("rport", if head.top.bare_rport { "bare" } else { "none" }),
+            ("from", head.from.text.as_str()),
+            ("from tag", some_text(&head.from.tag)),
+            ("to", head.to.text.as_str()),
+            ("to tag", some_text(&head.to.tag)),
+            ("call-id", head.call_id.as_str()),
+        ],
+    )?;
+    writeln!(f, "cseq {} {}", head.cseq, head.cseq_method.as_str())
+}
+
+fn write_event<W: Write>(f: &mut Formatter<W>, event: &Field<EventValue>) -> fmt::Result {
+    match event {
+        Field::Value(event) => {
+            writeln!(
+                f,
+                "event {} {}",
+                event.package(),
+                event.id().unwrap_or("none")
+            )
+        }
+        Field::Absent => writeln!(f, "event absent"),
+        Field::Bad => writeln!(f, "event bad"),
+    }
+}
+
+fn write_expires<W: Write>(f: &mut Formatter<W>, expires: &Field<u32>) -> fmt::Result {
+    match expires {
+        Field::Value(seconds) => writeln!(f, "expires {seconds}"),
+        Field::Absent => writeln!(f, "expires absent"),
+        Field::Bad => writeln!(f, "expires bad"),
+    }
+}
+
+fn write_accept<W: Write>(f: &mut Formatter<W>, accept: &Field<Values<Range>>) -> fmt::Result {
+    match accept {
+        Field::Value(ranges) => {
+            write!(f, "accept")?;
+            for range in ranges.as_slice() {
+                write!(f, " {}/{}", range.main(), range.sub())?;
+            }
+            writeln!(f)
+        }
+        Field::Absent => writeln!(f, "accept absent"),
+        Field::Bad => writeln!(f, "accept bad"),
+    }
+}
+
+/// Nothing, where there is no line.
+fn write_refer_sub<W: Write>(f: &mut Formatter<W>, wanted: &Field<bool>) -> fmt::Result {
+    match wanted {
+        Field::Value(wanted) => writeln!(f, "refer-sub {wanted}"),
+        Field::Absent => Ok(()),
+        Field::Bad => writeln!(f, "refer-sub bad"),
+    }
+}
+
+/// As a text, if it is one.
+fn write_body<W: Write>(f: &mut Formatter<W>, body: &[u8]) -> fmt::Result {
+    match str::from_utf8(body) {
+        Ok(text) => writeln!(f, "body {text:?}"),
+        Err(_) => writeln!(f, "body {body:?}"),
+    }
+}
+
+fn write_request<W: Write>(f: &mut Formatter<W>, request: &Request) -> fmt::Result {
+    writeln!(
+        f,
+        "request {} {}",
+        request.method.as_str(),
+        request.uri.as_str()
+    )?;
+    write_head(f, &request.head)?;
+    write_event(f, &request.event)?;
+    write_expires(f, &request.expires)?;
+    write_accept(f, &request.accept)?;
+    write_lines(
+        f,
+        &[
+            ("contact", field_text(&request.contact)),
+            ("refer-to", field_text(&request.refer_to)),
+        ],
+    )?;
+    write_refer_sub(f, &request.refer_sub)?;
+    write_texts(f, "require", &request.require)?;
+    write_texts(f, "record-route", &request.record_routes)?;
+    write_body(f, request.body.as_slice())
+}
+
+fn write_response<W: Write>(f: &mut Formatter<W>, response: &Response) -> fmt::Result {
+    writeln!(
+        f,
+        "response {} {}",
+        response.status,
+        response.reason.as_str()
+    )?;
+    write_head(f, &response.head)
+}
+
+/// What the datagram is read as.
+pub fn reading_of(alloc: Global, bytes: &[u8]) -> Result<String, AllocError> {
+    let answer = Reading(read(alloc, bytes));
+    format!(in alloc; "{answer}")
+}
