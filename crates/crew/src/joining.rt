@@ -88,7 +88,8 @@ fn settle_port(reports: &mut [WorkerReport], mut sents: Vec<Sent>)
 /// Joins the ports' seats to those of the workers.
 fn settle_all(reports: &mut [WorkerReport], ports: Vec<Port>)
     requires closed { (k : ℕ) (p : PortSeats) → k < vec_len ports → (get_or ports.items k p).still_open ≡ 0 }
-    requires seats { (k : ℕ) (p : PortSeats) → k < vec_len ports → AreSeatsOf reports.old (get_or ports.items k p).seats }
+    requires seats { (k : ℕ) (p : PortSeats) → k < vec_len ports
+        → AreSeatsOf reports.old (get_or ports.items k p).seats }
     ensures same { reports.new ≡ reports.old }
     ensures came { (k : ℕ) (p : PortSeats) → k < vec_len ports
         → HaveCome reports.old (get_or ports.items k p).seats (length reports.old) }

@@ -77,7 +77,8 @@ impl Port {
     /// which is [`Left`]. Closing again answers Ok and changes nothing.
     pub fn close<R: Wait>(&mut self, rt: &R) -> Result<(), Left>
         ensures closed { self.new.still_open ≡ 0 }
-        ensures ends { MatchResult result (λ _. Closes self.old self.new) (λ _. ClosesSome self.old.seats self.new.seats) }
+        ensures ends { MatchResult result (λ _. Closes self.old self.new)
+            (λ _. ClosesSome self.old.seats self.new.seats) }
     {
         let mut all_there = true;
         while let Some(sender) = self.senders.pop() {

@@ -68,7 +68,8 @@ pub(crate) fn make_seats<P: Package>(
         IsReady (start_of P.seen setup.now k (get_or boxes.items k b).items) (length ports.old)
         (get_or posters.items k p) (get_or seats.items k s).token.start (get_or seats.items k s).stop
         (get_or seats.items k s).desk (get_or seats.items k s).receiver (get_or seats.items k s).poster) }
-    ensures dealt { IfOk result (λ seats. AreDealt ports.new (map (λ s. s.receiver.inbox) seats.items) (length ports.old)) }
+    ensures dealt { IfOk result (λ seats.
+        AreDealt ports.new (map (λ s. s.receiver.inbox) seats.items) (length ports.old)) }
 {
     let mut seats = Vec::with_capacity(alloc, boxes.len())?;
     let mut rest = posters.into_iter();

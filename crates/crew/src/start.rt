@@ -56,7 +56,8 @@ where
     requires room { vec_len seats ≤ vec_capacity workers }
     requires empty { workers.items ≡ [] }
     requires gates { vec_len gates ≡ vec_len seats }
-    requires ready { (k : ℕ) (s : _) → k < vec_len seats → IsFit (get_or seats.items k s).token.start (get_or seats.items k s).stop
+    requires ready { (k : ℕ) (s : _) → k < vec_len seats
+        → IsFit (get_or seats.items k s).token.start (get_or seats.items k s).stop
         (get_or seats.items k s).desk (get_or seats.items k s).receiver (get_or seats.items k s).poster }
     ensures all { result.1 ≡ true → vec_len result.0 ≡ vec_len seats }
     ensures launched { (k : ℕ) (h : _) (s : _) → k < vec_len result.0 →

@@ -29,24 +29,22 @@ use std::rt::Env;
 use std::sync::Wait;
 use std::thread::Threads;
 
-/// The names of the scenarios.
-const NAMES: [&str; 12] = [
-    "two_workers",
-    "mail_through_one_place",
-    "time_for_all",
-    "planned_stop",
-    "refused_change",
-    "workers_meet",
-    "boxes_meet",
-    "dropped_ports",
-    "dropped_after_ten",
-    "closed_port",
-    "closings",
-    "refused_starts",
+/// The scenarios, and how often each is run where nothing else is asked.
+const SCENARIOS: [(&str, u32); 13] = [
+    ("two_workers", 3),
+    ("mail_through_one_place", 3),
+    ("many_mails", 1),
+    ("time_for_all", 3),
+    ("planned_stop", 3),
+    ("refused_change", 3),
+    ("workers_meet", 3),
+    ("boxes_meet", 3),
+    ("dropped_ports", 3),
+    ("dropped_after_ten", 3),
+    ("closed_port", 3),
+    ("closings", 3),
+    ("refused_starts", 3),
 ];
-
-/// How often a scenario is run where nothing else is asked.
-const TIMES: u32 = 3;
 
 /// Runs one scenario once.
 fn run_once<R>(rt: R, alloc: Global, name: &str) -> Result<String, RunError>
@@ -63,7 +61,8 @@ where
         "boxes_meet" => boxes_meet(rt, alloc),
         "dropped_ports" => dropped_ports(rt, alloc, 0),
         "dropped_after_ten" => dropped_ports(rt, alloc, 10),
-        "many_mails" => many_mails(rt, alloc, 125_000),
+        "many_mails" => many_mails(rt, alloc, 10_000),
+        "half_a_million_mails" => many_mails(rt, alloc, 125_000),
         "closed_port" => closed_port(rt, alloc),
         "closings" => closings(rt, alloc),
         "refused_starts" => refused_starts(rt, alloc),
@@ -104,8 +103,8 @@ fn show_all<R>(rt: R, alloc: Global) -> Result<(), RunError>
 where
     R: Threads + Wait + Print + Copy + Send + 'static,
 {
-    for name in NAMES {
-        show(rt, alloc, name, TIMES)?;
+    for (name, times) in SCENARIOS {
+        show(rt, alloc, name, times)?;
     }
     Ok(())
 }

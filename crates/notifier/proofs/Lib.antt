@@ -26,3 +26,4 @@ pub mod Dialogs
 pub mod Soundness
 pub mod Steps
 pub mod Runs
+pub mod Slots

@@ -6,6 +6,8 @@ pub mod Tag
 pub mod Start
 pub mod Requests
 pub mod Answers
+pub mod Transactions
+pub mod Slots
 pub mod Out
 pub mod Rows
 pub mod Watchers

@@ -1,7 +1,7 @@
 //! A request that makes a dialog, as a step of a ledger.
 #![tactic(auto, unfolding(crate::specs::Book::keeping, crate::specs::Book::born, crate::specs::Book::born_with, crate::specs::Book::first_gone, crate::specs::Book::first_word, crate::specs::Rows::forgetting, crate::specs::Out::out_of))]
 
-ghost use Rattle.std.specs.Prelude.{◌≡◌, ◌≤◌, ◌++◌, ◌∷◌, [], ◌&&◌, map, if◌then◌else◌, IfOk, OnOk, None};
+ghost use Rattle.std.specs.Prelude.{◌≡◌, ◌≤◌, ◌++◌, ◌∷◌, [], ◌&&◌, map, option_map, if◌then◌else◌, IfOk, OnOk, None};
 ghost use Rattle.notifier.specs.Book as spec;
 ghost use Rattle.notifier.specs.Fields as fields;
 ghost use Rattle.notifier.specs.Ledger.{book_of, IsStep, IsSound};
@@ -9,6 +9,7 @@ ghost use Rattle.notifier.specs.Out.{Starts, out_of};
 ghost use Rattle.notifier.specs.Requests as requests;
 ghost use Rattle.notifier.specs.Rows as rows;
 ghost use Rattle.notifier.specs.Start.{tag_of};
+ghost use Rattle.notifier.specs.Transactions.{key_of};
 
 use crate::answer::birth_answer;
 use crate::birth::{begin, first_told, value_or_empty};
@@ -17,10 +18,10 @@ use crate::event::Out;
 use crate::ledger::Ledger;
 use crate::place::Place;
 use crate::request::{Birth, is_refer};
-use crate::row::Key;
 use crate::rule::push_some;
 use crate::tag::local_tag;
 use crate::telling::answer;
+use crate::transaction::Transaction;
 use package::{Change, Package};
 use sip_read::{Addr, Request};
 use sip_text::{NoMemory, Text};
@@ -69,12 +70,12 @@ fn bear_with<P: Package>(
     ledger: &mut Ledger<P>,
     source: Addr,
     request: &Request,
-    key: Option<Key>,
+    transaction: Option<Transaction>,
     kind: Birth,
     serial: u32,
     tag: Text,
 ) -> Result<Vec<Out>, NoMemory>
-    requires key { key ≡ requests.key_of_request request.now }
+    requires named { option_map key_of transaction ≡ requests.key_of_request request.now }
     requires fits { requests.misfit request.now ≡ None }
     requires kind { kind ≡ requests.birth_of place.now.limits request.now }
     requires sound { IsSound place.now ledger.old }
@@ -86,7 +87,14 @@ fn bear_with<P: Package>(
 {
     place.limits.are_in_range();
     let bytes = birth_answer(alloc, place, source, request, &tag)?;
-    let mut outs = answer(alloc, &place.limits, &mut ledger.ring, key, source, bytes)?;
+    let mut outs = answer(
+        alloc,
+        &place.limits,
+        &mut ledger.ring,
+        transaction,
+        source,
+        bytes,
+    )?;
     begin(alloc, &mut ledger.boxes, &tag, kind)?;
     let after = first_told(
         alloc,
@@ -115,10 +123,10 @@ pub fn bear<P: Package>(
     ledger: &mut Ledger<P>,
     source: Addr,
     request: &Request,
-    key: Option<Key>,
+    transaction: Option<Transaction>,
     kind: Birth,
 ) -> Result<Vec<Out>, NoMemory>
-    requires key { key ≡ requests.key_of_request request.now }
+    requires named { option_map key_of transaction ≡ requests.key_of_request request.now }
     requires fits { requests.misfit request.now ≡ None }
     requires kind { kind ≡ requests.birth_of place.now.limits request.now }
     requires sound { IsSound place.now ledger.old }
@@ -130,6 +138,14 @@ pub fn bear<P: Package>(
     let serial = ledger.next as u32;
     let tag = local_tag(alloc, place, serial)?;
     bear_with(
-        alloc, place, ledger, source, request, key, kind, serial, tag,
+        alloc,
+        place,
+        ledger,
+        source,
+        request,
+        transaction,
+        kind,
+        serial,
+        tag,
     )
 }

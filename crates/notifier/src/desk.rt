@@ -8,10 +8,10 @@ ghost use Rattle.notifier.specs.Start.{place_of};
 
 use crate::event::{Event, Out};
 use crate::event_steps::act;
+use crate::kept::KeptAnswers;
 use crate::ledger::Ledger;
 use crate::place::{Place, Setup};
 use crate::rows::Rows;
-use circular_buffer::HeapCircularBuffer;
 use package::Package;
 use sip_text::NoMemory;
 use std::alloc::Global;
@@ -76,7 +76,7 @@ impl<P: Package> Desk<P> {
         ensures { IfOk result (λ desk. desk ≡ Some (first_standing (record { place = place_of setup.now worker; boxes = map P.seen boxes.items }))) }
     {
         setup.limits.are_in_range();
-        let ring = HeapCircularBuffer::with_capacity(alloc, setup.limits.kept() as usize)?;
+        let ring = KeptAnswers::with_room(alloc, setup.limits.kept() as usize)?;
         let place = Place {
             limits: setup.limits,
             seed: setup.seed,

@@ -13,6 +13,7 @@ ghost use Rattle.notifier.specs.Requests.{key_of_request};
 ghost use Rattle.notifier.specs.Rows as rows;
 ghost use Rattle.notifier.specs.Sound.{IsOwn};
 ghost use Rattle.notifier.specs.Stored.{rows_of, IsIndexed};
+ghost use Rattle.notifier.specs.Transactions.{key_of};
 
 use crate::answer::{refusal_answer, renewal_answer};
 use crate::event::Out;
@@ -20,11 +21,12 @@ use crate::ledger::Ledger;
 use crate::place::Place;
 use crate::refusal::Refusal;
 use crate::request::unheard;
-use crate::row::{Key, Row};
+use crate::row::Row;
 use crate::rows::Rows;
 use crate::rule::Cause;
 use crate::telling::{all_rows, answer};
 use crate::touched::serial_in;
+use crate::transaction::Transaction;
 use package::Package;
 use sip_read::{Addr, Request};
 use sip_text::{NoMemory, Text};
@@ -70,16 +72,23 @@ pub fn refuse<P: Package>(
     ledger: &mut Ledger<P>,
     source: Addr,
     request: &Request,
-    key: Option<Key>,
+    transaction: Option<Transaction>,
     refused: Refusal,
 ) -> Result<Vec<Out>, NoMemory>
-    requires key { key ≡ key_of_request request.now }
+    requires named { option_map key_of transaction ≡ key_of_request request.now }
     requires sound { IsSound place.now ledger.old }
     ensures step { IfOk result (λ outs. IsStep (spec.refused place.now (book_of P.seen ledger.old) source request.now refused) (book_of P.seen ledger.new) outs.items) }
     ensures sound { OnOk result (IsSound place.now ledger.new) }
 {
     let bytes = refusal_answer(alloc, place, &ledger.boxes, source, request, refused)?;
-    answer(alloc, &place.limits, &mut ledger.ring, key, source, bytes)
+    answer(
+        alloc,
+        &place.limits,
+        &mut ledger.ring,
+        transaction,
+        source,
+        bytes,
+    )
 }
 
 /// A request in the dialog of the row with this serial, which something stands against.
@@ -89,16 +98,16 @@ fn hear_refused<P: Package>(
     ledger: &mut Ledger<P>,
     source: Addr,
     request: &Request,
-    key: Option<Key>,
+    transaction: Option<Transaction>,
     serial: u32,
     refused: Refusal,
 ) -> Result<Vec<Out>, NoMemory>
-    requires key { key ≡ key_of_request request.now }
+    requires named { option_map key_of transaction ≡ key_of_request request.now }
     requires sound { IsSound place.now ledger.old }
     ensures step { IfOk result (λ outs. IsStep (spec.denied place.now (book_of P.seen ledger.old) source request.now serial refused) (book_of P.seen ledger.new) outs.items) }
     ensures sound { OnOk result (IsSound place.now ledger.new) }
 {
-    let mut outs = refuse(alloc, place, ledger, source, request, key, refused)?;
+    let mut outs = refuse(alloc, place, ledger, source, request, transaction, refused)?;
     all_rows(
         alloc,
         place,
@@ -116,9 +125,9 @@ fn answer_renewal<P: Package>(
     ledger: &mut Ledger<P>,
     source: Addr,
     request: &Request,
-    key: Option<Key>,
+    transaction: Option<Transaction>,
 ) -> Result<Vec<Out>, NoMemory>
-    requires key { key ≡ key_of_request request.now }
+    requires named { option_map key_of transaction ≡ key_of_request request.now }
     requires sound { IsSound place.now ledger.old }
     ensures book { OnOk result (book_of P.seen ledger.new ≡ spec.keeping place.now (book_of P.seen ledger.old) request.now (answers.renewal_answer place.now source request.now)) }
     ensures outs { IfOk result (λ outs. outs.items ≡ map out_of (Answers source (answer_text (answers.renewal_answer place.now source request.now)) ∷ [])) }
@@ -127,7 +136,14 @@ fn answer_renewal<P: Package>(
 {
     place.limits.are_in_range();
     let bytes = renewal_answer(alloc, place, source, request)?;
-    answer(alloc, &place.limits, &mut ledger.ring, key, source, bytes)
+    answer(
+        alloc,
+        &place.limits,
+        &mut ledger.ring,
+        transaction,
+        source,
+        bytes,
+    )
 }
 
 /// A SUBSCRIBE in the dialog of the row with this serial, which nothing stands against.
@@ -137,15 +153,15 @@ fn hear_renewal<P: Package>(
     ledger: &mut Ledger<P>,
     source: Addr,
     request: &Request,
-    key: Option<Key>,
+    transaction: Option<Transaction>,
     serial: u32,
 ) -> Result<Vec<Out>, NoMemory>
-    requires key { key ≡ key_of_request request.now }
+    requires named { option_map key_of transaction ≡ key_of_request request.now }
     requires sound { IsSound place.now ledger.old }
     ensures step { IfOk result (λ outs. IsStep (spec.accepted place.now (book_of P.seen ledger.old) source request.now serial) (book_of P.seen ledger.new) outs.items) }
     ensures sound { OnOk result (IsSound place.now ledger.new) }
 {
-    let mut outs = answer_renewal(alloc, place, ledger, source, request, key)?;
+    let mut outs = answer_renewal(alloc, place, ledger, source, request, transaction)?;
     all_rows(
         alloc,
         place,
@@ -163,18 +179,27 @@ fn hear<P: Package>(
     ledger: &mut Ledger<P>,
     source: Addr,
     request: &Request,
-    key: Option<Key>,
+    transaction: Option<Transaction>,
     serial: u32,
     against: Option<Refusal>,
 ) -> Result<Vec<Out>, NoMemory>
-    requires key { key ≡ key_of_request request.now }
+    requires named { option_map key_of transaction ≡ key_of_request request.now }
     requires sound { IsSound place.now ledger.old }
     ensures step { IfOk result (λ outs. IsStep (spec.served place.now (book_of P.seen ledger.old) source request.now (spec.unless_denied serial against)) (book_of P.seen ledger.new) outs.items) }
     ensures sound { OnOk result (IsSound place.now ledger.new) }
 {
     match against {
-        Some(refused) => hear_refused(alloc, place, ledger, source, request, key, serial, refused),
-        None => hear_renewal(alloc, place, ledger, source, request, key, serial),
+        Some(refused) => hear_refused(
+            alloc,
+            place,
+            ledger,
+            source,
+            request,
+            transaction,
+            serial,
+            refused,
+        ),
+        None => hear_renewal(alloc, place, ledger, source, request, transaction, serial),
     }
 }
 
@@ -185,10 +210,10 @@ pub fn serve_in_dialog<P: Package>(
     ledger: &mut Ledger<P>,
     source: Addr,
     request: &Request,
-    key: Option<Key>,
+    transaction: Option<Transaction>,
     tag: &Text,
 ) -> Result<Vec<Out>, NoMemory>
-    requires key { key ≡ key_of_request request.now }
+    requires named { option_map key_of transaction ≡ key_of_request request.now }
     requires sound { IsSound place.now ledger.old }
     ensures step { IfOk result (λ outs. IsStep (spec.served place.now (book_of P.seen ledger.old) source request.now (spec.in_dialog place.now.limits request.now (find (rows.is_dialog request.now tag.now) (rows_of ledger.old.rows)))) (book_of P.seen ledger.new) outs.items) }
     ensures sound { OnOk result (IsSound place.now ledger.new) }
@@ -200,14 +225,31 @@ pub fn serve_in_dialog<P: Package>(
             ledger,
             source,
             request,
-            key,
+            transaction,
             Refusal::NoDialog,
         );
     };
     if request.head.cseq <= row.last_cseq {
-        return refuse(alloc, place, ledger, source, request, key, Refusal::OldCseq);
+        return refuse(
+            alloc,
+            place,
+            ledger,
+            source,
+            request,
+            transaction,
+            Refusal::OldCseq,
+        );
     }
     let serial = row.serial;
     let against = unheard(&place.limits, &row.sub.want().event, request);
-    hear(alloc, place, ledger, source, request, key, serial, against)
+    hear(
+        alloc,
+        place,
+        ledger,
+        source,
+        request,
+        transaction,
+        serial,
+        against,
+    )
 }

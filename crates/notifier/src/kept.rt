@@ -1,51 +1,166 @@
 //! Answers that are kept for retransmissions (RFC 3261 section 17.2.2), newest first.
 #![tactic(auto, unfolding(crate::specs::Answers::kept_answer, crate::specs::Answers::ring_with))]
 
-ghost use Rattle.std.specs.Prelude.{◌≡◌, option_map, find};
+ghost use Rattle.std.specs.Prelude.{◌≡◌, ℕ, ◌<◌, ◌^◌, ◌-◌, ◌∷◌, [], take, find, option_map, IfOk, OnOk, Some, true, ◌↔◌};
 ghost use Rattle.circular_buffer.specs.Buffer.{buffer};
 ghost use Rattle.notifier.specs.Answers as spec;
-ghost use Rattle.notifier.specs.Requests.{same_key as same_key_of};
+ghost use Rattle.notifier.specs.Limits.{Limits as LimitsSeen};
+ghost use Rattle.notifier.specs.Slots as slots;
+ghost use Rattle.notifier.specs.Transactions.{key_of};
 
-use crate::limits::Limits;
-use crate::row::{Kept, Key};
+use crate::row::Kept;
+use crate::transaction::Transaction;
 use circular_buffer::HeapCircularBuffer;
-use sip_text::Octets;
+use indexmap::IndexMap;
+use sip_text::{NoMemory, Octets};
+use std::alloc::Global;
+use std::marker::Model;
 
-fn same_key(key: &Key, other: &Key) -> bool
-    ensures { result ≡ same_key_of key.now other.now }
+/// The slot after this one.
+fn after(room: usize, slot: usize) -> usize
+    requires { slot < room }
+    ensures { result ≡ slots.after room slot }
 {
-    key.branch.is(other.branch.as_str())
-        && key.sent_by.is(other.sent_by.as_str())
-        && key.method.is(other.method.as_str())
+    if slot + 1 == room { 0 } else { slot + 1 }
 }
 
-/// The answer with this key.
-fn answer_with<'a>(ring: &'a HeapCircularBuffer<Kept>, key: &Key) -> Option<&'a Kept>
-    ensures { option_map (λ k. k.now) result ≡ find (spec.has_key key.now) ring.now.items }
+/// The place of the answer in this slot, where the newest one is in that slot.
+fn place_at(room: usize, newest: usize, slot: usize) -> usize
+    requires within { newest < room }
+    requires fits { room < 2 ^ 63 }
+    ensures { (place : ℕ) → place < room → slot ≡ slots.slot_at room newest place → result ≡ place }
 {
-    ring.iter().find(|kept| same_key(&kept.key, key))
-}
-
-/// The kept answer to a request with this key, if it has one.
-pub fn kept_answer<'a>(ring: &'a HeapCircularBuffer<Kept>, key: &Option<Key>) -> Option<&'a Octets>
-    ensures { option_map (λ bytes. bytes.now) result ≡ spec.kept_answer ring.now.items key.now }
-{
-    match key {
-        None => None,
-        Some(key) => match answer_with(ring, key) {
-            None => None,
-            Some(kept) => Some(&kept.bytes),
-        },
+    if slot <= newest {
+        newest - slot
+    } else {
+        (newest + room).saturating_sub(slot)
     }
 }
 
-/// Keeps an answer to a request with this key, if it has one. The oldest goes when there is no room.
-pub fn keep(limits: &Limits, ring: &mut HeapCircularBuffer<Kept>, key: Option<Key>, bytes: Octets)
-    requires { ring.old.capacity ≡ limits.now.kept }
-    ensures { ring.new ≡ buffer (spec.ring_with limits.now ring.old.items key bytes) ring.old.capacity }
+/// The answers that are kept, newest first, each found by its transaction in constant time. When there is no room the oldest goes.
+#[derive(Drop)]
+pub struct KeptAnswers {
+    /// Newest first.
+    ring: HeapCircularBuffer<Kept>,
+    /// The slot of the newest answer to each transaction.
+    slots: IndexMap<Transaction, usize>,
+    /// The slot of the newest answer of all.
+    newest: usize,
+}
+
+impl Model for KeptAnswers {
+    ghost use Rattle.notifier.specs.declared.row.Kept.{Kept};
+    ghost use Rattle.circular_buffer.specs.Buffer.{Buffer};
+    ghost use Rattle.notifier.specs.Slots.{IsIndexed};
+
+    ghost Value = { Buffer Kept };
+
+    ghost view = { λ k. k.ring };
+
+    ghost invariant = { λ k. IsIndexed k.ring k.slots k.newest };
+}
+
+/// Whether this transaction has its newest answer in this slot.
+fn leads_to(index: &IndexMap<Transaction, usize>, transaction: &Transaction, slot: usize) -> bool
+    ensures { result ≡ true ↔ slots.slot_in index.now transaction.now ≡ Some slot }
 {
-    let _ = limits;
-    if let Some(key) = key {
-        ring.push_front(Kept { key, bytes });
+    match index.get(transaction) {
+        Some(found) => *found == slot,
+        None => false,
+    }
+}
+
+/// Lets the oldest answer go, if there is no room.
+fn make_room(
+    ring: &mut HeapCircularBuffer<Kept>,
+    index: &mut IndexMap<Transaction, usize>,
+    newest: usize,
+)
+    requires { slots.IsIndexed ring.old index.old newest }
+    ensures ring { ring.new ≡ buffer (take (ring.old.capacity - 1) ring.old.items) ring.old.capacity }
+    ensures indexed { slots.IsIndexed ring.new index.new newest }
+{
+    if !ring.is_full() {
+        return;
+    }
+    let Some(oldest) = ring.pop_back() else {
+        return;
+    };
+    let transaction = Transaction::of_key(oldest.key);
+    let slot = after(ring.capacity(), newest);
+    if leads_to(index, &transaction, slot) {
+        index.swap_remove(&transaction);
+    }
+}
+
+impl KeptAnswers {
+    /// Keeps nothing, and has room for so many answers.
+    pub fn with_room(alloc: Global, room: usize) -> Result<KeptAnswers, NoMemory>
+        requires { 0 < room }
+        ensures { IfOk result (λ kept. kept ≡ buffer [] room) }
+    {
+        let ring = HeapCircularBuffer::with_capacity(alloc, room)?;
+        Ok(KeptAnswers {
+            ring,
+            slots: IndexMap::new(alloc),
+            newest: 0,
+        })
+    }
+
+    /// The newest answer to this transaction.
+    fn answer_with(&self, transaction: &Transaction) -> Option<&Kept>
+        ensures { option_map (λ kept. kept.now) result ≡ find (slots.answers transaction.now) self.now.items }
+    {
+        let slot = *self.slots.get(transaction)?;
+        self.ring
+            .get(place_at(self.ring.capacity(), self.newest, slot))
+    }
+
+    /// The kept answer to a request of this transaction, if it has one.
+    pub fn answer_to(&self, transaction: &Option<Transaction>) -> Option<&Octets>
+        ensures { option_map (λ bytes. bytes.now) result
+            ≡ spec.kept_answer self.now.items (option_map key_of transaction.now) }
+    {
+        match transaction {
+            None => None,
+            Some(transaction) => match self.answer_with(transaction) {
+                None => None,
+                Some(kept) => Some(&kept.bytes),
+            },
+        }
+    }
+
+    /// Keeps an answer to a request of this transaction. The oldest goes when there is no room.
+    fn keep_of(
+        &mut self,
+        alloc: Global,
+        transaction: Transaction,
+        bytes: Octets,
+    ) -> Result<(), NoMemory>
+        ensures { OnOk result (self.new ≡ slots.with_newest self.old (record { key = key_of transaction; bytes = bytes })) }
+    {
+        let key = transaction.key(alloc)?;
+        make_room(&mut self.ring, &mut self.slots, self.newest);
+        let slot = after(self.ring.capacity(), self.newest);
+        self.slots.insert(transaction, slot)?;
+        self.newest = slot;
+        self.ring.push_front(Kept { key, bytes });
+        Ok(())
+    }
+
+    /// Keeps an answer to a request of this transaction, if it has one.
+    pub fn keep(
+        &mut self,
+        alloc: Global,
+        transaction: Option<Transaction>,
+        bytes: Octets,
+    ) -> Result<(), NoMemory>
+        ensures { OnOk result ((limits : LimitsSeen) → self.old.capacity ≡ limits.kept
+            → self.new ≡ buffer (spec.ring_with limits self.old.items (option_map key_of transaction) bytes) self.old.capacity) }
+    {
+        match transaction {
+            None => Ok(()),
+            Some(transaction) => self.keep_of(alloc, transaction, bytes),
+        }
     }
 }

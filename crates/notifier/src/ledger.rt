@@ -1,8 +1,7 @@
 //! The stored parts of a desk.
 
-use crate::row::Kept;
+use crate::kept::KeptAnswers;
 use crate::rows::Rows;
-use circular_buffer::HeapCircularBuffer;
 use package::Package;
 
 /// The stored parts of a desk.
@@ -15,5 +14,5 @@ pub struct Ledger<P: Package> {
     pub rows: Rows,
     pub boxes: Vec<P>,
     /// Newest first.
-    pub ring: HeapCircularBuffer<Kept>,
+    pub ring: KeptAnswers,
 }

@@ -36,6 +36,7 @@ mod tag;
 mod telling;
 mod timers;
 mod touched;
+mod transaction;
 mod uri;
 mod watchers;
 pub mod whole_run;

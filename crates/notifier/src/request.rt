@@ -6,10 +6,11 @@ ghost use Rattle.std.specs.Prelude.{◌≡◌, ◌≤◌, false, option_map, IfO
 ghost use Rattle.event_headers.specs.Values.{EventValue as Value};
 ghost use Rattle.notifier.specs.Fields as fields;
 ghost use Rattle.notifier.specs.Requests as spec;
+ghost use Rattle.notifier.specs.Transactions.{key_of};
 
 use crate::limits::Limits;
 use crate::refusal::Refusal;
-use crate::row::Key;
+use crate::transaction::Transaction;
 use crate::uri::is_sip_uri;
 use event_headers::EventValue;
 use sip_read::Request;
@@ -48,23 +49,18 @@ pub fn is_refer(request: &Request) -> bool
 }
 
 /// What names the transaction of a request, if anything does: a branch with the magic cookie (RFC 3261 section 17.2.3).
-pub fn key_of(alloc: Global, request: &Request) -> Result<Option<Key>, NoMemory>
-    ensures { IfOk result (λ key. key ≡ spec.key_of_request request.now) }
+pub fn transaction_of(alloc: Global, request: &Request) -> Result<Option<Transaction>, NoMemory>
+    ensures { IfOk result (λ named. option_map key_of named ≡ spec.key_of_request request.now) }
 {
-    match &request.head.top.branch {
+    let top = &request.head.top;
+    match &top.branch {
         None => Ok(None),
         Some(branch) => {
             if !branch.as_str().as_bytes().starts_with(b"z9hG4bK") {
                 return Ok(None);
             }
-            let branch = branch.copy(alloc)?;
-            let sent_by = request.head.top.sent_by.copy(alloc)?;
-            let method = request.method.copy(alloc)?;
-            Ok(Some(Key {
-                branch,
-                sent_by,
-                method,
-            }))
+            let named = Transaction::of(alloc, branch, &top.sent_by, &request.method)?;
+            Ok(Some(named))
         }
     }
 }

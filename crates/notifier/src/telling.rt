@@ -1,7 +1,7 @@
 //! What is done with all rows of a ledger at once, and answers.
 #![tactic(auto, unfolding(crate::specs::Rows::forgetting))]
 
-ghost use Rattle.std.specs.Prelude.{◌≡◌, ◌++◌, ◌∷◌, [], ◌<◌, ◌≤◌, ◌^◌, List, map, All, IfOk, OnOk};
+ghost use Rattle.std.specs.Prelude.{◌≡◌, ◌++◌, ◌∷◌, [], ◌<◌, ◌≤◌, ◌^◌, List, map, option_map, All, IfOk, OnOk};
 ghost use Rattle.notifier.specs.Answers.{ring_with};
 ghost use Rattle.notifier.specs.Causes.{rule_of, CanTell};
 ghost use Rattle.notifier.specs.Book as book;
@@ -10,19 +10,19 @@ ghost use Rattle.notifier.specs.Out.{Send, out_of};
 ghost use Rattle.notifier.specs.Rows as spec;
 ghost use Rattle.notifier.specs.Sound.{IsOwn};
 ghost use Rattle.notifier.specs.Stored.{rows_of, IsIndexed};
+ghost use Rattle.notifier.specs.Transactions.{key_of};
 ghost use Rattle.circular_buffer.specs.Buffer.{buffer};
 
 use crate::boxes::change_first;
 use crate::event::Out;
-use crate::kept::keep;
+use crate::kept::KeptAnswers;
 use crate::ledger::Ledger;
 use crate::limits::Limits;
 use crate::place::Place;
-use crate::row::{Kept, Key};
 use crate::rows::Rows;
 use crate::rule::{Cause, tell_each};
 use crate::touched::touched;
-use circular_buffer::HeapCircularBuffer;
+use crate::transaction::Transaction;
 use package::{Change, Package};
 use sip_read::Addr;
 use sip_text::{NoMemory, Octets, Text};
@@ -82,21 +82,22 @@ pub fn copy_bytes(alloc: Global, bytes: &Octets) -> Result<Octets, NoMemory>
     Ok(Octets::new(bytes))
 }
 
-/// Sends an answer, and keeps it where its request has a key.
+/// Sends an answer, and keeps it where its request has a transaction.
 pub fn answer(
     alloc: Global,
     limits: &Limits,
-    ring: &mut HeapCircularBuffer<Kept>,
-    key: Option<Key>,
+    ring: &mut KeptAnswers,
+    transaction: Option<Transaction>,
     to: Addr,
     bytes: Octets,
 ) -> Result<Vec<Out>, NoMemory>
     requires { ring.old.capacity ≡ limits.now.kept }
-    ensures ring { OnOk result (ring.new ≡ buffer (ring_with limits.now ring.old.items key bytes) ring.old.capacity) }
+    ensures ring { OnOk result (ring.new ≡ buffer (ring_with limits.now ring.old.items (option_map key_of transaction) bytes) ring.old.capacity) }
     ensures outs { IfOk result (λ outs. outs.items ≡ Out.Answer to bytes ∷ []) }
 {
     let copy = copy_bytes(alloc, &bytes)?;
-    keep(limits, ring, key, copy);
+    let _ = limits;
+    ring.keep(alloc, transaction, copy)?;
     let mut outs = Vec::new(alloc);
     outs.push(Out::Answer { to, bytes })?;
     Ok(outs)

@@ -1,12 +1,13 @@
-//! `notifyd`, a notifier of SIP event notification (RFC 6665) that runs a script: it reads one from standard input, and
-//! prints what the notifier sends.
+//! `notifyd`, a notifier of SIP event notification (RFC 6665). It runs a script, or serves two ports of this machine.
 //!
-//! `notifyd script [--seed <64 hex digits>] [--stop] <workers> <mailbox>...`; without arguments it is `notifyd script 1 alice`. What is
-//! proved of it is the contract of [`server::run`]; here stand the arguments, the two streams and the exit status.
+//! `notifyd script [--seed <64 hex digits>] [--stop] <workers> <mailbox>...` reads a script from standard input and prints what
+//! the notifier sends; without arguments it is `notifyd script 1 alice`. What is proved of it is the contract of
+//! [`server::run`]. `notifyd udp [--seed <64 hex digits>] [--stop] <port> <control port> <workers> <count> <mailbox>...` is a
+//! notifier on 127.0.0.1: the contract of [`udp_program::run`]. Here stand the arguments, the two streams and the exit status.
 #![tactic(auto)]
 
 use scripts::{Sink, Source};
-use server::{Status, run};
+use server::Status;
 use sip_text::Text;
 use std::process::ExitCode;
 use std::rt::Env;
@@ -30,11 +31,22 @@ fn words_of(rt: &(impl Env + AllocGlobal)) -> Result<Vec<Text>, Status> {
     Ok(texts)
 }
 
+/// Whether the words ask for the program on the network.
+fn is_for_network(words: &[Text]) -> bool {
+    match words {
+        [first, ..] => first.is("udp"),
+        [] => false,
+    }
+}
+
 fn main(rt: HostRuntime) -> ExitCode {
     let mut source = Source::new(rt.reader());
     let mut sink = Sink::new(io::writer(&rt));
     let status = match words_of(&rt) {
-        Ok(words) => run(rt.alloc(), words.as_slice(), &mut source, &mut sink),
+        Ok(words) if is_for_network(words.as_slice()) => {
+            udp_program::run(rt, rt.alloc(), words.as_slice(), &mut sink)
+        }
+        Ok(words) => server::run(rt, rt.alloc(), words.as_slice(), &mut source, &mut sink),
         Err(status) => status,
     };
     if let Some(line) = status.line() {

@@ -48,7 +48,8 @@ impl ClosingCell {
     /// Offers a Closing: Ok where the cell took it, and from then on it keeps this one; else it comes back. It takes no
     /// memory.
     pub fn offer(&self, closing: Box<Closing>) -> Result<ClosingNote, Box<Closing>>
-        ensures { MatchResult result (λ taken. taken.note.known ≡ Some closing.value) (λ back. back.value ≡ closing.value) }
+        ensures { MatchResult result (λ taken. taken.note.known ≡ Some closing.value)
+            (λ back. back.value ≡ closing.value) }
     {
         let mut note = self.cell.note();
         match self.cell.set_as(closing, &mut note) {

@@ -62,7 +62,8 @@ fn begin(
     ensures ok { let before = contents_of content_of transfers.old.entries in
         IfOk result (λ outcome.
         (outcome, contents_of content_of transfers.new.entries) ≡ begin_at finite_maps before tag.now (held before tag.now)) }
-    ensures err { OnErr result (contents_of content_of transfers.new.entries ≡ contents_of content_of transfers.old.entries) }
+    ensures err { OnErr result (contents_of content_of transfers.new.entries
+        ≡ contents_of content_of transfers.old.entries) }
 {
     let name = tag.as_str();
     if transfers.contains_key(name) {
@@ -95,7 +96,8 @@ fn step(
         IfOk result (λ outcome.
         (outcome, contents_of content_of transfers.new.entries)
         ≡ step_at finite_maps before progress.now (held before progress.now.tag)) }
-    ensures err { OnErr result (contents_of content_of transfers.new.entries ≡ contents_of content_of transfers.old.entries) }
+    ensures err { OnErr result (contents_of content_of transfers.new.entries
+        ≡ contents_of content_of transfers.old.entries) }
 {
     let tag = progress.tag();
     let Some(status) = transfers.get(tag) else {

@@ -83,7 +83,8 @@ impl<P: Package> Replay<P> {
     /// the replay is spent then, and its list is as it was. A spent replay answers Spent.
     pub fn handle(&mut self, alloc: Global, event: Event) -> Result<Vec<Out>, DeskError>
         ensures start { self.new.start ≡ self.old.start }
-        ensures ok { IfOk result (λ outs. (s : Standing) → self.old.now ≡ Some s → IsHandled s event self.new.now outs.items) }
+        ensures ok { IfOk result (λ outs.
+            (s : Standing) → self.old.now ≡ Some s → IsHandled s event self.new.now outs.items) }
         ensures added { OnOk result (self.new.events ≡ self.old.events ++ event ∷ []) }
         ensures err { OnErr result ((self.new.events ≡ self.old.events) × (self.new.now ≡ None)) }
         ensures spent { result ≡ Err DeskError.Spent ↔ self.old.now ≡ None }

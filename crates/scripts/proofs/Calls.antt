@@ -23,17 +23,17 @@ value_takes : (r : Result (List ℕ) FromHexError) (seed : List ℕ) → value_o
 value_takes (Ok x) seed e = ap (λ (s : List ℕ). Ok s) (some_is x seed e)
 value_takes (Err e) seed k = absurd cc
 
-seed_takes : (digits seed : List ℕ) → seed_of digits ≡ Some seed → decode_sized digits 32 ≡ Ok seed
+pub seed_takes : (digits seed : List ℕ) → seed_of digits ≡ Some seed → decode_sized digits 32 ≡ Ok seed
 unfolding seed_of
 seed_takes digits seed e = value_takes (decode_sized digits 32) seed e
 
-seed_again : (digits seed : List ℕ) → decode_sized digits 32 ≡ Ok seed → seed_of digits ≡ Some seed
+pub seed_again : (digits seed : List ℕ) → decode_sized digits 32 ≡ Ok seed → seed_of digits ≡ Some seed
 unfolding seed_of
 seed_again digits seed e = ap value_of e
 
 -- ---- the workers
 
-workers_take : (w : List ℕ) (n : ℕ) → workers_of w ≡ Some n → (w ≡ decimal n) × (1 ≤ n) × (n ≤ 256)
+pub workers_take : (w : List ℕ) (n : ℕ) → workers_of w ≡ Some n → (w ≡ decimal n) × (1 ≤ n) × (n ≤ 256)
 unfolding workers_of
 workers_take w n e =
     let p = bind_some (plain_up_to 256 w) (λ m. cond {A = Option ℕ} (eqb m 0) None (Some m)) n e in
@@ -46,7 +46,7 @@ workers_take w n e =
           let least : 1 ≤ m = omega (arith, eqb-false m 0 some) in
           (is ∙ ap decimal same, rw (← same) least, rw (← same) le)
 
-workers_again : (n : ℕ) → 1 ≤ n → n ≤ 256 → workers_of (decimal n) ≡ Some n
+pub workers_again : (n : ℕ) → 1 ≤ n → n ≤ 256 → workers_of (decimal n) ≡ Some n
 unfolding workers_of
 workers_again n least le = rw (up_to_again 256 n le (omega arith), ne_eqb n 0 (λ e. omega (arith, e, least))) refl
 
@@ -74,7 +74,7 @@ crew_takes seed stop (word ∷ mailboxes) a e =
           subst (TakesCrew seed stop (word ∷ mailboxes)) (some_is (record { seed = seed; stop = stop; workers = n; mailboxes = mailboxes }) a e)
           (record { seed_is = refl; stop_is = refl; from_one = least; to_256 = le; some_mailbox = λ nil. eqb-false (length mailboxes) 0 some (ap length nil); whole = ap (λ (w : List ℕ). w ∷ mailboxes) is })
 
-some_length : {A : Type 0} (xs : List A) → xs ≢ [] → eqb (length xs) 0 ≡ false
+pub some_length : {A : Type 0} (xs : List A) → xs ≢ [] → eqb (length xs) 0 ≡ false
 some_length [] h = absurd (h refl)
 some_length (x ∷ xs) h = ne_eqb (length (x ∷ xs)) 0 (λ e. omega (arith, e))
 
@@ -117,7 +117,7 @@ stop_takes seed (flag ∷ words) a e =
           }
 
 -- a number is no flag
-no_flag : (w rest : List ℕ) → Lacks 45 w → bytes_eq w (45 ∷ rest) ≡ false
+pub no_flag : (w rest : List ℕ) → Lacks 45 w → bytes_eq w (45 ∷ rest) ≡ false
 no_flag [] rest h = refl
 no_flag (x ∷ w) rest h = apart (eqb x 45) refl (and_both (is_other 45 x) (list_all (is_other 45) w) h).0 where
   apart : (b : Bool) → eqb x 45 ≡ b → is_other 45 x ≡ true → bytes_eq (x ∷ w) (45 ∷ rest) ≡ false

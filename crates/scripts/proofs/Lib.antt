@@ -3,3 +3,4 @@ pub mod Calls
 pub mod Devices
 pub mod Lines
 pub mod Orders
+pub mod UdpCalls

@@ -7,3 +7,5 @@ pub mod Page
 pub mod Script
 pub mod Reading
 pub mod Views
+pub mod UdpArguments
+pub mod UdpReading

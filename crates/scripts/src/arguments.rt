@@ -63,7 +63,7 @@ impl<T: Drop> From<AllocFailed<T>> for ArgumentsError {
 
 /// 32 bytes from 64 hex digits.
 #[tactic(auto, unfolding(crate::specs::ArgumentsReading::seed_of))]
-fn seed_of(digits: &str) -> Option<[u8; 32]>
+pub(crate) fn seed_of(digits: &str) -> Option<[u8; 32]>
     ensures { Finds (λ x. x) result (seed_of digits.now) }
 {
     match <[u8; 32] as FromHex>::from_hex(digits) {
@@ -74,7 +74,7 @@ fn seed_of(digits: &str) -> Option<[u8; 32]>
 
 /// A number of workers.
 #[tactic(auto, unfolding(crate::specs::ArgumentsReading::workers_of))]
-fn workers_of(word: &str) -> Option<u32>
+pub(crate) fn workers_of(word: &str) -> Option<u32>
     ensures { Finds (λ x. x) result (workers_of word.now) }
 {
     let number = up_to_256(word.as_bytes())?;
@@ -93,7 +93,8 @@ fn up_to_256(word: &[u8]) -> Option<u32>
     }
 }
 
-fn copies_of(alloc: Global, texts: &[Text]) -> Result<Vec<Text>, ArgumentsError>
+/// Copies of these texts.
+pub(crate) fn copies_of(alloc: Global, texts: &[Text]) -> Result<Vec<Text>, ArgumentsError>
     ensures copied { IfOk result (λ copies. copies.items ≡ texts.now) }
     ensures no_memory { IfErr result (λ e. e ≡ ArgumentsError.NoMemory) }
 {

@@ -4,7 +4,8 @@
 //! A script tells what happens, block by block: datagrams with their source, changes of mailboxes, progress of transfers,
 //! and the time. [`read_script`] reads all of it, [`parse_script`] cuts it into [`Block`]s, [`Page`] gathers what is to be
 //! printed of a run, line by line, and [`write_page`] writes that. [`parse_control`] reads one line by the same grammar for
-//! a server that runs, and [`parse_arguments`] the arguments of the program.
+//! a server that runs, and [`parse_arguments`] the arguments of the program, [`parse_udp_arguments`] those of the program on the
+//! network.
 //!
 //! Begin with [`Block`] and the grammar in `specs/Script`. Each block has one text, and a script is those texts joined: what
 //! is answered is so, what is so is answered, and [`one_reading`] is the law that no bytes are a script in two ways. What
@@ -22,8 +23,7 @@ pub mod output;
 pub mod page;
 pub mod parse;
 pub mod script;
-#[cfg(test)]
-mod tests;
+pub mod udp_arguments;
 
 pub use arguments::{Arguments, ArgumentsError, parse_arguments};
 pub use device::{Sink, Source};
@@ -33,3 +33,4 @@ pub use output::write_page;
 pub use page::Page;
 pub use parse::{one_reading, parse_control, parse_script};
 pub use script::{Block, Control};
+pub use udp_arguments::{UdpArguments, parse_udp_arguments};

@@ -2,4 +2,8 @@ pub mod Heard
 pub mod Printed
 pub mod Started
 pub mod Asked
-pub mod Handled
+pub mod Worked
+pub mod Sent
+pub mod Kept
+pub mod Finished
+pub mod Counted

@@ -19,6 +19,7 @@ use Rattle.server.specs.declared.either.EitherPackage.{EitherPackage}
 use Rattle.server.specs.declared.either.EitherPackage.TheVariants.{First, Second}
 use Rattle.server.specs.Either.{seen_as}
 use Rattle.server.specs.Runs.{starts_on}
+use Rattle.server.proofs.Worked.{starts_on-len}
 use Rattle.server.specs.Call.{mailboxes_named, setup_for, names_for, boxes_with, boxes_for, starts_for}
 
 new_entries : (names : List (String Global)) → map {B = List ℕ × Content} (λ name. (string_bytes name, OfMail unset)) names ≡ map {B = List ℕ × Content} (λ name. (name, OfMail unset)) (map string_bytes names)
@@ -69,3 +70,15 @@ from_one words a (inr call) = call.from_one
 pub to_256 : (words : List (List ℕ)) (a : Arguments) → AreArguments words a → a.workers ≤ 256
 to_256 words a (inl none) = let one = ap (λ (b : Arguments). b.workers) none.1 in omega arith
 to_256 words a (inr call) = call.to_256
+
+-- ---- one worker
+
+pub one_start_is : (setup : Setup) (boxes : List Seen) (a : Arguments) (its : List (List ℕ)) → setup ≡ setup_for a.seed a.stop → a.workers ≡ 1 → boxes ≡ boxes_with its → its ≡ names_for 1 0 a.mailboxes
+    → starts_on setup (boxes ∷ []) ≡ starts_for a
+one_start_is setup boxes a its is one are names =
+    ap (λ (s : Setup). starts_on s (boxes ∷ [])) is
+    ∙ ap (λ (b : List Seen). starts_on (setup_for a.seed a.stop) (b ∷ [])) (are ∙ ap boxes_with names)
+    ∙ ap (λ (n : ℕ). starts_on (setup_for a.seed a.stop) (boxes_for n a.mailboxes)) (sym one)
+
+pub starts-len : (a : Arguments) → length (starts_for a) ≡ a.workers
+starts-len a = starts_on-len (setup_for a.seed a.stop) (boxes_for a.workers a.mailboxes) ∙ length-map-range_with_len (λ w. boxes_with (names_for a.workers w a.mailboxes)) 0 a.workers

@@ -53,9 +53,9 @@ program_limits = record {
   outbox = 64;
 }
 
--- 127.0.0.1:5060
-abbrev pub program_addr : Addr
-program_addr = record { ip = 127 ∷ 0 ∷ 0 ∷ 1 ∷ []; port = 5060 }
+-- 127.0.0.1
+abbrev pub program_addr : ℕ → Addr
+program_addr port = record { ip = 127 ∷ 0 ∷ 0 ∷ 1 ∷ []; port = port }
 
 -- mailboxes of these names with no class set
 abbrev pub mailboxes_named : List (List ℕ) → Seen
@@ -65,9 +65,13 @@ mailboxes_named names = record {
   contents = from_entries (map {B = List ℕ × Content} (λ name. (name, OfMail unset)) names);
 }
 
--- what all its workers have in common, with this seed, and whether a stop is planned
+-- what all its workers have in common: at this port, with this seed, and whether a stop is planned
+abbrev pub setup_at : ℕ → List ℕ → Bool → Setup
+setup_at port seed stop = record { limits = program_limits; seed = seed; me = program_addr port; stop = stop }
+
+-- of a script they are at port 5060
 abbrev pub setup_for : List ℕ → Bool → Setup
-setup_for seed stop = record { limits = program_limits; seed = seed; me = program_addr; stop = stop }
+setup_for seed stop = setup_at 5060 seed stop
 
 -- the mailboxes, of these, whose keys go to this worker of n
 abbrev pub names_for : ℕ → ℕ → List (List ℕ) → List (List ℕ)

@@ -5,3 +5,6 @@ pub mod Call
 pub mod Boxes
 pub mod Hearing
 pub mod Working
+pub mod Sending
+pub mod Gathering
+pub mod Crew

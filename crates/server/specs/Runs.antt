@@ -53,3 +53,19 @@ module _ {R W : Type 0} (remaining : R → Option (List ℕ)) (contents : W → 
   MeetsFault starts source source' sink sink' =
       ((source'.failures ≡ one_more source.failures) × (sink' ≡ sink))
       ⊎ ((source'.failures ≡ source.failures) × (sink'.failures ≡ one_more sink.failures) × WritesFront starts source source' sink sink')
+
+-- all was read and is a script, and nothing was written: no thread could be started for its workers
+pub record StartsNoThread {R W : Type 0} (remaining : R → Option (List ℕ)) (source source' : Source R) (sink sink' : Sink W) : Type 0 where
+  pub bytes : List ℕ
+  pub blocks : List Block
+  pub was_read : Consumes (remaining source.reader) (remaining source'.reader) bytes
+  pub is_all : IsAtEnd (remaining source'.reader)
+  pub is_script : IsShortScript bytes blocks
+  pub no_read_failed : source'.failures ≡ source.failures
+  pub unwritten : sink' ≡ sink
+
+-- a read or a write failed, or there were several workers and no thread could be started for them
+abbrev pub IsHindered : {R W : Type 0} → (R → Option (List ℕ)) → (W → Option (List ℕ)) → List Start → Source R → Source R → Sink W → Sink W → Type 0
+IsHindered remaining contents starts source source' sink sink' =
+    MeetsFault remaining contents starts source source' sink sink'
+    ⊎ ((1 < length starts) × StartsNoThread remaining source source' sink sink')

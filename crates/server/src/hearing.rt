@@ -50,7 +50,8 @@ impl Hearing {
     /// Takes in a block.
     fn block(&mut self, alloc: Global, block: Block) -> Result<(), NoMemory>
         requires { self.old.datagrams < 2 ^ 64 - 1 }
-        ensures { OnOk result ((blocks : List Block) → HasHeard blocks self.old → HasHeard (blocks ++ block ∷ []) self.new) }
+        ensures { OnOk result ((blocks : List Block) → HasHeard blocks self.old
+            → HasHeard (blocks ++ block ∷ []) self.new) }
     {
         match block {
             Block::Sip(source, octets) => self.datagram(alloc, source, octets.as_slice())?,

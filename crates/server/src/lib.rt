@@ -10,16 +10,16 @@
 //! in that call. `specs/Runs` says what is read and written, `specs/Call` what the program starts from and how it ends.
 #![tactic(auto)]
 
-mod dealing;
+mod crew_work;
 pub mod either;
+mod gathering;
 mod hearing;
 mod printing;
 pub mod program;
 pub mod script;
-#[cfg(test)]
-mod tests;
-mod worker;
+mod sending;
+mod work;
 
 pub use either::EitherPackage;
-pub use program::{Status, run};
+pub use program::{Boxes, Status, boxes_for, run, setup_at};
 pub use script::{script_many, script_one};

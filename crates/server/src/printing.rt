@@ -4,9 +4,8 @@ ghost use Rattle.std.specs.List.{flat_map};
 ghost use Rattle.server.specs.Page.{out_text};
 ghost use Rattle.server.specs.Working.{printed};
 
-use crate::worker::Worker;
+use crate::work::Work;
 use notifier::Out;
-use package::Package;
 use scripts::Page;
 use sip_text::NoMemory;
 use std::alloc::Global;
@@ -39,28 +38,20 @@ fn print_all(alloc: Global, page: &mut Page, outs: &[Out]) -> Result<(), NoMemor
 }
 
 /// Appends the worker's line and all that it sent.
-fn print_worker<P: Package>(
-    alloc: Global,
-    page: &mut Page,
-    worker: &Worker<P>,
-) -> Result<(), NoMemory>
-    ensures { OnOk result (page.new ≡ page.old ++ printed worker.now) }
+fn print_work(alloc: Global, page: &mut Page, work: &Work) -> Result<(), NoMemory>
+    ensures { OnOk result (page.new ≡ page.old ++ printed work.now) }
 {
-    let made = worker.outs.len() as u64;
-    page.worker(alloc, worker.number, worker.handled, made)?;
-    print_all(alloc, page, worker.outs.as_slice())
+    let made = work.outs.len() as u64;
+    page.worker(alloc, work.number, work.handled, made)?;
+    print_all(alloc, page, work.outs.as_slice())
 }
 
 /// Appends the workers, in order.
-pub fn print_workers<P: Package>(
-    alloc: Global,
-    page: &mut Page,
-    workers: &[Worker<P>],
-) -> Result<(), NoMemory>
-    ensures { OnOk result (page.new ≡ page.old ++ flat_map printed workers.now) }
+pub fn print_works(alloc: Global, page: &mut Page, works: &[Work]) -> Result<(), NoMemory>
+    ensures { OnOk result (page.new ≡ page.old ++ flat_map printed works.now) }
 {
-    for worker in workers {
-        print_worker(alloc, page, worker)?;
+    for work in works {
+        print_work(alloc, page, work)?;
     }
     Ok(())
 }

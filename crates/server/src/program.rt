@@ -1,14 +1,14 @@
 //! The program, over any reader and writer.
-ghost use Rattle.std.specs.Prelude.{◌≡◌, ◌≢◌, ◌<◌, ◌≤◌, ◌∷◌, [], ◌++◌, List, map, option_map, string_bytes, IfOk, OnOk, OnErr, IfErr, Err};
+ghost use Rattle.std.specs.Prelude.{◌≡◌, ◌≢◌, ◌<◌, ◌≤◌, ◌∷◌, [], ◌++◌, List, map, option_map, string_bytes, ◌⊎◌, IfOk, OnOk, OnErr, IfErr, Err};
 ghost use Rattle.scripts.specs.declared.arguments.Arguments.{Arguments};
 ghost use Rattle.scripts.specs.declared.arguments.ArgumentsError.TheVariants as reasons;
 ghost use Rattle.server.specs.Boxes.{box_seen};
-ghost use Rattle.server.specs.Runs.{WritesPage, ReadsNoScript, MeetsFault};
+ghost use Rattle.server.specs.Runs.{WritesPage, ReadsNoScript, MeetsFault, StartsNoThread, IsHindered};
 ghost use Rattle.server.specs.Call as spec;
-ghost use Rattle.server.specs.Call.{code_of, line_of, setup_for, starts_for, AsksFor, AsksForNone};
+ghost use Rattle.server.specs.Call.{code_of, line_of, starts_for, AsksFor, AsksForNone};
 
 use crate::either::EitherPackage;
-use crate::script::script_many;
+use crate::script::{script_many, script_one};
 use homes::key_hash;
 use message_summary::Mailboxes;
 use notifier::{Limits, Setup};
@@ -19,6 +19,8 @@ use sip_read::Addr;
 use sip_text::{NoMemory, Text};
 use std::alloc::Global;
 use std::io::{Read, Write};
+use std::sync::Wait;
+use std::thread::Threads;
 
 /// How a run of the program ended.
 #[derive(Clone, Copy, Debug, PartialEq, Eq)]
@@ -28,7 +30,7 @@ pub enum Status {
     BadArguments,
     /// Standard input is no script.
     BadScript,
-    /// A read or a write failed.
+    /// A read or a write failed, or a thread could not be started.
     DeviceFault,
     /// A growth was refused.
     OutOfMemory,
@@ -62,9 +64,9 @@ impl Status {
     }
 }
 
-/// What the desks of the program stand on, with this seed, and whether a stop is planned.
-fn setup_of(seed: [u8; 32], stop: bool) -> Setup
-    ensures { result ≡ setup_for seed stop }
+/// What the desks of the program stand on: their port, the seed, and whether a stop is planned.
+pub fn setup_at(port: u16, seed: [u8; 32], stop: bool) -> Setup
+    ensures { result ≡ spec.setup_at port seed stop }
 {
     let Some(limits) = Limits::new(
         60, 86400, 3600, 180, 2147483647, 1024, 4294967295, 64, 64, 64,
@@ -76,7 +78,7 @@ fn setup_of(seed: [u8; 32], stop: bool) -> Setup
         seed,
         me: Addr {
             ip: [127, 0, 0, 1],
-            port: 5060,
+            port,
         },
         stop,
     }
@@ -91,7 +93,8 @@ fn add_name(
     worker: u32,
 ) -> Result<(), NoMemory>
     requires { 0 < workers }
-    ensures { OnOk result (map string_bytes names.new.items ≡ map string_bytes names.old.items ++ spec.names_for workers worker (mailbox.now ∷ [])) }
+    ensures { OnOk result (map string_bytes names.new.items
+        ≡ map string_bytes names.old.items ++ spec.names_for workers worker (mailbox.now ∷ [])) }
 {
     if key_hash(mailbox.as_str()) % workers == worker {
         names.push(mailbox.copy(alloc)?.into_string())?;
@@ -116,8 +119,8 @@ fn names_for(
     Ok(names)
 }
 
-/// The packages of the program.
-type Boxes = Vec<EitherPackage<Mailboxes, Transfers>>;
+/// The packages of a worker of the program.
+pub type Boxes = Vec<EitherPackage<Mailboxes, Transfers>>;
 
 /// The packages of a worker with these mailboxes.
 fn boxes_with(alloc: Global, names: Vec<String>) -> Result<Boxes, NoMemory>
@@ -131,10 +134,11 @@ fn boxes_with(alloc: Global, names: Vec<String>) -> Result<Boxes, NoMemory>
     Ok(boxes)
 }
 
-/// The packages of each worker.
-fn boxes_for(alloc: Global, mailboxes: &[Text], workers: u32) -> Result<Vec<Boxes>, NoMemory>
+/// The packages of each worker, among whom the mailboxes are dealt out.
+pub fn boxes_for(alloc: Global, mailboxes: &[Text], workers: u32) -> Result<Vec<Boxes>, NoMemory>
     requires { 0 < workers }
-    ensures { IfOk result (λ all. map (λ boxes. map box_seen boxes.items) all.items ≡ spec.boxes_for workers mailboxes.now) }
+    ensures { IfOk result (λ all.
+        map (λ boxes. map box_seen boxes.items) all.items ≡ spec.boxes_for workers mailboxes.now) }
 {
     let mut all = Vec::new(alloc);
     for worker in 0..workers {
@@ -144,38 +148,106 @@ fn boxes_for(alloc: Global, mailboxes: &[Text], workers: u32) -> Result<Vec<Boxe
     Ok(all)
 }
 
-/// Runs a script by workers with this seed and these mailboxes.
-fn run_script<R: Read, W: Write>(
+/// Runs a script by one worker with this seed and these mailboxes, on this thread.
+fn run_one<R: Read, W: Write>(
     alloc: Global,
     call: &Arguments,
     source: &mut Source<R>,
     sink: &mut Sink<W>,
 ) -> Result<(), ScriptError>
-    requires some { 0 < call.now.workers }
-    requires few { call.now.workers ≤ 256 }
-    ensures page { OnOk result (WritesPage R.remaining W.contents (starts_for call.now) source.old source.new sink.old sink.new) }
+    requires { call.now.workers ≡ 1 }
+    ensures page { OnOk result
+        (WritesPage R.remaining W.contents (starts_for call.now) source.old source.new sink.old sink.new) }
     ensures bad_script { result ≡ Err ScriptError.BadScript → ReadsNoScript R.remaining source.old source.new }
     ensures unwritten { result ≢ Err ScriptError.Device → OnErr result (sink.new ≡ sink.old) }
     ensures device { result ≡ Err ScriptError.Device →
         MeetsFault R.remaining W.contents (starts_for call.now) source.old source.new sink.old sink.new }
 {
+    let names = names_for(alloc, call.mailboxes.as_slice(), 1, 0)?;
+    let boxes = boxes_with(alloc, names)?;
+    script_one(
+        alloc,
+        source,
+        sink,
+        &setup_at(5060, call.seed, call.stop),
+        boxes,
+    )
+}
+
+/// Runs a script by several workers with this seed and these mailboxes, each on a thread of its own.
+fn run_many<H, R: Read, W: Write>(
+    rt: H,
+    alloc: Global,
+    call: &Arguments,
+    source: &mut Source<R>,
+    sink: &mut Sink<W>,
+) -> Result<(), ScriptError>
+where
+    H: Threads + Wait + Copy + Send + 'static,
+    requires some { 0 < call.now.workers }
+    requires few { call.now.workers ≤ 256 }
+    ensures page { OnOk result
+        (WritesPage R.remaining W.contents (starts_for call.now) source.old source.new sink.old sink.new) }
+    ensures bad_script { result ≡ Err ScriptError.BadScript → ReadsNoScript R.remaining source.old source.new }
+    ensures unwritten { result ≢ Err ScriptError.Device → OnErr result (sink.new ≡ sink.old) }
+    ensures device { result ≡ Err ScriptError.Device →
+        MeetsFault R.remaining W.contents (starts_for call.now) source.old source.new sink.old sink.new
+        ⊎ StartsNoThread R.remaining source.old source.new sink.old sink.new }
+{
     let boxes = boxes_for(alloc, call.mailboxes.as_slice(), call.workers)?;
-    script_many(alloc, source, sink, &setup_of(call.seed, call.stop), boxes)
+    script_many(
+        rt,
+        alloc,
+        source,
+        sink,
+        &setup_at(5060, call.seed, call.stop),
+        boxes,
+    )
+}
+
+/// Runs a script as these arguments ask for it.
+fn run_script<H, R: Read, W: Write>(
+    rt: H,
+    alloc: Global,
+    call: &Arguments,
+    source: &mut Source<R>,
+    sink: &mut Sink<W>,
+) -> Result<(), ScriptError>
+where
+    H: Threads + Wait + Copy + Send + 'static,
+    requires some { 0 < call.now.workers }
+    requires few { call.now.workers ≤ 256 }
+    ensures page { OnOk result
+        (WritesPage R.remaining W.contents (starts_for call.now) source.old source.new sink.old sink.new) }
+    ensures bad_script { result ≡ Err ScriptError.BadScript → ReadsNoScript R.remaining source.old source.new }
+    ensures unwritten { result ≢ Err ScriptError.Device → OnErr result (sink.new ≡ sink.old) }
+    ensures device { result ≡ Err ScriptError.Device →
+        IsHindered R.remaining W.contents (starts_for call.now) source.old source.new sink.old sink.new }
+{
+    if call.workers == 1 {
+        return run_one(alloc, call, source, sink);
+    }
+    run_many(rt, alloc, call, source, sink)
 }
 
 /// Reads the arguments, and runs the script where they ask for it.
-fn attempt<R: Read, W: Write>(
+fn attempt<H, R: Read, W: Write>(
+    rt: H,
     alloc: Global,
     words: &[Text],
     source: &mut Source<R>,
     sink: &mut Sink<W>,
 ) -> Result<(), Status>
-    ensures done { OnOk result (AsksFor words.now (λ starts. WritesPage R.remaining W.contents starts source.old source.new sink.old sink.new)) }
+where
+    H: Threads + Wait + Copy + Send + 'static,
+    ensures done { OnOk result (AsksFor words.now (λ starts.
+        WritesPage R.remaining W.contents starts source.old source.new sink.old sink.new)) }
     ensures done_is { IfErr result (λ status. status ≢ Status.Done) }
     ensures bad_arguments { result ≡ Err Status.BadArguments → AsksForNone words.now × (source.new ≡ source.old) }
-    ensures bad_script { result ≡ Err Status.BadScript → AsksFor words.now (λ starts. ReadsNoScript R.remaining source.old source.new) }
+    ensures bad_script { result ≡ Err Status.BadScript → AsksFor words.now (λ starts.
+        ReadsNoScript R.remaining source.old source.new) }
     ensures device { result ≡ Err Status.DeviceFault →
-        AsksFor words.now (λ starts. MeetsFault R.remaining W.contents starts source.old source.new sink.old sink.new) }
+        AsksFor words.now (λ starts. IsHindered R.remaining W.contents starts source.old source.new sink.old sink.new) }
     ensures unwritten { result ≢ Err Status.DeviceFault → OnErr result (sink.new ≡ sink.old) }
 {
     let call = match parse_arguments(alloc, words) {
@@ -183,7 +255,7 @@ fn attempt<R: Read, W: Write>(
         Err(ArgumentsError::Bad) => return Err(Status::BadArguments),
         Err(ArgumentsError::NoMemory) => return Err(Status::OutOfMemory),
     };
-    match run_script(alloc, &call, source, sink) {
+    match run_script(rt, alloc, &call, source, sink) {
         Ok(()) => Ok(()),
         Err(ScriptError::BadScript) => Err(Status::BadScript),
         Err(ScriptError::Device) => Err(Status::DeviceFault),
@@ -193,26 +265,34 @@ fn attempt<R: Read, W: Write>(
 
 /// Runs the program: looks at the words behind its name, then runs the script that the reader gives by as many workers
 /// as they ask for, among whom the mailboxes are dealt out that they name, and writes the page. What it starts from is in
-/// `specs/Call`. Arguments are looked at before anything is read.
-pub fn run<R: Read, W: Write>(
+/// `specs/Call`. Arguments are looked at before anything is read. One worker runs on the caller's thread, several on threads of
+/// their own.
+pub fn run<H, R: Read, W: Write>(
+    rt: H,
     alloc: Global,
     words: &[Text],
     source: &mut Source<R>,
     sink: &mut Sink<W>,
 ) -> Status
+where
+    H: Threads + Wait + Copy + Send + 'static,
     // What was written is the page of all that was read.
-    ensures done { result ≡ Status.Done → AsksFor words.now (λ starts. WritesPage R.remaining W.contents starts source.old source.new sink.old sink.new) }
+    ensures done { result ≡ Status.Done → AsksFor words.now (λ starts.
+        WritesPage R.remaining W.contents starts source.old source.new sink.old sink.new) }
 
     // Only words that ask for nothing are bad arguments, and then nothing is read.
     ensures bad_arguments { result ≡ Status.BadArguments → AsksForNone words.now × (source.new ≡ source.old) }
-    ensures bad_script { result ≡ Status.BadScript → AsksFor words.now (λ starts. ReadsNoScript R.remaining source.old source.new) }
+    ensures bad_script { result ≡ Status.BadScript → AsksFor words.now (λ starts.
+        ReadsNoScript R.remaining source.old source.new) }
+
+    // Only a read or a write that failed is a device fault, or that no thread could be started for several workers.
     ensures device { result ≡ Status.DeviceFault →
-        AsksFor words.now (λ starts. MeetsFault R.remaining W.contents starts source.old source.new sink.old sink.new) }
+        AsksFor words.now (λ starts. IsHindered R.remaining W.contents starts source.old source.new sink.old sink.new) }
 
     // Nothing is written but a page or a front of it.
     ensures unwritten { result ≢ Status.Done → result ≢ Status.DeviceFault → sink.new ≡ sink.old }
 {
-    match attempt(alloc, words, source, sink) {
+    match attempt(rt, alloc, words, source, sink) {
         Ok(()) => Status::Done,
         Err(status) => status,
     }

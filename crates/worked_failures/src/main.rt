@@ -15,6 +15,8 @@ use crate::trials::{Trial, cut_scripts, endless_reader, failed_reads, failed_wri
 use sip_text::{NoMemory, Text};
 use std::alloc::Global;
 use std::io;
+use std::sync::Wait;
+use std::thread::Threads;
 
 const SUBSCRIBE: &str = "SUBSCRIBE sip:alice@127.0.0.1 SIP/2.0\r\n\
 Via: SIP/2.0/UDP 127.0.0.1:5070;branch=z9hG4bKa1\r\n\
@@ -38,7 +40,10 @@ fn words_of(alloc: Global, words: &[&str]) -> Result<Vec<Text>, NoMemory> {
 }
 
 /// Tells of all trials of a call.
-fn tell(rt: &(impl Print + AllocGlobal), trial: &Trial<'_>) -> io::Result<()> {
+fn tell<H>(rt: H, trial: &Trial<'_, H>) -> io::Result<()>
+where
+    H: Threads + Wait + Print + Copy + Send + 'static,
+{
     println!(rt; "scripts cut at each byte: {}", cut_scripts(trial))?;
     println!(rt; "reads that fail: {}", failed_reads(trial))?;
     println!(rt; "a reader that never ends: {}", endless_reader(trial))?;
@@ -47,26 +52,34 @@ fn tell(rt: &(impl Print + AllocGlobal), trial: &Trial<'_>) -> io::Result<()> {
 }
 
 /// Tries a call with these words.
-fn try_with(rt: &(impl Print + AllocGlobal), words: &[&str]) -> io::Result<()> {
+fn try_with<H>(rt: H, words: &[&str]) -> io::Result<()>
+where
+    H: Threads + Wait + Print + AllocGlobal + Copy + Send + 'static,
+{
     let alloc = rt.alloc();
     let script = format!(in alloc; "SIP 127.0.0.1:5070 284\n{SUBSCRIBE}\n")?;
     let Ok(words) = words_of(alloc, words) else {
         return println!(rt; "out of memory");
     };
-    let page = page_of(alloc, words.as_slice(), script.as_bytes());
-    println!(rt; "a page of {} bytes", page.len())?;
-    let trial = Trial {
+    let unread = Trial {
+        rt,
         alloc,
         words: words.as_slice(),
         script: script.as_bytes(),
+        page: b"",
+    };
+    let page = page_of(&unread);
+    println!(rt; "a page of {} bytes", page.len())?;
+    let trial = Trial {
         page: page.as_slice(),
+        ..unread
     };
     tell(rt, &trial)
 }
 
 fn main(rt: HostRuntime) -> io::Result<()> {
     println!(rt; "one worker")?;
-    try_with(&rt, &["script", "1", "alice"])?;
+    try_with(rt, &["script", "1", "alice"])?;
     println!(rt; "two workers")?;
-    try_with(&rt, &["script", "2", "alice", "bob"])
+    try_with(rt, &["script", "2", "alice", "bob"])
 }

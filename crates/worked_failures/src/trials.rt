@@ -7,11 +7,14 @@ use sip_text::Text;
 use std::alloc::Global;
 use std::fmt::{Formatter, Write};
 use std::io::Read;
+use std::sync::Wait;
+use std::thread::Threads;
 use std::{fmt, io};
 
 /// A call of the program, its script, and the page that is to come.
 #[derive(Clone, Copy)]
-pub(crate) struct Trial<'a> {
+pub(crate) struct Trial<'a, H> {
+    pub(crate) rt: H,
     pub(crate) alloc: Global,
     pub(crate) words: &'a [Text],
     pub(crate) script: &'a [u8],
@@ -80,15 +83,17 @@ struct Ended<W> {
 }
 
 /// One run over this reader and this writer.
-fn run_once<R: Read + Drop, W: io::Write + Drop>(
-    alloc: Global,
-    words: &[Text],
+fn run_once<H, R: Read + Drop, W: io::Write + Drop>(
+    trial: &Trial<'_, H>,
     reader: R,
     writer: W,
-) -> Ended<W> {
+) -> Ended<W>
+where
+    H: Threads + Wait + Copy + Send + 'static,
+{
     let mut source = Source::new(reader);
     let mut sink = Sink::new(writer);
-    let status = run(alloc, words, &mut source, &mut sink);
+    let status = run(trial.rt, trial.alloc, trial.words, &mut source, &mut sink);
     let Sink {
         writer,
         failures,
@@ -101,39 +106,48 @@ fn run_once<R: Read + Drop, W: io::Write + Drop>(
     }
 }
 
-/// The page that a call writes of this script.
-pub(crate) fn page_of(alloc: Global, words: &[Text], script: &[u8]) -> Vec<u8> {
-    let Ended { writer, .. } = run_once(alloc, words, script, Vec::new(alloc));
+/// The page that a call writes of its script.
+pub(crate) fn page_of<H>(trial: &Trial<'_, H>) -> Vec<u8>
+where
+    H: Threads + Wait + Copy + Send + 'static,
+{
+    let Ended { writer, .. } = run_once(trial, trial.script, Vec::new(trial.alloc));
     writer
 }
 
 /// Each front of the script, and the script. Only the empty front and the whole are scripts.
-pub(crate) fn cut_scripts(trial: &Trial<'_>) -> Ends {
+pub(crate) fn cut_scripts<H>(trial: &Trial<'_, H>) -> Ends
+where
+    H: Threads + Wait + Copy + Send + 'static,
+{
     let Trial {
         alloc,
-        words,
         script,
         page,
+        ..
     } = *trial;
     let mut ends = Ends::none();
     for end in 0..script.len() {
         let (front, _) = script.split_at(end);
-        let Ended { status, writer, .. } = run_once(alloc, words, front, Vec::new(alloc));
+        let Ended { status, writer, .. } = run_once(trial, front, Vec::new(alloc));
         let is_right = (end == 0) == (status == Status::Done) && (end == 0) != writer.is_empty();
         ends.count(status, is_right);
     }
-    let Ended { status, writer, .. } = run_once(alloc, words, script, Vec::new(alloc));
+    let Ended { status, writer, .. } = run_once(trial, script, Vec::new(alloc));
     ends.count(status, writer.as_slice() == page);
     ends
 }
 
 /// A byte a read, and each read that fails, up to the one behind the last. Where none fails the page comes, else nothing.
-pub(crate) fn failed_reads(trial: &Trial<'_>) -> Ends {
+pub(crate) fn failed_reads<H>(trial: &Trial<'_, H>) -> Ends
+where
+    H: Threads + Wait + Copy + Send + 'static,
+{
     let Trial {
         alloc,
-        words,
         script,
         page,
+        ..
     } = *trial;
     let mut ends = Ends::none();
     for left in 0..310 {
@@ -142,7 +156,7 @@ pub(crate) fn failed_reads(trial: &Trial<'_>) -> Ends {
             left,
             is_endless: false,
         };
-        let Ended { status, writer, .. } = run_once(alloc, words, drip, Vec::new(alloc));
+        let Ended { status, writer, .. } = run_once(trial, drip, Vec::new(alloc));
         let is_right = match status {
             Status::Done => writer.as_slice() == page,
             _ => writer.is_empty(),
@@ -153,14 +167,16 @@ pub(crate) fn failed_reads(trial: &Trial<'_>) -> Ends {
 }
 
 /// A reader that never ends.
-pub(crate) fn endless_reader(trial: &Trial<'_>) -> Ends {
-    let Trial { alloc, words, .. } = *trial;
+pub(crate) fn endless_reader<H>(trial: &Trial<'_, H>) -> Ends
+where
+    H: Threads + Wait + Copy + Send + 'static,
+{
     let drip = Drip {
         rest: b"",
         left: u32::MAX,
         is_endless: true,
     };
-    let Ended { status, writer, .. } = run_once(alloc, words, drip, Vec::new(alloc));
+    let Ended { status, writer, .. } = run_once(trial, drip, Vec::new(trial.alloc));
     let mut ends = Ends::none();
     ends.count(status, writer.is_empty());
     ends
@@ -174,12 +190,15 @@ fn is_front(page: &[u8], taken: &[u8], writes: u32) -> bool {
 
 /// Seven bytes a write, and each write that fails or takes nothing, up to the one behind the last. What went out is a front of
 /// the page, of all writes before.
-pub(crate) fn failed_writes(trial: &Trial<'_>, takes_none: bool) -> Ends {
+pub(crate) fn failed_writes<H>(trial: &Trial<'_, H>, takes_none: bool) -> Ends
+where
+    H: Threads + Wait + Copy + Send + 'static,
+{
     let Trial {
         alloc,
-        words,
         script,
         page,
+        ..
     } = *trial;
     let mut ends = Ends::none();
     for left in 0..117 {
@@ -192,7 +211,7 @@ pub(crate) fn failed_writes(trial: &Trial<'_>, takes_none: bool) -> Ends {
             status,
             failures,
             writer,
-        } = run_once(alloc, words, script, drain);
+        } = run_once(trial, script, drain);
         let is_told = (status == Status::Done) == (failures == 0) && failures <= 1;
         let is_right = is_told && is_front(page, writer.taken.as_slice(), left);
         ends.count(status, is_right);

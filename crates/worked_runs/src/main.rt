@@ -15,14 +15,30 @@ use sip_read::Addr;
 use sip_text::{NoMemory, Text};
 use std::alloc::Global;
 use std::rt::Files;
+use std::sync::Wait;
+use std::thread::Threads;
 use std::{fs, io};
 
 /// Whether the program with these words writes this page of this script.
-fn writes(alloc: Global, words: &[Text], script: &[u8], page: &[u8]) -> bool {
+fn writes<H>(rt: H, words: &[&str], script: &[u8], page: &[u8]) -> bool
+where
+    H: Threads + Wait + AllocGlobal + Copy + Send + 'static,
+{
+    let Ok(words) = words_of(rt.alloc(), words) else {
+        return false;
+    };
     let mut source = Source::new(script);
-    let mut sink = Sink::new(Vec::new(alloc));
-    let status = run(alloc, words, &mut source, &mut sink);
+    let mut sink = Sink::new(Vec::new(rt.alloc()));
+    let status = run(rt, rt.alloc(), words.as_slice(), &mut source, &mut sink);
     status == Status::Done && sink.writer.as_slice() == page
+}
+
+fn words_of(alloc: Global, words: &[&str]) -> Result<Vec<Text>, NoMemory> {
+    let mut texts = Vec::new(alloc);
+    for word in words {
+        texts.push(Text::of(alloc, word)?)?;
+    }
+    Ok(texts)
 }
 
 /// The limits of a run: the last number, the room of the table, the last serial, the room of the ring.
@@ -74,12 +90,15 @@ fn tell(rt: &impl Print, name: &str, is_page: bool) -> io::Result<()> {
 }
 
 /// The runs of the program without arguments.
-fn plain_runs(rt: &(impl Files + Print + AllocGlobal)) -> io::Result<()> {
-    let names = fs::read_to_string(rt, "runs")?;
+fn plain_runs<H>(rt: H) -> io::Result<()>
+where
+    H: Threads + Wait + Files + Print + AllocGlobal + Copy + Send + 'static,
+{
+    let names = fs::read_to_string(&rt, "runs")?;
     for name in names.lines() {
-        let (script, page) = files_of(rt, name)?;
-        let is_page = writes(rt.alloc(), &[], script.as_slice(), page.as_slice());
-        tell(rt, name, is_page)?;
+        let (script, page) = files_of(&rt, name)?;
+        let is_page = writes(rt, &[], script.as_slice(), page.as_slice());
+        tell(&rt, name, is_page)?;
     }
     Ok(())
 }
@@ -145,29 +164,16 @@ const CALLED: [(&str, &[&str]); 6] = [
     ),
 ];
 
-fn called_runs(rt: &(impl Files + Print + AllocGlobal)) -> io::Result<()> {
+fn called_runs<H>(rt: H) -> io::Result<()>
+where
+    H: Threads + Wait + Files + Print + AllocGlobal + Copy + Send + 'static,
+{
     for (name, words) in CALLED {
-        let (script, page) = files_of(rt, name)?;
-        let words = words_of(rt.alloc(), words);
-        let is_page = words.is_ok_and(|words| {
-            writes(
-                rt.alloc(),
-                words.as_slice(),
-                script.as_slice(),
-                page.as_slice(),
-            )
-        });
-        tell(rt, name, is_page)?;
+        let (script, page) = files_of(&rt, name)?;
+        let is_page = writes(rt, words, script.as_slice(), page.as_slice());
+        tell(&rt, name, is_page)?;
     }
     Ok(())
-}
-
-fn words_of(alloc: Global, words: &[&str]) -> Result<Vec<Text>, NoMemory> {
-    let mut texts = Vec::new(alloc);
-    for word in words {
-        texts.push(Text::of(alloc, word)?)?;
-    }
-    Ok(texts)
 }
 
 /// The runs of one script by so many workers.
@@ -178,27 +184,23 @@ const COUNTED: [(&str, &str); 3] = [
 ];
 
 /// But for their tags, alice and bob are told the same in each page: numbers, states and bodies.
-fn counted_runs(rt: &(impl Files + Print + AllocGlobal)) -> io::Result<()> {
-    let script = fs::read(rt, "the_number_of_workers_does_not_show.script")?;
+fn counted_runs<H>(rt: H) -> io::Result<()>
+where
+    H: Threads + Wait + Files + Print + AllocGlobal + Copy + Send + 'static,
+{
+    let script = fs::read(&rt, "the_number_of_workers_does_not_show.script")?;
     for (name, workers) in COUNTED {
-        let page = fs::read(rt, format!(in rt.alloc(); "{name}.page")?)?;
-        let words = words_of(rt.alloc(), &["script", workers, "alice", "bob"]);
-        let is_page = words.is_ok_and(|words| {
-            writes(
-                rt.alloc(),
-                words.as_slice(),
-                script.as_slice(),
-                page.as_slice(),
-            )
-        });
-        tell(rt, name, is_page)?;
+        let page = fs::read(&rt, format!(in rt.alloc(); "{name}.page")?)?;
+        let words = ["script", workers, "alice", "bob"];
+        let is_page = writes(rt, &words, script.as_slice(), page.as_slice());
+        tell(&rt, name, is_page)?;
     }
     Ok(())
 }
 
 fn main(rt: HostRuntime) -> io::Result<()> {
-    plain_runs(&rt)?;
+    plain_runs(rt)?;
     limited_runs(&rt)?;
-    called_runs(&rt)?;
-    counted_runs(&rt)
+    called_runs(rt)?;
+    counted_runs(rt)
 }

@@ -1,8 +1,8 @@
-use Rattle.std.proofs.Common.{inr, rules}
+use Rattle.std.proofs.Common.{inl, inr, rules}
 use Rattle.server.proofs.script.script_many.Goals as goal
 
 pub returns-clause-device : goal.returns-clause-device
-returns-clause-device g c = λ failed. inr (
+returns-clause-device g c = λ failed. inl (inr (
   search rules,
   rw failed at c.write_page.ensures.failure,
   record {
@@ -13,4 +13,4 @@ returns-clause-device g c = λ failed. inr (
     is_page = rw c.as_slice.ensures.value at c.in_ok-page.ensures.page;
     was_written = rw c.as_slice-2.ensures at (rw failed at c.write_page.ensures.front);
   },
-)
+))

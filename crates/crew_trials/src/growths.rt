@@ -1,0 +1,138 @@
+//! A crew of one worker to which an allocation is refused.
+ghost use Rattle.std.specs.Prelude.{◌≡◌, vec_len, IfOk};
+
+use crate::error::TrialError;
+use crate::events::{mail, subscribe};
+use crate::running::{Outcome, run_to_end, setup_with};
+use crew::{End, StartError};
+use message_summary::Mailboxes;
+use notifier::{Event, Out};
+use package::{Class, ClosingCell, Package};
+use refer::Transfers;
+use std::alloc::Global;
+use std::sync::{Arc, Wait};
+use std::thread::Threads;
+
+/// The cells of the two packages.
+#[derive(Drop)]
+struct Cells {
+    mail: Arc<ClosingCell>,
+    transfers: Arc<ClosingCell>,
+}
+
+/// The boxes of one worker: alice's mailbox, and transfers.
+fn both_boxes(alloc: Global, cells: &Cells) -> Result<Vec<Vec<Box<dyn Package>>>, TrialError>
+    ensures { IfOk result (λ boxes. vec_len boxes ≡ 1) }
+{
+    let mut names = Vec::new(alloc);
+    names.push(String::from_str(alloc, "alice")?)?;
+    let mailboxes = Mailboxes::new(alloc, names, Arc::try_clone(&cells.mail)?)?;
+    let transfers = Transfers::new(alloc, Arc::try_clone(&cells.transfers)?)?;
+    let mut boxes: Vec<Box<dyn Package>> = Vec::new(alloc);
+    boxes.push(Box::new(alloc, mailboxes)?)?;
+    boxes.push(Box::new(alloc, transfers)?)?;
+    let mut workers = Vec::new(alloc);
+    workers.push(boxes)?;
+    Ok(workers)
+}
+
+/// Alice subscribes, and two messages come.
+fn three_events(alloc: Global) -> Result<Vec<Event>, TrialError> {
+    let mut events = Vec::new(alloc);
+    events.push(subscribe(alloc, "alice", "c1")?)?;
+    events.push(mail(alloc, "alice", Class::Voice, 2)?)?;
+    events.push(mail(alloc, "alice", Class::Fax, 1)?)?;
+    Ok(events)
+}
+
+/// How often a package of this name with so many resources changed; nothing where it left another Closing, or none.
+fn changes_of(cell: &ClosingCell, event: &str, resources: u64) -> Option<u64> {
+    let closing = cell.get()?;
+    if closing.event.as_str() == event && closing.resources == resources {
+        Some(closing.changes)
+    } else {
+        None
+    }
+}
+
+/// Whether this out stands at this place of the outs of the three events: an answer, then NOTIFYs 1, 2 and 3.
+fn is_at(out: &Out, at: usize) -> bool {
+    match out {
+        Out::Answer { .. } => at == 0,
+        Out::Notify { number, .. } => at > 0 && *number as usize == at,
+        Out::Start { .. } => false,
+    }
+}
+
+/// Whether these are the outs of the first so many of the three events, and no others.
+fn are_outs_of(outs: &[Out], events: u64) -> bool {
+    let wanted = match events {
+        0 => 0,
+        1 => 2,
+        2 => 3,
+        _ => 4,
+    };
+    outs.len() == wanted && outs.iter().enumerate().all(|(at, out)| is_at(out, at))
+}
+
+/// Runs the three events through a crew of one worker with these cells.
+fn run_three<R>(rt: R, alloc: Global, cells: &Cells) -> Result<Outcome, TrialError>
+where
+    R: Threads + Wait + Copy + Send + 'static,
+{
+    let setup = setup_with(false)?;
+    let boxes = both_boxes(alloc, cells)?;
+    let events = three_events(alloc)?;
+    run_to_end(rt, alloc, &setup, boxes, events)
+}
+
+/// How often the mailboxes changed, where both packages left their Closings and the transfers never changed.
+fn changes_left(cells: &Cells) -> Option<u64> {
+    let changes = changes_of(&cells.mail, "message-summary", 1)?;
+    if changes_of(&cells.transfers, "refer", 0)? == 0 {
+        Some(changes)
+    } else {
+        None
+    }
+}
+
+/// Whether a worker did as it should, whatever was refused to it: where memory ran out there are the outs of the events
+/// before alone.
+fn is_right_end(outcome: &Outcome, changes: u64) -> bool {
+    let outs = outcome.outs.as_slice();
+    match outcome.end {
+        Some(End::Closed) => are_outs_of(outs, 3) && changes == 2,
+        Some(End::NoMemory(events)) => events < 3 && are_outs_of(outs, events) && changes <= events,
+        Some(End::Abandoned(_)) | None => false,
+    }
+}
+
+/// Alice subscribes and two messages come to a crew of one worker. It tells the same whichever allocation of the crew is
+/// refused, which the toolchain's command for running programs can ask for: both packages leave their Closings, and the
+/// worker ends as it should, or the start is refused for want of memory or of a thread.
+pub(crate) fn refused_growths<R>(rt: R, alloc: Global) -> Result<String, TrialError>
+where
+    R: Threads + Wait + Copy + Send + 'static,
+{
+    let cells = Cells {
+        mail: ClosingCell::new(alloc)?,
+        transfers: ClosingCell::new(alloc)?,
+    };
+    let is_right = match run_three(rt, alloc, &cells) {
+        Ok(outcome) => match changes_left(&cells) {
+            Some(changes) => is_right_end(&outcome, changes),
+            None => false,
+        },
+        Err(TrialError::Start(StartError::NoMemory | StartError::NoThread)) => {
+            changes_left(&cells) == Some(0)
+        }
+        Err(TrialError::Start(_)) => false,
+        Err(error) => return Err(error),
+    };
+    let text = if is_right {
+        "as it should be\n"
+    } else {
+        "NOT AS IT SHOULD BE\n"
+    };
+    Ok(String::from_str(alloc, text)?)
+}

@@ -1,0 +1,34 @@
+-- What the taker of a crew kept of a script's outs. No public contract cites this.
+use Rattle.std.specs.Prelude.{◌≡◌, ◌==◌, ℕ, ◌<◌, true, if◌then◌else◌, List, [], ◌∷◌, ◌++◌, length, get_or}
+use Rattle.queue_rule.specs.declared.items.Item.{Item}
+use Rattle.queue_rule.specs.Items.{items_of}
+use Rattle.queue_rule.specs.Ended.{AllEnded}
+use Rattle.queue_rule.specs.Values.{values}
+use Rattle.notifier.specs.declared.event.Out.{Out}
+use Rattle.outbox.specs.Seats.{TakerSeat}
+use Rattle.server.specs.declared.work.Work.{Work}
+use Rattle.server.specs.declared.gathering.Gathered.{Gathered}
+
+-- workers numbered from 0, of which nothing was got
+pub record AreNew (n : ℕ) (works : List Work) : Type 0 where
+  pub len : length works ≡ n
+  pub each : (k : ℕ) (work : Work) → k < n
+      → ((get_or works k work).number ≡ k) × ((get_or works k work).outs.items ≡ [])
+
+-- this worker sent one out more, and the others sent nothing
+pub record Keeps (worker : ℕ) (out : Out) (old new : List Work) : Type 0 where
+  pub each : (k : ℕ) (work : Work) → k < length old
+      → ((get_or new k work).number ≡ (get_or old k work).number)
+      × ((get_or new k work).outs.items ≡ (get_or old k work).outs.items ++ (if worker == k then out ∷ [] else []))
+
+-- of each worker all that was got is kept
+pub record AreKept (got : List (Item Out)) (works : List Work) : Type 0 where
+  pub each : (k : ℕ) (work : Work) → k < length works
+      → ((get_or works k work).number ≡ k) × ((get_or works k work).outs.items ≡ values (items_of k got))
+
+-- the taker has each worker's end mark; and all that it got is kept, unless a growth was refused
+pub record IsGathered (taker : TakerSeat) (gathered : Gathered) : Type 0 where
+  pub outbox : gathered.taker.outbox ≡ taker.outbox
+  pub ended : AllEnded taker.workers gathered.taker.got
+  pub len : length gathered.works.items ≡ taker.workers
+  pub kept : gathered.is_whole ≡ true → AreKept gathered.taker.got gathered.works.items

@@ -1,0 +1,339 @@
+//! A thread that has a port of the crew: it brings mail, and it is the phones of one worker's mailboxes.
+
+use crate::counts::{CLASSES, counts_in};
+use crate::error::StormError;
+use crate::events::{Wish, accepted, mail, subscribe};
+use crate::mailboxes::{MAILBOXES, WORKERS, name_of};
+use crate::phone::{Manner, News, Phone};
+use crew::Port;
+use crossbeam_channel::Receiver;
+use homes::is_for_all;
+use notifier::{Event, Out};
+use package::Class;
+use sip_read::{Message, Request, read};
+use std::alloc::Global;
+use std::rt::Clock;
+use std::sync::{Arc, Barrier, Wait};
+use std::thread;
+use std::time::Duration;
+
+/// How many seconds the next news are waited for at the end.
+const PATIENCE: u64 = 20;
+
+/// How many NOTIFYs are heard at most before the next change is sent.
+const MOST_HEARD: u32 = 256;
+
+/// How many milliseconds all rest after each half. Nothing is on its way then: who counts allocations counts them there.
+const REST: u64 = 100;
+
+/// A port, the NOTIFYs of the worker of the same number, and the phones to which they go.
+#[derive(Drop)]
+pub(crate) struct Feeder {
+    pub(crate) number: u32,
+    pub(crate) port: Port,
+    pub(crate) heard: Receiver<Out, Global>,
+    pub(crate) phones: Vec<Phone>,
+    /// Where the feeders meet after each half.
+    pub(crate) meeting: Arc<Barrier, Global>,
+    pub(crate) sent: u64,
+    /// What could not be made, sent or understood.
+    pub(crate) failures: u32,
+}
+
+/// What a feeder saw.
+#[derive(Clone, Copy)]
+pub(crate) struct Tally {
+    /// Watchers whose last NOTIFY told, after the first half, what their mailbox held then.
+    pub(crate) halfway: u32,
+    /// Watchers whose last NOTIFY tells what their mailbox holds at the end.
+    pub(crate) watchers: u32,
+    /// Visitors that came and whose every visit was told to its end.
+    pub(crate) visitors: u32,
+    /// Phones that missed a NOTIFY, or got one out of order.
+    pub(crate) disorders: u32,
+    /// Events that were sent.
+    pub(crate) sent: u64,
+    pub(crate) failures: u32,
+}
+
+impl Tally {
+    /// Nothing was seen.
+    pub(crate) fn nothing() -> Tally {
+        Tally {
+            halfway: 0,
+            watchers: 0,
+            visitors: 0,
+            disorders: 0,
+            sent: 0,
+            failures: 0,
+        }
+    }
+
+    /// What both saw together.
+    pub(crate) fn and(self, other: Tally) -> Tally {
+        Tally {
+            halfway: self.halfway.saturating_add(other.halfway),
+            watchers: self.watchers.saturating_add(other.watchers),
+            visitors: self.visitors.saturating_add(other.visitors),
+            disorders: self.disorders.saturating_add(other.disorders),
+            sent: self.sent.saturating_add(other.sent),
+            failures: self.failures.saturating_add(other.failures),
+        }
+    }
+}
+
+/// Sends one event that has a home, and tells whether it was sent.
+fn send_one<R: Wait>(rt: &R, port: &mut Port, event: Event) -> bool {
+    if is_for_all(&event) {
+        drop(event);
+        return false;
+    }
+    let told = port.send(rt, event);
+    let is_sent = told.is_ok();
+    drop(told);
+    is_sent
+}
+
+/// The Call-ID of this visit of a phone.
+fn call_of(alloc: Global, feeder: u32, place: usize, visits: u32) -> Result<String, StormError> {
+    Ok(format!(in alloc; "p{feeder}-{place}-{visits}")?)
+}
+
+/// The phone that a Call-ID names, and its visit.
+fn phone_named(call: &str) -> Option<(usize, u32)> {
+    let mut parts = call.split('-').skip(1);
+    let place = parts.next()?.parse::<usize>().ok()?;
+    let visits = parts.next()?.parse::<u32>().ok()?;
+    Some((place, visits))
+}
+
+/// What a visitor wants after a NOTIFY with this number and tag.
+fn wish_after<'a>(phone: &Phone, number: u32, tag: &'a str) -> Option<Wish<'a>> {
+    if phone.manner == Manner::Watcher || phone.is_over {
+        return None;
+    }
+    match number {
+        1 => Some(Wish::GoOn(tag)),
+        2 => Some(Wish::Leave(tag)),
+        _ => None,
+    }
+}
+
+impl Feeder {
+    /// Sends an event, if it could be made.
+    fn send<R: Wait>(&mut self, rt: &R, made: Result<Event, StormError>) {
+        let is_sent = match made {
+            Ok(event) => send_one(rt, &mut self.port, event),
+            Err(_) => false,
+        };
+        if is_sent {
+            self.sent = self.sent.saturating_add(1);
+        } else {
+            self.fail();
+        }
+    }
+
+    /// One thing more failed.
+    fn fail(&mut self) {
+        self.failures = self.failures.saturating_add(1);
+    }
+
+    /// The SUBSCRIBE of a phone.
+    fn subscribe_of(
+        &self,
+        alloc: Global,
+        place: usize,
+        phone: Phone,
+        wish: Wish<'_>,
+    ) -> Result<Event, StormError> {
+        let mailbox = name_of(alloc, phone.mailbox)?;
+        let call = call_of(alloc, self.number, place, phone.visits)?;
+        subscribe(alloc, mailbox.as_str(), call.as_str(), wish)
+    }
+
+    /// The phone at this place subscribes, if it has no subscription.
+    fn begin<R: Wait>(&mut self, rt: &R, alloc: Global, place: usize) {
+        let Some(phone) = self.phones.get_mut(place) else {
+            return;
+        };
+        if phone.is_over {
+            phone.begin();
+            let begun = *phone;
+            let made = self.subscribe_of(alloc, place, begun, Wish::Begin);
+            self.send(rt, made);
+        }
+    }
+
+    /// All phones without a subscription subscribe.
+    fn begin_all<R: Wait>(&mut self, rt: &R, alloc: Global) {
+        for place in 0..self.phones.len() {
+            self.begin(rt, alloc, place);
+        }
+    }
+
+    /// A phone is told by this NOTIFY, and does what it wants then. None where it is nobody's.
+    fn tell<R: Wait>(
+        &mut self,
+        rt: &R,
+        alloc: Global,
+        request: &Request,
+        is_last: bool,
+    ) -> Option<()> {
+        let (place, visits) = phone_named(request.head.call_id.as_str())?;
+        let news = News {
+            number: request.head.cseq,
+            is_last,
+            counts: counts_in(request.body.as_slice()),
+        };
+        let phone = self.phones.get_mut(place)?;
+        if phone.visits != visits {
+            return None;
+        }
+        phone.hear(&news);
+        let told = *phone;
+        let Some(tag) = &request.head.from.tag else {
+            return None;
+        };
+        if let Some(wish) = wish_after(&told, news.number, tag.as_str()) {
+            let made = self.subscribe_of(alloc, place, told, wish);
+            self.send(rt, made);
+        }
+        Some(())
+    }
+
+    /// A NOTIFY comes: its phone is told, and answers.
+    fn hear<R: Wait>(&mut self, rt: &R, alloc: Global, out: Out) {
+        let Out::Notify {
+            terminated,
+            bytes,
+            ..
+        } = out
+        else {
+            return;
+        };
+        let Ok(Message::Request(request)) = read(alloc, bytes.as_slice()) else {
+            self.fail();
+            return;
+        };
+        if self.tell(rt, alloc, &request, terminated).is_none() {
+            self.fail();
+        }
+        let made = accepted(alloc, request.head);
+        self.send(rt, made);
+    }
+
+    /// Hears what came.
+    fn hear_some<R: Wait>(&mut self, rt: &R, alloc: Global) {
+        for _ in 0..MOST_HEARD {
+            let Ok(out) = self.heard.try_recv(rt) else {
+                return;
+            };
+            self.hear(rt, alloc, out);
+        }
+    }
+
+    /// One message more for each mailbox, the first of them another one at each port.
+    fn bring_mail<R: Wait>(&mut self, rt: &R, alloc: Global, class: Class, round: u32) {
+        for turn in 0..MAILBOXES {
+            let mailbox = (turn + self.number % WORKERS * 75) % MAILBOXES;
+            let made = match name_of(alloc, mailbox) {
+                Ok(name) => mail(alloc, name.as_str(), class, round),
+                Err(error) => Err(error),
+            };
+            self.send(rt, made);
+            self.hear_some(rt, alloc);
+        }
+    }
+
+    /// Whether each phone was told all, where each mailbox holds so many messages of each class.
+    fn is_done(&self, rounds: u32) -> bool {
+        self.phones.iter().all(|phone| phone.is_done(rounds))
+    }
+
+    /// Hears until each phone was told all, or nothing comes any more.
+    fn hear_all<R: Wait + Clock>(&mut self, rt: &R, alloc: Global, rounds: u32) {
+        for _ in 0..u64::MAX {
+            if self.is_done(rounds) {
+                return;
+            }
+            let Ok(out) = self.heard.recv_timeout(rt, Duration::from_secs(PATIENCE)) else {
+                return;
+            };
+            self.hear(rt, alloc, out);
+        }
+    }
+
+    /// How many phones are of this manner and were told all.
+    fn count(&self, manner: Manner, rounds: u32) -> u32 {
+        let mut count = 0u32;
+        for phone in self.phones.iter() {
+            if phone.manner == manner && phone.visits > 0 && phone.is_done(rounds) {
+                count = count.saturating_add(1);
+            }
+        }
+        count
+    }
+
+    /// How many phones missed a NOTIFY, or got one out of order.
+    fn disorders(&self) -> u32 {
+        let mut count = 0u32;
+        for phone in self.phones.iter() {
+            if !phone.is_in_order {
+                count = count.saturating_add(1);
+            }
+        }
+        count
+    }
+
+    /// Meets the other feeders, and rests with them.
+    fn meet<R: Wait + Clock>(&self, rt: &R) {
+        drop(self.meeting.wait(rt));
+        thread::sleep(rt, Duration::from_millis(REST));
+        drop(self.meeting.wait(rt));
+    }
+
+    /// Brings the mail of these rounds, hears all that is told of it, and meets the others. Tells how many watchers know
+    /// what their mailbox holds then.
+    fn run_half<R: Wait + Clock>(&mut self, rt: &R, alloc: Global, from: u32, to: u32) -> u32 {
+        let class = class_of(self.number);
+        for round in from..to {
+            self.begin_all(rt, alloc);
+            self.bring_mail(rt, alloc, class, round.saturating_add(1));
+        }
+        self.hear_all(rt, alloc, to);
+        let watchers = self.count(Manner::Watcher, to);
+        self.meet(rt);
+        watchers
+    }
+}
+
+/// The class of the messages that this port brings.
+fn class_of(number: u32) -> Class {
+    match CLASSES.get(number as usize) {
+        Some((class, _)) => *class,
+        None => Class::Text,
+    }
+}
+
+/// Brings each mailbox so many messages in two halves, hears all news, and closes the port.
+pub(crate) fn feed<R: Wait + Clock>(
+    rt: &R,
+    alloc: Global,
+    mut feeder: Feeder,
+    rounds: u32,
+) -> Tally {
+    let half = rounds / 2;
+    let halfway = feeder.run_half(rt, alloc, 0, half);
+    let watchers = feeder.run_half(rt, alloc, half, rounds);
+    if feeder.port.close(rt).is_err() {
+        feeder.fail();
+    }
+    Tally {
+        halfway,
+        watchers,
+        visitors: feeder.count(Manner::Visitor, rounds),
+        disorders: feeder.disorders(),
+        sent: feeder.sent,
+        failures: feeder.failures,
+    }
+}

@@ -1,0 +1,84 @@
+//! A phone, and what it is told.
+
+use crate::counts::Counts;
+
+/// Why a phone is there.
+#[derive(Clone, Copy, PartialEq)]
+pub(crate) enum Manner {
+    /// It watches its mailbox from the beginning to the end.
+    Watcher,
+    /// It subscribes, asks for more time when it is told, leaves when it is told again, and comes anew.
+    Visitor,
+}
+
+/// A phone that watches a mailbox.
+#[derive(Clone, Copy)]
+pub(crate) struct Phone {
+    pub(crate) manner: Manner,
+    pub(crate) mailbox: u32,
+    /// How often it has subscribed.
+    pub(crate) visits: u32,
+    /// The number of the last NOTIFY.
+    last: u32,
+    /// What that told.
+    counts: Counts,
+    /// Whether its subscription is over, or it has none yet.
+    pub(crate) is_over: bool,
+    /// Whether each NOTIFY was the next one, with the whole state, and none came after the end.
+    pub(crate) is_in_order: bool,
+}
+
+/// What a NOTIFY tells a phone.
+#[derive(Clone, Copy)]
+pub(crate) struct News {
+    pub(crate) number: u32,
+    pub(crate) is_last: bool,
+    pub(crate) counts: Counts,
+}
+
+impl Phone {
+    /// A phone that has no subscription yet.
+    pub(crate) fn new(manner: Manner, mailbox: u32) -> Phone {
+        Phone {
+            manner,
+            mailbox,
+            visits: 0,
+            last: 0,
+            counts: Counts::NONE,
+            is_over: true,
+            is_in_order: true,
+        }
+    }
+
+    /// It subscribes.
+    pub(crate) fn begin(&mut self) {
+        self.visits = self.visits.saturating_add(1);
+        self.last = 0;
+        self.is_over = false;
+    }
+
+    /// Whether the news are the next: their number is one more than the last, and the subscription was not over. A watcher is
+    /// told of each message by a NOTIFY of its own.
+    fn is_next(&self, news: &News) -> bool {
+        let is_step = self.manner == Manner::Visitor
+            || self.last == 0
+            || self.counts.is_one_before(news.counts);
+        !self.is_over && self.last.checked_add(1) == Some(news.number) && is_step
+    }
+
+    /// It is told.
+    pub(crate) fn hear(&mut self, news: &News) {
+        self.is_in_order = self.is_in_order && self.is_next(news);
+        self.last = news.number;
+        self.counts = news.counts;
+        self.is_over = news.is_last;
+    }
+
+    /// Whether it waits for no more, where a mailbox holds so many messages of each class at the end.
+    pub(crate) fn is_done(&self, rounds: u32) -> bool {
+        match self.manner {
+            Manner::Watcher => !self.is_over && self.counts == Counts([rounds; 4]),
+            Manner::Visitor => self.is_over,
+        }
+    }
+}

@@ -1,0 +1,32 @@
+-- How a run ends.
+use Rattle.std.proofs.Common.{◌≡◌, ℕ, List, Option, Err, subst}
+use Rattle.scripts.specs.declared.arguments.ArgumentsError.TheVariants as error
+use Rattle.scripts.specs.declared.device.Sink.{Sink}
+use Rattle.scripts.specs.declared.udp_arguments.UdpArguments.{UdpArguments}
+use Rattle.scripts.specs.UdpArguments.{AreUdpArguments, AnswersUdpArguments}
+use Rattle.server.specs.declared.program.Status.{Status}
+use Rattle.server.specs.declared.program.Status.TheVariants as status
+use Rattle.udp_program.specs.Call.{start_at, AsksFor, AsksForNone}
+use Rattle.udp_program.specs.Ends.{EndsAs, Runs}
+use Rattle.udp_program.specs.Serving.{Outcome, Serves}
+
+module _ {W : Type 0} (contents : W → Option (List ℕ)) (o : Outcome) (between after : Sink W) (s : Status) (ends : EndsAs contents o between after s) where
+  -- a call that was served, and its lines told
+  pub ran : (words : List (List ℕ)) (before : Sink W) (other : Status) → s ≡ other
+      → AsksFor words (λ call. Serves contents (start_at call) call.workers call.count before between o)
+      → AsksFor words (λ call. Runs contents call before after other)
+  ran words before other same asked =
+      let P : Status → Type 0 = λ t. EndsAs contents o between after t in record {
+        call = asked.call;
+        are_arguments = asked.are_arguments;
+        holds = record { outcome = o; between = between; serves = asked.holds; ends = subst P same ends };
+      }
+
+  pub no_bad_arguments : s ≡ status.BadArguments → ⊥
+  no_bad_arguments same = let P : Status → Type 0 = λ t. EndsAs contents o between after t in subst P same ends
+
+  pub no_bad_script : s ≡ status.BadScript → ⊥
+  no_bad_script same = let P : Status → Type 0 = λ t. EndsAs contents o between after t in subst P same ends
+
+pub bad_asks_none : (words : List (List ℕ)) → ((a : UdpArguments) → AreUdpArguments words a → AnswersUdpArguments (Err error.Bad) a) → AsksForNone words
+bad_asks_none words only a are = only a are

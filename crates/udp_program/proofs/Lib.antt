@@ -1,0 +1,5 @@
+pub mod Printed
+pub mod Closed
+pub mod Started
+pub mod Served
+pub mod Ended

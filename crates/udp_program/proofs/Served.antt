@@ -1,0 +1,59 @@
+-- A crew that served its two ports to its end.
+use Rattle.std.proofs.Common.{◌≡◌, ℕ, List, [], ◌∷◌, Option, subst, sym}
+use Rattle.queue_rule.specs.declared.items.Item.{Item}
+use Rattle.scripts.specs.declared.device.Sink.{Sink}
+use Rattle.notifier.specs.declared.event.Out.{Out}
+use Rattle.notifier.specs.Start.{Start}
+use Rattle.outbox.specs.Seats.{TakerSeat}
+use Rattle.crew.specs.Ports.{PortSeats}
+use Rattle.crew.specs.Started.{Hired, IsStarted}
+use Rattle.crew.specs.Joined.{IsJoined}
+use Rattle.emitting.specs.Emitted.{Fates, WireSeen, IsEmitted}
+use Rattle.network.specs.declared.feeding.FeedReport.{FeedReport}
+use Rattle.network.specs.declared.hearing.Language.{Language}
+use Rattle.network.specs.declared.hearing.Language.TheVariants.{Sip, Control}
+use Rattle.udp_program.specs.declared.listening.Errand.{Errand}
+use Rattle.udp_program.specs.Hearing.{HearsOutSocket}
+use Rattle.udp_program.specs.Serving.{Outcome, Serves, most_lines, writer_seen}
+use Rattle.udp_program.specs.Running.{AreErrands}
+use Rattle.udp_program.proofs.Started.{taker_new}
+
+-- what each thread heard, once its errand is known
+pub heard_sip : {sip control : Errand} (are : AreErrands sip control) (old new : PortSeats) (report : FeedReport)
+    → HearsOutSocket sip.language sip.count old new report → HearsOutSocket Sip sip.count old new report
+heard_sip {sip = sip} are old new report hears =
+    let P : Language → Type 0 = λ l. HearsOutSocket l sip.count old new report in subst P are.says_sip hears
+
+pub heard_control : {sip control : Errand} (are : AreErrands sip control) (old new : PortSeats) (report : FeedReport)
+    → HearsOutSocket control.language control.count old new report → HearsOutSocket Control most_lines old new report
+heard_control {control = control} are old new report hears =
+    let P : Language → Type 0 = λ l. HearsOutSocket l control.count old new report in
+    let Q : ℕ → Type 0 = λ n. HearsOutSocket Control n old new report in
+    subst Q are.most (subst P are.says_control hears)
+
+pub serves_are : {W : Type 0} (contents : W → Option (List ℕ)) {start : ℕ → Start} {workers : ℕ} {crew : List Hired} {sip control : PortSeats} {taker : TakerSeat}
+    (is : IsStarted start workers 2 crew (sip ∷ control ∷ []) taker)
+    (count : ℕ) (before after : Sink W) (o : Outcome) (sip' control' : PortSeats) (ports : List PortSeats) (got : List (Item Out)) (fates : Fates) (wire wire' : WireSeen)
+    → HearsOutSocket Sip count sip sip' o.feed → HearsOutSocket Control most_lines control control' o.control
+    → ports ≡ sip' ∷ control' ∷ [] → IsJoined crew ports got o.workers
+    → IsEmitted fates taker.got got wire wire' (writer_seen contents before) (writer_seen contents after) o.emitted
+    → Serves contents start workers count before after o
+serves_are contents {crew = crew} {sip = sip} {control = control} {taker = taker} is count before after o sip' control' ports got fates wire wire' hears_sip hears_control are joined emitted =
+    let P : List PortSeats → Type 0 = λ l. IsJoined crew l got o.workers in
+    let Q : List (Item Out) → Type 0 = λ l. IsEmitted fates l got wire wire' (writer_seen contents before) (writer_seen contents after) o.emitted in record {
+      crew = crew;
+      sip = sip;
+      control = control;
+      taker = taker;
+      started = is;
+      sip_closed = sip';
+      control_closed = control';
+      hears_sip = hears_sip;
+      hears_control = hears_control;
+      got = got;
+      joined = subst P are joined;
+      fates = fates;
+      wire = wire;
+      wire' = wire';
+      emitted = subst Q (taker_new is) emitted;
+    }

@@ -1,0 +1,23 @@
+-- A run as its functions hand it on. No public contract cites this.
+use Rattle.std.specs.Prelude.{◌≡◌, ℕ, List}
+use Rattle.notifier.specs.Start.{Start}
+use Rattle.crew.specs.Ports.{PortSeats}
+use Rattle.crew.specs.Started.{IsStarted}
+use Rattle.network.specs.declared.hearing.Language.TheVariants.{Sip, Control}
+use Rattle.udp_program.specs.declared.listening.Errand.{Errand}
+use Rattle.udp_program.specs.declared.serving.Running.{Running}
+use Rattle.udp_program.specs.declared.serving.Served.{Served}
+use Rattle.udp_program.specs.Serving.{Outcome, most_lines}
+
+-- it was just started with these ports, and workers with these starts
+abbrev pub IsNew : (ℕ → Start) → List PortSeats → Running → Type 0
+IsNew start ports running = IsStarted start running.workers 2 running.crew ports running.taker
+
+-- what the two threads are to hear
+pub record AreErrands (sip control : Errand) : Type 0 where
+  pub says_sip : sip.language ≡ Sip
+  pub says_control : control.language ≡ Control
+  pub most : control.count ≡ most_lines
+
+abbrev pub outcome_of : Served → Outcome
+outcome_of s = record { feed = s.feed; control = s.control; emitted = s.emitted; workers = s.report.workers.items }
