@@ -1,5 +1,4 @@
 //! A crew of one worker to which an allocation is refused.
-ghost use Rattle.std.specs.Prelude.{◌≡◌, vec_len, IfOk};
 
 use crate::error::TrialError;
 use crate::events::{mail, subscribe};
@@ -20,20 +19,21 @@ struct Cells {
     transfers: Arc<ClosingCell>,
 }
 
-/// The boxes of one worker: alice's mailbox, and transfers.
-fn both_boxes(alloc: Global, cells: &Cells) -> Result<Vec<Vec<Box<dyn Package>>>, TrialError>
-    ensures { IfOk result (λ boxes. vec_len boxes ≡ 1) }
-{
+/// The packages of one worker.
+#[derive(Drop)]
+struct Packages {
+    mailboxes: Mailboxes,
+    transfers: Transfers,
+}
+
+/// Alice's mailbox, and transfers.
+fn new_packages(alloc: Global, cells: &Cells) -> Result<Packages, TrialError> {
     let mut names = Vec::new(alloc);
     names.push(String::from_str(alloc, "alice")?)?;
-    let mailboxes = Mailboxes::new(alloc, names, Arc::try_clone(&cells.mail)?)?;
-    let transfers = Transfers::new(alloc, Arc::try_clone(&cells.transfers)?)?;
-    let mut boxes: Vec<Box<dyn Package>> = Vec::new(alloc);
-    boxes.push(Box::new(alloc, mailboxes)?)?;
-    boxes.push(Box::new(alloc, transfers)?)?;
-    let mut workers = Vec::new(alloc);
-    workers.push(boxes)?;
-    Ok(workers)
+    Ok(Packages {
+        mailboxes: Mailboxes::new(alloc, names, Arc::try_clone(&cells.mail)?)?,
+        transfers: Transfers::new(alloc, Arc::try_clone(&cells.transfers)?)?,
+    })
 }
 
 /// Alice subscribes, and two messages come.
@@ -81,9 +81,17 @@ where
     R: Threads + Wait + Copy + Send + 'static,
 {
     let setup = setup_with(false)?;
-    let boxes = both_boxes(alloc, cells)?;
+    let Packages {
+        mailboxes,
+        transfers,
+    } = new_packages(alloc, cells)?;
+    let mut boxes: Vec<Box<dyn Package>> = Vec::new(alloc);
+    boxes.push(Box::new(alloc, mailboxes)?)?;
+    boxes.push(Box::new(alloc, transfers)?)?;
+    let mut workers = Vec::new(alloc);
+    workers.push(boxes)?;
     let events = three_events(alloc)?;
-    run_to_end(rt, alloc, &setup, boxes, events)
+    run_to_end(rt, alloc, &setup, workers, events)
 }
 
 /// How often the mailboxes changed, where both packages left their Closings and the transfers never changed.
