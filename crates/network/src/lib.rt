@@ -13,8 +13,6 @@
 
 pub mod feeding;
 pub mod hearing;
-#[cfg(test)]
-mod tests;
 
 pub use emitting::{EmitReport, Fate, emit, put_out};
 pub use feeding::{
