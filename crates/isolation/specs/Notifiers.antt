@@ -24,10 +24,6 @@ IsIsolated notifier = (start other : Start) (serial serial' : ℕ) (x : Request)
     HasSameOwn start other serial serial' x (newest_first es) (newest_first es') →
     told_by notifier start serial es ≡ told_by notifier other serial' es'
 
--- The notifier of this project, as `Desk::handle` steps it, is isolated.
-abbrev pub IsolatedLaw : Type 0
-IsolatedLaw = IsIsolated made
-
 -- ---- one counter for all subscriptions
 
 -- the same outs, but each NOTIFY has the next number, whichever subscription it is of
@@ -41,6 +37,12 @@ numbered_from n (Notifies to text ∷ outs) = Notifies to (record text { number 
 abbrev pub counting : Notifier
 counting start es = numbered_from 1 (made start es)
 
--- That one isn't: a watcher sees by the numbers how many NOTIFYs went to others.
+-- ---- who keeps the law
+
+-- The notifier of this project does, as `Desk::handle` steps it.
+abbrev pub IsolatedLaw : Type 0
+IsolatedLaw = IsIsolated made
+
+-- One with one counter doesn't: a watcher sees by the numbers how many NOTIFYs went to others.
 abbrev pub OneCounterLaw : Type 0
 OneCounterLaw = IsIsolated counting → ⊥
