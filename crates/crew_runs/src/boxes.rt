@@ -91,15 +91,20 @@ impl Package for Boxes {
     }
 }
 
-/// The box of a worker that holds this mailbox.
+/// The mailbox of this name alone.
+pub(crate) fn one_name(alloc: Global, mailbox: &str) -> Result<Vec<String>, RunError> {
+    let mut names = Vec::new(alloc);
+    names.push(String::from_str(alloc, mailbox)?)?;
+    Ok(names)
+}
+
+/// The box of a worker that holds these mailboxes.
 pub(crate) fn box_of(
     alloc: Global,
-    mailbox: &str,
+    names: Vec<String>,
     manner: Manner,
     cell: Arc<ClosingCell>,
 ) -> Result<Vec<Boxes>, RunError> {
-    let mut names = Vec::new(alloc);
-    names.push(String::from_str(alloc, mailbox)?)?;
     let inner = Mailboxes::new(alloc, names, cell)?;
     let mut boxes = Vec::new(alloc);
     boxes.push(Boxes { inner, manner })?;

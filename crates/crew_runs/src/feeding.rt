@@ -14,12 +14,12 @@ use std::sync::Wait;
 use std::thread;
 use std::thread::{Promise, PromisedHandle, Threads};
 
-/// What is sent through one port: these events, then so many mail changes for a mailbox, each with one new message more, and
-/// last the time.
+/// What is sent through one port: these events, then so many mail changes for each of these mailboxes in turns, each with one
+/// new message more, and last the time.
 #[derive(Drop)]
 pub(crate) struct Feed {
     pub(crate) events: Vec<Event>,
-    pub(crate) mailbox: &'static str,
+    pub(crate) mailboxes: Vec<String>,
     pub(crate) voices: u32,
     pub(crate) second: Option<u64>,
 }
@@ -82,25 +82,55 @@ fn send_all<R: Wait>(rt: &R, port: &mut Port, events: Vec<Event>) -> u32
     refused
 }
 
-/// Makes and sends so many mail changes, and tells how many were not sent.
-pub(crate) fn send_voices<R: Wait>(
+/// Makes and sends one mail change, and tells whether it was sent.
+fn send_voice<R: Wait>(
     rt: &R,
     alloc: Global,
     port: &mut Port,
     mailbox: &str,
+    new_count: u32,
+) -> bool
+    ensures { SameSeats port.old port.new }
+{
+    match voice(alloc, mailbox, new_count) {
+        Ok(event) => send_one(rt, port, event),
+        Err(_) => false,
+    }
+}
+
+/// Makes and sends a mail change for each mailbox, and tells how many were not sent.
+fn send_round<R: Wait>(
+    rt: &R,
+    alloc: Global,
+    port: &mut Port,
+    mailboxes: &[String],
+    new_count: u32,
+) -> u32
+    ensures { SameSeats port.old port.new }
+{
+    let mut refused = 0u32;
+    for mailbox in mailboxes {
+        if !send_voice(rt, alloc, port, mailbox.as_str(), new_count) {
+            refused = refused.saturating_add(1);
+        }
+    }
+    refused
+}
+
+/// Makes and sends so many mail changes for each mailbox, and tells how many were not sent.
+pub(crate) fn send_voices<R: Wait>(
+    rt: &R,
+    alloc: Global,
+    port: &mut Port,
+    mailboxes: &[String],
     voices: u32,
 ) -> u32
     ensures { SameSeats port.old port.new }
 {
     let mut refused = 0u32;
     for at in 0..voices {
-        let is_sent = match voice(alloc, mailbox, at.saturating_add(1)) {
-            Ok(event) => send_one(rt, port, event),
-            Err(_) => false,
-        };
-        if !is_sent {
-            refused = refused.saturating_add(1);
-        }
+        let more = send_round(rt, alloc, port, mailboxes, at.saturating_add(1));
+        refused = refused.saturating_add(more);
     }
     refused
 }
@@ -112,12 +142,12 @@ fn send_feed<R: Wait>(rt: &R, alloc: Global, mut port: Port, feed: Feed) -> Fed
 {
     let Feed {
         events,
-        mailbox,
+        mailboxes,
         voices,
         second,
     } = feed;
     let early = send_all(rt, &mut port, events);
-    let late = send_voices(rt, alloc, &mut port, mailbox, voices);
+    let late = send_voices(rt, alloc, &mut port, mailboxes.as_slice(), voices);
     let is_told = tell_time(rt, &mut port, second);
     let told = port.close(rt);
     let mut refused = early.saturating_add(late);

@@ -3,7 +3,7 @@
 //! `crew_runs` runs each scenario some times and prints what came of it, and whether each run told the same. `crew_runs <name>
 //! <times>` runs one scenario so many times. The stored output was worked out by hand from the rules.
 //!
-//! There is nothing here that others build on. Begin with `scenarios` and `refusals`, then `running`, which starts a crew,
+//! There is nothing here that others build on. Begin with `scenarios`, `many` and `refusals`, then `running`, which starts a crew,
 //! feeds each of its ports from a thread of its own, takes what it posts, and joins it.
 #![tactic(auto)]
 
@@ -13,15 +13,17 @@ mod events;
 mod feeding;
 mod gates;
 mod gathering;
+mod many;
 mod refusals;
 mod running;
 mod scenarios;
 
 use crate::error::RunError;
+use crate::many::many_mails;
 use crate::refusals::{closed_port, closings, dropped_ports, refused_starts};
 use crate::scenarios::{
-    boxes_meet, mail_through_one_place, many_mails, planned_stop, refused_change, time_for_all,
-    two_workers, workers_meet,
+    boxes_meet, mail_through_one_place, planned_stop, refused_change, time_for_all, two_workers,
+    workers_meet,
 };
 use std::alloc::Global;
 use std::env;
@@ -61,8 +63,7 @@ where
         "boxes_meet" => boxes_meet(rt, alloc),
         "dropped_ports" => dropped_ports(rt, alloc, 0),
         "dropped_after_ten" => dropped_ports(rt, alloc, 10),
-        "many_mails" => many_mails(rt, alloc, 10_000),
-        "half_a_million_mails" => many_mails(rt, alloc, 125_000),
+        "many_mails" => many_mails(rt, alloc),
         "closed_port" => closed_port(rt, alloc),
         "closings" => closings(rt, alloc),
         "refused_starts" => refused_starts(rt, alloc),

@@ -1,7 +1,7 @@
 //! Scenarios of what is refused, and of ports that go away.
 ghost use Rattle.std.specs.Prelude.{◌≡◌, ◌≤◌, vec_len, IfOk};
 
-use crate::boxes::{Boxes, Manner, box_of};
+use crate::boxes::{Boxes, Manner, box_of, one_name};
 use crate::error::RunError;
 use crate::feeding::{Feed, send_voices};
 use crate::gathering::{gather, nothing_of};
@@ -17,7 +17,7 @@ fn boxes_of(alloc: Global, cell: Arc<ClosingCell>) -> Result<Vec<Vec<Boxes>>, Ru
     ensures { IfOk result (λ boxes. vec_len boxes ≡ 1) }
 {
     let mut boxes = Vec::new(alloc);
-    boxes.push(box_of(alloc, "alice", Manner::Plain, cell)?)?;
+    boxes.push(box_of(alloc, one_name(alloc, "alice")?, Manner::Plain, cell)?)?;
     Ok(boxes)
 }
 
@@ -78,7 +78,8 @@ where
     let gate = Arc::new(alloc, Open)?;
     let (crew, mut ports, mut taker) = Crew::start(rt, alloc, &setup, 2, boxes, gate)?;
     if let Some(mut unclosed) = ports.pop() {
-        send_voices(&rt, alloc, &mut unclosed, "alice", events);
+        let names = one_name(alloc, "alice")?;
+        send_voices(&rt, alloc, &mut unclosed, names.as_slice(), events);
         drop(unclosed);
     }
     if let Some(port) = ports.pop() {
@@ -94,7 +95,8 @@ where
 fn closed_text<R: Wait>(rt: &R, alloc: Global, port: &mut Port) -> Result<String, RunError> {
     let first = port.close(rt).is_ok();
     let again = port.close(rt).is_ok();
-    let refused = send_voices(rt, alloc, port, "alice", 1);
+    let names = one_name(alloc, "alice")?;
+    let refused = send_voices(rt, alloc, port, names.as_slice(), 1);
     let ticked = port.tick(rt, 5).is_ok();
     let is_closed = port.is_closed();
     Ok(format!(in alloc;
@@ -156,7 +158,7 @@ where
     let mut feeds = Vec::new(alloc);
     feeds.push(Feed {
         events: Vec::new(alloc),
-        mailbox: "alice",
+        mailboxes: one_name(alloc, "alice")?,
         voices: 2,
         second: None,
     })?;

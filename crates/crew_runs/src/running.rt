@@ -76,20 +76,17 @@ fn end_text(alloc: Global, end: End) -> Result<String, RunError> {
 
 /// What was got of a worker, in words.
 fn told_text(alloc: Global, told: &Told) -> Result<String, RunError> {
-    let Told {
-        answers,
-        notifies,
-        starts,
-        is_in_order,
-        is_over,
-    } = *told;
-    let order = if is_in_order {
+    let (answers, notifies, starts) = (told.answers, told.notifies, told.starts);
+    let order = if told.is_in_order {
         "in order"
     } else {
         "out of order"
     };
-    let over = if is_over { ", over" } else { "" };
-    Ok(format!(in alloc; "{answers} answers, {notifies} NOTIFYs {order}{over}, {starts} starts")?)
+    let over = if told.is_over() { ", over" } else { "" };
+    let voices = told.voices();
+    Ok(format!(in alloc;
+        "{answers} answers, {notifies} NOTIFYs {order}{over}, {starts} starts, {voices} messages shown"
+    )?)
 }
 
 /// What each worker did, in a line each.

@@ -1,7 +1,7 @@
 //! The scenarios.
-ghost use Rattle.std.specs.Prelude.{◌≡◌, ◌+◌, vec_len, IfOk, OnOk};
+ghost use Rattle.std.specs.Prelude.{◌≡◌, vec_len, IfOk};
 
-use crate::boxes::{Boxes, Manner, box_of};
+use crate::boxes::{Boxes, Manner, box_of, one_name};
 use crate::error::RunError;
 use crate::events::{subscribe, voice};
 use crate::feeding::Feed;
@@ -20,7 +20,7 @@ fn one_of(alloc: Global, mailbox: &str, manner: Manner) -> Result<Vec<Vec<Boxes>
 {
     let cell = ClosingCell::new(alloc)?;
     let mut boxes = Vec::new(alloc);
-    boxes.push(box_of(alloc, mailbox, manner, cell)?)?;
+    boxes.push(box_of(alloc, one_name(alloc, mailbox)?, manner, cell)?)?;
     Ok(boxes)
 }
 
@@ -30,15 +30,15 @@ fn two_of(alloc: Global, first: Manner, second: Manner) -> Result<Vec<Vec<Boxes>
 {
     let mut boxes = one_of(alloc, "alice", first)?;
     let cell = ClosingCell::new(alloc)?;
-    boxes.push(box_of(alloc, "bob", second, cell)?)?;
+    boxes.push(box_of(alloc, one_name(alloc, "bob")?, second, cell)?)?;
     Ok(boxes)
 }
 
 /// A feed of these events alone.
-fn feed_of(events: Vec<Event>) -> Feed {
+fn feed_of(alloc: Global, events: Vec<Event>) -> Feed {
     Feed {
         events,
-        mailbox: "alice",
+        mailboxes: Vec::new(alloc),
         voices: 0,
         second: None,
     }
@@ -73,7 +73,7 @@ fn one_event(alloc: Global, event: Event) -> Result<Vec<Event>, RunError> {
 fn alice_and_mail(alloc: Global, voices: u32) -> Result<Feed, RunError> {
     Ok(Feed {
         events: one_event(alloc, subscribe(alloc, "alice", "c1")?)?,
-        mailbox: "alice",
+        mailboxes: one_name(alloc, "alice")?,
         voices,
         second: None,
     })
@@ -86,7 +86,7 @@ where
 {
     let setup = setup_with(1, 1, false)?;
     let boxes = two_of(alloc, Manner::Plain, Manner::Plain)?;
-    let bob = feed_of(one_event(alloc, subscribe(alloc, "bob", "c3")?)?);
+    let bob = feed_of(alloc, one_event(alloc, subscribe(alloc, "bob", "c3")?)?);
     let feeds = two_feeds(alloc, alice_and_mail(alloc, 1)?, bob)?;
     run_crew(rt, alloc, &setup, boxes, Arc::new(alloc, Open)?, feeds)
 }
@@ -124,7 +124,7 @@ where
     events.push(subscribe(alloc, "bob", "c3")?)?;
     let feed = Feed {
         events,
-        mailbox: "alice",
+        mailboxes: Vec::new(alloc),
         voices: 0,
         second: Some(31),
     };
@@ -152,7 +152,7 @@ where
     let boxes = two_of(alloc, Manner::Plain, Manner::Plain)?;
     let mut bob = one_event(alloc, subscribe(alloc, "bob", "c3")?)?;
     bob.push(voice(alloc, "bob", 1)?)?;
-    let feeds = two_feeds(alloc, alice_and_mail(alloc, 0)?, feed_of(bob))?;
+    let feeds = two_feeds(alloc, alice_and_mail(alloc, 0)?, feed_of(alloc, bob))?;
     let gate = Arc::new(
         alloc,
         MeetingGate {
@@ -176,7 +176,7 @@ where
     let boxes = two_of(alloc, waits, comes)?;
     let alice = one_event(alloc, voice(alloc, "alice", 1)?)?;
     let bob = one_event(alloc, voice(alloc, "bob", 1)?)?;
-    let feeds = two_feeds(alloc, feed_of(alice), feed_of(bob))?;
+    let feeds = two_feeds(alloc, feed_of(alloc, alice), feed_of(alloc, bob))?;
     let text = run_crew(rt, alloc, &setup, boxes, Arc::new(alloc, Open)?, feeds)?;
     told_with(alloc, text, meeting.was_kept())
 }
@@ -190,66 +190,4 @@ fn told_with(alloc: Global, mut text: String, has_met: bool) -> Result<String, R
     };
     text.push_str(line)?;
     Ok(text)
-}
-
-/// One worker more, with this mailbox.
-fn add_box(alloc: Global, boxes: &mut Vec<Vec<Boxes>>, mailbox: &str) -> Result<(), RunError>
-    ensures { OnOk result (vec_len boxes.new ≡ vec_len boxes.old + 1) }
-{
-    let cell = ClosingCell::new(alloc)?;
-    boxes.push(box_of(alloc, mailbox, Manner::Plain, cell)?)?;
-    Ok(())
-}
-
-/// One feed more, which subscribes to this mailbox and then changes it so often.
-fn add_feed(
-    alloc: Global,
-    feeds: &mut Vec<Feed>,
-    mailbox: &'static str,
-    voices: u32,
-) -> Result<(), RunError>
-    ensures { OnOk result (vec_len feeds.new ≡ vec_len feeds.old + 1) }
-{
-    feeds.push(Feed {
-        events: one_event(alloc, subscribe(alloc, mailbox, mailbox)?)?,
-        mailbox,
-        voices,
-        second: None,
-    })?;
-    Ok(())
-}
-
-/// The boxes of four workers, each with a mailbox at its home.
-fn four_boxes(alloc: Global) -> Result<Vec<Vec<Boxes>>, RunError>
-    ensures { IfOk result (λ boxes. vec_len boxes ≡ 4) }
-{
-    let mut boxes = Vec::new(alloc);
-    add_box(alloc, &mut boxes, "d")?;
-    add_box(alloc, &mut boxes, "a")?;
-    add_box(alloc, &mut boxes, "b")?;
-    add_box(alloc, &mut boxes, "c")?;
-    Ok(boxes)
-}
-
-/// The feeds of four ports, each for one of these mailboxes.
-fn four_feeds(alloc: Global, voices: u32) -> Result<Vec<Feed>, RunError>
-    ensures { IfOk result (λ feeds. vec_len feeds ≡ 4) }
-{
-    let mut feeds = Vec::new(alloc);
-    add_feed(alloc, &mut feeds, "d", voices)?;
-    add_feed(alloc, &mut feeds, "a", voices)?;
-    add_feed(alloc, &mut feeds, "b", voices)?;
-    add_feed(alloc, &mut feeds, "c", voices)?;
-    Ok(feeds)
-}
-
-/// Four ports and four workers: so many mail changes through each port.
-pub(crate) fn many_mails<R>(rt: R, alloc: Global, voices: u32) -> Result<String, RunError>
-where
-    R: Threads + Wait + Copy + Send + 'static,
-{
-    let setup = setup_with(64, 64, false)?;
-    let boxes = four_boxes(alloc)?;
-    let feeds = four_feeds(alloc, voices)?;
-    run_crew(rt, alloc, &setup, boxes, Arc::new(alloc, Open)?, feeds)
 }

@@ -13,7 +13,7 @@ use Rattle.notifier.specs.Limits.{Limits}
 use Rattle.notifier.specs.Start.{Start, tag_of}
 use Rattle.notifier.specs.Requests.{is_refer, user_part, event_of, key_of_request}
 use Rattle.lives.specs.Past.{now, content, is_new, is_fresh}
-use Rattle.lives.specs.Life.{Deed, Life, Then, Heard, MailChanged, Progressed, Due, Answered, Disowned, Lost, Stopped, birth, end_of_grant, is_gone, is_overdue, number}
+use Rattle.lives.specs.Life.{Deed, Life, Then, Heard, MailChanged, Progressed, Due, Answered, Disowned, Lost, birth, end_of_grant, is_gone, is_overdue, number}
 use Rattle.lives.specs.Lives.{when, is_in_dialog, is_answer_in_dialog, concerns, may_hear, is_to_notify, answer_deed, is_due, tick_deed, is_changed, deed_at, lived}
 use Rattle.lives.proofs.Texts.{Bytes, and-left, and-right, and-false, bytes_same, bytes_own}
 use Rattle.isolation.specs.Own.{is_own}

@@ -306,7 +306,7 @@ unfolding born_of
 alone_law start other serial x past born like apart = alone start other serial x like past (λ l is. let e : Some (birth l) ≡ Some x = sym (ap (option_map birth) is) ∙ born in cc) apart
 
 pub same_law : SameLaw
-same_law start other serial serial' x past past' born born' like apart apart' same =
-    alone_law start other serial x past born like apart
-    ∙ (ap (notices other 1) (same (tag_of other.place 1))
-    ∙ sym (alone_law other other serial' x past' born' (record { limits = refl; content_type = refl; content = refl }) apart'))
+same_law start other serial serial' x past past' both =
+    alone_law start other serial x past both.born both.like both.apart
+    ∙ (ap (notices other 1) (both.same (tag_of other.place 1))
+    ∙ sym (alone_law other other serial' x past' both.born_too (record { limits = refl; content_type = refl; content = refl }) both.apart_too))

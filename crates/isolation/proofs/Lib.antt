@@ -7,5 +7,6 @@ pub mod Law
 pub mod Repeats
 pub mod OwnKeys
 pub mod SentOut
+pub mod Notifiers
 pub mod Homes
 pub mod WorkedAlone

@@ -1,5 +1,5 @@
 -- What goes out with a subscription's tag, by its own events alone.
-use Rattle.std.proofs.Common.{◌≡◌, ℕ, List, subst}
+use Rattle.std.proofs.Common.{List, subst}
 use Rattle.notifier.specs.Out.{Notification}
 use Rattle.notifier.specs.Start.{tag_of}
 use Rattle.lives.specs.Notices.{newest_first}

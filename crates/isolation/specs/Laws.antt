@@ -51,15 +51,22 @@ AgainLaw = (start : Start) (serial : ℕ) (x : Request) (later past : List Event
 
 -- ---- two runs
 
--- Where its own events in two runs are the same but for the tag, a subscription is told the same: whatever else happened in
--- either, and whichever worker and serial it had.
+-- A subscription in two runs: born of x in both, apart in both, and with the same own events but for its tag, whatever else
+-- happened in either, and whichever worker and serial it had.
+pub record HasSameOwn (start other : Start) (serial serial' : ℕ) (x : Request) (past past' : List Event) : Type 0 where
+  pub born : born_of start serial past ≡ Some x
+  pub born_too : born_of other serial' past' ≡ Some x
+  pub like : IsLike start other x
+  pub apart : are_apart start serial x past ≡ true
+  pub apart_too : are_apart other serial' x past' ≡ true
+  pub same : (tag : List ℕ) →
+      renamed (tag_of start.place serial) tag (own start serial x past)
+      ≡ renamed (tag_of other.place serial') tag (own other serial' x past')
+
+-- It is told the same in both.
 abbrev pub SameLaw : Type 0
 SameLaw = (start other : Start) (serial serial' : ℕ) (x : Request) (past past' : List Event) →
-    born_of start serial past ≡ Some x → born_of other serial' past' ≡ Some x → IsLike start other x →
-    are_apart start serial x past ≡ true → are_apart other serial' x past' ≡ true →
-    ((tag : List ℕ) →
-    renamed (tag_of start.place serial) tag (own start serial x past)
-    ≡ renamed (tag_of other.place serial') tag (own other serial' x past')) →
+    HasSameOwn start other serial serial' x past past' →
     notices start serial past ≡ notices other serial' past'
 
 -- ---- no key twice

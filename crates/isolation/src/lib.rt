@@ -10,11 +10,12 @@
 //! What the laws ask is that its requests aren't taken for somebody else's (`specs/Apart`), which [`again`] shows to hold of
 //! whoever retransmits. What they don't promise is a place: a full table keeps a new subscription out.
 //!
-//! Begin with `specs/Own` and `specs/Laws`, then `specs/Together`. `proofs/WorkedAlone` computes examples, and what goes wrong
-//! without a premise.
+//! Begin with `specs/Own` and `specs/Laws`, then `specs/Together`. `specs/Notifiers` asks the law of any notifier, and
+//! [`one_counter`] names one that breaks it. `proofs/WorkedAlone` computes examples, and what goes wrong without a premise.
 #![tactic(auto)]
 
 ghost use Rattle.isolation.specs.Laws.{AloneLaw, AgainLaw, SameLaw, OwnKeysLaw, OutsLaw};
+ghost use Rattle.isolation.specs.Notifiers.{IsolatedLaw, OneCounterLaw};
 ghost use Rattle.isolation.specs.Together.{TogetherLaw, NowhereElseLaw};
 
 /// What the watcher of a subscription is told of all events is what it would be told of the subscription's own events alone,
@@ -32,6 +33,17 @@ pub fn outs()
 /// happened in either run, and whichever worker and serial it had.
 pub fn same()
     ensures { SameLaw }
+{}
+
+/// What the notifier sends is isolated: in two runs in which a subscription's own events are the same but for its tag, its
+/// watcher gets the same NOTIFYs.
+pub fn isolated()
+    ensures { IsolatedLaw }
+{}
+
+/// Not every notifier is: one that numbers the NOTIFYs of all subscriptions by one counter isn't.
+pub fn one_counter()
+    ensures { OneCounterLaw }
 {}
 
 /// A request that a subscription could hear doesn't matter to it when it comes again.

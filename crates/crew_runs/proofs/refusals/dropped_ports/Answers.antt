@@ -1,4 +1,4 @@
-use Rattle.std.proofs.Common.{◌≡◌, vec_len, arith, ap, sym, ◌∙◌}
+use Rattle.std.proofs.Common.{arith, ap, sym, ◌∙◌}
 use Rattle.outbox.specs.Seats.{TakerSeat}
 use Rattle.crew.proofs.Starting.{element}
 use Rattle.crew.proofs.Keeping.{started_end}

@@ -1,6 +1,6 @@
-use Rattle.std.proofs.Common.{◌≡◌, ◌<◌, ℕ, List, length, map, get_or, vec_len, arith, ap, sym, ◌∙◌, subst}
+use Rattle.std.proofs.Common.{◌≡◌, ◌<◌, length, map, vec_len, arith, ap, sym, ◌∙◌, subst}
 use Rattle.outbox.specs.Seats.{TakerSeat}
-use Rattle.crew.specs.Kept.{emptied, SameSeats, AllClosed}
+use Rattle.crew.specs.Kept.{emptied, AllClosed}
 use Rattle.crew.specs.Ports.{PortSeats}
 use Rattle.crew.proofs.Starting.{element}
 use Rattle.crew.proofs.Keeping.{started_port, started_end}
