@@ -101,7 +101,8 @@ pub fn read_accept(alloc: Global, text: &[u8]) -> Result<Values<Range>, HeaderEr
     // What is answered is what the text says, unless a growth was refused.
     ensures found { IsSaid IsAccept RangesFit text.now result }
     // What the text says is answered, unless a growth was refused.
-    ensures only { (said : Result (List values.Range) HeaderError) → Says IsAccept RangesFit text.now said → Answers result said }
+    ensures only { (said : Result (List values.Range) HeaderError)
+        → Says IsAccept RangesFit text.now said → Answers result said }
 {
     accept(alloc, text)
 }

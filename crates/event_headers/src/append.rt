@@ -6,7 +6,8 @@ use sip_text::NoMemory;
 
 /// Appends `;name=value`, where there is a value.
 pub fn append_parameter(name: &str, value: Option<&str>, out: &mut String) -> Result<(), NoMemory>
-    ensures { OnOk result (string_bytes out.new ≡ string_bytes out.old ++ parameter_text name.now (option_map (λ v. v.now) value.entry)) }
+    ensures { OnOk result (string_bytes out.new
+        ≡ string_bytes out.old ++ parameter_text name.now (option_map (λ v. v.now) value.entry)) }
 {
     if let Some(value) = value {
         write!(out, ";{name}={value}")?;
@@ -16,7 +17,8 @@ pub fn append_parameter(name: &str, value: Option<&str>, out: &mut String) -> Re
 
 /// Appends `;name=seconds`, where there are seconds.
 pub fn append_seconds(name: &str, seconds: Option<u32>, out: &mut String) -> Result<(), NoMemory>
-    ensures { OnOk result (string_bytes out.new ≡ string_bytes out.old ++ parameter_text name.now (option_map decimal seconds)) }
+    ensures { OnOk result (string_bytes out.new
+        ≡ string_bytes out.old ++ parameter_text name.now (option_map decimal seconds)) }
 {
     if let Some(seconds) = seconds {
         write!(out, ";{name}={seconds}")?;

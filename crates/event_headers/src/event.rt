@@ -52,7 +52,8 @@ pub fn read_event(alloc: Global, text: &[u8]) -> Result<EventValue, HeaderError>
     // What is answered is what the text says, unless a growth was refused.
     ensures found { IsSaid IsEvent EventFits text.now result }
     // What the text says is answered, unless a growth was refused.
-    ensures only { (said : Result values.EventValue HeaderError) → Says IsEvent EventFits text.now said → Answers result said }
+    ensures only { (said : Result values.EventValue HeaderError)
+        → Says IsEvent EventFits text.now said → Answers result said }
 {
     event(alloc, text)
 }

@@ -99,7 +99,8 @@ pub fn read_state(alloc: Global, text: &[u8]) -> Result<StateValue, HeaderError>
     // What is answered is what the text says, unless a growth was refused.
     ensures found { IsSaid IsState StateFits text.now result }
     // What the text says is answered, unless a growth was refused.
-    ensures only { (said : Result values.StateValue HeaderError) → Says IsState StateFits text.now said → Answers result said }
+    ensures only { (said : Result values.StateValue HeaderError)
+        → Says IsState StateFits text.now said → Answers result said }
 {
     state(alloc, text)
 }

@@ -64,8 +64,10 @@ impl Model for EventValue {
 impl EventValue {
     /// The value of this package and id. It takes no memory, and is `None` where one of them isn't a token.
     pub fn new(package: String, id: Option<String>) -> Option<EventValue>
-        ensures value { IfSome result (λ e. e ≡ record { «package» = string_bytes «package»; id = option_map string_bytes id }) }
-        ensures when { IsSome result ↔ IsEventValue (record { «package» = string_bytes «package»; id = option_map string_bytes id }) }
+        ensures value { IfSome result
+            (λ e. e ≡ record { «package» = string_bytes «package»; id = option_map string_bytes id }) }
+        ensures when { IsSome result
+            ↔ IsEventValue (record { «package» = string_bytes «package»; id = option_map string_bytes id }) }
     {
         if !is_token(package.as_str()) {
             return None;
@@ -154,8 +156,18 @@ impl StateValue {
         reason: Option<String>,
         retry_after: Option<u32>,
     ) -> Option<StateValue>
-        ensures value { IfSome result (λ s. s ≡ record { word = string_bytes word; expires = expires; reason = option_map string_bytes reason; retry_after = retry_after }) }
-        ensures when { IsSome result ↔ IsStateValue (record { word = string_bytes word; expires = expires; reason = option_map string_bytes reason; retry_after = retry_after }) }
+        ensures value { IfSome result (λ s. s ≡ record {
+          word = string_bytes word;
+          expires = expires;
+          reason = option_map string_bytes reason;
+          retry_after = retry_after;
+        }) }
+        ensures when { IsSome result ↔ IsStateValue (record {
+          word = string_bytes word;
+          expires = expires;
+          reason = option_map string_bytes reason;
+          retry_after = retry_after;
+        }) }
     {
         if !is_small_token(word.as_str()) {
             return None;
@@ -180,7 +192,8 @@ impl StateValue {
         reason: Option<Text>,
         retry_after: Option<u32>,
     ) -> StateValue
-        requires { IsStateValue (record { word = word; expires = expires; reason = reason; retry_after = retry_after }) }
+        requires { IsStateValue
+            (record { word = word; expires = expires; reason = reason; retry_after = retry_after }) }
         ensures { result ≡ record { word = word; expires = expires; reason = reason; retry_after = retry_after } }
     {
         StateValue {
@@ -201,7 +214,12 @@ impl StateValue {
     ) -> Result<StateValue, NoMemory>
         requires word { IsTrue (is_small_token word.now) }
         requires reason { IfSome reason (λ r. IsTrue (is_small_token r.now)) }
-        ensures { IfOk result (λ s. s ≡ record { word = word.now; expires = expires; reason = option_map (λ r. r.now) reason.entry; retry_after = retry_after }) }
+        ensures { IfOk result (λ s. s ≡ record {
+          word = word.now;
+          expires = expires;
+          reason = option_map (λ r. r.now) reason.entry;
+          retry_after = retry_after;
+        }) }
     {
         let word = Text::of(alloc, word)?;
         let reason = some_copy(alloc, reason)?;

@@ -67,7 +67,8 @@ fn contact_value(alloc: Global, value: &[u8]) -> Result<Option<Text>, NoMemory>
 
 /// A further Accept line, behind a comma where it isn't the first.
 fn accept_more(alloc: Global, lines: &mut Option<Vec<u8>>, value: &[u8]) -> Result<(), NoMemory>
-    ensures { OnOk result (option_map (λ v. v.items) lines.new ≡ accept_more (option_map (λ v. v.items) lines.old) value.now) }
+    ensures { OnOk result
+        (option_map (λ v. v.items) lines.new ≡ accept_more (option_map (λ v. v.items) lines.old) value.now) }
 {
     match lines {
         Some(joined) => {
@@ -132,7 +133,8 @@ impl Gathered {
 
     /// Takes in a Via value.
     fn add_hop(&mut self, alloc: Global, hop: Hop<'_>) -> Result<(), NoMemory>
-        ensures { OnOk result (gathered_seen self.new ≡ with_item (gathered_seen self.old) (item_view (Item.Via hop.entry))) }
+        ensures { OnOk result (gathered_seen self.new
+            ≡ with_item (gathered_seen self.old) (item_view (Item.Via hop.entry))) }
     {
         self.vias.push(Text::of(alloc, hop.text)?)?;
         if self.top.is_none() {
@@ -173,7 +175,8 @@ impl Gathered {
         listed: Listed,
         value: &[u8],
     ) -> Result<bool, NoMemory>
-        ensures { IfOk result (Adds (gathered_seen self.old) (elements_of (element_at listed) value.now) (gathered_seen self.new)) }
+        ensures { IfOk result
+            (Adds (gathered_seen self.old) (elements_of (element_at listed) value.now) (gathered_seen self.new)) }
     {
         let mut rest = value;
         loop {
@@ -231,7 +234,8 @@ impl Gathered {
         first: &'a [u8],
         text: &'a [u8],
     ) -> Result<Option<&'a [u8]>, NoMemory>
-        ensures { Gives (λ r. (gathered_seen self.new, r.now)) result (gather_line (gathered_seen self.old) first.now text.now) }
+        ensures { Gives (λ r. (gathered_seen self.new, r.now)) result
+            (gather_line (gathered_seen self.old) first.now text.now) }
     {
         let Some((line, rest)) = unfolded_of(alloc, first, text)? else {
             return Ok(None);

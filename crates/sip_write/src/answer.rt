@@ -104,7 +104,8 @@ fn put_seconds(page: &mut Page, name: &str, seconds: Option<u32>)
 }
 
 fn put_list_of(page: &mut Page, name: &str, texts: Option<&[&str]>)
-    ensures { Puts page.old (joined (header_of name.now (option_map comma_joined (option_map (λ ts. map (λ t. t.now) ts.now) texts.entry)))) page.new }
+    ensures { Puts page.old (joined (header_of name.now
+        (option_map comma_joined (option_map (λ ts. map (λ t. t.now) ts.now) texts.entry)))) page.new }
 {
     if let Some(texts) = texts {
         page.put_list(name, texts);

@@ -86,7 +86,8 @@ impl Page {
 
     /// Puts a party, and a tag where one is given.
     pub fn put_party(&mut self, name: &str, party: &str, tag: Option<&str>)
-        ensures { Puts self.old (joined (header name.now (party.now ++ parameter_text (codes "tag") (option_map (λ t. t.now) tag.entry)) ∷ [])) self.new }
+        ensures { Puts self.old (joined (header name.now
+            (party.now ++ parameter_text (codes "tag") (option_map (λ t. t.now) tag.entry)) ∷ [])) self.new }
     {
         self.put_name(name);
         self.put(party);
@@ -96,7 +97,8 @@ impl Page {
 
     /// Puts the line CSeq.
     fn put_sequence(&mut self, number: u32, method: &str)
-        ensures { Puts self.old (joined (header (codes "CSeq") (decimal number ++ (codes " " ++ method.now)) ∷ [])) self.new }
+        ensures { Puts self.old
+            (joined (header (codes "CSeq") (decimal number ++ (codes " " ++ method.now)) ∷ [])) self.new }
     {
         self.put_name("CSeq");
         self.put_number(u64::from(number));

@@ -115,7 +115,8 @@ fn put_parameter(page: &mut Page, parameter: &[u8], source: &Addr)
 
 /// How long the front is: the text before the first parameter.
 fn front_len(text: &[u8]) -> usize
-    ensures whole { parts_of text.now ≡ record { front = take result text.now; parameters = (parts_of (drop result text.now)).parameters } }
+    ensures whole { parts_of text.now
+        ≡ record { front = take result text.now; parameters = (parts_of (drop result text.now)).parameters } }
     ensures rest { (parts_of (drop result text.now)).front ≡ [] }
     ensures bound { result ≤ length text.now }
 {
@@ -130,7 +131,8 @@ fn front_len(text: &[u8]) -> usize
 fn parameter_len(text: &[u8]) -> usize
     requires front { (parts_of text.now).front ≡ [] }
     requires some { text.now ≢ [] }
-    ensures whole { (parts_of text.now).parameters ≡ take result text.now ∷ (parts_of (drop result text.now)).parameters }
+    ensures whole { (parts_of text.now).parameters
+        ≡ take result text.now ∷ (parts_of (drop result text.now)).parameters }
     ensures rest { (parts_of (drop result text.now)).front ≡ [] }
     ensures bound { result ≤ length text.now }
     ensures some { 0 < result }
