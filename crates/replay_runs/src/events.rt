@@ -1,4 +1,4 @@
-//! The events.
+//! What a desk is told.
 
 use crate::error::RunError;
 use notifier::Event;
@@ -24,8 +24,25 @@ Event: message-summary\r\n\
 Content-Length: 0\r\n\
 \r\n";
 
+/// What a desk is told.
+#[derive(Clone, Copy)]
+pub(crate) enum News {
+    /// Alice's phone subscribes to her mailbox.
+    Subscription,
+    /// A voice message comes for her.
+    Voice,
+}
+
+/// The event that brings the news.
+pub(crate) fn event_of(alloc: Global, news: News) -> Result<Event, RunError> {
+    match news {
+        News::Subscription => subscribe(alloc),
+        News::Voice => voice(alloc),
+    }
+}
+
 /// A SUBSCRIBE for alice's mailbox.
-pub(crate) fn subscribe(alloc: Global) -> Result<Event, RunError> {
+fn subscribe(alloc: Global) -> Result<Event, RunError> {
     match read(alloc, SUBSCRIBE.as_bytes()) {
         Ok(Message::Request(request)) => Ok(Event::Request(PHONE, request)),
         _ => Err(RunError::NoEvent),
@@ -33,7 +50,7 @@ pub(crate) fn subscribe(alloc: Global) -> Result<Event, RunError> {
 }
 
 /// One new voice message for alice.
-pub(crate) fn voice(alloc: Global) -> Result<Event, RunError> {
+fn voice(alloc: Global) -> Result<Event, RunError> {
     let name = String::from_str(alloc, "alice")?;
     match MailChange::new(name, Class::Voice, 1, 0, 0, 0) {
         Some(change) => Ok(Event::Mail(change)),

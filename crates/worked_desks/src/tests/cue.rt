@@ -14,6 +14,8 @@ pub(crate) enum Cue {
     Refer(u32),
     /// So many new voice messages for alice.
     Voice(u32),
+    /// So many new faxes for alice.
+    Fax(u32),
     /// How the transfer of this tag goes.
     Step(&'static str, u16, &'static str),
     Tick(u64),
@@ -77,9 +79,9 @@ fn request(alloc: Global, text: &str) -> Option<Event> {
     }
 }
 
-fn mail(alloc: Global, new_count: u32) -> Option<Event> {
+fn mail(alloc: Global, class: Class, new_count: u32) -> Option<Event> {
     let name = String::from_str(alloc, "alice").ok()?;
-    let change = MailChange::new(name, Class::Voice, new_count, 0, 0, 0)?;
+    let change = MailChange::new(name, class, new_count, 0, 0, 0)?;
     Some(Event::Mail(change))
 }
 
@@ -94,7 +96,8 @@ fn event_of(alloc: Global, cue: &Cue) -> Option<Event> {
     match cue {
         Cue::Subscribe(asked) => request(alloc, subscribe_text(alloc, asked).ok()?.as_str()),
         Cue::Refer(cseq) => request(alloc, refer_text(alloc, *cseq).ok()?.as_str()),
-        Cue::Voice(new_count) => mail(alloc, *new_count),
+        Cue::Voice(new_count) => mail(alloc, Class::Voice, *new_count),
+        Cue::Fax(new_count) => mail(alloc, Class::Fax, *new_count),
         Cue::Step(tag, code, reason) => progress(alloc, tag, *code, reason),
         Cue::Tick(moment) => Some(Event::Tick(*moment)),
         Cue::Shut => Some(Event::Shut),

@@ -4,6 +4,7 @@ use crate::tests::cue::{ASKED, Cue, events_of};
 use crate::tests::packages::{limits, mailboxes, setup, transfers};
 use notifier::{Desk, DeskError, Event, Setup};
 use package::Package;
+use replays::Replay;
 use std::alloc::Global;
 use std::process::Abort;
 
@@ -51,7 +52,7 @@ fn mail_without_memory_spends_the_desk(rt: HostRuntime) {
         Cue::Subscribe(ASKED),
         Cue::Voice(2),
         Cue::Voice(2),
-        Cue::Voice(1),
+        Cue::Fax(1),
         Cue::Tick(31),
         Cue::Shut,
     ];
@@ -73,5 +74,45 @@ fn a_transfer_without_memory_spends_the_desk(rt: HostRuntime) {
     if let Ok(package) = transfers(alloc) {
         let setup = setup(limits(&rt, 2147483647, 1024, 4294967295, 64));
         plays(&rt, alloc, &setup, package, &cues);
+    }
+}
+
+/// A replay answers NoMemory at the first refusal, of its desk or of its list, and Spent from then on.
+fn replays<P: Package>(rt: &impl Abort, alloc: Global, mut replay: Replay<P>, events: Vec<Event>) {
+    let mut is_spent = false;
+    for event in events {
+        match replay.handle(alloc, event) {
+            Ok(_) => assert!(rt; !is_spent),
+            Err(DeskError::NoMemory) => {
+                assert!(rt; !is_spent);
+                is_spent = true;
+            }
+            Err(DeskError::Spent) => assert!(rt; is_spent),
+        }
+    }
+}
+
+#[test]
+fn a_replay_without_memory_is_spent(rt: HostRuntime) {
+    let alloc = rt.alloc();
+    let setup = setup(limits(&rt, 2147483647, 1024, 4294967295, 64));
+    let cues = [
+        Cue::Subscribe(ASKED),
+        Cue::Voice(2),
+        Cue::Fax(1),
+        Cue::Voice(1),
+    ];
+    let Ok(package) = mailboxes(alloc) else {
+        return;
+    };
+    let mut boxes = Vec::new(alloc);
+    if boxes.push(package).is_err() {
+        return;
+    }
+    let Some(events) = events_of(alloc, &cues) else {
+        return;
+    };
+    if let Ok(desk) = Desk::new(alloc, &setup, 0, boxes) {
+        replays(&rt, alloc, Replay::new(alloc, desk), events);
     }
 }
