@@ -1,0 +1,195 @@
+//! Phones for `bench/subscriptions`, in plain Rust: they measure the processor time that a server takes, which is run as a
+//! child of this program.
+//!
+//! `plain_phones subscribe <subscriptions> <window> <port> <program>...` has so many phones subscribe, each once, at most
+//! `window` of them at a time without their NOTIFY, and answers each NOTIFY. `plain_phones echo <datagrams> <window> <port>
+//! <program>...` sends so many datagrams of a SUBSCRIBE's length, at most `window` of them at a time without their echo. The
+//! program is run with these words, and killed in the end. It prints one number: the processor time (user and system) of the
+//! program in nanoseconds.
+
+use std::collections::HashSet;
+use std::env;
+use std::fs;
+use std::io::ErrorKind;
+use std::net::UdpSocket;
+use std::process::{exit, Child, Command};
+use std::sync::Mutex;
+use std::thread;
+use std::time::{Duration, Instant};
+
+/// How long the phones wait for a datagram.
+const PATIENCE: Duration = Duration::from_secs(20);
+
+/// The program that is measured.
+static SERVER: Mutex<Option<Child>> = Mutex::new(None);
+
+fn stop() {
+    if let Some(mut server) = SERVER.lock().unwrap().take() {
+        let _ = server.kill();
+        let _ = server.wait();
+    }
+}
+
+fn fail(why: &str) -> ! {
+    eprintln!("plain_phones: {why}");
+    stop();
+    exit(1)
+}
+
+/// The processor time of each thread of a process in nanoseconds, summed. A thread that has ended counts no more, so it is read
+/// while the process still waits for its last datagram.
+fn busy_nanos(server: u32) -> u64 {
+    let Ok(tasks) = fs::read_dir(format!("/proc/{server}/task")) else {
+        fail("the program has ended too early");
+    };
+    let mut nanos = 0;
+    for task in tasks.flatten() {
+        let told = fs::read_to_string(task.path().join("schedstat")).unwrap_or_default();
+        nanos += told.split(' ').next().and_then(|word| word.parse::<u64>().ok()).unwrap_or(0);
+    }
+    nanos
+}
+
+/// A SUBSCRIBE of the phone of this number.
+fn subscribe(number: u32, own: u16, port: u16) -> Vec<u8> {
+    format!(
+        "SUBSCRIBE sip:alice@127.0.0.1:{port} SIP/2.0\r\n\
+         Via: SIP/2.0/UDP 127.0.0.1:{own};branch=z9hG4bK{number:08}\r\n\
+         Max-Forwards: 70\r\n\
+         From: <sip:alice@127.0.0.1>;tag=f{number:08}\r\n\
+         To: <sip:alice@127.0.0.1>\r\n\
+         Call-ID: c{number:08}\r\n\
+         CSeq: 1 SUBSCRIBE\r\n\
+         Contact: <sip:alice@127.0.0.1:{own}>\r\n\
+         Event: message-summary\r\n\
+         Content-Length: 0\r\n\r\n"
+    )
+    .into_bytes()
+}
+
+/// The 200 to a NOTIFY, with the lines that it repeats (RFC 3261 section 8.2.6.2).
+fn answer(notify: &[u8], out: &mut Vec<u8>) {
+    out.clear();
+    out.extend_from_slice(b"SIP/2.0 200 OK\r\n");
+    for line in notify.split_inclusive(|&octet| octet == b'\n') {
+        if [&b"Via: "[..], b"From: ", b"To: ", b"Call-ID: ", b"CSeq: "].iter().any(|front| line.starts_with(front)) {
+            out.extend_from_slice(line);
+        }
+        if line == b"\r\n" {
+            break;
+        }
+    }
+    out.extend_from_slice(b"Content-Length: 0\r\n\r\n");
+}
+
+/// The socket of all phones, which hears the server alone.
+fn phones(port: u16) -> UdpSocket {
+    let socket = UdpSocket::bind("127.0.0.1:0").unwrap_or_else(|_| fail("no socket"));
+    socket.connect(("127.0.0.1", port)).unwrap_or_else(|_| fail("no socket"));
+    socket.set_read_timeout(Some(PATIENCE)).unwrap_or_else(|_| fail("no socket"));
+    socket
+}
+
+/// Sends a datagram until the server is there, and waits for what comes back.
+fn find(socket: &UdpSocket, octets: &[u8], room: &mut [u8]) {
+    let began = Instant::now();
+    while began.elapsed() < PATIENCE {
+        if socket.send(octets).is_ok() {
+            match socket.recv(room) {
+                Ok(_) => return,
+                Err(fault) if fault.kind() == ErrorKind::ConnectionRefused => {}
+                Err(_) => fail("no answer"),
+            }
+        }
+        thread::sleep(Duration::from_millis(1));
+    }
+    fail("no server")
+}
+
+fn receive(socket: &UdpSocket, room: &mut [u8]) -> usize {
+    socket.recv(room).unwrap_or_else(|_| fail("an answer is missing"))
+}
+
+fn run_subscribers(socket: &UdpSocket, server: u32, count: u32, window: u32, port: u16) -> u64 {
+    let own = socket.local_addr().unwrap().port();
+    let asks: Vec<Vec<u8>> = (0..count).map(|number| subscribe(number, own, port)).collect();
+    let mut room = vec![0; 65536];
+    let mut out = Vec::new();
+    let question = subscribe(count, own, port);
+    let question = String::from_utf8(question).unwrap().replace("SUBSCRIBE", "OPTIONS");
+    find(socket, question.as_bytes(), &mut room);
+    let before = busy_nanos(server);
+    let (mut asked, mut notified, mut agreed) = (0, 0, 0);
+    let mut seen = HashSet::new();
+    while notified < count || agreed < count {
+        while asked < count && asked - notified < window {
+            socket.send(&asks[asked as usize]).unwrap_or_else(|_| fail("a send failed"));
+            asked += 1;
+        }
+        let length = receive(socket, &mut room);
+        let datagram = &room[..length];
+        if datagram.starts_with(b"NOTIFY ") {
+            let call = datagram.windows(10).find(|part| part.starts_with(b"\nCall-ID: ")).is_some();
+            if !call {
+                fail("a NOTIFY without a Call-ID")
+            }
+            answer(datagram, &mut out);
+            if !seen.insert(out.clone()) {
+                fail("a NOTIFY came twice")
+            }
+            socket.send(&out).unwrap_or_else(|_| fail("a send failed"));
+            notified += 1;
+        } else if datagram.starts_with(b"SIP/2.0 200 ") {
+            agreed += 1;
+        } else {
+            fail(&String::from_utf8_lossy(datagram));
+        }
+    }
+    // the server has handled the last answer once it has answered what came behind it
+    socket.send(question.replace("z9hG4bK", "z9hG4bKlast").as_bytes()).unwrap_or_else(|_| fail("a send failed"));
+    receive(socket, &mut room);
+    busy_nanos(server) - before
+}
+
+fn run_echo(socket: &UdpSocket, server: u32, count: u32, window: u32, port: u16) -> u64 {
+    let octets = subscribe(0, socket.local_addr().unwrap().port(), port);
+    let mut room = vec![0; 65536];
+    find(socket, &octets, &mut room);
+    let before = busy_nanos(server);
+    let (mut asked, mut back) = (0, 0);
+    while back < count {
+        while asked < count && asked - back < window {
+            socket.send(&octets).unwrap_or_else(|_| fail("a send failed"));
+            asked += 1;
+        }
+        if receive(socket, &mut room) != octets.len() {
+            fail("an echo of another length");
+        }
+        back += 1;
+    }
+    busy_nanos(server) - before
+}
+
+fn main() {
+    let words: Vec<String> = env::args().collect();
+    let [_, kind, count, window, port, program, rest @ ..] = &words[..] else {
+        fail("subscribe|echo <count> <window> <port> <program>...");
+    };
+    let (Ok(count), Ok(window), Ok(port)) = (count.parse(), window.parse(), port.parse()) else {
+        fail("a number is none");
+    };
+    let child = Command::new(program)
+        .args(rest)
+        .spawn()
+        .unwrap_or_else(|_| fail("the program can't be started"));
+    let server = child.id();
+    *SERVER.lock().unwrap() = Some(child);
+    let socket = phones(port);
+    let nanos = match kind.as_str() {
+        "subscribe" => run_subscribers(&socket, server, count, window, port),
+        "echo" => run_echo(&socket, server, count, window, port),
+        _ => fail("subscribe or echo"),
+    };
+    println!("{nanos}");
+    stop();
+}
