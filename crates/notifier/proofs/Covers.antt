@@ -1,7 +1,7 @@
 -- The serials that a cause looks for cover what it does to the rows.
-use Rattle.std.proofs.Common.{◌≡◌, ◌∙◌, ◌↔◌, ◌⊎◌, sym, ap, refl, inl, inr, ℕ, ◌+◌, ◌-◌, ◌<◌, ◌≤◌, ◌^◌, min, Bool, true, false, ◌&&◌, ◌||◌, ◌==◌, List, [], ◌∷◌, Option, Some, None, All, nat_le, bytes_eq, eq-eqb, arith, IsTrue, is_some, fold, option_to_list, codes}
+use Rattle.std.proofs.Common.{◌≡◌, ◌∙◌, ◌↔◌, ◌⊎◌, sym, ap, refl, inl, inr, ℕ, ◌+◌, ◌<◌, ◌≤◌, ◌^◌, min, Bool, true, false, ◌&&◌, ◌||◌, ◌==◌, List, [], ◌∷◌, Option, Some, None, All, nat_le, bytes_eq, eq-eqb, arith, IsTrue, is_some, option_to_list, codes}
 use Rattle.std.proofs.lemmas.Bool.Decides.{nat_tests}
-use Rattle.std.proofs.lemmas.List.Elements.{All-nil, All-cons, All-head, All-tail}
+use Rattle.std.proofs.lemmas.List.Elements.{All-nil, All-cons, All-head, All-tail, All-weaker}
 use Rattle.std.specs.List.{list_any}
 use Rattle.std.specs.BTreeSet as sorted
 use Rattle.sip_read.specs.declared.message.Response.{Response}
@@ -11,14 +11,15 @@ use Rattle.notifier.specs.declared.place.Place.{Place}
 use Rattle.notifier.specs.declared.row.Row.{Row}
 use Rattle.notifier.specs.declared.row.Unanswered.{Unanswered}
 use Rattle.notifier.specs.declared.rows.Rows.{Rows}
-use Rattle.notifier.specs.Start.{patience}
 use Rattle.notifier.specs.Rows.{Told, wherever, stays, only, answered, takes_answer, is_answered_by, watches, tells_change, tells_watcher, is_due, is_late, is_overdue, ends, times_out}
 use Rattle.subscription.specs.declared.notify.Reason.TheVariants.{Timeout}
 use Rattle.notifier.specs.Among.{has, Cover}
-use Rattle.notifier.specs.Stored.{rows_of, row_at, with_serial, by_time, gives_up, alarm_of, is_timed_at, is_of, IsIndexed, IsTimed}
+use Rattle.notifier.specs.Stored.{rows_of, row_at, with_serial, by_time, gives_up, alarm_with, alarm_of, is_timed_at, is_of, IsIndexed, IsTimed}
+use Rattle.notifier.specs.Sound.{AreInOrder}
 use Rattle.notifier.specs.Watchers.{watched}
 use Rattle.notifier.proofs.Passes.{only-other}
 use Rattle.notifier.proofs.Rising.{with_serial-same}
+use Rattle.notifier.proofs.Timely.{after_oldest}
 use Rattle.notifier.proofs.Turning.{with_serial-rows}
 
 tested : (b : Bool) → (b ≡ true) ⊎ (b ≡ false)
@@ -40,31 +41,29 @@ upto : (a b : ℕ) → nat_le a b ≡ true → a ≤ b
 upto a b e = grind (arith, nat_tests)
 
 -- before its alarm nothing of a row is up
-before_alarm : (clock : ℕ) (row : Row) → clock < 2 ^ 63 → nat_le (alarm_of row) clock ≡ false → (nat_le row.sub.due clock ≡ false) × (is_overdue clock row ≡ false)
+before_alarm : (clock : ℕ) (row : Row) → clock < 2 ^ 63 → AreInOrder row.unanswered → nat_le (alarm_of row) clock ≡ false → (nat_le row.sub.due clock ≡ false) × (is_overdue clock row ≡ false)
 unfolding alarm_of gives_up is_overdue
-before_alarm clock row fits e = all row.unanswered row.sub.due e
+before_alarm clock row fits in_order e = by_oldest row.unanswered in_order e
   where
-    first_at_most : (n : ℕ) (due : ℕ) → clock < min due n → (clock < due) × (clock < n)
-    first_at_most n due h = (omega arith, omega arith)
+    not_up : (due up : ℕ) → nat_le (min due up) clock ≡ false → (nat_le due clock ≡ false) × (clock < up)
+    not_up due up h = (grind (arith, nat_tests), grind (arith, nat_tests))
 
-    none_late : (notify : Unanswered) → clock < min (notify.moment + patience) (2 ^ 64 - 1) → is_late clock notify ≡ false
-    none_late notify h = let x : clock < notify.moment + 32 = omega arith in grind (arith, nat_tests)
+    not_late : (moment : ℕ) (notify : Unanswered) → clock < moment + 32 → moment ≤ notify.moment → is_late clock notify ≡ false
+    not_late moment notify h after = grind (arith, nat_tests)
 
-    above : (a b : ℕ) → nat_le a b ≡ false → b < a
-    above a b h = grind (arith, nat_tests)
+    none_late : (notifys : List Unanswered) → All (λ notify. is_late clock notify ≡ false) notifys → list_any (is_late clock) notifys ≡ false
+    none_late [] all = refl
+    none_late (n ∷ ns) all =
+        rw (All-head (λ notify. is_late clock notify ≡ false) n ns all) (none_late ns (All-tail (λ notify. is_late clock notify ≡ false) n ns all))
 
-    not_le : (a b : ℕ) → b < a → nat_le a b ≡ false
-    not_le a b h = grind (arith, nat_tests)
-
-    both : (notifys : List Unanswered) (due : ℕ) → clock < fold (λ first notify. min first (gives_up notify)) due notifys → (clock < due) × (list_any (is_late clock) notifys ≡ false)
-    both [] due h = (h, refl)
-    both (n ∷ ns) due h =
-        let rest = both ns (min due (gives_up n)) h in
-        let here = first_at_most (gives_up n) due rest.0 in
-        (here.0, rw (none_late n here.1) rest.1)
-
-    all : (notifys : List Unanswered) (due : ℕ) → nat_le (fold (λ first notify. min first (gives_up notify)) due notifys) clock ≡ false → (nat_le due clock ≡ false) × (list_any (is_late clock) notifys ≡ false)
-    all notifys due h = let r = both notifys due (above _ _ h) in (not_le due clock r.0, r.1)
+    by_oldest : (notifys : List Unanswered) → AreInOrder notifys → nat_le (alarm_with row.sub.due notifys) clock ≡ false → (nat_le row.sub.due clock ≡ false) × (list_any (is_late clock) notifys ≡ false)
+    by_oldest [] order h = (h, refl)
+    by_oldest (oldest ∷ newer) order h =
+        let quiet = not_up row.sub.due (gives_up oldest) h in
+        let moment = oldest.moment in
+        let soon : clock < moment + 32 = let x = quiet.1 in omega arith in
+        let later = All-weaker (λ notify. moment ≤ notify.moment) (λ notify. is_late clock notify ≡ false) (λ notify after. not_late moment notify soon after) newer (after_oldest oldest newer order) in
+        (quiet.0, none_late (oldest ∷ newer) (All-cons (λ notify. is_late clock notify ≡ false) oldest newer (not_late moment oldest soon (omega arith)) later))
 
 -- what a search finds holds what all hold, and has the serial
 pub found_all : (P : Row → Type 0) (s : ℕ) (rows : List Row) (row : Row) → All P rows → with_serial s rows ≡ Some row → P row × (row.serial ≡ s)
@@ -139,15 +138,16 @@ module _ {maps : Maps} (place : Place) (boxes : List (SeenBy maps)) (clock : ℕ
 
   -- ---- time
 
-  pub time_covers : clock < 2 ^ 63 → ((s : ℕ) → IsTrue (has s serials) ↔ IsTimed old.timers clock s) → Cover serials (times_out place boxes clock) (rows_of old)
+  pub time_covers : clock < 2 ^ 63 → All (λ row. AreInOrder row.unanswered) (rows_of old) → ((s : ℕ) → IsTrue (has s serials) ↔ IsTimed old.timers clock s) → Cover serials (times_out place boxes clock) (rows_of old)
   unfolding times_out
-  time_covers fits all s row found = elim (tested (nat_le (alarm_of row) clock)) [
+  time_covers fits in_order all s row found = elim (tested (nat_le (alarm_of row) clock)) [
     | inl e ↦
         let timer : sorted.contains by_time old.timers (alarm_of row, s) ≡ true =
         i.timed (alarm_of row) s ∙ ap (is_timed_at (alarm_of row)) (there s row found) ∙ eq-eqb (alarm_of row) (alarm_of row) refl in
         inl ((all s).1 (alarm_of row, (upto (alarm_of row) clock e, timer)))
     | inr e ↦
-        let quiet = before_alarm clock row fits e in
+        let order = (found_all (λ row. AreInOrder row.unanswered) s (rows_of old) row in_order found).0 in
+        let quiet = before_alarm clock row fits order e in
         inr (rw quiet.1 (other_stays (is_due clock) (ends place boxes clock Timeout) row quiet.0))
   ]
 

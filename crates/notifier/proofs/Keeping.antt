@@ -20,7 +20,7 @@ use Rattle.notifier.specs.Causes.{rule_of, CanTell}
 use Rattle.notifier.specs.Fields.{value_of}
 use Rattle.notifier.specs.Requests.{asks_nothing, granted}
 use Rattle.notifier.specs.Rows.{Told, wherever, has_serial, opened, with_sub, turned, tells, stays, goes, left, only, counted, closed, takes_answer, is_answered_by, answered, renewed, renewed_sub, watches, tells_change, tells_watcher, is_due, is_overdue, ends, times_out, stops}
-use Rattle.notifier.proofs.Lives.{all_left, only_keeps, watcher_lives}
+use Rattle.notifier.proofs.Lives.{all_left, only_keeps, watcher_lives, due_in_order}
 use Rattle.notifier.proofs.Owned.{Keeps, IsStill, some_weaker, answered_keeps, counted_keeps, renewed_keeps, watcher_keeps, due_keeps, stops_keeps}
 use Rattle.notifier.proofs.Passes.{KeepsSerials}
 
@@ -152,7 +152,7 @@ module _ {maps : Maps} (place : Place) (boxes : List (SeenBy maps)) (clock : ℕ
   still_tellable (Refused serial r) row h = any_row (only serial (counted r.now) row).row
   still_tellable (Renewal serial source r) row h = any_row (only serial (renewed place boxes clock source r.now) row).row
   still_tellable (Change name resource is_over) row h = watcher_lives place boxes clock name.now resource.now is_over row h
-  still_tellable Time row h = any_row (times_out place boxes clock row).row
+  still_tellable Time row h = due_in_order place boxes clock row h
   still_tellable Stop row h = any_row (stops place boxes clock row).row
 
   -- after one serial was told, the others can be told

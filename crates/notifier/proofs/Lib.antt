@@ -7,9 +7,9 @@ pub mod Births
 pub mod FirstTurns
 pub mod RowLists
 pub mod Renewal
+pub mod Timely
 pub mod Lives
 pub mod Owned
-pub mod Alarm
 pub mod Rising
 pub mod Times
 pub mod Turning

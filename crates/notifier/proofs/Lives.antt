@@ -25,7 +25,8 @@ use Rattle.notifier.proofs.Births.{watch_asks, transfer_asks}
 use Rattle.notifier.specs.Rows.{Told, wherever, opened, with_sub, turned, tells, stays, goes, left, only, counted, closed, takes_answer, answered, renewed, renewed_sub, watches, tells_change, tells_watcher, is_overdue, ends, times_out, stops}
 use Rattle.notifier.specs.Fields.{value_of}
 use Rattle.notifier.specs.Book.{new_usage, new_want, new_row, first_step, first_told}
-use Rattle.notifier.specs.Sound.{IsLive}
+use Rattle.notifier.specs.Sound.{IsLive, AreTimely, AreInOrder}
+use Rattle.notifier.proofs.Timely.{timely_none, timely_push, timely_filter}
 
 -- ---- all rows
 
@@ -67,11 +68,12 @@ told_lives clock s time a b = by (s.count == s.want.max_cseq) _ _
 
 module _ {maps : Maps} where
   pub turned_lives : (place : Place) (boxes : List (SeenBy maps)) (to : Addr) (want : Want) (row_of : State → Row) (clock : ℕ) (next : Step)
-      → ((s : State) → (row_of s).sub ≡ s) → StepLives clock next → IfSome (turned place boxes clock to want row_of next).row (IsLive clock)
+      → ((s : State) → ((row_of s).sub ≡ s) × AreTimely clock (row_of s).unanswered) → StepLives clock next → IfSome (turned place boxes clock to want row_of next).row (IsLive clock)
   unfolding turned opened
   turned_lives place boxes to want row_of clock (Live s notice) same h = record {
-    has_time = subst (λ x. clock < x.due) (sym (same s)) h.0;
-    time_fits = subst (λ x. x.due ≤ clock + 4294967295) (sym (same s)) h.1;
+    has_time = subst (λ x. clock < x.due) (sym (same s).0) h.0;
+    time_fits = subst (λ x. x.due ≤ clock + 4294967295) (sym (same s).0) h.1;
+    timely = timely_push clock (row_of s).unanswered _ refl (same s).1;
   }
   turned_lives place boxes to want row_of clock (Over usage notice) same h = tt
 
@@ -92,7 +94,7 @@ granted_fits limits r l e = by (is_refer r) e
 
 pub counted_lives : (clock serial : ℕ) (r : Request) (row : Row) → IsLive clock row → IfSome (only serial (counted r) row).row (IsLive clock)
 unfolding counted stays
-counted_lives clock serial r row h = only_keeps serial (counted r) (IsLive clock) row h (record { has_time = h.has_time; time_fits = h.time_fits })
+counted_lives clock serial r row h = only_keeps serial (counted r) (IsLive clock) row h (record { has_time = h.has_time; time_fits = h.time_fits; timely = h.timely })
 
 pub answered_lives : (clock : ℕ) (response : Response) (row : Row) → IsLive clock row → IfSome (answered response row).row (IsLive clock)
 unfolding answered wherever takes_answer closed stays goes
@@ -100,7 +102,7 @@ answered_lives clock response row h = by (is_answer_to row.sub response) (refuse
   where
     by : (a b c : Bool) → IfSome (if a then (if b then goes else if c then stays (closed response.head.cseq row) else stays row) else stays row).row (IsLive clock)
     by true true c = tt
-    by true false true = record { has_time = h.has_time; time_fits = h.time_fits }
+    by true false true = record { has_time = h.has_time; time_fits = h.time_fits; timely = timely_filter clock _ row.unanswered h.timely }
     by true false false = h
     by false b c = h
 
@@ -117,7 +119,7 @@ module _ {maps : Maps} where
   pub renewed_lives : (place : Place) (boxes : List (SeenBy maps)) (clock serial : ℕ) (source : Addr) (r : Request) (row : Row) → AreLimits place.limits → IsLive clock row → IfSome (only serial (renewed place boxes clock source r) row).row (IsLive clock)
   unfolding renewed
   renewed_lives place boxes clock serial source r row l h =
-      only_keeps serial (renewed place boxes clock source r) (IsLive clock) row h (turned_lives place boxes source row.sub.want _ clock _ (λ s. refl) (refreshed_lives place clock source r row.sub l))
+      only_keeps serial (renewed place boxes clock source r) (IsLive clock) row h (turned_lives place boxes source row.sub.want _ clock _ (λ s. (refl, h.timely)) (refreshed_lives place clock source r row.sub l))
 
   pub watcher_lives : (place : Place) (boxes : List (SeenBy maps)) (clock : ℕ) (name resource : List ℕ) (is_over : Bool) (row : Row) → IsLive clock row → IfSome (tells_watcher place boxes clock name resource is_over row).row (IsLive clock)
   unfolding tells_watcher wherever tells_change tells stays changed end
@@ -128,23 +130,33 @@ module _ {maps : Maps} where
       step false = told_lives clock _ _ h.has_time h.time_fits
 
       by : (b o : Bool) → IfSome (if b then tells place boxes clock row (changed row.sub clock o) else stays row).row (IsLive clock)
-      by true o = turned_lives place boxes row.sub.want.to row.sub.want (with_sub row) clock _ (λ s. refl) (step o)
+      by true o = turned_lives place boxes row.sub.want.to row.sub.want (with_sub row) clock _ (λ s. (refl, h.timely)) (step o)
       by false o = h
 
   -- a row whose time may be up by now
-  pub due_lives : (place : Place) (boxes : List (SeenBy maps)) (clock : ℕ) (row : Row) → row.sub.due ≤ clock + 4294967295 → IfSome (times_out place boxes clock row).row (IsLive clock)
+  pub due_lives : (place : Place) (boxes : List (SeenBy maps)) (clock : ℕ) (row : Row) → row.sub.due ≤ clock + 4294967295 → AreTimely clock row.unanswered → IfSome (times_out place boxes clock row).row (IsLive clock)
   unfolding times_out wherever ends tells stays goes end
-  due_lives place boxes clock row h = by (is_overdue clock row) (nat_le row.sub.due clock) refl
+  due_lives place boxes clock row h timely = by (is_overdue clock row) (nat_le row.sub.due clock) refl
     where
       by : (a b : Bool) → nat_le row.sub.due clock ≡ b → IfSome (if a then goes else if b then ends place boxes clock Timeout row else stays row).row (IsLive clock)
       by true b e = tt
-      by false true e = turned_lives place boxes row.sub.want.to row.sub.want (with_sub row) clock _ (λ s. refl) tt
-      by false false e = record { has_time = grind (arith, nat_tests); time_fits = h }
+      by false true e = turned_lives place boxes row.sub.want.to row.sub.want (with_sub row) clock _ (λ s. (refl, timely)) tt
+      by false false e = record { has_time = grind (arith, nat_tests); time_fits = h; timely = timely }
+
+  -- it stays as it is
+  pub due_in_order : (place : Place) (boxes : List (SeenBy maps)) (clock : ℕ) (row : Row) → AreInOrder row.unanswered → IfSome (times_out place boxes clock row).row (λ after. AreInOrder after.unanswered)
+  unfolding times_out wherever ends tells turned stays goes end
+  due_in_order place boxes clock row h = by (is_overdue clock row) (nat_le row.sub.due clock)
+    where
+      by : (a b : Bool) → IfSome (if a then goes else if b then ends place boxes clock Timeout row else stays row).row (λ after. AreInOrder after.unanswered)
+      by true b = tt
+      by false true = tt
+      by false false = h
 
   -- no row stays
   pub stops_lives : (place : Place) (boxes : List (SeenBy maps)) (clock : ℕ) (row : Row) → IsLive clock row → IfSome (stops place boxes clock row).row (IsLive clock)
   unfolding stops ends tells end
-  stops_lives place boxes clock row h = turned_lives place boxes row.sub.want.to row.sub.want (with_sub row) clock _ (λ s. refl) tt
+  stops_lives place boxes clock row h = turned_lives place boxes row.sub.want.to row.sub.want (with_sub row) clock _ (λ s. (refl, h.timely)) tt
 
 -- ---- a new row has the time that is granted
 
@@ -165,7 +177,7 @@ module _ {maps : Maps} where
       → IfSome (first_told place boxes clock tag source r serial next).row (IsLive clock)
   unfolding first_told goes new_row
   first_row_lives place boxes clock serial tag source r None h = tt
-  first_row_lives place boxes clock serial tag source r (Some next) h = turned_lives place boxes source (new_want place tag source r) (new_row serial r) clock next (λ s. refl) h
+  first_row_lives place boxes clock serial tag source r (Some next) h = turned_lives place boxes source (new_want place tag source r) (new_row serial r) clock next (λ s. (refl, timely_none clock)) h
 
   pub born_lives : (place : Place) (boxes : List (SeenBy maps)) (clock serial : ℕ) (tag : List ℕ) (source : Addr) (r : Request) (kind : Birth) → AreLimits place.limits → kind ≡ birth_of place.limits r
       → IfSome (first_told place boxes clock tag source r serial (first_step place.limits clock (new_usage tag r) (new_want place tag source r) r kind)).row (IsLive clock)

@@ -11,6 +11,7 @@ use Rattle.notifier.specs.Ledger.{IsSound}
 use Rattle.notifier.specs.Stored.{rows_of, IsIndexed}
 use Rattle.notifier.specs.Sound.{IsLive, IsOwn, AreRising}
 use Rattle.notifier.proofs.Lives.{all_left, due_lives}
+use Rattle.notifier.proofs.Timely.{timely_later}
 use Rattle.notifier.proofs.Owned.{Keeps, own_left, rising_left, due_keeps}
 
 pub sound_told : {P : Type 0} (place : Place) (a b : Ledger P) (rule : Row → Told) → ((row : Row) → IsLive a.clock row → IfSome (rule row).row (IsLive a.clock)) → Keeps rule → IsSound place a
@@ -35,7 +36,7 @@ sound_ticked place a b boxes clock on fits s rows indexed same = record {
   next_fits = subst (λ n. n ≤ 2 ^ 32) (sym same.1) s.next_fits;
   rows_indexed = indexed;
   rows_live = subst (λ n. All (IsLive n) (rows_of b.rows)) (sym same.0) (subst (All (IsLive clock)) (sym rows)
-      (all_left (times_out place boxes clock) (IsLive a.clock) (IsLive clock) (λ row h. due_lives place boxes clock row (let t : row.sub.due ≤ a.clock + 4294967295 = h.time_fits in omega arith)) (rows_of a.rows) s.rows_live));
+      (all_left (times_out place boxes clock) (IsLive a.clock) (IsLive clock) (λ row h. due_lives place boxes clock row (let t : row.sub.due ≤ a.clock + 4294967295 = h.time_fits in omega arith) (timely_later a.clock clock row.unanswered on h.timely)) (rows_of a.rows) s.rows_live));
   rows_own = subst (λ n. All (IsOwn place n) (rows_of b.rows)) (sym same.1) (subst (All (IsOwn place a.next)) (sym rows) (own_left place a.next (times_out place boxes clock) (due_keeps place boxes clock) (rows_of a.rows) s.rows_own));
   rows_rise = subst AreRising (sym rows) (rising_left (times_out place boxes clock) (due_keeps place boxes clock) (rows_of a.rows) s.rows_rise);
   ring_fits = ap (λ r. r.capacity) same.2 ∙ s.ring_fits;

@@ -5,7 +5,7 @@ use Rattle.notifier.specs.declared.place.Place.{Place}
 use Rattle.notifier.specs.declared.row.Row.{Row}
 use Rattle.notifier.specs.declared.rule.Cause.{Cause}
 use Rattle.notifier.specs.declared.rule.Cause.TheVariants.{Response, Refused, Renewal, Change, Time, Stop}
-use Rattle.notifier.specs.Sound.{IsLive}
+use Rattle.notifier.specs.Sound.{IsLive, AreInOrder}
 use Rattle.notifier.specs.Rows.{Told, only, answered, counted, renewed, tells_watcher, times_out, stops}
 
 module _ {maps : Maps} where
@@ -17,11 +17,11 @@ module _ {maps : Maps} where
   rule_of place boxes clock Time = times_out place boxes clock
   rule_of place boxes clock Stop = stops place boxes clock
 
--- a change can tell rows that have time left
+-- a change can tell rows that have time left. Time can tell rows whose oldest unanswered NOTIFY is the first
 abbrev pub CanTell : ℕ → Cause → Row → Type 0
 CanTell clock (Response response) row = Unit {0}
 CanTell clock (Refused serial r) row = Unit {0}
 CanTell clock (Renewal serial source r) row = Unit {0}
 CanTell clock (Change name resource is_over) row = IsLive clock row
-CanTell clock Time row = Unit {0}
+CanTell clock Time row = AreInOrder row.unanswered
 CanTell clock Stop row = Unit {0}

@@ -1,13 +1,25 @@
 -- What holds of every live row, so that no number leaves its type, and of all rows.
 use Rattle.std.specs.Prelude.{◌≡◌, ℕ, ◌+◌, ◌<◌, ◌≤◌, List, [], ◌∷◌, All}
+use Rattle.std.specs.List.{AllPairs}
 use Rattle.notifier.specs.declared.place.Place.{Place}
 use Rattle.notifier.specs.declared.row.Row.{Row}
+use Rattle.notifier.specs.declared.row.Unanswered.{Unanswered}
 use Rattle.notifier.specs.Start.{tag_of}
 
--- a live row has time left, and no more than can be granted
+-- NOTIFYs in the order in which they were made
+abbrev pub AreInOrder : List Unanswered → Type 0
+AreInOrder notifys = AllPairs (λ older newer. older.moment ≤ newer.moment) notifys
+
+-- NOTIFYs that were made by now
+pub record AreTimely (clock : ℕ) (notifys : List Unanswered) : Type 0 where
+  pub made : All (λ notify. notify.moment ≤ clock) notifys
+  pub in_order : AreInOrder notifys
+
+-- a live row has time left, and no more than can be granted, and no NOTIFY of it is of a moment to come
 pub record IsLive (clock : ℕ) (row : Row) : Type 0 where
   pub has_time : clock < row.sub.due
   pub time_fits : row.sub.due ≤ clock + 4294967295
+  pub timely : AreTimely clock row.unanswered
 
 -- its serial was given, and its tag is that of its serial
 pub record IsOwn (place : Place) (next : ℕ) (row : Row) : Type 0 where

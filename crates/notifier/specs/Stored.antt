@@ -1,5 +1,5 @@
 -- The live subscriptions as they are stored, and the list that they stand for.
-use Rattle.std.specs.Prelude.{◌≡◌, ◌≤◌, ◌<◌, ℕ, Bool, true, false, ◌==◌, List, Option, Some, None, filter_map, find, fold, min, ◌+◌, ◌-◌, ◌^◌, if◌then◌else◌, bytes_eq}
+use Rattle.std.specs.Prelude.{◌≡◌, ◌≤◌, ◌<◌, ℕ, Bool, true, false, ◌==◌, List, [], ◌∷◌, Option, Some, None, filter_map, find, min, ◌+◌, ◌-◌, ◌^◌, if◌then◌else◌, bytes_eq}
 use Rattle.std.specs.Option.{IsSomeAnd, option_and_then}
 use Rattle.std.specs.Ordering.{nat_cmp, ordering_then}
 use Rattle.std.specs.declared.cmp.Ordering.{Ordering}
@@ -33,8 +33,13 @@ by_time x y = ordering_then (nat_cmp x.0 y.0) (nat_cmp x.1 y.1)
 unfoldable pub gives_up : Unanswered → ℕ
 gives_up notify = min (notify.moment + patience) (2 ^ 64 - 1)
 
+-- the oldest stands first
+abbrev pub alarm_with : ℕ → List Unanswered → ℕ
+alarm_with due [] = due
+alarm_with due (oldest ∷ newer) = min due (gives_up oldest)
+
 unfoldable pub alarm_of : Row → ℕ
-alarm_of row = fold (λ first notify. min first (gives_up notify)) row.sub.due row.unanswered
+alarm_of row = alarm_with row.sub.due row.unanswered
 
 abbrev pub is_timed_at : ℕ → Option Row → Bool
 is_timed_at moment None = false

@@ -12,15 +12,15 @@ use std::collections::BTreeSet;
 use std::ops::Bound;
 
 /// The first second in which time may end a row: its own time is up, or a NOTIFY of it was unanswered for too long (RFC 6665
-/// section 4.2.2).
+/// section 4.2.2). That is the oldest one, which stands first.
 pub fn alarm(row: &Row) -> u64
     ensures { result ≡ alarm_of row.now }
 {
-    let mut first = row.sub.due();
-    for notify in row.unanswered.as_slice() {
-        first = first.min(notify.moment.saturating_add(32));
+    let due = row.sub.due();
+    match row.unanswered.as_slice().first() {
+        None => due,
+        Some(oldest) => due.min(oldest.moment.saturating_add(32)),
     }
-    first
 }
 
 /// The timer of a serial moves.

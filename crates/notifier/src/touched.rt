@@ -4,7 +4,7 @@ ghost use Rattle.std.specs.Prelude.{◌≡◌, ◌<◌, ◌^◌, ◌++◌, ℕ, 
 ghost use Rattle.package.specs.Content.{Seen};
 ghost use Rattle.notifier.specs.declared.place.Place.{Place as AnyPlace};
 ghost use Rattle.notifier.specs.Among.{Cover, RiseFrom};
-ghost use Rattle.notifier.specs.Causes.{rule_of};
+ghost use Rattle.notifier.specs.Causes.{rule_of, CanTell};
 ghost use Rattle.notifier.specs.Sound.{IsOwn};
 ghost use Rattle.notifier.specs.Stored.{rows_of, Gives, IsIndexed};
 
@@ -65,6 +65,7 @@ pub fn touched(
 ) -> Result<Vec<u32>, NoMemory>
     requires clock { clock < 2 ^ 63 }
     requires indexed { IsIndexed rows.now }
+    requires live { All (CanTell clock cause.now) (rows_of rows.now) }
     ensures rise { IfOk result (λ serials. RiseFrom 0 serials.items) }
     ensures covers { IfOk result (λ serials. (place : AnyPlace) (boxes : List Seen) → place.worker ≡ worker → All (IsOwn place (2 ^ 32)) (rows_of rows.now) → Cover serials.items (rule_of place boxes clock cause.now) (rows_of rows.now)) }
 {

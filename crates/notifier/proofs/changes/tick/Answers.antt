@@ -1,7 +1,14 @@
 use Rattle.std.proofs.Common.{map, []}
+use Rattle.std.proofs.lemmas.List.Elements.{All-weaker}
+use Rattle.notifier.specs.Sound.{IsLive, AreInOrder}
+use Rattle.notifier.specs.Stored.{rows_of}
 use Rattle.notifier.specs.Book.{ticked}
 use Rattle.notifier.proofs.Soundness.{sound_ticked}
 use Rattle.notifier.proofs.changes.tick.Goals as goal
+
+pub all_rows-requires-clause-live : goal.all_rows-requires-clause-live
+all_rows-requires-clause-live g c = λ κs lives.
+    All-weaker (IsLive c.args.ledger.now.clock) (λ row. AreInOrder row.unanswered) (λ row live. live.timely.in_order) (rows_of c.args.ledger.now.rows) c.requires.sound.rows_live
 
 pub returns-clause-step : goal.returns-clause-step
 unfolding ticked

@@ -1,26 +1,27 @@
-use Rattle.std.proofs.Common.{◌∙◌, ◌+◌, sym, ap, min, take, length, arith}
-use Rattle.std.proofs.lemmas.List.{take_all}
-use Rattle.notifier.specs.Stored.{gives_up, alarm_of}
-use Rattle.notifier.proofs.Alarm.{up_to, up_to-none, up_to-more}
+use Rattle.std.proofs.Common.{◌≡◌, ◌∙◌, ap, refl, rules, ℕ, min, List, [], ◌∷◌, Some, None}
+use Rattle.std.specs.List.{slice_get}
+use Rattle.notifier.specs.declared.row.Unanswered.{Unanswered}
+use Rattle.notifier.specs.Stored.{gives_up, alarm_with, alarm_of}
 use Rattle.notifier.proofs.timers.alarm.Goals as goal
 
-pub loop-notify-init : goal.loop-notify-init
-loop-notify-init c = c.due-first.ensures ∙ sym (up_to-none c.args.row.now.sub.due)
+no_oldest : (due : ℕ) (notifys : List Unanswered) → slice_get notifys 0 ≡ None → due ≡ alarm_with due notifys
+no_oldest due [] e = refl
+no_oldest due (notify ∷ notifys) e = absurd (cc)
 
-pub loop-notify-preserved : goal.loop-notify-preserved
-unfolding gives_up
-loop-notify-preserved c =
-    let due = c.args.row.now.sub.due in
-    let i = c.loop-notify.notify-index in
-    let same = c.as_slice-notify-items.ensures in
-    c.min-first.ensures
-    ∙ ap (λ first. min first c.saturating_add.result) (c.loop-notify.invariant ∙ ap (λ l. up_to due (take i l)) (sym same))
-    ∙ ap (min (up_to due (take i c.as_slice-notify-items.result.now))) c.saturating_add.ensures
-    ∙ sym (up_to-more due c.as_slice-notify-items.result.now i _ c.loop-notify-test.true)
-    ∙ ap (λ l. up_to due (take (i + 1) l)) same
+an_oldest : (due : ℕ) (notifys : List Unanswered) (oldest : Unanswered) → slice_get notifys 0 ≡ Some oldest → min due (gives_up oldest) ≡ alarm_with due notifys
+an_oldest due [] oldest e = absurd (cc)
+an_oldest due (notify ∷ notifys) oldest e = let same : oldest ≡ notify = cc in ap (λ n. min due (gives_up n)) same
 
-pub returns : goal.returns
-unfolding alarm_of up_to
-returns c =
-    let same = ap length c.as_slice-notify-items.ensures in
-    c.loop-notify.invariant ∙ ap (up_to c.args.row.now.sub.due) (take_all c.loop-notify.notify-index c.args.row.now.unanswered (omega arith))
+pub returns-in-None : goal.returns-in-None
+unfolding alarm_of
+returns-in-None c =
+    let none : slice_get c.args.row.now.unanswered 0 ≡ None = search rules in
+    c.due-due.ensures ∙ no_oldest c.args.row.now.sub.due c.args.row.now.unanswered none
+
+pub returns-in-Some : goal.returns-in-Some
+unfolding alarm_of gives_up
+returns-in-Some c =
+    let row = c.args.row.now in
+    let first : slice_get row.unanswered 0 ≡ Some c.in-Some.oldest.now = search rules in
+    c.min.ensures ∙ ap (λ due. min due c.saturating_add.result) c.due-due.ensures ∙ ap (min row.sub.due) c.saturating_add.ensures
+    ∙ an_oldest row.sub.due row.unanswered c.in-Some.oldest.now first

@@ -1,7 +1,7 @@
-use Rattle.std.proofs.Common.{◌≡◌, ◌∙◌, sym, subst}
+use Rattle.std.proofs.Common.{◌≡◌, ◌∙◌, sym, subst, All}
 use Rattle.notifier.specs.declared.rule.Cause.TheVariants.{Response as Answer, Refused, Renewal, Change, Time}
 use Rattle.notifier.specs.Among.{Cover}
-use Rattle.notifier.specs.Causes.{rule_of}
+use Rattle.notifier.specs.Causes.{rule_of, CanTell}
 use Rattle.notifier.specs.Rows.{counted, renewed}
 use Rattle.notifier.specs.Stored.{rows_of}
 use Rattle.notifier.proofs.Covers.{only_covers, answered_covers, change_covers, time_covers, stop_covers}
@@ -50,7 +50,8 @@ returns-in-Time-clause-covers c =
     if_ok c.timed_out.result c.timed_out.ensures.all (λ serials all place boxes worker own.
     let e : Time ≡ c.args.cause.now = cc in
     subst (λ k. Cover serials.items (rule_of place boxes c.args.clock k) (rows_of c.args.rows.now)) e
-    (time_covers place boxes c.args.clock c.args.rows.now c.requires.indexed serials.items c.requires.clock all))
+    (time_covers place boxes c.args.clock c.args.rows.now c.requires.indexed serials.items c.requires.clock
+    (subst (λ k. All (CanTell c.args.clock k) (rows_of c.args.rows.now)) (sym e) c.requires.live) all))
 
 pub returns-in-Stop-clause-covers : goal.returns-in-Stop-clause-covers
 returns-in-Stop-clause-covers c =

@@ -1,4 +1,4 @@
-use Rattle.std.proofs.Common.{◌≡◌, ◌∙◌, ℕ, ◌<◌, sym, ap, subst, Option, None, Some, option_map, find}
+use Rattle.std.proofs.Common.{◌≡◌, ◌∙◌, ℕ, ◌<◌, sym, ap, subst, None, Some, find}
 use Rattle.circular_buffer.specs.Buffer.{Buffer}
 use Rattle.notifier.specs.declared.row.Kept.{Kept}
 use Rattle.notifier.specs.Slots.{answers, slot_at, slot_in}
