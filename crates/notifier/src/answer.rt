@@ -90,7 +90,8 @@ pub fn birth_answer<'a>(
 
 /// Puts a word behind those that are there, if it isn't understood.
 fn push_strange<'a>(words: &mut Vec<&'a str>, word: &'a Text) -> Result<(), NoMemory>
-    ensures { OnOk result (map (λ w. w.now) words.new.items ≡ map (λ w. w.now) words.old.items ++ filter is_strange_word (word.now ∷ [])) }
+    ensures { OnOk result (map (λ w. w.now) words.new.items ≡ map (λ w. w.now) words.old.items
+        ++ filter is_strange_word (word.now ∷ [])) }
 {
     if is_strange(word) {
         words.push(word.as_str())?;
@@ -129,7 +130,8 @@ pub fn refusal_answer<P: Package>(
     request: &Request,
     refused: Refusal,
 ) -> Result<Octets, NoMemory>
-    ensures { IfOk result (λ bytes. bytes ≡ answer_text (spec.refusal_answer place.now (map P.seen boxes.now.items) source request.now refused)) }
+    ensures { IfOk result (λ bytes. bytes
+        ≡ answer_text (spec.refusal_answer place.now (map P.seen boxes.now.items) source request.now refused)) }
 {
     let tag = refusal_tag(alloc, place.worker)?;
     let names = names_of(alloc, boxes)?;
@@ -165,7 +167,8 @@ fn allow_of(refused: Refusal) -> Option<&'static [&'static str]>
 }
 
 fn allow_events_of<'a>(names: &'a [&'a str], refused: Refusal) -> Option<&'a [&'a str]>
-    ensures { option_map (λ texts. map (λ n. n.now) texts.now) result ≡ spec.allow_events_of (map (λ n. n.now) names.now) refused }
+    ensures { option_map (λ texts. map (λ n. n.now) texts.now) result
+        ≡ spec.allow_events_of (map (λ n. n.now) names.now) refused }
 {
     match refused {
         Refusal::NoPackage => Some(names),
@@ -174,7 +177,8 @@ fn allow_events_of<'a>(names: &'a [&'a str], refused: Refusal) -> Option<&'a [&'
 }
 
 fn unsupported_of<'a>(words: &'a [&'a str], refused: Refusal) -> Option<&'a [&'a str]>
-    ensures { option_map (λ texts. map (λ n. n.now) texts.now) result ≡ spec.unsupported_of (map (λ n. n.now) words.now) refused }
+    ensures { option_map (λ texts. map (λ n. n.now) texts.now) result
+        ≡ spec.unsupported_of (map (λ n. n.now) words.now) refused }
 {
     match refused {
         Refusal::UnmetRequire => Some(words),
@@ -194,7 +198,8 @@ fn refusal_bytes<'a>(
     strange: &'a [&'a str],
 ) -> Result<Octets, NoMemory>
     requires { map (λ n. n.now) strange.now ≡ filter is_strange_word request.now.require }
-    ensures { IfOk result (λ bytes. bytes ≡ answer_text (spec.refusal_text place.now (map (λ n. n.now) names.now) tag.now source request.now refused)) }
+    ensures { IfOk result (λ bytes. bytes
+        ≡ answer_text (spec.refusal_text place.now (map (λ n. n.now) names.now) tag.now source request.now refused)) }
 {
     let answer = Answer {
         head: &request.head,

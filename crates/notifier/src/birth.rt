@@ -80,7 +80,8 @@ fn event_of(alloc: Global, request: &Request) -> Result<EventValue, NoMemory>
 
 /// What it watches: a mailbox, or the tag of a transfer.
 fn resource_of(alloc: Global, tag: &Text, request: &Request) -> Result<Text, NoMemory>
-    ensures { IfOk result (λ resource. resource ≡ (if requests.is_refer request.now then tag.now else requests.user_part request.now.uri)) }
+    ensures { IfOk result (λ resource. resource
+        ≡ (if requests.is_refer request.now then tag.now else requests.user_part request.now.uri)) }
 {
     if is_refer(request) {
         tag.copy(alloc)
@@ -193,8 +194,14 @@ pub fn first_told<P: Package>(
     requires clock { clock < 2 ^ 63 }
     requires fits { requests.misfit request.now ≡ None }
     requires kind { kind ≡ requests.birth_of place.now.limits request.now }
-    ensures row { IfOk result (λ after. after.row ≡ (spec.first_told place.now (map P.seen boxes.now.items) clock tag.now source request.now serial (spec.first_step place.now.limits clock (spec.new_usage tag.now request.now) (spec.new_want place.now tag.now source request.now) request.now kind)).row) }
-    ensures out { IfOk result (λ after. option_to_list after.out ≡ map out_of (spec.first_told place.now (map P.seen boxes.now.items) clock tag.now source request.now serial (spec.first_step place.now.limits clock (spec.new_usage tag.now request.now) (spec.new_want place.now tag.now source request.now) request.now kind)).notifies) }
+    ensures row { IfOk result (λ after. after.row
+        ≡ (spec.first_told place.now (map P.seen boxes.now.items) clock tag.now source request.now serial
+        (spec.first_step place.now.limits clock (spec.new_usage tag.now request.now)
+        (spec.new_want place.now tag.now source request.now) request.now kind)).row) }
+    ensures out { IfOk result (λ after. option_to_list after.out
+        ≡ map out_of (spec.first_told place.now (map P.seen boxes.now.items) clock tag.now source request.now serial
+        (spec.first_step place.now.limits clock (spec.new_usage tag.now request.now)
+        (spec.new_want place.now tag.now source request.now) request.now kind)).notifies) }
 {
     let usage = new_usage(alloc, tag, request)?;
     let want = new_want(alloc, place, tag, source, request)?;

@@ -35,7 +35,8 @@ fn forget_ended<P: Package>(
     kind: Birth,
     ends: bool,
 ) -> Result<(), NoMemory>
-    ensures { OnOk result (map P.seen boxes.new.items ≡ rows.forgetting (spec.first_gone tag.now kind ends) (map P.seen boxes.old.items)) }
+    ensures { OnOk result (map P.seen boxes.new.items
+        ≡ rows.forgetting (spec.first_gone tag.now kind ends) (map P.seen boxes.old.items)) }
 {
     match kind {
         Birth::Transfer => {
@@ -82,7 +83,13 @@ fn bear_with<P: Package>(
     requires serial { serial ≡ ledger.old.next }
     requires tag { tag ≡ tag_of place.now ledger.old.next }
     requires room { ledger.old.next ≤ place.now.limits.serials }
-    ensures step { IfOk result (λ outs. IsStep (spec.born_with place.now (book_of P.seen ledger.old) source request.now kind tag (spec.first_told place.now (spec.first_boxes (map P.seen ledger.old.boxes.items) tag kind) ledger.old.clock tag source request.now ledger.old.next (spec.first_step place.now.limits ledger.old.clock (spec.new_usage tag request.now) (spec.new_want place.now tag source request.now) request.now kind))) (book_of P.seen ledger.new) outs.items) }
+    ensures step { IfOk result (λ outs. IsStep
+        (spec.born_with place.now (book_of P.seen ledger.old) source request.now kind tag
+        (spec.first_told place.now (spec.first_boxes (map P.seen ledger.old.boxes.items) tag kind)
+        ledger.old.clock tag source request.now ledger.old.next
+        (spec.first_step place.now.limits ledger.old.clock (spec.new_usage tag request.now)
+        (spec.new_want place.now tag source request.now) request.now kind)))
+        (book_of P.seen ledger.new) outs.items) }
     ensures sound { OnOk result (IsSound place.now ledger.new) }
 {
     place.limits.are_in_range();
@@ -131,7 +138,9 @@ pub fn bear<P: Package>(
     requires kind { kind ≡ requests.birth_of place.now.limits request.now }
     requires sound { IsSound place.now ledger.old }
     requires room { ledger.old.next ≤ place.now.limits.serials }
-    ensures step { IfOk result (λ outs. IsStep (spec.born place.now (book_of P.seen ledger.old) source request.now kind) (book_of P.seen ledger.new) outs.items) }
+    ensures step { IfOk result (λ outs. IsStep
+        (spec.born place.now (book_of P.seen ledger.old) source request.now kind)
+        (book_of P.seen ledger.new) outs.items) }
     ensures sound { OnOk result (IsSound place.now ledger.new) }
 {
     place.limits.are_in_range();

@@ -34,7 +34,8 @@ pub fn change_first<P: Package>(
     boxes: &mut Vec<P>,
     change: &Change,
 ) -> Result<Outcome, NoMemory>
-    ensures ok { IfOk result (λ o. (o, map P.seen boxes.new.items) ≡ spec.change_first (map P.seen boxes.old.items) change.now) }
+    ensures ok { IfOk result (λ o. (o, map P.seen boxes.new.items)
+        ≡ spec.change_first (map P.seen boxes.old.items) change.now) }
     ensures forget { IsTrue (is_forget change.now) → IsOk result }
 {
     match find_box(boxes, change.event()) {
@@ -50,7 +51,8 @@ pub fn body_of<P: Package>(
     name: &str,
     resource: &str,
 ) -> Result<Vec<u8>, NoMemory>
-    ensures { IfOk result (λ v. v.items ≡ body_of_held (spec.content_in (map P.seen boxes.now.items) name.now resource.now)) }
+    ensures { IfOk result (λ v. v.items
+        ≡ body_of_held (spec.content_in (map P.seen boxes.now.items) name.now resource.now)) }
 {
     match first_box(boxes, name) {
         None => Ok(Vec::new(alloc)),

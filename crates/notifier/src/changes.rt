@@ -26,7 +26,8 @@ pub fn reply<P: Package>(
     response: &Response,
 ) -> Result<Vec<Out>, NoMemory>
     requires { IsSound place.now ledger.old }
-    ensures step { IfOk result (λ outs. IsStep (spec.replied (book_of P.seen ledger.old) response.now) (book_of P.seen ledger.new) outs.items) }
+    ensures step { IfOk result (λ outs. IsStep (spec.replied (book_of P.seen ledger.old) response.now)
+        (book_of P.seen ledger.new) outs.items) }
     ensures sound { OnOk result (IsSound place.now ledger.new) }
 {
     let mut outs = Vec::new(alloc);
@@ -44,7 +45,8 @@ pub fn tick<P: Package>(
     requires sound { IsSound place.now ledger.old }
     requires on { ledger.old.clock ≤ clock }
     requires fits { clock < 2 ^ 63 }
-    ensures step { IfOk result (λ outs. IsStep (spec.ticked place.now (book_of P.seen ledger.old) clock) (book_of P.seen ledger.new) outs.items) }
+    ensures step { IfOk result (λ outs. IsStep (spec.ticked place.now (book_of P.seen ledger.old) clock)
+        (book_of P.seen ledger.new) outs.items) }
     ensures sound { OnOk result (IsSound place.now ledger.new) }
 {
     ledger.clock = clock;
@@ -60,7 +62,8 @@ pub fn shut<P: Package>(
     ledger: &mut Ledger<P>,
 ) -> Result<Vec<Out>, NoMemory>
     requires { IsSound place.now ledger.old }
-    ensures step { IfOk result (λ outs. IsStep (spec.shut place.now (book_of P.seen ledger.old)) (book_of P.seen ledger.new) outs.items) }
+    ensures step { IfOk result (λ outs. IsStep (spec.shut place.now (book_of P.seen ledger.old))
+        (book_of P.seen ledger.new) outs.items) }
     ensures sound { OnOk result (IsSound place.now ledger.new) }
 {
     let mut outs = Vec::new(alloc);
@@ -78,7 +81,11 @@ fn tell_watchers<P: Package>(
     is_over: bool,
 ) -> Result<Vec<Out>, NoMemory>
     requires { IsSound place.now ledger.old }
-    ensures step { IfOk result (λ outs. IsStep (spec.all_rows (book_of P.seen ledger.old) (tells_watcher place.now (map P.seen ledger.old.boxes.items) ledger.old.clock name.now resource.now is_over) []) (book_of P.seen ledger.new) outs.items) }
+    ensures step { IfOk result (λ outs. IsStep
+        (spec.all_rows (book_of P.seen ledger.old)
+        (tells_watcher place.now
+        (map P.seen ledger.old.boxes.items) ledger.old.clock name.now resource.now is_over) [])
+        (book_of P.seen ledger.new) outs.items) }
     ensures sound { OnOk result (IsSound place.now ledger.new) }
 {
     let mut outs = Vec::new(alloc);
@@ -103,7 +110,9 @@ pub fn content_changed<P: Package>(
     change: &Change,
 ) -> Result<Vec<Out>, NoMemory>
     requires { IsSound place.now ledger.old }
-    ensures step { IfOk result (λ outs. IsStep (spec.content_changed place.now (book_of P.seen ledger.old) name.now resource.now is_over (changed_boxes (map P.seen ledger.old.boxes.items) change.now)) (book_of P.seen ledger.new) outs.items) }
+    ensures step { IfOk result (λ outs. IsStep
+        (spec.content_changed place.now (book_of P.seen ledger.old) name.now resource.now is_over
+        (changed_boxes (map P.seen ledger.old.boxes.items) change.now)) (book_of P.seen ledger.new) outs.items) }
     ensures sound { OnOk result (IsSound place.now ledger.new) }
 {
     match change_first(alloc, &mut ledger.boxes, change)? {

@@ -73,7 +73,8 @@ impl<P: Package> Desk<P> {
         worker: u32,
         boxes: Vec<P>,
     ) -> Result<Desk<P>, NoMemory>
-        ensures { IfOk result (λ desk. desk ≡ Some (first_standing (record { place = place_of setup.now worker; boxes = map P.seen boxes.items }))) }
+        ensures { IfOk result (λ desk. desk
+            ≡ Some (first_standing (record { place = place_of setup.now worker; boxes = map P.seen boxes.items }))) }
     {
         setup.limits.are_in_range();
         let ring = KeptAnswers::with_room(alloc, setup.limits.kept() as usize)?;
@@ -107,7 +108,8 @@ impl<P: Package> Desk<P> {
 
     /// Handles one event. After want of memory, which gives no outs, the desk is spent.
     pub fn handle(&mut self, alloc: Global, event: &Event) -> Result<Vec<Out>, DeskError>
-        ensures ok { IfOk result (λ outs. (s : Standing) → self.old ≡ Some s → IsHandled s event.now self.new outs.items) }
+        ensures ok { IfOk result (λ outs. (s : Standing) → self.old ≡ Some s
+            → IsHandled s event.now self.new outs.items) }
         ensures spent { result ≡ Err DeskError.Spent ↔ self.old ≡ None }
         ensures err { OnErr result (self.new ≡ None) }
     {

@@ -77,7 +77,9 @@ pub fn refuse<P: Package>(
 ) -> Result<Vec<Out>, NoMemory>
     requires named { option_map key_of transaction ≡ key_of_request request.now }
     requires sound { IsSound place.now ledger.old }
-    ensures step { IfOk result (λ outs. IsStep (spec.refused place.now (book_of P.seen ledger.old) source request.now refused) (book_of P.seen ledger.new) outs.items) }
+    ensures step { IfOk result (λ outs. IsStep
+        (spec.refused place.now (book_of P.seen ledger.old) source request.now refused)
+        (book_of P.seen ledger.new) outs.items) }
     ensures sound { OnOk result (IsSound place.now ledger.new) }
 {
     let bytes = refusal_answer(alloc, place, &ledger.boxes, source, request, refused)?;
@@ -104,7 +106,9 @@ fn hear_refused<P: Package>(
 ) -> Result<Vec<Out>, NoMemory>
     requires named { option_map key_of transaction ≡ key_of_request request.now }
     requires sound { IsSound place.now ledger.old }
-    ensures step { IfOk result (λ outs. IsStep (spec.denied place.now (book_of P.seen ledger.old) source request.now serial refused) (book_of P.seen ledger.new) outs.items) }
+    ensures step { IfOk result (λ outs. IsStep
+        (spec.denied place.now (book_of P.seen ledger.old) source request.now serial refused)
+        (book_of P.seen ledger.new) outs.items) }
     ensures sound { OnOk result (IsSound place.now ledger.new) }
 {
     let mut outs = refuse(alloc, place, ledger, source, request, transaction, refused)?;
@@ -129,8 +133,11 @@ fn answer_renewal<P: Package>(
 ) -> Result<Vec<Out>, NoMemory>
     requires named { option_map key_of transaction ≡ key_of_request request.now }
     requires sound { IsSound place.now ledger.old }
-    ensures book { OnOk result (book_of P.seen ledger.new ≡ spec.keeping place.now (book_of P.seen ledger.old) request.now (answers.renewal_answer place.now source request.now)) }
-    ensures outs { IfOk result (λ outs. outs.items ≡ map out_of (Answers source (answer_text (answers.renewal_answer place.now source request.now)) ∷ [])) }
+    ensures book { OnOk result (book_of P.seen ledger.new
+        ≡ spec.keeping place.now (book_of P.seen ledger.old) request.now
+        (answers.renewal_answer place.now source request.now)) }
+    ensures outs { IfOk result (λ outs. outs.items
+        ≡ map out_of (Answers source (answer_text (answers.renewal_answer place.now source request.now)) ∷ [])) }
     ensures sound { OnOk result (IsSound place.now ledger.new) }
     ensures limits { OnOk result (AreLimits place.now.limits) }
 {
@@ -158,7 +165,9 @@ fn hear_renewal<P: Package>(
 ) -> Result<Vec<Out>, NoMemory>
     requires named { option_map key_of transaction ≡ key_of_request request.now }
     requires sound { IsSound place.now ledger.old }
-    ensures step { IfOk result (λ outs. IsStep (spec.accepted place.now (book_of P.seen ledger.old) source request.now serial) (book_of P.seen ledger.new) outs.items) }
+    ensures step { IfOk result (λ outs. IsStep
+        (spec.accepted place.now (book_of P.seen ledger.old) source request.now serial)
+        (book_of P.seen ledger.new) outs.items) }
     ensures sound { OnOk result (IsSound place.now ledger.new) }
 {
     let mut outs = answer_renewal(alloc, place, ledger, source, request, transaction)?;
@@ -185,7 +194,9 @@ fn hear<P: Package>(
 ) -> Result<Vec<Out>, NoMemory>
     requires named { option_map key_of transaction ≡ key_of_request request.now }
     requires sound { IsSound place.now ledger.old }
-    ensures step { IfOk result (λ outs. IsStep (spec.served place.now (book_of P.seen ledger.old) source request.now (spec.unless_denied serial against)) (book_of P.seen ledger.new) outs.items) }
+    ensures step { IfOk result (λ outs. IsStep
+        (spec.served place.now (book_of P.seen ledger.old) source request.now (spec.unless_denied serial against))
+        (book_of P.seen ledger.new) outs.items) }
     ensures sound { OnOk result (IsSound place.now ledger.new) }
 {
     match against {
@@ -215,7 +226,11 @@ pub fn serve_in_dialog<P: Package>(
 ) -> Result<Vec<Out>, NoMemory>
     requires named { option_map key_of transaction ≡ key_of_request request.now }
     requires sound { IsSound place.now ledger.old }
-    ensures step { IfOk result (λ outs. IsStep (spec.served place.now (book_of P.seen ledger.old) source request.now (spec.in_dialog place.now.limits request.now (find (rows.is_dialog request.now tag.now) (rows_of ledger.old.rows)))) (book_of P.seen ledger.new) outs.items) }
+    ensures step { IfOk result (λ outs. IsStep
+        (spec.served place.now (book_of P.seen ledger.old) source request.now
+        (spec.in_dialog place.now.limits request.now
+        (find (rows.is_dialog request.now tag.now) (rows_of ledger.old.rows))))
+        (book_of P.seen ledger.new) outs.items) }
     ensures sound { OnOk result (IsSound place.now ledger.new) }
 {
     let Some(row) = find_dialog(place, &ledger.rows, request, tag) else {

@@ -21,7 +21,8 @@ fn mail<P: Package>(
     change: &MailChange,
 ) -> Result<Vec<Out>, NoMemory>
     requires { IsSound place.now ledger.old }
-    ensures step { IfOk result (λ outs. IsStep (step place.now (book_of P.seen ledger.old) (Event.Mail change.now)) (book_of P.seen ledger.new) outs.items) }
+    ensures step { IfOk result (λ outs. IsStep
+        (step place.now (book_of P.seen ledger.old) (Event.Mail change.now)) (book_of P.seen ledger.new) outs.items) }
     ensures sound { OnOk result (IsSound place.now ledger.new) }
 {
     let copy = Change::Mail(change.copy(alloc)?);
@@ -43,7 +44,9 @@ fn progress<P: Package>(
     change: &Progress,
 ) -> Result<Vec<Out>, NoMemory>
     requires { IsSound place.now ledger.old }
-    ensures step { IfOk result (λ outs. IsStep (step place.now (book_of P.seen ledger.old) (Event.Progress change.now)) (book_of P.seen ledger.new) outs.items) }
+    ensures step { IfOk result (λ outs. IsStep
+        (step place.now (book_of P.seen ledger.old) (Event.Progress change.now))
+        (book_of P.seen ledger.new) outs.items) }
     ensures sound { OnOk result (IsSound place.now ledger.new) }
 {
     let copy = Change::Step(change.copy(alloc)?);
@@ -65,7 +68,8 @@ fn time<P: Package>(
     moment: u64,
 ) -> Result<Vec<Out>, NoMemory>
     requires { IsSound place.now ledger.old }
-    ensures step { IfOk result (λ outs. IsStep (step place.now (book_of P.seen ledger.old) (Event.Tick moment)) (book_of P.seen ledger.new) outs.items) }
+    ensures step { IfOk result (λ outs. IsStep (step place.now (book_of P.seen ledger.old) (Event.Tick moment))
+        (book_of P.seen ledger.new) outs.items) }
     ensures sound { OnOk result (IsSound place.now ledger.new) }
 {
     if moment > 9223372036854775807 {
@@ -83,7 +87,8 @@ pub fn act<P: Package>(
     event: &Event,
 ) -> Result<Vec<Out>, NoMemory>
     requires { IsSound place.now ledger.old }
-    ensures step { IfOk result (λ outs. IsStep (step place.now (book_of P.seen ledger.old) event.now) (book_of P.seen ledger.new) outs.items) }
+    ensures step { IfOk result (λ outs. IsStep (step place.now (book_of P.seen ledger.old) event.now)
+        (book_of P.seen ledger.new) outs.items) }
     ensures sound { OnOk result (IsSound place.now ledger.new) }
 {
     match event {

@@ -137,7 +137,8 @@ impl KeptAnswers {
         transaction: Transaction,
         bytes: Octets,
     ) -> Result<(), NoMemory>
-        ensures { OnOk result (self.new ≡ slots.with_newest self.old (record { key = key_of transaction; bytes = bytes })) }
+        ensures { OnOk result (self.new
+            ≡ slots.with_newest self.old (record { key = key_of transaction; bytes = bytes })) }
     {
         let key = transaction.key(alloc)?;
         make_room(&mut self.ring, &mut self.slots, self.newest);

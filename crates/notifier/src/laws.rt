@@ -8,6 +8,8 @@ use crate::event::Event;
 
 /// One event more is one step more.
 pub fn run_grows()
-    ensures book { (start : Start) (es : List Event) (e : Event) → run start (es ++ e ∷ []) ≡ (step start.place (run start es) e).book }
-    ensures outs { (start : Start) (es : List Event) (e : Event) → made start (es ++ e ∷ []) ≡ made start es ++ (step start.place (run start es) e).outs }
+    ensures book { (start : Start) (es : List Event) (e : Event) → run start (es ++ e ∷ [])
+        ≡ (step start.place (run start es) e).book }
+    ensures outs { (start : Start) (es : List Event) (e : Event) → made start (es ++ e ∷ []) ≡ made start es
+        ++ (step start.place (run start es) e).outs }
 {}

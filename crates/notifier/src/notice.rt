@@ -64,7 +64,8 @@ pub fn notice_out<'a, P: Package>(
     want: &'a Want,
     notice: Notice,
 ) -> Result<Out, NoMemory>
-    ensures { IfOk result (λ out. out ≡ out_of (Notifies to (spec.notify place.now (map P.seen boxes.now.items) usage.now want.now notice))) }
+    ensures { IfOk result (λ out. out
+        ≡ out_of (Notifies to (spec.notify place.now (map P.seen boxes.now.items) usage.now want.now notice))) }
 {
     let package = want.event.package();
     let body = body_of(alloc, boxes, package, want.resource.as_str())?;

@@ -34,7 +34,10 @@ fn serve_outside<P: Package>(
     requires named { option_map key_of transaction ≡ requests.key_of_request request.now }
     requires fits { requests.misfit request.now ≡ None }
     requires sound { IsSound place.now ledger.old }
-    ensures step { IfOk result (λ outs. IsStep (spec.served place.now (book_of P.seen ledger.old) source request.now (spec.outside place.now.limits (book_of P.seen ledger.old) request.now)) (book_of P.seen ledger.new) outs.items) }
+    ensures step { IfOk result (λ outs. IsStep
+        (spec.served place.now (book_of P.seen ledger.old) source request.now
+        (spec.outside place.now.limits (book_of P.seen ledger.old) request.now))
+        (book_of P.seen ledger.new) outs.items) }
     ensures sound { OnOk result (IsSound place.now ledger.new) }
 {
     if let Some(refused) = misplaced(&place.limits, &ledger.boxes, request) {
@@ -67,7 +70,10 @@ fn serve_fitting<P: Package>(
     requires named { option_map key_of transaction ≡ requests.key_of_request request.now }
     requires fits { requests.misfit request.now ≡ None }
     requires sound { IsSound place.now ledger.old }
-    ensures step { IfOk result (λ outs. IsStep (spec.served place.now (book_of P.seen ledger.old) source request.now (spec.by_to_tag place.now.limits (book_of P.seen ledger.old) request.now request.now.head.to.tag)) (book_of P.seen ledger.new) outs.items) }
+    ensures step { IfOk result (λ outs. IsStep
+        (spec.served place.now (book_of P.seen ledger.old) source request.now
+        (spec.by_to_tag place.now.limits (book_of P.seen ledger.old) request.now request.now.head.to.tag))
+        (book_of P.seen ledger.new) outs.items) }
     ensures sound { OnOk result (IsSound place.now ledger.new) }
 {
     match &request.head.to.tag {
@@ -87,7 +93,10 @@ fn serve_new<P: Package>(
 ) -> Result<Vec<Out>, NoMemory>
     requires named { option_map key_of transaction ≡ requests.key_of_request request.now }
     requires sound { IsSound place.now ledger.old }
-    ensures step { IfOk result (λ outs. IsStep (spec.served place.now (book_of P.seen ledger.old) source request.now (spec.by_kept place.now.limits (book_of P.seen ledger.old) request.now None)) (book_of P.seen ledger.new) outs.items) }
+    ensures step { IfOk result (λ outs. IsStep
+        (spec.served place.now (book_of P.seen ledger.old) source request.now
+        (spec.by_kept place.now.limits (book_of P.seen ledger.old) request.now None))
+        (book_of P.seen ledger.new) outs.items) }
     ensures sound { OnOk result (IsSound place.now ledger.new) }
 {
     match misfit(request) {
@@ -105,7 +114,10 @@ pub fn serve<P: Package>(
     request: &Request,
 ) -> Result<Vec<Out>, NoMemory>
     requires { IsSound place.now ledger.old }
-    ensures step { IfOk result (λ outs. IsStep (spec.served place.now (book_of P.seen ledger.old) source request.now (spec.verdict place.now.limits (book_of P.seen ledger.old) request.now)) (book_of P.seen ledger.new) outs.items) }
+    ensures step { IfOk result (λ outs. IsStep
+        (spec.served place.now (book_of P.seen ledger.old) source request.now
+        (spec.verdict place.now.limits (book_of P.seen ledger.old) request.now))
+        (book_of P.seen ledger.new) outs.items) }
     ensures sound { OnOk result (IsSound place.now ledger.new) }
 {
     let mut outs = Vec::new(alloc);

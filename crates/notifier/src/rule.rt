@@ -106,10 +106,15 @@ fn turn<P: Package>(
     requires clock { clock < 2 ^ 63 }
     requires indexed { IsIndexed rows.old }
     requires live { IfSome (row_at rows.old serial) (CanTell clock cause.now) }
-    ensures turns { OnOk result (Turns rows.old rows.new serial (option_and_then (λ r. (rule_of place.now (map P.seen boxes.now.items) clock cause.now r).row) (row_at rows.old serial))) }
+    ensures turns { OnOk result (Turns rows.old rows.new serial
+        (option_and_then (λ r. (rule_of place.now (map P.seen boxes.now.items) clock cause.now r).row)
+        (row_at rows.old serial))) }
     ensures indexed { OnOk result (IsIndexed rows.new) }
-    ensures out { IfOk result (λ word. option_to_list word.out ≡ map out_of (said_at (rule_of place.now (map P.seen boxes.now.items) clock cause.now) (row_at rows.old serial))) }
-    ensures gone { IfOk result (λ word. option_to_list word.gone ≡ gone_with (rule_of place.now (map P.seen boxes.now.items) clock cause.now) (row_at rows.old serial)) }
+    ensures out { IfOk result (λ word. option_to_list word.out
+        ≡ map out_of (said_at (rule_of place.now (map P.seen boxes.now.items) clock cause.now)
+        (row_at rows.old serial))) }
+    ensures gone { IfOk result (λ word. option_to_list word.gone
+        ≡ gone_with (rule_of place.now (map P.seen boxes.now.items) clock cause.now) (row_at rows.old serial)) }
 {
     let Some(key) = rows.order.get(&serial).copied() else {
         return Ok(silence());
@@ -155,10 +160,16 @@ fn tell_one<P: Package>(
     requires clock { clock < 2 ^ 63 }
     requires indexed { IsIndexed rows.old }
     requires live { All (CanTell clock cause.now) (rows_of rows.old) }
-    ensures rows { OnOk result (rows_of rows.new ≡ spec.left (spec.only serial (rule_of place.now (map P.seen boxes.now.items) clock cause.now)) (rows_of rows.old)) }
+    ensures rows { OnOk result (rows_of rows.new
+        ≡ spec.left (spec.only serial (rule_of place.now (map P.seen boxes.now.items) clock cause.now))
+        (rows_of rows.old)) }
     ensures indexed { OnOk result (IsIndexed rows.new) }
-    ensures out { IfOk result (λ word. option_to_list word.out ≡ map out_of (spec.said (spec.only serial (rule_of place.now (map P.seen boxes.now.items) clock cause.now)) (rows_of rows.old))) }
-    ensures gone { IfOk result (λ word. option_to_list word.gone ≡ spec.gone (spec.only serial (rule_of place.now (map P.seen boxes.now.items) clock cause.now)) (rows_of rows.old)) }
+    ensures out { IfOk result (λ word. option_to_list word.out
+        ≡ map out_of (spec.said (spec.only serial (rule_of place.now (map P.seen boxes.now.items) clock cause.now))
+        (rows_of rows.old))) }
+    ensures gone { IfOk result (λ word. option_to_list word.gone
+        ≡ spec.gone (spec.only serial (rule_of place.now (map P.seen boxes.now.items) clock cause.now))
+        (rows_of rows.old)) }
 {
     turn(alloc, place, boxes, clock, cause, rows, serial)
 }
@@ -179,10 +190,16 @@ pub fn tell_each<P: Package>(
     requires indexed { IsIndexed rows.old }
     requires live { All (CanTell clock cause.now) (rows_of rows.old) }
     requires rise { RiseFrom 0 serials.now }
-    ensures rows { OnOk result (rows_of rows.new ≡ spec.left (among serials.now (rule_of place.now (map P.seen boxes.now.items) clock cause.now)) (rows_of rows.old)) }
+    ensures rows { OnOk result (rows_of rows.new
+        ≡ spec.left (among serials.now (rule_of place.now (map P.seen boxes.now.items) clock cause.now))
+        (rows_of rows.old)) }
     ensures indexed { OnOk result (IsIndexed rows.new) }
-    ensures gone { IfOk result (λ tags. tags.items ≡ spec.gone (among serials.now (rule_of place.now (map P.seen boxes.now.items) clock cause.now)) (rows_of rows.old)) }
-    ensures outs { OnOk result (outs.new.items ≡ outs.old.items ++ map out_of (spec.said (among serials.now (rule_of place.now (map P.seen boxes.now.items) clock cause.now)) (rows_of rows.old))) }
+    ensures gone { IfOk result (λ tags. tags.items
+        ≡ spec.gone (among serials.now (rule_of place.now (map P.seen boxes.now.items) clock cause.now))
+        (rows_of rows.old)) }
+    ensures outs { OnOk result (outs.new.items ≡ outs.old.items
+        ++ map out_of (spec.said (among serials.now (rule_of place.now (map P.seen boxes.now.items) clock cause.now))
+        (rows_of rows.old))) }
 {
     let mut tags = Vec::new(alloc);
     for serial in serials {

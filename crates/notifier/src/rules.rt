@@ -74,7 +74,8 @@ fn stays(row: Row) -> After
 fn goes(row: Row) -> After
     ensures row { result.row ≡ None }
     ensures out { option_to_list result.out ≡ [] }
-    ensures gone { option_to_list result.gone ≡ (if is_of_refer_event row.sub.want.event then row.sub.usage.local_tag ∷ [] else []) }
+    ensures gone { option_to_list result.gone
+        ≡ (if is_of_refer_event row.sub.want.event then row.sub.usage.local_tag ∷ [] else []) }
 {
     let of_refer = is_of_refer(row.sub.want());
     let Row { sub, .. } = row;
@@ -175,9 +176,15 @@ pub fn turned<P: Package>(
     stub: Stub,
     next: Step,
 ) -> Result<After, NoMemory>
-    ensures row { IfOk result (λ after. after.row ≡ (spec.turned place.now (map P.seen boxes.now.items) clock to want.now (row_with stub) next).row) }
-    ensures out { IfOk result (λ after. option_to_list after.out ≡ map out_of (spec.turned place.now (map P.seen boxes.now.items) clock to want.now (row_with stub) next).notifies) }
-    ensures gone { IfOk result (λ after. option_to_list after.gone ≡ (if is_of_refer_event want.now.event && is_none (spec.turned place.now (map P.seen boxes.now.items) clock to want.now (row_with stub) next).row then (spec.usage_after next).local_tag ∷ [] else [])) }
+    ensures row { IfOk result (λ after. after.row
+        ≡ (spec.turned place.now (map P.seen boxes.now.items) clock to want.now (row_with stub) next).row) }
+    ensures out { IfOk result (λ after. option_to_list after.out
+        ≡ map out_of (spec.turned place.now (map P.seen boxes.now.items) clock to want.now
+        (row_with stub) next).notifies) }
+    ensures gone { IfOk result (λ after. option_to_list after.gone
+        ≡ (if is_of_refer_event want.now.event
+        && is_none (spec.turned place.now (map P.seen boxes.now.items) clock to want.now
+        (row_with stub) next).row then (spec.usage_after next).local_tag ∷ [] else [])) }
 {
     match next {
         Step::Live(sub, notice) => {
@@ -290,7 +297,8 @@ pub fn tell_watcher<P: Package>(
     row: Row,
 ) -> Result<After, NoMemory>
     requires { IsLive clock row }
-    ensures { IfOk result (λ after. IsTold (spec.tells_watcher place.now (map P.seen boxes.now.items) clock name.now resource.now is_over) row after) }
+    ensures { IfOk result (λ after. IsTold
+        (spec.tells_watcher place.now (map P.seen boxes.now.items) clock name.now resource.now is_over) row after) }
 {
     if !watches(&row, name, resource) {
         return Ok(stays(row));
@@ -357,7 +365,8 @@ fn renew_row<P: Package>(
     row: Row,
 ) -> Result<After, NoMemory>
     requires { clock < 2 ^ 63 }
-    ensures { IfOk result (λ after. IsTold (spec.renewed place.now (map P.seen boxes.now.items) clock source request.now) row after) }
+    ensures { IfOk result (λ after. IsTold
+        (spec.renewed place.now (map P.seen boxes.now.items) clock source request.now) row after) }
 {
     let want = copy_want(alloc, row.sub.want())?;
     let Row {
@@ -387,7 +396,8 @@ pub fn renew<P: Package>(
     row: Row,
 ) -> Result<After, NoMemory>
     requires { clock < 2 ^ 63 }
-    ensures { IfOk result (λ after. IsTold (spec.only wanted (spec.renewed place.now (map P.seen boxes.now.items) clock source request.now)) row after) }
+    ensures { IfOk result (λ after. IsTold
+        (spec.only wanted (spec.renewed place.now (map P.seen boxes.now.items) clock source request.now)) row after) }
 {
     if row.serial != wanted {
         return Ok(stays(row));

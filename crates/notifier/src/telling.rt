@@ -57,9 +57,13 @@ pub fn tell_rows<P: Package>(
     requires own { All (IsOwn place.now (2 ^ 32)) (rows_of rows.old) }
     requires live { All (CanTell clock cause.now) (rows_of rows.old) }
     ensures indexed { OnOk result (IsIndexed rows.new) }
-    ensures rows { OnOk result (rows_of rows.new ≡ spec.left (rule_of place.now (map P.seen boxes.old.items) clock cause.now) (rows_of rows.old)) }
-    ensures boxes { OnOk result (map P.seen boxes.new.items ≡ spec.forgetting (spec.gone (rule_of place.now (map P.seen boxes.old.items) clock cause.now) (rows_of rows.old)) (map P.seen boxes.old.items)) }
-    ensures outs { OnOk result (outs.new.items ≡ outs.old.items ++ map out_of (spec.said (rule_of place.now (map P.seen boxes.old.items) clock cause.now) (rows_of rows.old))) }
+    ensures rows { OnOk result (rows_of rows.new
+        ≡ spec.left (rule_of place.now (map P.seen boxes.old.items) clock cause.now) (rows_of rows.old)) }
+    ensures boxes { OnOk result (map P.seen boxes.new.items
+        ≡ spec.forgetting (spec.gone (rule_of place.now (map P.seen boxes.old.items) clock cause.now)
+        (rows_of rows.old)) (map P.seen boxes.old.items)) }
+    ensures outs { OnOk result (outs.new.items ≡ outs.old.items
+        ++ map out_of (spec.said (rule_of place.now (map P.seen boxes.old.items) clock cause.now) (rows_of rows.old))) }
 {
     let serials = touched(alloc, place.worker, rows, clock, cause)?;
     let tags = tell_each(
@@ -92,7 +96,8 @@ pub fn answer(
     bytes: Octets,
 ) -> Result<Vec<Out>, NoMemory>
     requires { ring.old.capacity ≡ limits.now.kept }
-    ensures ring { OnOk result (ring.new ≡ buffer (ring_with limits.now ring.old.items (option_map key_of transaction) bytes) ring.old.capacity) }
+    ensures ring { OnOk result (ring.new
+        ≡ buffer (ring_with limits.now ring.old.items (option_map key_of transaction) bytes) ring.old.capacity) }
     ensures outs { IfOk result (λ outs. outs.items ≡ Out.Answer to bytes ∷ []) }
 {
     let copy = copy_bytes(alloc, &bytes)?;
@@ -116,10 +121,16 @@ pub fn all_rows<P: Package>(
     requires indexed { IsIndexed ledger.old.rows }
     requires own { All (IsOwn place.now ledger.old.next) (rows_of ledger.old.rows) }
     requires live { All (CanTell ledger.old.clock cause.now) (rows_of ledger.old.rows) }
-    ensures step { OnOk result ((sends : List Send) → outs.old.items ≡ map out_of sends → IsStep (book.all_rows (book_of P.seen ledger.old) (rule_of place.now (map P.seen ledger.old.boxes.items) ledger.old.clock cause.now) sends) (book_of P.seen ledger.new) outs.new.items) }
-    ensures rows { OnOk result (rows_of ledger.new.rows ≡ spec.left (rule_of place.now (map P.seen ledger.old.boxes.items) ledger.old.clock cause.now) (rows_of ledger.old.rows)) }
+    ensures step { OnOk result ((sends : List Send) → outs.old.items ≡ map out_of sends
+        → IsStep (book.all_rows (book_of P.seen ledger.old)
+        (rule_of place.now (map P.seen ledger.old.boxes.items) ledger.old.clock cause.now) sends)
+        (book_of P.seen ledger.new) outs.new.items) }
+    ensures rows { OnOk result (rows_of ledger.new.rows
+        ≡ spec.left (rule_of place.now (map P.seen ledger.old.boxes.items) ledger.old.clock cause.now)
+        (rows_of ledger.old.rows)) }
     ensures indexed { OnOk result (IsIndexed ledger.new.rows) }
-    ensures same { OnOk result ((ledger.new.clock ≡ ledger.old.clock) × (ledger.new.next ≡ ledger.old.next) × (ledger.new.ring ≡ ledger.old.ring)) }
+    ensures same { OnOk result ((ledger.new.clock ≡ ledger.old.clock) × (ledger.new.next ≡ ledger.old.next)
+        × (ledger.new.ring ≡ ledger.old.ring)) }
 {
     tell_rows(
         alloc,

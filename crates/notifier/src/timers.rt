@@ -31,7 +31,8 @@ pub fn move_timer(
     after: u64,
 ) -> Result<(), NoMemory>
     requires { (d : ℕ) → sorted.contains by_time timers.old (d, serial) ≡ (before == d) }
-    ensures { OnOk result ((d s : ℕ) → sorted.contains by_time timers.new (d, s) ≡ (if serial == s then after == d else sorted.contains by_time timers.old (d, s))) }
+    ensures { OnOk result ((d s : ℕ) → sorted.contains by_time timers.new (d, s)
+        ≡ (if serial == s then after == d else sorted.contains by_time timers.old (d, s))) }
 {
     if before == after {
         return Ok(());
@@ -44,7 +45,8 @@ pub fn move_timer(
 /// The timer of a serial goes.
 pub fn stop_timer(timers: &mut BTreeSet<(u64, u32)>, serial: u32, before: u64)
     requires { (d : ℕ) → sorted.contains by_time timers.old (d, serial) ≡ (before == d) }
-    ensures { (d s : ℕ) → sorted.contains by_time timers.new (d, s) ≡ (if serial == s then false else sorted.contains by_time timers.old (d, s)) }
+    ensures { (d s : ℕ) → sorted.contains by_time timers.new (d, s)
+        ≡ (if serial == s then false else sorted.contains by_time timers.old (d, s)) }
 {
     timers.remove(&(before, serial));
 }
@@ -56,7 +58,8 @@ pub fn timed_out(
     clock: u64,
 ) -> Result<BTreeSet<u32>, NoMemory>
     requires { clock < 2 ^ 63 }
-    ensures { IfOk result (λ set. sorted.IsFromIterResult nat_cmp (map (λ t. t.1) (sorted.keys_between by_time Bound.Unbounded (Bound.Excluded (clock + 1, 0)) timers.now)) set) }
+    ensures { IfOk result (λ set. sorted.IsFromIterResult nat_cmp
+        (map (λ t. t.1) (sorted.keys_between by_time Bound.Unbounded (Bound.Excluded (clock + 1, 0)) timers.now)) set) }
 {
     let set = timers
         .range(..(clock + 1, 0))

@@ -67,7 +67,9 @@ pub fn touched(
     requires indexed { IsIndexed rows.now }
     requires live { All (CanTell clock cause.now) (rows_of rows.now) }
     ensures rise { IfOk result (λ serials. RiseFrom 0 serials.items) }
-    ensures covers { IfOk result (λ serials. (place : AnyPlace) (boxes : List Seen) → place.worker ≡ worker → All (IsOwn place (2 ^ 32)) (rows_of rows.now) → Cover serials.items (rule_of place boxes clock cause.now) (rows_of rows.now)) }
+    ensures covers { IfOk result (λ serials. (place : AnyPlace) (boxes : List Seen) → place.worker ≡ worker
+        → All (IsOwn place (2 ^ 32)) (rows_of rows.now)
+        → Cover serials.items (rule_of place boxes clock cause.now) (rows_of rows.now)) }
 {
     match cause {
         Cause::Response(response) => one_serial(alloc, answered_serial(worker, response)),

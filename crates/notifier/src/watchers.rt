@@ -17,7 +17,8 @@ fn watch_first(
     serial: u32,
 ) -> Result<(), NoMemory>
     requires { (s : ℕ) → watched watchers.old resource.now s ≡ false }
-    ensures { OnOk result ((q : List ℕ) (s : ℕ) → watched watchers.new q s ≡ (if bytes_eq resource.now q && (serial == s) then true else watched watchers.old q s)) }
+    ensures { OnOk result ((q : List ℕ) (s : ℕ) → watched watchers.new q s
+        ≡ (if bytes_eq resource.now q && (serial == s) then true else watched watchers.old q s)) }
 {
     let mut set = BTreeSet::new(alloc);
     set.insert(serial)?;
@@ -32,7 +33,8 @@ pub fn watch(
     resource: &str,
     serial: u32,
 ) -> Result<(), NoMemory>
-    ensures { OnOk result ((q : List ℕ) (s : ℕ) → watched watchers.new q s ≡ (if bytes_eq resource.now q && (serial == s) then true else watched watchers.old q s)) }
+    ensures { OnOk result ((q : List ℕ) (s : ℕ) → watched watchers.new q s
+        ≡ (if bytes_eq resource.now q && (serial == s) then true else watched watchers.old q s)) }
 {
     if let Some(set) = watchers.get_mut(resource) {
         set.insert(serial)?;
@@ -43,7 +45,8 @@ pub fn watch(
 
 /// A serial watches a resource no more. A resource that nobody watches has no entry.
 pub fn unwatch(watchers: &mut IndexMap<String, BTreeSet<u32>>, resource: &str, serial: u32)
-    ensures { (q : List ℕ) (s : ℕ) → watched watchers.new q s ≡ (if bytes_eq resource.now q && (serial == s) then false else watched watchers.old q s) }
+    ensures { (q : List ℕ) (s : ℕ) → watched watchers.new q s
+        ≡ (if bytes_eq resource.now q && (serial == s) then false else watched watchers.old q s) }
 {
     if let Some(set) = watchers.get_mut(resource) {
         set.remove(&serial);
@@ -55,7 +58,8 @@ pub fn unwatch(watchers: &mut IndexMap<String, BTreeSet<u32>>, resource: &str, s
 
 /// The same of the resource with this name, which goes with it.
 pub fn unwatch_text(watchers: &mut IndexMap<String, BTreeSet<u32>>, resource: Text, serial: u32)
-    ensures { (q : List ℕ) (s : ℕ) → watched watchers.new q s ≡ (if bytes_eq resource q && (serial == s) then false else watched watchers.old q s) }
+    ensures { (q : List ℕ) (s : ℕ) → watched watchers.new q s
+        ≡ (if bytes_eq resource q && (serial == s) then false else watched watchers.old q s) }
 {
     unwatch(watchers, resource.as_str(), serial);
 }

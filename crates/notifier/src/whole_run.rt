@@ -21,7 +21,8 @@ fn handle_all<P: Package>(
     desk: &mut Desk<P>,
     events: &[Event],
 ) -> Result<Vec<Out>, NoMemory>
-    ensures { IfOk result (λ outs. (s : Standing) → desk.old ≡ Some s → outs.items ≡ map out_of (made_from s.place s.book events.now)) }
+    ensures { IfOk result (λ outs. (s : Standing) → desk.old ≡ Some s → outs.items
+        ≡ map out_of (made_from s.place s.book events.now)) }
 {
     let mut outs = Vec::new(alloc);
     for event in events {
@@ -41,7 +42,8 @@ pub fn play<P: Package>(
     boxes: Vec<P>,
     events: &[Event],
 ) -> Result<Vec<Out>, NoMemory>
-    ensures { IfOk result (λ outs. outs.items ≡ map out_of (made (record { place = place_of setup.now worker; boxes = map P.seen boxes.items }) events.now)) }
+    ensures { IfOk result (λ outs. outs.items
+        ≡ map out_of (made (record { place = place_of setup.now worker; boxes = map P.seen boxes.items }) events.now)) }
 {
     let mut desk = Desk::new(alloc, setup, worker, boxes)?;
     handle_all(alloc, &mut desk, events)
@@ -55,7 +57,12 @@ pub fn play_boxes(
     boxes: Vec<Box<dyn Package>>,
     events: &[Event],
 ) -> Result<Vec<Out>, NoMemory>
-    ensures { IfOk result (λ outs. outs.items ≡ map out_of (made (record { place = place_of setup.now worker; boxes = map {B = Seen} (λ b. seen b) boxes.items }) events.now)) }
+    ensures { IfOk result (λ outs. outs.items
+        ≡ map out_of (made (record {
+          place = place_of setup.now worker;
+          boxes = map {B = Seen}
+              (λ b. seen b) boxes.items;
+        }) events.now)) }
 {
     play(alloc, setup, worker, boxes, events)
 }
