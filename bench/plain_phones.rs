@@ -36,18 +36,27 @@ fn fail(why: &str) -> ! {
     exit(1)
 }
 
-/// The processor time of each thread of a process in nanoseconds, summed. A thread that has ended counts no more, so it is read
-/// while the process still waits for its last datagram.
-fn busy_nanos(server: u32) -> u64 {
+/// The processor time of each thread of the server in nanoseconds, the oldest thread first. A thread that has ended counts no
+/// more, so it is read while the server still waits for datagrams.
+fn busy_nanos(server: u32) -> Vec<u64> {
     let Ok(tasks) = fs::read_dir(format!("/proc/{server}/task")) else {
         fail("the program has ended too early");
     };
-    let mut nanos = 0;
+    let mut nanos = Vec::new();
     for task in tasks.flatten() {
+        let number: u32 = task.file_name().to_string_lossy().parse().unwrap_or(0);
         let told = fs::read_to_string(task.path().join("schedstat")).unwrap_or_default();
-        nanos += told.split(' ').next().and_then(|word| word.parse::<u64>().ok()).unwrap_or(0);
+        let busy = told.split(' ').next().and_then(|word| word.parse::<u64>().ok()).unwrap_or(0);
+        nanos.push((number, busy));
     }
-    nanos
+    nanos.sort();
+    nanos.into_iter().map(|(_, busy)| busy).collect()
+}
+
+/// What each thread took since then.
+fn since(server: u32, before: &[u64]) -> Vec<u64> {
+    let now = busy_nanos(server);
+    now.iter().zip(before).map(|(now, before)| now - before).collect()
 }
 
 /// A SUBSCRIBE of the phone of this number.
@@ -110,7 +119,7 @@ fn receive(socket: &UdpSocket, room: &mut [u8]) -> usize {
     socket.recv(room).unwrap_or_else(|_| fail("an answer is missing"))
 }
 
-fn run_subscribers(socket: &UdpSocket, server: u32, count: u32, window: u32, port: u16) -> u64 {
+fn run_subscribers(socket: &UdpSocket, server: u32, count: u32, window: u32, port: u16) -> Vec<u64> {
     let own = socket.local_addr().unwrap().port();
     let asks: Vec<Vec<u8>> = (0..count).map(|number| subscribe(number, own, port)).collect();
     let mut room = vec![0; 65536];
@@ -148,10 +157,10 @@ fn run_subscribers(socket: &UdpSocket, server: u32, count: u32, window: u32, por
     // the server has handled the last answer once it has answered what came behind it
     socket.send(question.replace("z9hG4bK", "z9hG4bKlast").as_bytes()).unwrap_or_else(|_| fail("a send failed"));
     receive(socket, &mut room);
-    busy_nanos(server) - before
+    since(server, &before)
 }
 
-fn run_echo(socket: &UdpSocket, server: u32, count: u32, window: u32, port: u16) -> u64 {
+fn run_echo(socket: &UdpSocket, server: u32, count: u32, window: u32, port: u16) -> Vec<u64> {
     let octets = subscribe(0, socket.local_addr().unwrap().port(), port);
     let mut room = vec![0; 65536];
     find(socket, &octets, &mut room);
@@ -167,7 +176,7 @@ fn run_echo(socket: &UdpSocket, server: u32, count: u32, window: u32, port: u16)
         }
         back += 1;
     }
-    busy_nanos(server) - before
+    since(server, &before)
 }
 
 fn main() {
@@ -190,6 +199,8 @@ fn main() {
         "echo" => run_echo(&socket, server, count, window, port),
         _ => fail("subscribe or echo"),
     };
-    println!("{nanos}");
+    let sum: u64 = nanos.iter().sum();
+    let each: Vec<String> = nanos.iter().map(|busy| (busy / u64::from(count)).to_string()).collect();
+    println!("{} {}", sum / u64::from(count), each.join(" "));
     stop();
 }

@@ -1,21 +1,23 @@
 //! The program on the network, run over loopback: phones on threads of their own subscribe at it, mailboxes change, a transfer
 //! goes to its end, and a CLOSE ends it; runs that are refused, and runs that a device fails.
 //!
-//! Each scenario runs the program on the thread that began, at ports that were free a moment before, and sees that they are
-//! free again; what it prints is the same whatever the schedule. The stored output was worked out by hand from the rules. There
-//! is nothing here that others build on. Begin with `calls`.
+//! The program runs on the thread that began, at ports that were free a moment before; they are free again once it has ended,
+//! or nothing is told. What is printed is the same whatever the schedule: the status, the line for standard error, and what was
+//! written. The stored output was worked out by hand from the rules (the digits of a tag are those of ChaCha20 over a key of
+//! zeros). There is nothing here that others build on. Begin with `party`.
 #![tactic(auto)]
 
-mod calls;
+mod errand;
 mod error;
+mod party;
 mod phone;
 mod refusals;
 mod running;
+mod scenario;
 
-use crate::calls::whole;
 use crate::error::RunError;
-use crate::refusals::{bad_arguments, long_notify, shut_writer, taken_port};
-use crate::running::tried;
+use crate::refusals::{bad_arguments, taken_control_port, taken_port};
+use crate::scenario::Scenario;
 
 /// Words that ask for no run: a port that isn't, one past the last, no mailbox, and another program.
 const BAD: [&[&str]; 4] = [
@@ -25,21 +27,34 @@ const BAD: [&[&str]; 4] = [
     &["script", "1", "alice"],
 ];
 
+/// Prints what came of a run.
+fn show(rt: &impl Print, name: &str, told: Result<String, RunError>) -> Result<(), RunError> {
+    let told = told?;
+    print!(rt; "{name}: {told}")?;
+    Ok(())
+}
+
 fn main(rt: HostRuntime) -> Result<(), RunError> {
     let alloc = rt.alloc();
-    let text = tried(|| whole(rt, alloc))?;
-    print!(rt; "three phones: {text}")?;
-    let text = tried(|| long_notify(rt, alloc))?;
-    print!(rt; "a NOTIFY that is too long: {text}")?;
-    let text = tried(|| shut_writer(rt, alloc))?;
-    print!(rt; "a writer that takes nothing: {text}")?;
-    let text = taken_port(rt, alloc, false)?;
-    print!(rt; "the port for SIP is taken: {text}")?;
-    let text = taken_port(rt, alloc, true)?;
-    print!(rt; "the port for control lines is taken: {text}")?;
+    show(&rt, "three phones", Scenario::Party.play(rt, alloc))?;
+    show(
+        &rt,
+        "a NOTIFY that is too long",
+        Scenario::LongNotify.play(rt, alloc),
+    )?;
+    show(
+        &rt,
+        "a writer that takes nothing",
+        Scenario::ShutWriter.play(rt, alloc),
+    )?;
+    show(&rt, "the port for SIP is taken", taken_port(rt, alloc))?;
+    show(
+        &rt,
+        "the port for control lines is taken",
+        taken_control_port(rt, alloc),
+    )?;
     for words in BAD {
-        let text = bad_arguments(rt, alloc, words)?;
-        print!(rt; "bad arguments: {text}")?;
+        show(&rt, "bad arguments", bad_arguments(rt, alloc, words))?;
     }
     Ok(())
 }

@@ -28,11 +28,20 @@ pub(crate) fn loopback(port: u16) -> SocketAddr {
     SocketAddr::new(IpAddr::V4(Ipv4Addr::LOCALHOST), port)
 }
 
-/// A socket at a port that the machine chooses.
-pub(crate) fn open_socket<H: Net>(rt: &H) -> Result<UdpSocket, RunError> {
-    let socket = UdpSocket::bind(rt, loopback(0))?;
-    socket.set_read_timeout(Some(Duration::from_secs(PATIENCE)))?;
-    Ok(socket)
+/// A socket and its port, which the machine chose.
+#[derive(Drop)]
+pub(crate) struct Ear {
+    pub(crate) socket: UdpSocket,
+    pub(crate) port: u16,
+}
+
+impl Ear {
+    pub(crate) fn open<H: Net>(rt: &H) -> Result<Ear, RunError> {
+        let socket = UdpSocket::bind(rt, loopback(0))?;
+        socket.set_read_timeout(Some(Duration::from_secs(PATIENCE)))?;
+        let port = socket.local_addr()?.port();
+        Ok(Ear { socket, port })
+    }
 }
 
 /// A phone: its user, its socket, which hears the notifier alone, its own port, and where control lines go.
@@ -60,6 +69,13 @@ fn has(text: &str, part: &str) -> Result<(), RunError> {
     } else {
         Err(RunError::Unexpected)
     }
+}
+
+/// Refuses what isn't the NOTIFY of this number.
+fn is_notify(alloc: Global, text: &str, number: u32) -> Result<(), RunError> {
+    begins(text, "NOTIFY ")?;
+    let line = format!(in alloc; "\r\nCSeq: {number} NOTIFY\r\n")?;
+    has(text, line.as_str())
 }
 
 /// Whether an answer repeats this line of a request.
@@ -96,9 +112,8 @@ fn tag_in(alloc: Global, answer: &str) -> Result<String, RunError> {
 
 impl Phone {
     pub(crate) fn new<H: Net>(rt: &H, user: &'static str, ports: Ports) -> Result<Phone, RunError> {
-        let socket = open_socket(rt)?;
+        let Ear { socket, port } = Ear::open(rt)?;
         socket.connect(loopback(ports.sip))?;
-        let port = socket.local_addr()?.port();
         Ok(Phone {
             user,
             socket,
@@ -190,9 +205,7 @@ impl Phone {
     /// The NOTIFY of this number comes, with this in it, and is answered.
     fn expect_notify(&self, alloc: Global, number: u32, part: &str) -> Result<(), RunError> {
         let notify = self.receive(alloc)?;
-        begins(notify.as_str(), "NOTIFY ")?;
-        let numbered = format!(in alloc; "\r\nCSeq: {number} NOTIFY\r\n")?;
-        has(notify.as_str(), numbered.as_str())?;
+        is_notify(alloc, notify.as_str(), number)?;
         has(notify.as_str(), part)?;
         let answer = agreement(alloc, notify.as_str())?;
         self.socket.send(answer.as_bytes())?;

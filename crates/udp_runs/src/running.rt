@@ -1,7 +1,7 @@
 //! The program on the caller's thread.
 
 use crate::error::RunError;
-use crate::phone::{Ports, loopback, open_socket};
+use crate::phone::{Ear, Ports, loopback};
 use scripts::Sink;
 use sip_text::Text;
 use std::alloc::Global;
@@ -12,25 +12,8 @@ use std::sync::Wait;
 use std::thread::{JoinHandle, Threads};
 use udp_program::{Status, run};
 
-/// How often a scenario is tried: between the search for a free port and its use some other program may take it.
-const TRIES: u32 = 3;
-
-/// A thread that knows when it saw something else than was to come.
+/// The thread of a phone, which knows when something else came than was to come.
 pub(crate) type Watching = JoinHandle<Result<(), RunError>>;
-
-/// What a scenario tells, tried anew where it fails.
-pub(crate) fn tried<F>(scenario: F) -> Result<String, RunError>
-where
-    F: Fn() -> Result<String, RunError>,
-    requires { F.IsAlwaysCallable scenario }
-{
-    for _ in 1..TRIES {
-        if let Ok(text) = scenario() {
-            return Ok(text);
-        }
-    }
-    scenario()
-}
 
 /// The words of the arguments.
 pub(crate) fn words_of(alloc: Global, words: &[&str]) -> Result<Vec<Text>, RunError> {
@@ -43,11 +26,11 @@ pub(crate) fn words_of(alloc: Global, words: &[&str]) -> Result<Vec<Text>, RunEr
 
 /// Two ports that were free a moment ago.
 pub(crate) fn free_ports<H: Net>(rt: &H) -> Result<Ports, RunError> {
-    let first = open_socket(rt)?;
-    let second = open_socket(rt)?;
+    let first = Ear::open(rt)?;
+    let second = Ear::open(rt)?;
     Ok(Ports {
-        sip: first.local_addr()?.port(),
-        control: second.local_addr()?.port(),
+        sip: first.port,
+        control: second.port,
     })
 }
 
@@ -87,31 +70,6 @@ pub(crate) struct Paper {
     is_shut: bool,
 }
 
-impl Paper {
-    pub(crate) fn new(alloc: Global) -> Paper {
-        Paper {
-            octets: Vec::new(alloc),
-            is_shut: false,
-        }
-    }
-
-    /// One that takes nothing.
-    pub(crate) fn shut(alloc: Global) -> Paper {
-        Paper {
-            octets: Vec::new(alloc),
-            is_shut: true,
-        }
-    }
-
-    /// What stands on it.
-    pub(crate) fn text(&self) -> Result<&str, RunError> {
-        match str::from_utf8(self.octets.as_slice()) {
-            Ok(text) => Ok(text),
-            Err(_) => Err(RunError::Unexpected),
-        }
-    }
-}
-
 impl Write for Paper {
     fn write(&mut self, buf: &[u8]) -> io::Result<usize> {
         if self.is_shut {
@@ -125,37 +83,46 @@ impl Write for Paper {
     }
 }
 
-/// Runs the program with these words to its end, on this paper.
-pub(crate) fn run_on<H>(rt: H, alloc: Global, words: &[Text], paper: Paper) -> (Status, Paper)
-where
-    H: Threads + Wait + Net + Copy + Send + 'static,
-{
-    let mut sink = Sink::new(paper);
-    let status = run(rt, alloc, words, &mut sink);
-    (status, sink.writer)
-}
-
-/// Runs the program at these ports until its end and that of a thread beside it, and tells how it ended and what it wrote.
-pub(crate) fn run_beside<H>(
-    rt: H,
-    alloc: Global,
-    words: &[Text],
+/// How a run ended, and what it wrote to.
+#[derive(Drop)]
+pub(crate) struct Ended {
+    status: Status,
     paper: Paper,
-    beside: Watching,
-) -> Result<(Status, Paper), RunError>
+}
+
+impl Ended {
+    /// The status and its line, as the program's exit tells them, and what was written.
+    pub(crate) fn told(&self, alloc: Global) -> Result<String, RunError> {
+        let Ok(page) = str::from_utf8(self.paper.octets.as_slice()) else {
+            return Err(RunError::Unexpected);
+        };
+        let code = self.status.code();
+        let line = self.status.line().unwrap_or("nothing to say");
+        Ok(format!(in alloc; "status {code}, {line}\n{page}")?)
+    }
+}
+
+/// Runs the program with these words to its end.
+pub(crate) fn run_to_end<H>(rt: H, alloc: Global, words: &[Text], is_shut: bool) -> Ended
 where
     H: Threads + Wait + Net + Copy + Send + 'static,
 {
-    let ended = run_on(rt, alloc, words, paper);
-    beside.join(&rt)?;
-    Ok(ended)
+    let mut sink = Sink::new(Paper {
+        octets: Vec::new(alloc),
+        is_shut,
+    });
+    let status = run(rt, alloc, words, &mut sink);
+    Ended {
+        status,
+        paper: sink.writer,
+    }
 }
 
-/// A status, as the program's exit tells it.
-pub(crate) fn status_text(alloc: Global, status: Status) -> Result<String, RunError> {
-    let code = status.code();
-    match status.line() {
-        Some(line) => Ok(format!(in alloc; "status {code}, {line}\n")?),
-        None => Ok(format!(in alloc; "status {code}\n")?),
+/// Waits for the phones, and tells whether all came to each of them that was to come.
+pub(crate) fn join_all<H: Threads>(rt: &H, phones: Vec<Watching>) -> Result<(), RunError> {
+    let mut all = Ok(());
+    for phone in phones {
+        all = all.and(phone.join(rt));
     }
+    all
 }
