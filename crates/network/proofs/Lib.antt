@@ -1,2 +1,2 @@
-mod Sending
+pub mod Sending
 pub mod Fed

@@ -1,13 +1,17 @@
-//! `notifyd`, a notifier of SIP event notification (RFC 6665). It runs a script, or serves two ports of this machine.
+//! `notifyd`, a notifier of SIP event notification (RFC 6665).
 //!
-//! `notifyd script [--seed <64 hex digits>] [--stop] <workers> <mailbox>...` reads a script from standard input and prints what
-//! the notifier sends; without arguments it is `notifyd script 1 alice`. What is proved of it is the contract of
-//! [`server::run`]. `notifyd udp [--seed <64 hex digits>] [--stop] <port> <control port> <workers> <count> <mailbox>...` is a
-//! notifier on 127.0.0.1: the contract of [`udp_program::run`]. Here stand the arguments, the two streams and the exit status.
+//! `notifyd serve [options] [<mailbox>...]` is the server that an operator runs, `notifyd tell <line>` tells it what happened.
+//! `notifyd udp [--seed <64 hex digits>] [--stop] <port> <control port> <workers> <count> <mailbox>...` is a notifier on
+//! 127.0.0.1 that ends after so many datagrams. `notifyd script [--seed <64 hex digits>] [--stop] <workers> <mailbox>...` reads
+//! a script from standard input and prints what the notifier sends; without arguments it is `notifyd script 1 alice`.
+//!
+//! What is proved of them are the contracts of the crate `serving`, of [`udp_program::run`] and of [`server::run`]. Here stand
+//! the words, the two streams and the exit status.
 #![tactic(auto)]
 
 use scripts::{Sink, Source};
 use server::Status;
+use serving::{serve, tell};
 use sip_text::Text;
 use std::process::ExitCode;
 use std::rt::Env;
@@ -31,26 +35,36 @@ fn words_of(rt: &(impl Env + AllocGlobal)) -> Result<Vec<Text>, Status> {
     Ok(texts)
 }
 
-/// Whether the words ask for the program on the network.
-fn is_for_network(words: &[Text]) -> bool {
-    match words {
-        [first, ..] => first.is("udp"),
-        [] => false,
-    }
-}
-
-fn main(rt: HostRuntime) -> ExitCode {
-    let mut source = Source::new(rt.reader());
-    let mut sink = Sink::new(io::writer(&rt));
-    let status = match words_of(&rt) {
-        Ok(words) if is_for_network(words.as_slice()) => {
-            udp_program::run(rt, rt.alloc(), words.as_slice(), &mut sink)
-        }
-        Ok(words) => server::run(rt, rt.alloc(), words.as_slice(), &mut source, &mut sink),
-        Err(status) => status,
-    };
+/// Tells on standard error what went wrong, if anything did. Answers the exit status.
+fn end(rt: &impl Eprint, status: Status) -> ExitCode {
     if let Some(line) = status.line() {
         let _ = eprintln!(rt; "{line}");
     }
     ExitCode::from(status.code())
+}
+
+/// Whether the word is one that asks for a text alone.
+fn asks_for_text(word: &Text) -> bool {
+    word.is("--help") || word.is("--version")
+}
+
+fn main(rt: HostRuntime) -> ExitCode {
+    let words = match words_of(&rt) {
+        Ok(words) => words,
+        Err(status) => return end(&rt, status),
+    };
+    let mut sink = Sink::new(io::writer(&rt));
+    let status = match words.as_slice() {
+        [word] if asks_for_text(word) => return ExitCode::from(serve(rt, words.as_slice())),
+        [word, rest @ ..] if word.is("serve") => return ExitCode::from(serve(rt, rest)),
+        [word, rest @ ..] if word.is("tell") => return ExitCode::from(tell(&rt, rest)),
+        [word, ..] if word.is("udp") => {
+            udp_program::run(rt, rt.alloc(), words.as_slice(), &mut sink)
+        }
+        _ => {
+            let mut source = Source::new(rt.reader());
+            server::run(rt, rt.alloc(), words.as_slice(), &mut source, &mut sink)
+        }
+    };
+    end(&rt, status)
 }

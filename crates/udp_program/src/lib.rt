@@ -15,5 +15,6 @@ mod printing;
 mod program;
 mod serving;
 
+pub use printing::worker_lines;
 pub use program::run;
 pub use server::Status;

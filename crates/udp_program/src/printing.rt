@@ -30,8 +30,8 @@ fn worker_line(alloc: Global, worker: usize, report: &WorkerReport) -> Result<St
     Ok(line)
 }
 
-/// The lines of all workers, in their order.
-pub(crate) fn worker_lines(alloc: Global, reports: &[WorkerReport]) -> Result<String, NoMemory>
+/// The lines of all workers, in their order: `WORKER <w> <events handled> <outs made> <end>`.
+pub fn worker_lines(alloc: Global, reports: &[WorkerReport]) -> Result<String, NoMemory>
     ensures { IfOk result (λ lines. string_bytes lines ≡ spec.worker_lines reports.now) }
 {
     let mut lines = String::new(alloc);

@@ -1,0 +1,4 @@
+pub mod Flags
+pub mod Words
+pub mod Settings
+pub mod Telling

@@ -1,0 +1,68 @@
+-- Three ports that were closed.
+use Rattle.std.proofs.Common.{◌≡◌, ◌⊎◌, inl, inr, ℕ, zero, suc, ◌<◌, List, [], ◌∷◌, ◌++◌, length, map, get_or, refl, ap, sym, ◌∙◌, subst, arith}
+use Rattle.std.specs.Prelude.{MatchResult, Result, Ok, Err}
+use Rattle.std.proofs.lemmas.List.{nil_from_length, length-map}
+use Rattle.notifier.specs.Start.{Start}
+use Rattle.outbox.specs.Seats.{TakerSeat}
+use Rattle.crew.specs.Ports.{PortSeats, Closes, ClosesSome}
+use Rattle.crew.specs.Kept.{SameSeats, AllClosed}
+use Rattle.crew.specs.Started.{Hired, IsStarted}
+use Rattle.crew.specs.Joined.{IsPortOf}
+use Rattle.crew.proofs.Keeping.{started_port}
+
+-- however `close` answers
+pub has_ended : {A B : Type 0} (r : Result A B) (old new : PortSeats) → MatchResult r (λ _. Closes old new) (λ _. ClosesSome old.seats new.seats)
+    → Closes old new ⊎ ClosesSome old.seats new.seats
+has_ended (Ok x) old new ends = inl ends
+has_ended (Err x) old new ends = inr ends
+
+-- ---- the crew as it was started
+
+module _ {start : ℕ → Start} {workers n : ℕ} {crew : List Hired} {ports : List PortSeats} {taker : TakerSeat} (is : IsStarted start workers n crew ports taker) where
+  pub ports_len : length ports ≡ n
+  ports_len = is.dealt.len
+
+  pub taker_new : taker.got ≡ []
+  taker_new = ap (λ (t : TakerSeat). t.got) is.takes
+
+  pub taker_workers : taker.workers ≡ workers
+  taker_workers = ap (λ (t : TakerSeat). t.workers) is.takes
+
+  -- its ports are open, where there are workers
+  pub ports_open : 0 < workers → (k : ℕ) (p : PortSeats) → k < length ports → 0 < (get_or ports k p).still_open
+  ports_open some k p low =
+      let many = ports_len in
+      let stands : (get_or ports k p).still_open ≡ length (map (λ (h : Hired). h.reads.inbox) crew) = ap (λ (x : PortSeats). x.still_open) (is.dealt.each k p (omega (arith, low, many))) in
+      let size = length-map crew (λ (h : Hired). h.reads.inbox) in
+      let len = is.len in omega (arith, stands, size, len, some)
+
+-- ---- its three ports
+
+module _ (a b c a' b' c' : PortSeats) where
+  all_shut : a'.still_open ≡ 0 → b'.still_open ≡ 0 → c'.still_open ≡ 0 → (k : ℕ) (p : PortSeats) → k < 3 → (get_or (a' ∷ b' ∷ c' ∷ []) k p).still_open ≡ 0
+  all_shut x y z zero p low = x
+  all_shut x y z (suc zero) p low = y
+  all_shut x y z (suc (suc zero)) p low = z
+  all_shut x y z (suc (suc (suc k))) p low = absurd (omega arith)
+
+  all_same : SameSeats a a' → SameSeats b b' → SameSeats c c' → (k : ℕ) (p : PortSeats) → k < 3
+      → SameSeats (get_or (a ∷ b ∷ c ∷ []) k p) (get_or (a' ∷ b' ∷ c' ∷ []) k p)
+  all_same x y z zero p low = x
+  all_same x y z (suc zero) p low = y
+  all_same x y z (suc (suc zero)) p low = z
+  all_same x y z (suc (suc (suc k))) p low = absurd (omega arith)
+
+  -- what `join` asks of them
+  pub ports_closed : {start : ℕ → Start} {workers : ℕ} {crew : List Hired} {taker : TakerSeat} (is : IsStarted start workers 3 crew (a ∷ b ∷ c ∷ []) taker)
+      (ports : List PortSeats) → ports ≡ a' ∷ b' ∷ c' ∷ [] → a'.still_open ≡ 0 → b'.still_open ≡ 0 → c'.still_open ≡ 0
+      → SameSeats a a' → SameSeats b b' → SameSeats c c' → (p : ℕ) (q : PortSeats) → p < length ports → IsPortOf crew (get_or ports p q)
+  ports_closed {crew = crew} is ports are shut shut' shut'' same same' same'' p q low =
+      let P : List PortSeats → Type 0 = λ l. p < length l → IsPortOf crew (get_or l p q) in
+      let all : AllClosed (a ∷ b ∷ c ∷ []) (a' ∷ b' ∷ c' ∷ []) =
+      record { len = refl; closed = all_shut shut shut' shut''; seats = all_same same same' same'' } in
+      subst P (sym are) (started_port is (a' ∷ b' ∷ c' ∷ []) all p q) low
+
+pub pushed_three : {A : Type 0} (none one two three : List A) (a b c : A) → length none ≡ 0 → one ≡ none ++ a ∷ [] → two ≡ one ++ b ∷ [] → three ≡ two ++ c ∷ []
+    → three ≡ a ∷ b ∷ c ∷ []
+pushed_three none one two three a b c empty is is' is'' =
+    is'' ∙ ap (λ l. l ++ c ∷ []) (is' ∙ ap (λ l. l ++ b ∷ []) (is ∙ ap (λ l. l ++ a ∷ []) (nil_from_length none empty)))

@@ -1,0 +1,74 @@
+-- A crew that ran as a service to its end.
+use Rattle.std.proofs.Common.{◌≡◌, ℕ, List, [], ◌∷◌, sym, subst}
+use Rattle.std.specs.Prelude.{IfOk, Result, Ok, Err}
+use Rattle.queue_rule.specs.declared.items.Item.{Item}
+use Rattle.notifier.specs.declared.event.Out.{Out}
+use Rattle.notifier.specs.Start.{Start}
+use Rattle.outbox.specs.Seats.{TakerSeat}
+use Rattle.crew.specs.Ports.{PortSeats}
+use Rattle.crew.specs.Started.{Hired, IsStarted}
+use Rattle.crew.specs.Joined.{IsJoined}
+use Rattle.emitting.specs.declared.sending.EmitReport.{EmitReport}
+use Rattle.emitting.specs.Emitted.{Fates, WireSeen, WriterSeen, IsEmitted}
+use Rattle.network.specs.declared.feeding.FeedEnd.{FeedEnd}
+use Rattle.service.specs.declared.feeding.Task.{Task}
+use Rattle.service.specs.declared.running.Feeders.{Feeders}
+use Rattle.service.specs.declared.running.Outcome.{Outcome}
+use Rattle.service.specs.Handing.{AreErrands}
+use Rattle.service.specs.Running.{SendsDatagrams, SendsLines, SendsTicks, SendsFor, ThenCloses, Runs}
+use Rattle.service.proofs.Closed.{taker_new}
+
+pub on_ok : {T E : Type 0} {P Q : T → Type 0} (r : Result T E) → IfOk r P → ((x : T) → P x → Q x) → IfOk r Q
+on_ok (Ok x) p f = f x p
+on_ok (Err e) p f = p
+
+-- what each thread sent, once its errand is known
+module _ {mailboxes : List (List ℕ)} {f : Feeders} (are : AreErrands mailboxes f) (end : FeedEnd) (old new : PortSeats) where
+  pub sent_datagrams : ThenCloses (SendsFor f.sip.promise.task.value end) old new → ThenCloses (SendsDatagrams end) old new
+  sent_datagrams sends = let P : Task → Type 0 = λ t. ThenCloses (SendsFor t end) old new in subst P are.sip sends
+
+  pub sent_lines : ThenCloses (SendsFor f.lines.promise.task.value end) old new → ThenCloses (SendsLines mailboxes end) old new
+  sent_lines sends =
+      let P : Task → Type 0 = λ t. ThenCloses (SendsFor t end) old new in
+      let Q : List (List ℕ) → Type 0 = λ l. ThenCloses (SendsLines l end) old new in subst Q are.held (subst P are.lines sends)
+
+  pub sent_ticks : ThenCloses (SendsFor f.time.promise.task.value end) old new → ThenCloses (SendsTicks end) old new
+  sent_ticks sends = let P : Task → Type 0 = λ t. ThenCloses (SendsFor t end) old new in subst P are.time sends
+
+pub runs_are : {start : ℕ → Start} {workers : ℕ} {crew : List Hired} {a b c : PortSeats} {taker : TakerSeat} (is : IsStarted start workers 3 crew (a ∷ b ∷ c ∷ []) taker)
+    (mailboxes : List (List ℕ)) (wire wire' : WireSeen) (writer writer' : WriterSeen) (o : Outcome) (a' b' c' : PortSeats) (ports : List PortSeats)
+    (got : List (Item Out)) (fates : Fates) (report : EmitReport)
+    → ThenCloses (SendsDatagrams o.sip) a a' → ThenCloses (SendsLines mailboxes o.lines) b b' → ThenCloses (SendsTicks o.time) c c'
+    → ports ≡ a' ∷ b' ∷ c' ∷ [] → IsJoined crew ports got o.report.workers.items
+    → IsEmitted fates taker.got got wire wire' writer writer' report → Runs start workers mailboxes wire wire' writer writer' o
+runs_are {crew = crew} {a = a} {b = b} {c = c} {taker = taker} is mailboxes wire wire' writer writer' o a' b' c' ports got fates report datagrams lines ticks are joined emitted =
+    let P : List PortSeats → Type 0 = λ l. IsJoined crew l got o.report.workers.items in
+    let Q : List (Item Out) → Type 0 = λ l. IsEmitted fates l got wire wire' writer writer' report in record {
+      crew = crew;
+      sip = a;
+      lines = b;
+      time = c;
+      taker = taker;
+      started = is;
+      sip_closed = a';
+      lines_closed = b';
+      time_closed = c';
+      sends_datagrams = datagrams;
+      sends_lines = lines;
+      sends_ticks = ticks;
+      got = got;
+      joined = subst P are joined;
+      fates = fates;
+      emitted_as = report;
+      emitted = subst Q (taker_new is) emitted;
+    }
+
+-- the same, where the number of workers has another name
+module _ {start : ℕ → Start} {n m : ℕ} (same : m ≡ n) where
+  pub started_with : {crew : List Hired} {ports : List PortSeats} {taker : TakerSeat} → IsStarted start n 3 crew ports taker → IsStarted start m 3 crew ports taker
+  started_with {crew = crew} {ports = ports} {taker = taker} is = let P : ℕ → Type 0 = λ k. IsStarted start k 3 crew ports taker in subst P (sym same) is
+
+  pub runs_with : {mailboxes : List (List ℕ)} {wire wire' : WireSeen} {writer writer' : WriterSeen} {o : Outcome}
+      → Runs start m mailboxes wire wire' writer writer' o → Runs start n mailboxes wire wire' writer writer' o
+  runs_with {mailboxes = mailboxes} {wire = wire} {wire' = wire'} {writer = writer} {writer' = writer'} {o = o} runs =
+      let P : ℕ → Type 0 = λ k. Runs start k mailboxes wire wire' writer writer' o in subst P same runs

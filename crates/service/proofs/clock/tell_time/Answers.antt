@@ -1,0 +1,18 @@
+use Rattle.std.proofs.Common.{refl, ◌∙◌, arith}
+use Rattle.service.proofs.Ticking.{ticking_none, ticking_more, told_gone}
+use Rattle.service.proofs.clock.tell_time.Goals as goal
+
+pub loop-init : goal.loop-init
+loop-init g c = record { still_open = c.requires.still_open; seats = refl; ticking = ticking_none c.args.port.now }
+
+pub returns-then-not-send_event-clause-ticks : goal.returns-then-not-send_event-clause-ticks
+returns-then-not-send_event-clause-ticks g c =
+    told_gone c.loop.invariant.ticking c.send_event.new.port c.in-Some-seconds_since.now c.if-now-second.false c.if-not-send_event.ensures.sent
+
+pub loop-preserved : goal.loop-preserved
+loop-preserved g c =
+    let sent = c.if-not-send_event.ensures.sent in record {
+      still_open = (let same = sent.still_open in let was = c.loop.invariant.still_open in omega arith);
+      seats = c.send_event.ensures.seats ∙ c.loop.invariant.seats;
+      ticking = ticking_more c.loop.invariant.ticking c.send_event.new.port c.in-Some-seconds_since.now c.if-now-second.false sent;
+    }

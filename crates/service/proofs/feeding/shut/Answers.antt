@@ -1,0 +1,5 @@
+use Rattle.crew.proofs.Keeping.{close_keeps}
+use Rattle.service.proofs.feeding.shut.Goals as goal
+
+pub returns-clause-seats : goal.returns-clause-seats
+returns-clause-seats g c = close_keeps c.close-told.result c.args.port c.close-told.new.self c.close-told.ensures.ends

@@ -1,0 +1,21 @@
+use Rattle.std.proofs.Common.{arith}
+use Rattle.service.proofs.Closed.{ports_len, ports_open}
+use Rattle.service.proofs.running.serve.Goals as goal
+
+pub start_feeders-requires-clause-three : goal.start_feeders-requires-clause-three
+start_feeders-requires-clause-three g c κs within = let three = ports_len c.requires.new.1 in let len = c.args.ports.ok.0 in omega arith
+
+pub start_feeders-requires-clause-still_open : goal.start_feeders-requires-clause-still_open
+start_feeders-requires-clause-still_open g c κs within = ports_open c.requires.new.1 c.requires.some
+
+pub serve_to_end-requires-clause-new : goal.serve_to_end-requires-clause-new
+serve_to_end-requires-clause-new g c = (c.requires.new.0, c.args.ports.items, c.requires.new.1, c.in-Ok.ensures.ports)
+
+pub serve_to_end-requires-clause-errands : goal.serve_to_end-requires-clause-errands
+serve_to_end-requires-clause-errands g c = (c.args.ears.desk.mailboxes.items, c.in-Ok.ensures.errands)
+
+pub wind_up-requires : goal.wind_up-requires
+wind_up-requires g c = (c.requires.new.0, c.args.ports.items, c.requires.new.1)
+
+pub returns-in-Ok : goal.returns-in-Ok
+returns-in-Ok g c = λ start is. c.serve_to_end.ensures start c.args.ports.items c.args.ears.desk.mailboxes.items is c.in-Ok.ensures.ports c.in-Ok.ensures.errands

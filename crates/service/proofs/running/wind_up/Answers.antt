@@ -1,0 +1,13 @@
+use Rattle.std.proofs.Common.{sym}
+use Rattle.crew.proofs.Keeping.{started_end}
+use Rattle.service.proofs.Closed.{taker_new, taker_workers}
+use Rattle.service.proofs.running.wind_up.Goals as goal
+
+pub send_outs-requires-clause-workers : goal.send_outs-requires-clause-workers
+send_outs-requires-clause-workers g c = sym (taker_workers c.requires.2)
+
+pub send_outs-requires-clause-none : goal.send_outs-requires-clause-none
+send_outs-requires-clause-none g c = taker_new c.requires.2
+
+pub join-report-requires-clause-ended : goal.join-report-requires-clause-ended
+join-report-requires-clause-ended g c = started_end c.requires.2 c.send_outs.new.taker c.send_outs.ensures.outbox c.send_outs.ensures.ended

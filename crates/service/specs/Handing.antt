@@ -1,0 +1,31 @@
+-- A service as its functions hand it on. No public contract cites this.
+use Rattle.std.specs.Prelude.{◌≡◌, ◌<◌, ℕ, List, [], ◌∷◌, length, get_or}
+use Rattle.notifier.specs.Start.{Start}
+use Rattle.crew.specs.Ports.{PortSeats}
+use Rattle.crew.specs.Started.{IsStarted}
+use Rattle.wires.specs.declared.udp.UdpWire.{UdpWire}
+use Rattle.service.specs.declared.feeding.Task.TheVariants as task
+use Rattle.service.specs.declared.lines.ControlDesk.{ControlDesk}
+use Rattle.service.specs.declared.running.Feeders.{Feeders}
+use Rattle.service.specs.declared.running.Running.{Running}
+
+-- it was just started with these ports, and workers with these starts
+abbrev pub IsNew : (ℕ → Start) → List PortSeats → Running → Type 0
+IsNew start ports running = IsStarted start running.workers 3 running.crew ports running.taker
+
+-- each port is open
+abbrev pub NoneClosed : List PortSeats → Type 0
+NoneClosed ports = (k : ℕ) (p : PortSeats) → k < length ports → 0 < (get_or ports k p).still_open
+
+-- the threads were given these ports
+abbrev pub AreLent : List PortSeats → Feeders → Type 0
+AreLent ports f = ports ≡ f.sip.promise.port.value ∷ f.lines.promise.port.value ∷ f.time.promise.port.value ∷ []
+
+-- what they are to send, with a desk for these mailboxes
+pub record AreErrands (mailboxes : List (List ℕ)) (f : Feeders) : Type 0 where
+  pub wire : UdpWire
+  pub desk : ControlDesk UdpWire
+  pub sip : f.sip.promise.task.value ≡ task.Datagrams wire
+  pub lines : f.lines.promise.task.value ≡ task.Lines desk
+  pub held : desk.mailboxes.items ≡ mailboxes
+  pub time : f.time.promise.task.value ≡ task.Time

@@ -1,0 +1,75 @@
+-- A service that runs to its end, by the three ports of a crew.
+--
+--   a SIP datagram -> port 0 -+              +-> an answer or a NOTIFY, by the wire
+--   a control line -> port 1 -+-> workers ->-+
+--   a tick         -> port 2 -+              +-> START <tag> <refer_to>, by the writer
+use Rattle.std.specs.Prelude.{◌≡◌, ◌⊎◌, ℕ, List, [], ◌∷◌}
+use Rattle.queue_rule.specs.declared.items.Item.{Item}
+use Rattle.notifier.specs.declared.event.Out.{Out}
+use Rattle.notifier.specs.Start.{Start}
+use Rattle.outbox.specs.Seats.{TakerSeat}
+use Rattle.crew.specs.Ports.{PortSeats, Closes, ClosesSome}
+use Rattle.crew.specs.Kept.{SameSeats}
+use Rattle.crew.specs.Started.{Hired, IsStarted}
+use Rattle.crew.specs.Joined.{IsJoined}
+use Rattle.emitting.specs.declared.sending.EmitReport.{EmitReport}
+use Rattle.emitting.specs.Emitted.{Fates, WireSeen, WriterSeen, IsEmitted}
+use Rattle.network.specs.declared.feeding.FeedEnd.{FeedEnd}
+use Rattle.network.specs.Fed.{Log}
+use Rattle.service.specs.declared.feeding.Task.{Task}
+use Rattle.service.specs.declared.feeding.Task.TheVariants as task
+use Rattle.service.specs.declared.running.Outcome.{Outcome}
+use Rattle.service.specs.Served.{AreServed}
+use Rattle.service.specs.Taken.{Line, AreTaken}
+use Rattle.service.specs.Ticks.{rises_from, AreTold}
+
+-- ---- what a thread sends through its port until it ends
+
+abbrev pub SendsDatagrams : FeedEnd → PortSeats → PortSeats → Type 0
+SendsDatagrams end old new = (log : Log) × AreServed log old new end
+
+abbrev pub SendsLines : List (List ℕ) → FeedEnd → PortSeats → PortSeats → Type 0
+SendsLines mailboxes end old new = (log : List Line) × AreTaken mailboxes log old new end
+
+abbrev pub SendsTicks : FeedEnd → PortSeats → PortSeats → Type 0
+SendsTicks end old new = (times : List ℕ) × rises_from 0 times × AreTold times old new end
+
+abbrev pub SendsFor : Task → FeedEnd → PortSeats → PortSeats → Type 0
+SendsFor (task.Datagrams wire) end old new = SendsDatagrams end old new
+SendsFor (task.Lines desk) end old new = SendsLines desk.mailboxes.items end old new
+SendsFor task.Time end old new = SendsTicks end old new
+
+-- a port was sent through and then closed: each worker has its end mark then, or only some have it where a worker is gone
+pub record ThenCloses (sends : PortSeats → PortSeats → Type 0) (old new : PortSeats) : Type 0 where
+  pub fed_to : PortSeats
+  pub fed : sends old fed_to
+  pub shut : new.still_open ≡ 0
+  pub ends : Closes fed_to new ⊎ ClosesSome fed_to.seats new.seats
+  pub seats : SameSeats old new
+
+-- ---- all of it
+
+-- workers with these starts handled what the three ports sent until all were closed, and each of their outs was sent, written or
+-- failed, in order
+pub record Runs (start : ℕ → Start) (workers : ℕ) (mailboxes : List (List ℕ)) (wire wire' : WireSeen) (writer writer' : WriterSeen) (outcome : Outcome) : Type 0 where
+  -- as it was started
+  pub crew : List Hired
+  pub sip : PortSeats
+  pub lines : PortSeats
+  pub time : PortSeats
+  pub taker : TakerSeat
+  pub started : IsStarted start workers 3 crew (sip ∷ lines ∷ time ∷ []) taker
+  -- what the ports sent
+  pub sip_closed : PortSeats
+  pub lines_closed : PortSeats
+  pub time_closed : PortSeats
+  pub sends_datagrams : ThenCloses (SendsDatagrams outcome.sip) sip sip_closed
+  pub sends_lines : ThenCloses (SendsLines mailboxes outcome.lines) lines lines_closed
+  pub sends_ticks : ThenCloses (SendsTicks outcome.time) time time_closed
+  -- what the workers did with it, and which of their outs were got
+  pub got : List (Item Out)
+  pub joined : IsJoined crew (sip_closed ∷ lines_closed ∷ time_closed ∷ []) got outcome.report.workers.items
+  -- what became of these
+  pub fates : Fates
+  pub emitted_as : EmitReport
+  pub emitted : IsEmitted fates [] got wire wire' writer writer' emitted_as

@@ -1,0 +1,86 @@
+//! The time, sent on.
+ghost use Rattle.std.specs.Prelude.{◌<◌, ℕ, List};
+ghost use Rattle.crew.specs.Kept.{SameSeats};
+ghost use Rattle.service.specs.Ticks.{rises_from, AreTold};
+
+use crate::shared::Shared;
+use crew::Port;
+use network::{FeedEnd, send_event};
+use notifier::Event;
+use std::rt::Clock;
+use std::sync::Wait;
+use std::thread;
+use std::time::{Duration, Instant};
+
+/// How long the clock sleeps at most before it looks whether the service closes, in milliseconds.
+const NAP: u64 = 50;
+
+/// How many seconds pass between two looks at what couldn't be read.
+const MINUTE: u64 = 60;
+
+/// The seconds since then.
+fn seconds_since<R: Clock>(rt: &R, began: Instant) -> Option<u64> {
+    match began.elapsed(rt) {
+        Ok(passed) => Some(passed.as_secs()),
+        Err(_) => None,
+    }
+}
+
+/// What couldn't be read, as it was told once a minute.
+#[derive(Drop)]
+struct Complaint {
+    /// The second of the last look.
+    looked: u64,
+    /// How many datagrams couldn't be read until then.
+    unread: u64,
+}
+
+impl Complaint {
+    /// Says on standard error once a minute how many datagrams couldn't be read in it, if some couldn't.
+    fn look<R: Eprint>(&mut self, rt: &R, shared: &Shared, now: u64) {
+        if now.saturating_sub(self.looked) < MINUTE {
+            return;
+        }
+        let unread = shared.unread();
+        let more = unread.saturating_sub(self.unread);
+        if more > 0 {
+            let _ = eprintln!(rt; "notifyd: {more} datagrams were no SIP messages");
+        }
+        self.looked = now;
+        self.unread = unread;
+    }
+}
+
+/// Sends a tick each second of the monotonic clock, with the seconds since the service began, until it closes, the clock
+/// fails or a worker is gone. Once a minute it says on standard error how many datagrams couldn't be read, if some couldn't.
+/// The port isn't closed.
+pub fn tell_time<R: Wait + Clock + Eprint>(rt: &R, port: &mut Port, shared: &Shared) -> FeedEnd
+    requires still_open { 0 < port.old.still_open }
+    // Ticks are sent to all workers, each later than the one before, and nothing else.
+    ensures ticks { (times : List ℕ) × rises_from 0 times × AreTold times port.old port.new result }
+    ensures seats { SameSeats port.old port.new }
+{
+    let mut complaint = Complaint {
+        looked: 0,
+        unread: 0,
+    };
+    let mut second = 0;
+    for _ in rt.forever() {
+        thread::sleep(rt, Duration::from_millis(NAP));
+        if shared.is_closing() {
+            return FeedEnd::Done;
+        }
+        let Some(now) = seconds_since(rt, shared.began()) else {
+            return FeedEnd::Fault;
+        };
+        complaint.look(rt, shared, now);
+        if now <= second {
+            continue;
+        }
+        if !send_event(rt, port, Event::Tick(now)) {
+            return FeedEnd::Gone;
+        }
+        second = now;
+    }
+    unreachable!()
+}

@@ -1,0 +1,76 @@
+//! What SIP datagrams say, sent on.
+ghost use Rattle.std.specs.Prelude.{◌≡◌, ◌<◌, []};
+ghost use Rattle.crew.specs.Kept.{SameSeats};
+ghost use Rattle.wires.specs.Wires.{Grows};
+ghost use Rattle.network.specs.Fed.{Log, datagrams, failures_at};
+ghost use Rattle.service.specs.Served as spec;
+ghost use Rattle.service.specs.Served.{Gave, AreServed};
+
+use crate::shared::{Counter, Shared};
+use crew::Port;
+use network::{FeedEnd, Told, hear_sip, tell};
+use sip_read::read;
+use std::alloc::Global;
+use std::sync::Wait;
+use wires::Wire;
+
+/// The room for a datagram: none is longer.
+const ROOM: usize = 65536;
+
+/// Counts a datagram by what came of it.
+fn count(alloc: Global, shared: &Shared, told: Told, octets: &[u8]) {
+    shared.count(Counter::Datagram);
+    match told {
+        Told::Sent => shared.count(Counter::Event),
+        Told::Unread => {
+            if let Err(error) = read(alloc, octets) {
+                shared.count_unread(&error);
+            }
+        }
+        Told::Close | Told::Gone => {}
+    }
+}
+
+/// Whether the worker of an event is gone.
+fn is_gone(told: Told) -> bool
+    ensures { result ≡ spec.is_gone told }
+{
+    match told {
+        Told::Gone => true,
+        Told::Sent | Told::Unread | Told::Close => false,
+    }
+}
+
+/// Sends what SIP datagrams say, until the service closes, the wire fails or a worker is gone. What can't be read is counted
+/// and dropped. The datagram that comes after the close is dropped too, so whoever closes sends one. The port isn't closed.
+pub fn hear_datagrams<R: Wait, W: Wire>(
+    rt: &R,
+    alloc: Global,
+    wire: &mut W,
+    port: &mut Port,
+    shared: &Shared,
+) -> FeedEnd
+    requires still_open { 0 < port.old.still_open }
+    ensures served { (log : Log) × Gave (W.given wire.old) (W.given wire.new) (datagrams log) result
+        × AreServed log port.old port.new result }
+    ensures taken { Grows (W.taken wire.old) (W.taken wire.new) [] }
+    ensures failures { W.failures wire.new ≡ failures_at result (W.failures wire.old) }
+    ensures seats { SameSeats port.old port.new }
+{
+    let mut octets = [0; ROOM];
+    for _ in rt.forever() {
+        let Ok((length, source)) = wire.recv(rt, &mut octets) else {
+            return FeedEnd::Fault;
+        };
+        if shared.is_closing() {
+            return FeedEnd::Done;
+        }
+        let heard = hear_sip(alloc, source, &octets[..length]);
+        let told = tell(rt, port, heard);
+        count(alloc, shared, told, &octets[..length]);
+        if is_gone(told) {
+            return FeedEnd::Gone;
+        }
+    }
+    unreachable!()
+}

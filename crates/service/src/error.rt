@@ -1,0 +1,46 @@
+//! Why a service doesn't run.
+
+use crew::StartError;
+use sip_text::NoMemory;
+use std::alloc::{AllocError, AllocFailed};
+use thiserror::Error;
+
+/// Why a service doesn't run.
+#[derive(Clone, Copy, Debug, PartialEq, Eq, Error)]
+pub enum RunError {
+    /// The system refused a thread.
+    #[error("the system refused a thread")]
+    NoThread,
+    /// A growth was refused: there is no memory.
+    #[error("out of memory")]
+    NoMemory,
+}
+
+impl From<NoMemory> for RunError {
+    fn from(_refused: NoMemory) -> RunError {
+        RunError::NoMemory
+    }
+}
+
+impl From<AllocError> for RunError {
+    fn from(_refused: AllocError) -> RunError {
+        RunError::NoMemory
+    }
+}
+
+impl<T: Drop> From<AllocFailed<T>> for RunError {
+    fn from(_refused: AllocFailed<T>) -> RunError {
+        RunError::NoMemory
+    }
+}
+
+impl From<StartError> for RunError {
+    fn from(error: StartError) -> RunError {
+        match error {
+            StartError::NoMemory => RunError::NoMemory,
+            StartError::NoWorkers | StartError::NoPorts | StartError::NoThread => {
+                RunError::NoThread
+            }
+        }
+    }
+}

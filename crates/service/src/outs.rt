@@ -1,0 +1,132 @@
+//! What the workers post, sent out.
+ghost use Rattle.std.specs.Prelude.{◌≡◌, []};
+ghost use Rattle.queue_rule.specs.Ended.{AllEnded};
+ghost use Rattle.wires.specs.Wires.{Grows};
+ghost use Rattle.emitting.specs.declared.sending.EmitReport.{EmitReport};
+ghost use Rattle.emitting.specs.Emitted.{Fates, IsEmitted};
+
+use crate::shared::{Counter, Shared};
+use network::{Fate, put_out};
+use notifier::Out;
+use outbox::{Posted, Taker};
+use scripts::Sink;
+use sip_text::Addr;
+use std::io::Write;
+use std::rt::Clock;
+use std::sync::Wait;
+use std::thread;
+use std::time::Duration;
+use wires::{UdpWire, Wire};
+
+/// How often nothing may be posted before the thread sleeps.
+const TURNS: u32 = 200;
+
+/// How long it sleeps then, in microseconds: much less than a phone notices.
+const NAP: u64 = 500;
+
+/// What an out counts as.
+fn counter_for(out: &Out, fate: Fate) -> Counter {
+    match fate {
+        Fate::Failed => Counter::Failed,
+        Fate::Started => Counter::Start,
+        Fate::Sent => match out {
+            Out::Notify { .. } => Counter::Notify,
+            Out::Answer { .. } | Out::Start { .. } => Counter::Answer,
+        },
+    }
+}
+
+/// Counts what became of an out.
+fn count(shared: &Shared, out: &Out, fate: Fate) {
+    if let Out::Notify {
+        number,
+        terminated,
+        ..
+    } = out
+    {
+        shared.count_notice(*number, *terminated);
+    }
+    shared.count(counter_for(out, fate));
+}
+
+/// What wakes the threads that wait for a datagram, by an empty one at the address of each, so that they see that the service
+/// closes.
+#[derive(Drop)]
+pub struct Bell {
+    pub wire: UdpWire,
+    pub sip: Addr,
+    pub control: Addr,
+}
+
+impl Bell {
+    /// Sends an empty datagram to each address. One that isn't sent is sent again at the next ring.
+    pub fn ring<R: Wait>(&mut self, rt: &R) {
+        let _ = self.wire.send(rt, self.sip, b"");
+        let _ = self.wire.send(rt, self.control, b"");
+    }
+}
+
+/// Waits a little where nothing was posted so many times in a row, and rings while the service closes.
+fn rest<R: Wait + Clock>(rt: &R, bell: &mut Bell, shared: &Shared, idle: u32) {
+    if idle < TURNS {
+        thread::yield_now();
+        return;
+    }
+    if shared.is_closing() {
+        bell.ring(rt);
+    }
+    thread::sleep(rt, Duration::from_micros(NAP));
+}
+
+/// What outs leave by: datagrams by the wire, START lines by the writer.
+#[derive(Drop)]
+pub struct Exit<W, F> {
+    pub wire: W,
+    pub sink: Sink<F>,
+}
+
+/// Sends out what the workers post, in the order in which it is taken, until each has ended: answers and NOTIFYs by the wire,
+/// and a line for each transfer that starts. What fails is counted, and the rest goes on. While the service closes, who listens
+/// is woken. No worker's end mark was taken yet.
+pub fn send_outs<R: Wait + Clock, W: Wire, F: Write>(
+    rt: &R,
+    exit: &mut Exit<W, F>,
+    taker: &mut Taker,
+    workers: u32,
+    bell: &mut Bell,
+    shared: &Shared,
+)
+    requires workers { workers ≡ taker.old.workers }
+    requires none { taker.old.got ≡ [] }
+    // Each out that was taken is sent, written or failed, in order, and nothing else is sent or written.
+    ensures emitted { (log : Fates) × (report : EmitReport) × IsEmitted log taker.old.got taker.new.got
+        (record { taken = W.taken exit.old.wire; failures = W.failures exit.old.wire })
+        (record { taken = W.taken exit.new.wire; failures = W.failures exit.new.wire })
+        (record { contents = F.contents exit.old.sink.writer; failures = exit.old.sink.failures })
+        (record { contents = F.contents exit.new.sink.writer; failures = exit.new.sink.failures }) report }
+    ensures given { Grows (W.given exit.old.wire) (W.given exit.new.wire) [] }
+    ensures outbox { taker.new.outbox ≡ taker.old.outbox }
+    ensures ended { AllEnded taker.old.workers taker.new.got }
+{
+    let mut left = workers;
+    let mut idle = 0u32;
+    for _ in rt.forever() {
+        if left == 0 {
+            return;
+        }
+        match taker.take(rt) {
+            Some(Posted::Ended(_)) => left -= 1,
+            Some(Posted::Out(_, out)) => {
+                idle = 0;
+                let fate = put_out(rt, &mut exit.wire, &mut exit.sink, &out);
+                count(shared, &out, fate);
+                drop(out);
+            }
+            None => {
+                rest(rt, bell, shared, idle);
+                idle = idle.saturating_add(1);
+            }
+        }
+    }
+    unreachable!()
+}

@@ -1,0 +1,268 @@
+//! A crew that runs as a service, to its end.
+ghost use Rattle.std.specs.Prelude.{◌≡◌, ◌<◌, ◌≤◌, ◌∷◌, [], ℕ, List, get_or, vec_len, vec_capacity, IfOk};
+ghost use Rattle.notifier.specs.Start.{Start};
+ghost use Rattle.crew.specs.Ports.{PortSeats};
+ghost use Rattle.crew.specs.Ready.{start_of};
+ghost use Rattle.service.specs.Handing.{IsNew, NoneClosed, AreLent, AreErrands};
+ghost use Rattle.service.specs.Running.{Runs};
+
+use crate::error::RunError;
+use crate::feeding::{Feeder, NoThread, Task, start_feeder};
+use crate::lines::ControlDesk;
+use crate::outs::{Bell, Exit, send_outs};
+use crate::shared::Shared;
+use crew::{Crew, Port, Report};
+use network::FeedEnd;
+use notifier::Setup;
+use outbox::Taker;
+use package::Package;
+use std::alloc::Global;
+use std::io::Write;
+use std::rt::Clock;
+use std::sync::{Arc, Wait};
+use std::thread::Threads;
+use wires::{UdpWire, Wire};
+use worker::Open;
+
+/// What a service works with beside its packages.
+#[derive(Drop)]
+pub struct Work {
+    pub setup: Setup,
+    /// Where SIP datagrams come in.
+    pub sip: UdpWire,
+    /// What takes control lines.
+    pub desk: ControlDesk<UdpWire>,
+    /// What wakes those two.
+    pub bell: Bell,
+    pub shared: Arc<Shared, Global>,
+}
+
+/// What came of a service.
+#[derive(Drop)]
+pub struct Outcome {
+    /// Why no more SIP datagrams were taken.
+    pub sip: FeedEnd,
+    /// Why no more control lines were.
+    pub lines: FeedEnd,
+    /// Why no more time was told.
+    pub time: FeedEnd,
+    /// What each worker did.
+    pub report: Report,
+}
+
+impl Outcome {
+    /// Whether a wire or the clock failed.
+    pub fn is_faulty(&self) -> bool {
+        self.sip == FeedEnd::Fault || self.lines == FeedEnd::Fault || self.time == FeedEnd::Fault
+    }
+}
+
+/// A crew that runs as a service.
+#[derive(Drop)]
+pub(crate) struct Running {
+    pub(crate) crew: Crew,
+    pub(crate) taker: Taker,
+    pub(crate) workers: u32,
+    pub(crate) bell: Bell,
+    pub(crate) shared: Arc<Shared, Global>,
+}
+
+/// What it listens with.
+#[derive(Drop)]
+pub(crate) struct Ears {
+    pub(crate) sip: UdpWire,
+    pub(crate) desk: ControlDesk<UdpWire>,
+}
+
+/// The threads that feed its ports.
+#[derive(Drop)]
+pub(crate) struct Feeders {
+    pub(crate) sip: Feeder,
+    pub(crate) lines: Feeder,
+    pub(crate) time: Feeder,
+}
+
+/// The three ports of a crew.
+fn take_three(ports: &mut Vec<Port>) -> (Port, Port, Port)
+    requires { vec_len ports.old ≡ 3 }
+    ensures all { ports.old.items ≡ result.0 ∷ result.1 ∷ result.2 ∷ [] }
+    ensures none { vec_len ports.new ≡ 0 }
+    ensures capacity { vec_capacity ports.new ≡ vec_capacity ports.old }
+{
+    let Some(third) = ports.pop() else {
+        unreachable!()
+    };
+    let Some(second) = ports.pop() else {
+        unreachable!()
+    };
+    let Some(first) = ports.pop() else {
+        unreachable!()
+    };
+    (first, second, third)
+}
+
+/// Starts a thread for each of the three ports. Where one is refused, those that were started end once the service closes.
+fn start_feeders<R: Threads + Wait + Clock + Eprint + Copy + Send + 'static>(
+    rt: R,
+    alloc: Global,
+    ports: &mut Vec<Port>,
+    ears: Ears,
+    shared: &Arc<Shared, Global>,
+) -> Result<Feeders, NoThread>
+    requires three { vec_len ports.old ≡ 3 }
+    requires still_open { NoneClosed ports.old.items }
+    ensures ports { IfOk result (λ f. AreLent ports.old.items f) }
+    ensures errands { IfOk result (λ f. AreErrands ears.desk.mailboxes.items f) }
+    ensures none { vec_len ports.new ≡ 0 }
+    ensures capacity { vec_capacity ports.new ≡ vec_capacity ports.old }
+{
+    let (first, second, third) = take_three(ports);
+    let Ears { sip, desk } = ears;
+    let time = start_feeder(rt, alloc, third, Task::Time, shared)?;
+    let lines = start_feeder(rt, alloc, second, Task::Lines(desk), shared)?;
+    let sip = start_feeder(rt, alloc, first, Task::Datagrams(sip), shared)?;
+    Ok(Feeders { sip, lines, time })
+}
+
+/// Closes a service whose ports are gone or ending, and waits for the end of its crew.
+fn wind_up<R: Threads + Wait + Clock, W: Wire, F: Write>(
+    rt: &R,
+    alloc: Global,
+    running: Running,
+    exit: &mut Exit<W, F>,
+)
+    requires { (start : ℕ → Start) × (ports : List PortSeats) × IsNew start ports running }
+{
+    let Running {
+        crew,
+        mut taker,
+        workers,
+        mut bell,
+        shared,
+    } = running;
+    shared.close();
+    send_outs(rt, exit, &mut taker, workers, &mut bell, &shared);
+    shared.finish();
+    bell.ring(rt);
+    let report = crew.join(rt, Vec::new(alloc), taker);
+    drop(report);
+}
+
+/// Sends out what the workers post until the ports have ended, and joins all threads. There is room for the ports.
+fn serve_to_end<R: Threads + Wait + Clock, W: Wire, F: Write>(
+    rt: &R,
+    running: Running,
+    mut ports: Vec<Port>,
+    feeders: Feeders,
+    exit: &mut Exit<W, F>,
+) -> Outcome
+    requires new { (start : ℕ → Start) × (lent : List PortSeats) × IsNew start lent running × AreLent lent feeders }
+    requires errands { (mailboxes : List (List ℕ)) × AreErrands mailboxes feeders }
+    requires room { (vec_len ports ≡ 0) × (3 ≤ vec_capacity ports) }
+    ensures { (start : ℕ → Start) (lent : List PortSeats) (mailboxes : List (List ℕ))
+        → IsNew start lent running → AreLent lent feeders → AreErrands mailboxes feeders
+        → Runs start running.workers mailboxes
+        (record { taken = W.taken exit.old.wire; failures = W.failures exit.old.wire })
+        (record { taken = W.taken exit.new.wire; failures = W.failures exit.new.wire })
+        (record { contents = F.contents exit.old.sink.writer; failures = exit.old.sink.failures })
+        (record { contents = F.contents exit.new.sink.writer; failures = exit.new.sink.failures }) result }
+{
+    let Running {
+        crew,
+        mut taker,
+        workers,
+        mut bell,
+        shared,
+    } = running;
+    send_outs(rt, exit, &mut taker, workers, &mut bell, &shared);
+    shared.finish();
+    bell.ring(rt);
+    let Feeders { sip, lines, time } = feeders;
+    let sip = sip.join(rt);
+    let lines = lines.join(rt);
+    let time = time.join(rt);
+    ports.push_reserved(sip.port);
+    ports.push_reserved(lines.port);
+    ports.push_reserved(time.port);
+    let report = crew.join(rt, ports, taker);
+    Outcome {
+        sip: sip.end,
+        lines: lines.end,
+        time: time.end,
+        report,
+    }
+}
+
+/// Has a crew that was just started run as a service to its end, and joins it. Where a thread is refused all that was started
+/// ends.
+fn serve<R, W, F>(
+    rt: R,
+    alloc: Global,
+    running: Running,
+    mut ports: Vec<Port>,
+    ears: Ears,
+    exit: &mut Exit<W, F>,
+) -> Result<Outcome, RunError>
+where
+    R: Threads + Wait + Clock + Eprint + Copy + Send + 'static,
+    W: Wire,
+    F: Write,
+    requires some { 0 < running.workers }
+    requires new { (start : ℕ → Start) × IsNew start ports.items running }
+    ensures { IfOk result (λ o. (start : ℕ → Start) → IsNew start ports.items running
+        → Runs start running.workers ears.desk.mailboxes.items
+        (record { taken = W.taken exit.old.wire; failures = W.failures exit.old.wire })
+        (record { taken = W.taken exit.new.wire; failures = W.failures exit.new.wire })
+        (record { contents = F.contents exit.old.sink.writer; failures = exit.old.sink.failures })
+        (record { contents = F.contents exit.new.sink.writer; failures = exit.new.sink.failures }) o) }
+{
+    match start_feeders(rt, alloc, &mut ports, ears, &running.shared) {
+        Ok(feeders) => Ok(serve_to_end(&rt, running, ports, feeders, exit)),
+        Err(_) => {
+            wind_up(&rt, alloc, running, exit);
+            Err(RunError::NoThread)
+        }
+    }
+}
+
+/// Runs a crew with these packages as a service: a thread for each of three ports feeds it, with what SIP datagrams say, with
+/// what control lines tell, and with the time, while this one sends out what the workers post; then all are joined.
+pub fn run_crew<R, P, W, F>(
+    rt: R,
+    alloc: Global,
+    boxes: Vec<Vec<P>>,
+    work: Work,
+    exit: &mut Exit<W, F>,
+) -> Result<Outcome, RunError>
+where
+    R: Threads + Wait + Clock + Eprint + Copy + Send + 'static,
+    P: Package + 'static,
+    W: Wire,
+    F: Write,
+    requires few_workers { vec_len boxes ≤ 256 }
+    ensures runs { IfOk result (λ o. (b : _)
+        → Runs (λ w. start_of P.seen work.setup w (get_or boxes.items w b).items) (vec_len boxes) work.desk.mailboxes.items
+        (record { taken = W.taken exit.old.wire; failures = W.failures exit.old.wire })
+        (record { taken = W.taken exit.new.wire; failures = W.failures exit.new.wire })
+        (record { contents = F.contents exit.old.sink.writer; failures = exit.old.sink.failures })
+        (record { contents = F.contents exit.new.sink.writer; failures = exit.new.sink.failures }) o) }
+{
+    let Work {
+        setup,
+        sip,
+        desk,
+        bell,
+        shared,
+    } = work;
+    let workers = boxes.len() as u32;
+    let gate = Arc::new(alloc, Open)?;
+    let (crew, ports, taker) = Crew::start(rt, alloc, &setup, 3, boxes, gate)?;
+    let running = Running {
+        crew,
+        taker,
+        workers,
+        bell,
+        shared,
+    };
+    serve(rt, alloc, running, ports, Ears { sip, desk }, exit)
+}

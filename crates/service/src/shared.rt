@@ -1,0 +1,163 @@
+//! What the threads of a service share: how far it is, and what they counted.
+
+use sip_read::ReadError;
+use sip_text::NoMemory;
+use std::alloc::Global;
+use std::sync::atomic::{AtomicBool, AtomicU64, Ordering};
+use std::time::Instant;
+
+/// How far a service is, and what its threads have counted since it began.
+#[derive(Drop)]
+pub struct Shared {
+    began: Instant,
+    is_closing: AtomicBool,
+    is_finished: AtomicBool,
+    datagrams: AtomicU64,
+    unread: [AtomicU64; 7],
+    events: AtomicU64,
+    answers: AtomicU64,
+    notifies: AtomicU64,
+    starts: AtomicU64,
+    failed: AtomicU64,
+    begun: AtomicU64,
+    over: AtomicU64,
+}
+
+/// What is counted, each by one.
+#[derive(Clone, Copy)]
+pub enum Counter {
+    /// A datagram came.
+    Datagram,
+    /// An event went to a worker.
+    Event,
+    /// An answer was sent.
+    Answer,
+    /// A NOTIFY was sent.
+    Notify,
+    /// A transfer was told to start.
+    Start,
+    /// An out was not sent or written.
+    Failed,
+}
+
+impl Shared {
+    /// Of a service that begins now.
+    pub fn new(began: Instant) -> Shared {
+        Shared {
+            began,
+            is_closing: AtomicBool::new(false),
+            is_finished: AtomicBool::new(false),
+            datagrams: AtomicU64::new(0),
+            unread: [
+                AtomicU64::new(0),
+                AtomicU64::new(0),
+                AtomicU64::new(0),
+                AtomicU64::new(0),
+                AtomicU64::new(0),
+                AtomicU64::new(0),
+                AtomicU64::new(0),
+            ],
+            events: AtomicU64::new(0),
+            answers: AtomicU64::new(0),
+            notifies: AtomicU64::new(0),
+            starts: AtomicU64::new(0),
+            failed: AtomicU64::new(0),
+            begun: AtomicU64::new(0),
+            over: AtomicU64::new(0),
+        }
+    }
+
+    /// When the service began.
+    pub fn began(&self) -> Instant {
+        self.began
+    }
+
+    /// Whether no more is taken.
+    pub fn is_closing(&self) -> bool {
+        self.is_closing.load(Ordering::SeqCst)
+    }
+
+    /// From now on no more is taken.
+    pub fn close(&self) {
+        self.is_closing.store(true, Ordering::SeqCst);
+    }
+
+    /// Whether all was sent out.
+    pub fn is_finished(&self) -> bool {
+        self.is_finished.load(Ordering::SeqCst)
+    }
+
+    /// All was sent out.
+    pub fn finish(&self) {
+        self.is_finished.store(true, Ordering::SeqCst);
+    }
+
+    /// Counts one.
+    pub fn count(&self, counter: Counter) {
+        let counted = match counter {
+            Counter::Datagram => &self.datagrams,
+            Counter::Event => &self.events,
+            Counter::Answer => &self.answers,
+            Counter::Notify => &self.notifies,
+            Counter::Start => &self.starts,
+            Counter::Failed => &self.failed,
+        };
+        counted.fetch_add(1, Ordering::SeqCst);
+    }
+
+    /// Counts a datagram that couldn't be read for this reason.
+    pub fn count_unread(&self, error: &ReadError) {
+        let place = (error.number() as usize).saturating_sub(1);
+        if let Some(counted) = self.unread.get(place) {
+            counted.fetch_add(1, Ordering::SeqCst);
+        }
+    }
+
+    /// Counts the subscriptions that began, and those whose end was told, by the NOTIFY with this number.
+    pub fn count_notice(&self, number: u32, is_terminated: bool) {
+        if number == 1 && !is_terminated {
+            self.begun.fetch_add(1, Ordering::SeqCst);
+        }
+        if number > 1 && is_terminated {
+            self.over.fetch_add(1, Ordering::SeqCst);
+        }
+    }
+
+    /// How many datagrams couldn't be read.
+    pub fn unread(&self) -> u64 {
+        let mut sum = 0u64;
+        for counted in &self.unread {
+            sum = sum.saturating_add(counted.load(Ordering::SeqCst));
+        }
+        sum
+    }
+
+    /// The counters, each on a line of its own, behind the seconds that the service is up. The datagrams that couldn't be
+    /// read are counted by the number of the error, from 1.
+    pub fn lines(&self, alloc: Global, seconds: u64) -> Result<String, NoMemory> {
+        let mut text = format!(in alloc; "up {seconds}\n")?;
+        let named = [
+            ("datagrams", &self.datagrams),
+            ("events", &self.events),
+            ("answers", &self.answers),
+            ("notifies", &self.notifies),
+            ("starts", &self.starts),
+            ("failed", &self.failed),
+            ("begun", &self.begun),
+            ("over", &self.over),
+        ];
+        for (name, counted) in named {
+            let count = counted.load(Ordering::SeqCst);
+            let line = format!(in alloc; "{name} {count}\n")?;
+            text.push_str(line.as_str())?;
+        }
+        text.push_str("unread")?;
+        for counted in &self.unread {
+            let count = counted.load(Ordering::SeqCst);
+            let word = format!(in alloc; " {count}")?;
+            text.push_str(word.as_str())?;
+        }
+        text.push_str("\n")?;
+        Ok(text)
+    }
+}

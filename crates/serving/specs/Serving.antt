@@ -1,0 +1,51 @@
+-- A service that an operator runs, from its words to its end.
+use Rattle.std.specs.Prelude.{◌≡◌, ◌≢◌, ℕ, false, List, Option}
+use Rattle.sip_text.specs.declared.address.Addr.{Addr}
+use Rattle.scripts.specs.declared.device.Sink.{Sink}
+use Rattle.notifier.specs.Start.{Start, place_of}
+use Rattle.server.specs.Call.{boxes_with, names_for}
+use Rattle.emitting.specs.Emitted.{WireSeen, WriterSeen}
+use Rattle.service.specs.declared.running.Outcome.{Outcome}
+use Rattle.service.specs.declared.running.Work.{Work}
+use Rattle.service.specs.Running.{Runs}
+use Rattle.serving.specs.declared.plan.Plan.{Plan}
+use Rattle.serving.specs.Plans.{IsPlan, setup_of}
+
+-- a socket is here, where port 0 stands for a port of the machine's choice
+pub record IsAt (asked local : Addr) : Type 0 where
+  pub ip : local.ip ≡ asked.ip
+  pub port : asked.port ≢ 0 → local.port ≡ asked.port
+
+-- a worker, with the mailboxes whose keys go to it, each with no class set, and no transfer
+abbrev pub start_at : Plan → Addr → ℕ → Start
+start_at plan local worker = record {
+  place = place_of (setup_of plan local) worker;
+  boxes = boxes_with (names_for plan.workers worker plan.mailboxes.items);
+}
+
+-- what the plan asks for, with a socket here
+pub record IsWork (plan : Plan) (local : Addr) (work : Work) : Type 0 where
+  pub setup : work.setup ≡ setup_of plan local
+  pub mailboxes : work.desk.mailboxes.items ≡ plan.mailboxes.items
+
+abbrev pub writer_seen : {W : Type 0} → (W → Option (List ℕ)) → Sink W → WriterSeen
+writer_seen contents sink = record { contents = contents sink.writer; failures = sink.failures }
+
+-- a writer that was not written to
+abbrev pub new_sink : {W : Type 0} → W → Sink W
+new_sink writer = record { writer = writer; failures = 0; is_flushed = false }
+
+module _ {W : Type 0} (contents : W → Option (List ℕ)) where
+  -- a crew ran as a service to its end, over some wire
+  pub record Ran (start : ℕ → Start) (workers : ℕ) (mailboxes : List (List ℕ)) (before after : Sink W) (outcome : Outcome) : Type 0 where
+    pub wire : WireSeen
+    pub wire' : WireSeen
+    pub runs : Runs start workers mailboxes wire wire' (writer_seen contents before) (writer_seen contents after) outcome
+
+  -- the words ask for a service, which ran to its end
+  pub record Serves (words : List (List ℕ)) (before after : Sink W) (outcome : Outcome) : Type 0 where
+    pub plan : Plan
+    pub is_plan : IsPlan words plan
+    pub local : Addr
+    pub is_at : IsAt plan.choices.listen local
+    pub ran : Ran (start_at plan local) plan.workers plan.mailboxes.items before after outcome

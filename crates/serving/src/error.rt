@@ -1,0 +1,110 @@
+//! Why a service doesn't run.
+
+use options::{Flag, OptionsError, Place};
+use service::RunError;
+use sip_text::{NoMemory, Text};
+use std::alloc::{AllocError, AllocFailed};
+use std::io;
+use thiserror::Error;
+
+/// Why a service doesn't run, or has ended. The text is one line.
+#[derive(Debug, Drop, Error)]
+pub enum ServeError {
+    /// The arguments ask for no service.
+    #[error("{0}")]
+    Options(OptionsError),
+    /// The times of the limits don't go together.
+    #[error("times that don't go together: --min-time up to --default-time and --refer-time, and these up to --max-time")]
+    Times,
+    /// The service listens at every address, and none is named by which phones reach it.
+    #[error("--listen 0.0.0.0 needs an address for phones: --contact <a.b.c.d:port>")]
+    NoContact,
+    /// No mailbox is named.
+    #[error("no mailbox: name some, or a file of them with --mailboxes <file>")]
+    NoMailbox,
+    /// A file of mailboxes can't be read.
+    #[error("no such file, or it can't be read: {path}", path = .0.as_str())]
+    File(Text),
+    /// A line of a file of mailboxes names none.
+    #[error("{path}, line {line}: {error}", path = .0.as_str(), line = .1, error = .2)]
+    Line(Text, u64, OptionsError),
+    /// The address of an option can't be had: its port is in use, or it isn't this machine's.
+    #[error("a port in use, or an address not of this machine: {option}", option = .0.text())]
+    Address(Place),
+    /// The system gave no randomness, no clock or no thread.
+    #[error("the system refused a thread, the clock or randomness")]
+    System,
+    /// A socket failed while the service ran.
+    #[error("device fault")]
+    Device,
+    /// A growth was refused: there is no memory.
+    #[error("out of memory")]
+    NoMemory,
+}
+
+/// The exit status where the words can't be read. An address in another form may be a host that can't be found.
+fn options_status(error: &OptionsError) -> u8 {
+    match error {
+        OptionsError::NoMemory => 4,
+        OptionsError::Bad(Flag::Address(_)) => 3,
+        OptionsError::Bad(_)
+        | OptionsError::Missing(_)
+        | OptionsError::Unknown(_)
+        | OptionsError::NoMailbox(_) => 1,
+    }
+}
+
+impl ServeError {
+    /// The exit status of the program: 1 where the words ask for no service, 4 where memory was wanted, and else 3.
+    pub fn status(&self) -> u8 {
+        match self {
+            ServeError::Options(error) => options_status(error),
+            ServeError::Times | ServeError::NoContact | ServeError::NoMailbox => 1,
+            ServeError::Line(_, _, OptionsError::NoMemory) | ServeError::NoMemory => 4,
+            ServeError::Line(..)
+            | ServeError::File(_)
+            | ServeError::Address(_)
+            | ServeError::System
+            | ServeError::Device => 3,
+        }
+    }
+}
+
+impl From<OptionsError> for ServeError {
+    fn from(error: OptionsError) -> ServeError {
+        ServeError::Options(error)
+    }
+}
+
+impl From<NoMemory> for ServeError {
+    fn from(_refused: NoMemory) -> ServeError {
+        ServeError::NoMemory
+    }
+}
+
+impl From<AllocError> for ServeError {
+    fn from(_refused: AllocError) -> ServeError {
+        ServeError::NoMemory
+    }
+}
+
+impl<T: Drop> From<AllocFailed<T>> for ServeError {
+    fn from(_refused: AllocFailed<T>) -> ServeError {
+        ServeError::NoMemory
+    }
+}
+
+impl From<RunError> for ServeError {
+    fn from(error: RunError) -> ServeError {
+        match error {
+            RunError::NoThread => ServeError::System,
+            RunError::NoMemory => ServeError::NoMemory,
+        }
+    }
+}
+
+impl From<io::Error> for ServeError {
+    fn from(_error: io::Error) -> ServeError {
+        ServeError::Device
+    }
+}

@@ -1,0 +1,23 @@
+//! The server that an operator runs: `notifyd serve`, and `notifyd tell`, which tells it what happened.
+//!
+//! [`serve`] reads the words behind it and the files that they name, binds the sockets, runs the crate `service` until a CLOSE or
+//! a fault of a socket, writes what its workers did, and answers the exit status of the program. [`serve_words`] is all of it up
+//! to that end, over any writer. [`tell`] sends a control line to a service that runs, and prints the answer.
+//!
+//! What it isn't: what the threads of a service do is `service`'s, what the words mean `options`'s, and what a control line
+//! says `telling`'s. Of what is printed no contract tells. Begin with [`serve_words`], then `specs/Plans` and `specs/Serving`.
+#![tactic(auto)]
+
+mod asking;
+mod error;
+mod help;
+mod logging;
+mod mailboxes;
+pub mod plan;
+pub mod program;
+mod sockets;
+
+pub use asking::tell;
+pub use error::ServeError;
+pub use plan::Plan;
+pub use program::{Served, serve, serve_words};

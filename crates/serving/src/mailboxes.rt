@@ -1,0 +1,82 @@
+//! The mailboxes that the settings of a service name, by themselves or by files.
+ghost use Rattle.std.specs.Prelude.{IfOk};
+ghost use Rattle.std.specs.List.{All};
+ghost use Rattle.options.specs.Settings.{IsMailbox};
+ghost use Rattle.serving.specs.Plans.{Names, AreNamed};
+
+use crate::error::ServeError;
+use options::{Setting, mailbox_in};
+use sip_text::Text;
+use std::alloc::Global;
+use std::fs;
+use std::io::{BufRead, BufReader};
+use std::rt::Files;
+
+/// The mailboxes that the lines of a file name.
+fn read_names<B: BufRead + Drop>(
+    alloc: Global,
+    reader: B,
+    path: &Text,
+) -> Result<Vec<Text>, ServeError>
+    ensures { IfOk result (λ names. All IsMailbox names.items) }
+{
+    let mut names = Vec::new(alloc);
+    let mut number = 0u64;
+    for line in reader.lines(alloc) {
+        let Ok(line) = line else {
+            return Err(ServeError::File(path.copy(alloc)?));
+        };
+        number = number.saturating_add(1);
+        match mailbox_in(alloc, line.as_str()) {
+            Ok(Some(name)) => names.push(name)?,
+            Ok(None) => {}
+            Err(error) => return Err(ServeError::Line(path.copy(alloc)?, number, error)),
+        }
+    }
+    Ok(names)
+}
+
+/// The mailboxes that the file at this path names.
+fn names_at<R: Files + AllocGlobal>(rt: &R, path: &Text) -> Result<Vec<Text>, ServeError>
+    ensures { IfOk result (λ names. All IsMailbox names.items) }
+{
+    let alloc = rt.alloc();
+    match fs::open(rt, path.as_str()) {
+        Ok(file) => read_names(alloc, BufReader::new(alloc, file)?, path),
+        Err(_) => Err(ServeError::File(path.copy(alloc)?)),
+    }
+}
+
+/// The mailboxes that one setting names.
+fn names_of<R: Files + AllocGlobal>(rt: &R, setting: &Setting) -> Result<Vec<Text>, ServeError>
+    ensures { IfOk result (λ names. Names setting.now names.items) }
+{
+    match setting {
+        Setting::Mailbox(name) => {
+            let mut names = Vec::new(rt.alloc());
+            names.push(name.copy(rt.alloc())?)?;
+            Ok(names)
+        }
+        Setting::MailboxFile(path) => names_at(rt, path),
+        Setting::Address(..)
+        | Setting::Number(..)
+        | Setting::Seed(_)
+        | Setting::KeepSubscriptions => { Ok(Vec::new(rt.alloc())) }
+    }
+}
+
+/// The mailboxes that the settings name, in order. A file that can't be read, or with a line that names no mailbox, is an
+/// error.
+pub(crate) fn mailboxes_of<R: Files + AllocGlobal>(
+    rt: &R,
+    settings: &[Setting],
+) -> Result<Vec<Text>, ServeError>
+    ensures { IfOk result (λ names. AreNamed settings.now names.items) }
+{
+    let mut names = Vec::new(rt.alloc());
+    for setting in settings {
+        let mut more = names_of(rt, setting)?;
+        names.append(&mut more)?;
+    }
+    Ok(names)
+}

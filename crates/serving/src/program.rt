@@ -1,0 +1,202 @@
+//! `notifyd serve`.
+ghost use Rattle.std.specs.Prelude.{◌≡◌, ◌≤◌, get_or, vec_len, IfOk};
+ghost use Rattle.crew.specs.Ready.{start_of};
+ghost use Rattle.server.specs.Boxes.{box_seen};
+ghost use Rattle.serving.specs.Serving.{IsWork, Ran, Serves, new_sink};
+
+use crate::error::ServeError;
+use crate::help::text_for;
+use crate::logging::{say_goodbye, say_hello};
+use crate::plan::{Plan, plan_of, setup_of};
+use crate::sockets::{Sockets, open};
+use crew::{End, WorkerReport};
+use scripts::{Sink, write_page};
+use server::{Boxes, boxes_for};
+use service::{ControlDesk, Exit, Outcome, Shared, Work, run_crew};
+use sip_text::Text;
+use std::alloc::Global;
+use std::io;
+use std::io::Write;
+use std::net::Net;
+use std::random::RandomSource;
+use std::rt::{Clock, Files};
+use std::sync::{Arc, Wait};
+use std::thread::Threads;
+use std::time::Instant;
+use udp_program::worker_lines;
+use wires::UdpWire;
+
+/// A service that has ended: what came of it, and what its lines of transfers were written to.
+#[derive(Drop)]
+pub struct Served<F> {
+    pub outcome: Outcome,
+    pub sink: Sink<F>,
+    pub shared: Arc<Shared, Global>,
+}
+
+/// What the threads of a service share, which begins now: twice.
+fn begin<R: Clock + AllocGlobal>(
+    rt: &R,
+) -> Result<(Arc<Shared, Global>, Arc<Shared, Global>), ServeError> {
+    let shared = Arc::new(rt.alloc(), Shared::new(Instant::now(rt)?))?;
+    let theirs = Arc::try_clone(&shared)?;
+    Ok((shared, theirs))
+}
+
+/// What a service works with: the plan over these sockets, and the wire by which its outs go.
+fn work_of(plan: Plan, sockets: Sockets, shared: Arc<Shared, Global>) -> (Work, UdpWire)
+    ensures { IsWork plan sockets.bell.sip result.0 }
+{
+    let Sockets {
+        sip,
+        outgoing,
+        lines,
+        replies,
+        bell,
+    } = sockets;
+    let setup = setup_of(&plan, bell.sip);
+    let desk = ControlDesk {
+        coming: lines,
+        going: replies,
+        mailboxes: plan.mailboxes,
+    };
+    let work = Work {
+        setup,
+        sip,
+        desk,
+        bell,
+        shared,
+    };
+    (work, outgoing)
+}
+
+/// Runs a service to its end, with these packages of its workers.
+fn run<R, F>(
+    rt: R,
+    boxes: Vec<Boxes>,
+    work: Work,
+    shared: Arc<Shared, Global>,
+    exit: Exit<UdpWire, F>,
+) -> Result<Served<F>, ServeError>
+where
+    R: Threads + Wait + Clock + Eprint + AllocGlobal + Copy + Send + 'static,
+    F: Write + Drop,
+    requires few_workers { vec_len boxes ≤ 256 }
+    ensures { IfOk result (λ s. (b : _)
+        → Ran F.contents (λ w. start_of box_seen work.setup w (get_or boxes.items w b).items) (vec_len boxes)
+        work.desk.mailboxes.items exit.sink s.sink s.outcome) }
+{
+    let mut exit = exit;
+    let outcome = run_crew(rt, rt.alloc(), boxes, work, &mut exit)?;
+    Ok(Served {
+        outcome,
+        sink: exit.sink,
+        shared,
+    })
+}
+
+/// Runs the service that the words behind `serve` ask for until a CLOSE or a fault, and says on standard error where it is.
+pub fn serve_words<R, F>(rt: R, words: &[Text], writer: F) -> Result<Served<F>, ServeError>
+where
+    R: Threads
+        + Wait
+        + Net
+        + Clock
+        + Files
+        + RandomSource
+        + Eprint
+        + AllocGlobal
+        + Copy
+        + Send
+        + 'static,
+    F: Write + Drop,
+    // It ran as the words ask for it: what its ports sent, what its workers did with it, and what became of their outs.
+    ensures { IfOk result (λ s. Serves F.contents words.now (new_sink writer) s.sink s.outcome) }
+{
+    let plan = plan_of(&rt, words)?;
+    let boxes = boxes_for(rt.alloc(), plan.mailboxes.as_slice(), plan.workers)?;
+    let sockets = open(&rt, &plan.choices)?;
+    let (shared, theirs) = begin(&rt)?;
+    say_hello(&rt, &sockets.bell, plan.workers, plan.mailboxes.len())?;
+    let (work, wire) = work_of(plan, sockets, theirs);
+    let sink = Sink::new(writer);
+    run(rt, boxes, work, shared, Exit { wire, sink })
+}
+
+/// Whether each worker came to the end of what was sent to it.
+fn all_closed(reports: &[WorkerReport]) -> bool {
+    reports.iter().all(|report| report.end == End::Closed)
+}
+
+/// Writes what the workers did, says goodbye, and tells whether all went well.
+fn close_off<R, F>(rt: &R, served: &mut Served<F>) -> Result<(), ServeError>
+where
+    R: Clock + Eprint + AllocGlobal,
+    F: Write,
+{
+    let reports = served.outcome.report.workers.as_slice();
+    let lines = worker_lines(rt.alloc(), reports)?;
+    let is_closed = all_closed(reports);
+    let written = write_page(&mut served.sink, lines.as_bytes());
+    say_goodbye(rt, &served.shared)?;
+    if written.is_err() || served.outcome.is_faulty() {
+        return Err(ServeError::Device);
+    }
+    if is_closed {
+        Ok(())
+    } else {
+        Err(ServeError::NoMemory)
+    }
+}
+
+/// Runs the service that the words ask for, to its end.
+fn attempt<R>(rt: R, words: &[Text]) -> Result<(), ServeError>
+where
+    R: Threads
+        + Wait
+        + Net
+        + Clock
+        + Files
+        + RandomSource
+        + Print
+        + Eprint
+        + AllocGlobal
+        + Copy
+        + Send
+        + 'static,
+{
+    let mut served = serve_words(rt, words, io::writer(&rt))?;
+    close_off(&rt, &mut served)
+}
+
+/// `notifyd serve` with these words behind it. Answers the exit status: 0 at a CLOSE, 1 where the words ask for no service, 3
+/// where a socket, a file or a thread failed, 4 where memory was wanted. What went wrong is told in one line on standard error.
+pub fn serve<R>(rt: R, words: &[Text]) -> u8
+where
+    R: Threads
+        + Wait
+        + Net
+        + Clock
+        + Files
+        + RandomSource
+        + Print
+        + Eprint
+        + AllocGlobal
+        + Copy
+        + Send
+        + 'static,
+{
+    if let Some(text) = text_for(words) {
+        return match println!(rt; "{text}") {
+            Ok(()) => 0,
+            Err(_) => 3,
+        };
+    }
+    match attempt(rt, words) {
+        Ok(()) => 0,
+        Err(error) => {
+            let _ = eprintln!(rt; "notifyd: {error}");
+            error.status()
+        }
+    }
+}

@@ -1,0 +1,61 @@
+//! The sockets of a service.
+ghost use Rattle.std.specs.Prelude.{◌≡◌, IfOk};
+ghost use Rattle.serving.specs.Serving.{IsAt};
+
+use crate::error::ServeError;
+use options::{Choices, Place};
+use service::Bell;
+use sip_text::Addr;
+use std::net::Net;
+use std::sync::Wait;
+use wires::UdpWire;
+
+/// The sockets of a service, open: each of two addresses has a wire that receives and one that sends.
+#[derive(Drop)]
+pub(crate) struct Sockets {
+    pub(crate) sip: UdpWire,
+    pub(crate) outgoing: UdpWire,
+    pub(crate) lines: UdpWire,
+    pub(crate) replies: UdpWire,
+    pub(crate) bell: Bell,
+}
+
+/// Two wires over a socket at this address, which an option named.
+fn bind<R: Wait + Net>(rt: &R, place: Place, addr: Addr) -> Result<(UdpWire, UdpWire), ServeError>
+    ensures { IfOk result (λ r. IsAt addr r.0.local) }
+{
+    match UdpWire::bind_at(rt, addr) {
+        Ok(wires) => Ok(wires),
+        Err(_) => Err(ServeError::Address(place)),
+    }
+}
+
+/// What wakes the threads that listen at these addresses.
+fn bell_for<R: Wait + Net>(rt: &R, sip: Addr, control: Addr) -> Result<Bell, ServeError>
+    ensures { IfOk result (λ bell. bell.sip ≡ sip) }
+{
+    let any = Addr {
+        ip: [0; 4],
+        port: 0,
+    };
+    match UdpWire::bind_at(rt, any) {
+        Ok((wire, _)) => Ok(Bell { wire, sip, control }),
+        Err(_) => Err(ServeError::System),
+    }
+}
+
+/// Opens the sockets.
+pub(crate) fn open<R: Wait + Net>(rt: &R, choices: &Choices) -> Result<Sockets, ServeError>
+    ensures { IfOk result (λ s. IsAt choices.now.listen s.bell.sip) }
+{
+    let (sip, outgoing) = bind(rt, Place::Listen, choices.listen)?;
+    let (lines, replies) = bind(rt, Place::Control, choices.control)?;
+    let bell = bell_for(rt, sip.local(), lines.local())?;
+    Ok(Sockets {
+        sip,
+        outgoing,
+        lines,
+        replies,
+        bell,
+    })
+}

@@ -1,0 +1,83 @@
+//! A speaker over a UDP socket.
+ghost use Rattle.std.specs.Prelude.{◌≡◌, ◌≤◌, ℕ, length, Ok, Some};
+
+use crate::asking::{Speaker, SpeakerFault};
+use sip_text::Addr;
+use std::io;
+use std::io::ErrorKind;
+use std::net::{IpAddr, Ipv4Addr, Net, SocketAddr, UdpSocket};
+use std::sync::Wait;
+use std::time::Duration;
+
+/// How long is waited for an answer, in milliseconds.
+const PATIENCE: u64 = 200;
+
+/// A speaker over a UDP socket (IPv4) that hears one service alone.
+#[derive(Drop)]
+pub struct UdpSpeaker {
+    socket: UdpSocket,
+    asked: u64,
+}
+
+impl From<io::Error> for SpeakerFault {
+    fn from(_error: io::Error) -> SpeakerFault {
+        SpeakerFault
+    }
+}
+
+/// This address as the system's.
+fn system_addr(addr: Addr) -> SocketAddr {
+    SocketAddr::new(IpAddr::V4(Ipv4Addr::from_octets(addr.ip)), addr.port)
+}
+
+impl UdpSpeaker {
+    /// A speaker for the service whose control lines come in at this address. It has asked nothing yet.
+    pub fn to<R: Wait + Net>(rt: &R, service: Addr) -> Result<UdpSpeaker, SpeakerFault> {
+        let any = Addr {
+            ip: [0; 4],
+            port: 0,
+        };
+        let socket = UdpSocket::bind(rt, system_addr(any))?;
+        socket.connect(system_addr(service))?;
+        socket.set_read_timeout(Some(Duration::from_millis(PATIENCE)))?;
+        Ok(UdpSpeaker { socket, asked: 0 })
+    }
+}
+
+/// Whether this says that nobody is there, or nobody answered in time.
+fn is_silence(kind: ErrorKind) -> bool {
+    matches!(
+        kind,
+        ErrorKind::WouldBlock | ErrorKind::TimedOut | ErrorKind::ConnectionRefused
+    )
+}
+
+/// Sends a line and waits for an answer.
+fn exchange(socket: &UdpSocket, line: &[u8], room: &mut [u8]) -> Result<Option<usize>, SpeakerFault>
+    ensures { (n : ℕ) → result ≡ Ok (Some n) → n ≤ length room.new }
+{
+    match socket.send(line) {
+        Ok(_) => {}
+        Err(error) if is_silence(error.kind()) => return Ok(None),
+        Err(_) => return Err(SpeakerFault),
+    }
+    match socket.recv(room) {
+        Ok(length) => Ok(Some(length)),
+        Err(error) if is_silence(error.kind()) => Ok(None),
+        Err(_) => Err(SpeakerFault),
+    }
+}
+
+impl Speaker for UdpSpeaker {
+    ghost asked = { λ s. s.asked };
+
+    fn ask<R: Wait>(
+        &mut self,
+        _rt: &R,
+        line: &[u8],
+        room: &mut [u8],
+    ) -> Result<Option<usize>, SpeakerFault> {
+        self.asked = self.asked.saturating_add(1);
+        exchange(&self.socket, line, room)
+    }
+}
