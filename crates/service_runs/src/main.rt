@@ -4,6 +4,7 @@
 //!
 //! There is nothing here that others build on. Begin with [`run`].
 #![tactic(auto)]
+
 ghost use Rattle.std.specs.Prelude.{◌≡◌, IfOk, vec_len};
 
 mod error;
@@ -11,22 +12,23 @@ mod phone;
 mod vectors;
 
 use crate::error::RunError;
-use crate::phone::{Phone, Place, Seen};
-use crew::{End, Report};
+use crate::phone::{Callers, Operator, Phone, Place, Seen};
+use crew::{End, WorkerReport};
 use message_summary::Mailboxes;
 use notifier::{Limits, Setup};
 use package::ClosingCell;
 use scripts::Sink;
-use service::{Bell, ControlDesk, Exit, Shared, Task, Work, run_crew};
+use service::{Bell, ControlDesk, Exit, Outcome, Shared, Work, run_crew};
 use sip_text::{Addr, Text};
 use std::alloc::Global;
 use std::net::Net;
 use std::rt::Clock;
 use std::sync::{Arc, Wait};
 use std::thread;
-use std::thread::Threads;
+use std::thread::{JoinHandle, Threads};
 use std::time::Instant;
-use wires::UdpWire;
+use telling::UdpSpeaker;
+use wires::{UdpWire, WireFault};
 
 /// The notifier's own address, which its messages tell.
 const OWN: Addr = Addr {
@@ -69,21 +71,6 @@ fn boxes(alloc: Global) -> Result<Vec<Vec<Mailboxes>>, RunError>
     Ok(boxes)
 }
 
-/// The three tasks of a service, in the order of their ports.
-fn tasks(
-    alloc: Global,
-    coming: UdpWire,
-    desk: ControlDesk<UdpWire>,
-) -> Result<Vec<Task>, RunError>
-    ensures { IfOk result (λ tasks. vec_len tasks ≡ 3) }
-{
-    let mut tasks = Vec::new(alloc);
-    tasks.push(Task::Datagrams(coming))?;
-    tasks.push(Task::Lines(desk))?;
-    tasks.push(Task::Time)?;
-    Ok(tasks)
-}
-
 /// What was seen, in a line each.
 fn seen_text(alloc: Global, seen: Seen) -> Result<String, RunError> {
     let lines = [
@@ -106,75 +93,137 @@ fn seen_text(alloc: Global, seen: Seen) -> Result<String, RunError> {
     Ok(text)
 }
 
-/// How the workers ended.
-fn end_text(alloc: Global, report: &Report, is_faulty: bool) -> Result<String, RunError> {
-    let closed = report
-        .workers
-        .iter()
-        .all(|worker| worker.end == End::Closed);
+fn is_closed(end: End) -> bool {
+    match end {
+        End::Closed => true,
+        End::NoMemory(_) | End::Abandoned(_) => false,
+    }
+}
+
+/// Whether each worker came to the end of what was sent to it.
+fn all_closed(reports: &[WorkerReport]) -> bool {
+    reports.iter().all(|report| is_closed(report.end))
+}
+
+/// How the service ended.
+fn end_text(alloc: Global, outcome: &Outcome) -> Result<String, RunError> {
+    let is_faulty = outcome.is_faulty();
+    let closed = all_closed(outcome.report.workers.as_slice());
     let text = format!(in alloc; "all workers closed: {closed}, a fault: {is_faulty}\n")?;
     Ok(text)
 }
 
-/// The sockets of a service.
+/// The sockets of a service: of each address a wire that hears and one that says.
 #[derive(Drop)]
 struct Sockets {
     sip: (UdpWire, UdpWire),
     control: (UdpWire, UdpWire),
-    bell: Bell,
+    bell: UdpWire,
 }
 
 fn open<R: Wait + Net>(rt: &R) -> Result<Sockets, RunError> {
     let sip = UdpWire::bind(rt, 0)?;
     let control = UdpWire::bind(rt, 0)?;
-    let (wire, _) = UdpWire::bind(rt, 0)?;
-    let bell = Bell {
-        wire,
-        sip: sip.0.local(),
-        control: control.0.local(),
-    };
+    let (_, bell) = UdpWire::bind(rt, 0)?;
     Ok(Sockets { sip, control, bell })
 }
 
-/// A service with one worker, a phone and an operator: what they saw, and how the workers ended.
+/// A service that may run, and where.
+#[derive(Drop)]
+struct Ready {
+    work: Work,
+    exit: Exit<UdpWire, Vec<u8>>,
+    place: Place,
+}
+
+/// Makes a service ready over open sockets.
+fn make_ready<R: Wait + Net + Clock>(
+    rt: &R,
+    alloc: Global,
+    mailboxes: Vec<Text>,
+) -> Result<Ready, RunError> {
+    let Some(setup) = setup() else {
+        return Err(RunError::Memory);
+    };
+    let shared = Arc::new(alloc, Shared::new(Instant::now(rt)?))?;
+    let Sockets {
+        sip: (sip, out),
+        control: (coming, going),
+        bell,
+    } = open(rt)?;
+    let place = Place {
+        sip: sip.local(),
+        control: coming.local(),
+    };
+    let work = Work {
+        setup,
+        sip,
+        desk: ControlDesk {
+            coming,
+            going,
+            mailboxes,
+        },
+        bell: Bell {
+            wire: bell,
+            sip: place.sip,
+            control: place.control,
+        },
+        shared,
+    };
+    let exit = Exit {
+        wire: out,
+        sink: Sink::new(Vec::new(alloc)),
+    };
+    Ok(Ready { work, exit, place })
+}
+
+/// A phone and an operator, for a service at this place.
+fn callers<R: Wait + Net>(rt: &R, place: Place) -> Result<Callers, RunError> {
+    let (hears, says) = UdpWire::bind(rt, 0)?;
+    let phone = Phone { hears, says };
+    let (hears, says) = UdpWire::bind(rt, 0)?;
+    let Ok(speaker) = UdpSpeaker::to(rt, place.control) else {
+        return Err(RunError::NoSocket);
+    };
+    let operator = Operator {
+        hears,
+        says,
+        speaker,
+    };
+    Ok(Callers {
+        phone,
+        operator,
+        place,
+    })
+}
+
+/// Starts a thread in which they call.
+fn start_calls<R: Threads + Wait + Copy + Send + 'static>(
+    rt: R,
+    mut callers: Callers,
+) -> Result<JoinHandle<Result<Seen, WireFault>>, RunError> {
+    match thread::spawn(&rt, move || callers.call(&rt)) {
+        Ok(calls) => Ok(calls),
+        Err(_) => Err(RunError::NoThread),
+    }
+}
+
+/// A service with one worker, a phone and an operator: what they saw, and how the service ended.
 fn run<R>(rt: R, alloc: Global) -> Result<String, RunError>
 where
     R: Threads + Wait + Net + Clock + Eprint + Copy + Send + 'static,
 {
-    let Some(setup) = setup() else {
-        return Err(RunError::Memory);
-    };
-    let Sockets {
-        sip: (coming, wire),
-        control: (control_coming, going),
-        bell,
-    } = open(&rt)?;
-    let place = Place {
-        sip: bell.sip,
-        control: bell.control,
-    };
-    let desk = ControlDesk {
-        coming: control_coming,
-        going,
-        mailboxes: mailboxes(alloc)?,
-    };
-    let work = Work {
-        setup,
-        tasks: tasks(alloc, coming, desk)?,
-        bell,
-        shared: Arc::new(alloc, Shared::new(Instant::now(&rt)?))?,
-    };
-    let mut exit = Exit {
-        wire,
-        sink: Sink::new(Vec::new(alloc)),
-    };
-    let mut phone = Phone::new(&rt)?;
-    let Ok(calling) = thread::spawn(&rt, move || phone.call(&rt, place)) else {
-        return Err(RunError::NoThread);
-    };
-    let (report, is_faulty) = run_crew(rt, alloc, boxes(alloc)?, work, &mut exit)?;
-    let mut text = seen_text(alloc, calling.join(&rt)?)?;
-    text.push_str(end_text(alloc, &report, is_faulty)?.as_str())?;
+    let boxes = boxes(alloc)?;
+    let Ready {
+        work,
+        mut exit,
+        place,
+    } = make_ready(&rt, alloc, mailboxes(alloc)?)?;
+    let calls = start_calls(rt, callers(&rt, place)?)?;
+    let outcome = run_crew(rt, alloc, boxes, work, &mut exit)?;
+    let seen = calls.join(&rt)?;
+    let mut text = seen_text(alloc, seen)?;
+    text.push_str(end_text(alloc, &outcome)?.as_str())?;
     Ok(text)
 }
 
