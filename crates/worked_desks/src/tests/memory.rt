@@ -31,16 +31,19 @@ fn handles<P: Package>(rt: &impl Abort, alloc: Global, desk: &mut Desk<P>, event
     }
 }
 
+/// A desk with this package. None where memory is refused.
+fn desk_with<P: Package>(alloc: Global, setup: &Setup, package: P) -> Option<Desk<P>> {
+    let mut boxes = Vec::new(alloc);
+    boxes.push(package).ok()?;
+    Desk::new(alloc, setup, 0, boxes).ok()
+}
+
 /// Plays the cues on a desk with this package.
 fn plays<P: Package>(rt: &impl Abort, alloc: Global, setup: &Setup, package: P, cues: &[Cue]) {
-    let mut boxes = Vec::new(alloc);
-    if boxes.push(package).is_err() {
-        return;
-    }
-    let Some(events) = events_of(alloc, cues) else {
+    let Some(mut desk) = desk_with(alloc, setup, package) else {
         return;
     };
-    if let Ok(mut desk) = Desk::new(alloc, setup, 0, boxes) {
+    if let Some(events) = events_of(alloc, cues) {
         handles(rt, alloc, &mut desk, events.as_slice());
     }
 }
@@ -105,14 +108,10 @@ fn a_replay_without_memory_is_spent(rt: HostRuntime) {
     let Ok(package) = mailboxes(alloc) else {
         return;
     };
-    let mut boxes = Vec::new(alloc);
-    if boxes.push(package).is_err() {
-        return;
-    }
-    let Some(events) = events_of(alloc, &cues) else {
+    let Some(desk) = desk_with(alloc, &setup, package) else {
         return;
     };
-    if let Ok(desk) = Desk::new(alloc, &setup, 0, boxes) {
+    if let Some(events) = events_of(alloc, &cues) {
         replays(&rt, alloc, Replay::new(alloc, desk), events);
     }
 }
