@@ -11,8 +11,8 @@ use std::thread::Threads;
 /// How often each mailbox changes.
 const CHANGES: u32 = 5;
 
-/// How many datagrams of SIP the phones send: each an OPTIONS, a SUBSCRIBE and an answer to each of six NOTIFYs, and one of them
-/// a REFER and two answers.
+/// How many datagrams of SIP the phones send: each an OPTIONS, a SUBSCRIBE and an answer to each of six NOTIFYs, and one of
+/// them a REFER and two answers.
 pub(crate) const DATAGRAMS: u32 = 3 * 8 + 3;
 
 /// What a guest says to the host once all came that was to come, and what it says otherwise.
@@ -20,7 +20,7 @@ const CONTENT: &str = "content";
 
 const MISSED: &str = "missed something";
 
-/// The phone that watches its mailbox with the others, and stays to the end. Where it hears, the guests tell that they are done.
+/// The phone that watches its mailbox with the others, and stays to the end. At its door the guests tell that they are done.
 #[derive(Drop)]
 struct Host {
     phone: Phone,

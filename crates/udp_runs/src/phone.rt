@@ -158,7 +158,15 @@ impl Phone {
         let user = self.user;
         let port = self.port;
         Ok(format!(in alloc;
-            "{method} sip:{user}@127.0.0.1 SIP/2.0\r\nVia: SIP/2.0/UDP 127.0.0.1:{port};branch=z9hG4bK{method}{user}\r\nMax-Forwards: 70\r\nFrom: <sip:{user}@127.0.0.1>;tag=f1\r\nTo: <sip:{user}@127.0.0.1>\r\nCall-ID: {method}{user}\r\nCSeq: 1 {method}\r\nContact: <sip:{user}@127.0.0.1:{port}>\r\n{lines}Content-Length: 0\r\n\r\n"
+            "{method} sip:{user}@127.0.0.1 SIP/2.0\r\n\
+Via: SIP/2.0/UDP 127.0.0.1:{port};branch=z9hG4bK{method}{user}\r\n\
+Max-Forwards: 70\r\n\
+From: <sip:{user}@127.0.0.1>;tag=f1\r\n\
+To: <sip:{user}@127.0.0.1>\r\n\
+Call-ID: {method}{user}\r\n\
+CSeq: 1 {method}\r\n\
+Contact: <sip:{user}@127.0.0.1:{port}>\r\n\
+{lines}Content-Length: 0\r\n\r\n"
         )?)
     }
 
