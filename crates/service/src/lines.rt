@@ -148,7 +148,8 @@ impl<W: Wire> ControlDesk<W> {
     /// Sends this answer.
     fn say<R: Wait>(&mut self, rt: &R, shared: &Shared, to: Addr, answer: Answer)
         ensures offered { Offers to (answer_text answer)
-            (W.taken self.old.going) (W.taken self.new.going) (W.failures self.old.going) (W.failures self.new.going) }
+            (W.taken self.old.going) (W.taken self.new.going)
+            (W.failures self.old.going) (W.failures self.new.going) }
         ensures coming { self.new.coming ≡ self.old.coming }
         ensures mailboxes { self.new.mailboxes ≡ self.old.mailboxes }
     {
@@ -158,7 +159,8 @@ impl<W: Wire> ControlDesk<W> {
     /// Sends the counters, or that there is no memory for them.
     fn say_counters<R: Wait + Clock>(&mut self, rt: &R, alloc: Global, shared: &Shared, to: Addr)
         ensures answered { IsAnswered Done.Counters to
-            (W.taken self.old.going) (W.taken self.new.going) (W.failures self.old.going) (W.failures self.new.going) }
+            (W.taken self.old.going) (W.taken self.new.going)
+            (W.failures self.old.going) (W.failures self.new.going) }
         ensures coming { self.new.coming ≡ self.old.coming }
         ensures mailboxes { self.new.mailboxes ≡ self.old.mailboxes }
     {
@@ -178,7 +180,8 @@ impl<W: Wire> ControlDesk<W> {
         done: Done,
     )
         ensures answered { IsAnswered done to
-            (W.taken self.old.going) (W.taken self.new.going) (W.failures self.old.going) (W.failures self.new.going) }
+            (W.taken self.old.going) (W.taken self.new.going)
+            (W.failures self.old.going) (W.failures self.new.going) }
         ensures coming { self.new.coming ≡ self.old.coming }
         ensures mailboxes { self.new.mailboxes ≡ self.old.mailboxes }
     {
@@ -203,9 +206,11 @@ impl<W: Wire> ControlDesk<W> {
         shared: &Shared,
     ) -> FeedEnd
         requires still_open { 0 < port.old.still_open }
-        ensures taken { (log : List Line) × Gave (W.given self.old.coming) (W.given self.new.coming) (datagrams_of log) result
+        ensures taken { (log : List Line)
+            × Gave (W.given self.old.coming) (W.given self.new.coming) (datagrams_of log) result
             × AreTaken self.old.mailboxes.items log port.old port.new result
-            × AreAnswered log (W.taken self.old.going) (W.taken self.new.going) (W.failures self.old.going) (W.failures self.new.going) }
+            × AreAnswered log (W.taken self.old.going) (W.taken self.new.going)
+            (W.failures self.old.going) (W.failures self.new.going) }
         ensures mailboxes { self.new.mailboxes ≡ self.old.mailboxes }
         ensures seats { SameSeats port.old port.new }
     {

@@ -241,7 +241,8 @@ where
     F: Write,
     requires few_workers { vec_len boxes ≤ 256 }
     ensures runs { IfOk result (λ o. (b : _)
-        → Runs (λ w. start_of P.seen work.setup w (get_or boxes.items w b).items) (vec_len boxes) work.desk.mailboxes.items
+        → Runs (λ w. start_of P.seen work.setup w (get_or boxes.items w b).items) (vec_len boxes)
+        work.desk.mailboxes.items
         (record { taken = W.taken exit.old.wire; failures = W.failures exit.old.wire })
         (record { taken = W.taken exit.new.wire; failures = W.failures exit.new.wire })
         (record { contents = F.contents exit.old.sink.writer; failures = exit.old.sink.failures })
