@@ -9,7 +9,7 @@ use std::sync::mpsc::{sync_channel, Receiver, SyncSender};
 use std::thread;
 use std::time::Instant;
 
-const PLACES: usize = 64;
+const PLACES: usize = 4096;
 const WORKERS: usize = 4;
 
 enum Entry<T> {

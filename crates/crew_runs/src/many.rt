@@ -22,6 +22,9 @@ const MAILBOXES: u32 = 100;
 /// How often each is changed.
 const CHANGES: u32 = 1_250;
 
+/// How many items each queue holds: so many that few waits are left where others keep the processors busy.
+const PLACES: u32 = 4096;
+
 /// The name of a mailbox: a letter and three digits. A quarter of all have their home at each worker.
 fn name_of(alloc: Global, mailbox: u32) -> Result<String, RunError> {
     let (hundreds, tens, ones) = (mailbox / 100, mailbox / 10 % 10, mailbox % 10);
@@ -95,7 +98,7 @@ pub(crate) fn many_mails<R>(rt: R, alloc: Global) -> Result<String, RunError>
 where
     R: Threads + Wait + Copy + Send + 'static,
 {
-    let setup = setup_with(64, 64, false)?;
+    let setup = setup_with(PLACES, PLACES, false)?;
     let boxes = four_boxes(alloc)?;
     let feeds = four_feeds(alloc)?;
     run_crew(rt, alloc, &setup, boxes, Arc::new(alloc, Open)?, feeds)
