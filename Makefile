@@ -21,4 +21,5 @@ field:
 	@field/run
 
 bench:
+	@cd crates/bench_echo && rt run < /dev/null
 	@bench/service
