@@ -8,7 +8,7 @@ use Rattle.std.proofs.Common.{arith}
 use Rattle.std.proofs.lemmas.Bool.{ltb-true, ltb-false, lt-ltb, le-leb}
 use Rattle.std.proofs.lemmas.Bool.Decides.{nat_tests}
 use Rattle.sip_text.specs.declared.scan.Class.TheVariants as class
-use Rattle.sip_text.specs.Bytes.{is_in, is_within, is_digit}
+use Rattle.sip_text.specs.Bytes.{is_in, is_one_of, is_within, is_digit}
 use Rattle.event_headers.specs.Values.{StateValue}
 use Rattle.sip_text.specs.Reading.{◌>>=◌, word_named}
 use Rattle.sip_text.specs.Reading.{token_with, is_in_range}
@@ -93,7 +93,7 @@ capital_byte b low high =
     letter (b + 32) (rw (a, c) refl) where
       letter : (x : ℕ) → is_within 97 122 x ≡ true → is_in class.Token x ≡ true
       letter x e = step (is_within 65 90 x) (is_within 97 122 x) e where
-        step : (p q : Bool) → q ≡ true → (p || q || is_digit x || (x == 45) || (x == 46) || (x == 33) || (x == 37) || (x == 42) || (x == 95) || (x == 43) || (x == 96) || (x == 39) || (x == 126)) ≡ true
+        step : (p q : Bool) → q ≡ true → (p || q || is_digit x || is_one_of (codes "-.!%*_+`'~") x) ≡ true
         step true q e = refl
         step false q e = rw e refl
 

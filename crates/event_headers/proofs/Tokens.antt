@@ -9,7 +9,7 @@ use Rattle.sip_text.specs.Grammar.{AllPassing}
 use Rattle.sip_text.specs.Grammar.{IsToken, IsSmallToken}
 use Rattle.sip_text.specs.Tokens.{is_token, is_small_token}
 use Rattle.sip_text.proofs.Pieces.{and_both}
-use Rattle.event_headers.proofs.WrittenTexts.{spelled}
+use Rattle.sip_text.proofs.Numerals.{spelled}
 
 pub token_tested : (text : List ℕ) → is_token text ≡ true → IsToken text
 token_tested [] e = absurd (cc)

@@ -4,11 +4,8 @@ use Rattle.std.specs.Prelude.{codes, decimal, IfSome, nat_le, All}
 use Rattle.std.specs.List.{list_all}
 use Rattle.std.specs.Char.{to_ascii_lowercase}
 use Rattle.std.specs.Str.{str_eq_ignore_ascii_case, str_to_ascii_lowercase}
-use Rattle.std.proofs.lemmas.Bool.{le-leb}
 use Rattle.std.proofs.lemmas.Bool.Decides.{nat_tests}
-use Rattle.std.proofs.lemmas.Fmt.{decimal_by_steps}
-use Rattle.std.proofs.lemmas.List.{append-nil, reverse-append, length-reverse, take_more, take_all}
-use Rattle.std.proofs.lemmas.List.Sums.{fold-append}
+use Rattle.std.proofs.lemmas.List.{append-nil, take_more, take_all}
 use Rattle.sip_text.specs.declared.scan.Class.{Class}
 use Rattle.sip_text.specs.declared.scan.Class.TheVariants as class
 use Rattle.sip_text.specs.Bytes.{is_in, is_space}
@@ -19,6 +16,8 @@ use Rattle.event_headers.specs.Headers.{IsEvent, IsEventValue, IsState, IsStateV
 use Rattle.event_headers.specs.Written.{parameter_text, comma_joined, event_text, state_text, expires_text, range_text, next_ranges, accept_text}
 use Rattle.event_headers.specs.Laws.{EventIsReadAgain, StateIsReadAgain, ExpiresIsReadAgain, AcceptIsReadAgain}
 use Rattle.sip_text.proofs.Pieces.{and_both, NoSpace, word_stops_spaces}
+use Rattle.sip_text.proofs.NotEmpty.{cons_some, some_behind, nonempty_reverse, ends_more}
+use Rattle.sip_text.proofs.Numerals.{spelled}
 use Rattle.sip_text.proofs.Trims.{all-append, all-reverse}
 
 -- ---- what stands in a value
@@ -71,9 +70,6 @@ named k n (Some v) ps e w = (e, w)
 a_name : (n : List ℕ) → AllPassing (is_in class.Token) n → n ≢ [] → IsToken n
 a_name n all some = (all, some)
 
-not_empty : (x : ℕ) (xs : List ℕ) → x ∷ xs ≢ []
-not_empty x xs e = absurd cc
-
 -- ---- Event
 
 id : List ℕ
@@ -84,7 +80,7 @@ event_written e h =
     let name : List ℕ = codes "id" in
     let text : List ℕ = parameter_text name e.id in
     let ps : List Parameter = one name e.id ++ [] in
-    let are = one_more class.Token token_value name (refl, not_empty 105 (100 ∷ [])) e.id h.1 [] [] refl in (
+    let are = one_more class.Token token_value name (refl, cons_some 105 (100 ∷ [])) e.id h.1 [] [] refl in (
       ps,
       record { left = []; behind = text ++ []; right = []; spaces_left = refl; spaces_right = refl; is_token = h.0; are = are; whole = ap (λ (l : List ℕ). e.«package» ++ l) (sym (append-nil text) ∙ sym (append-nil (text ++ []))) },
       named class.Token name e.id ps (hit name e.id [] refl) h.1,
@@ -94,30 +90,6 @@ pub event_again_read : EventIsReadAgain
 event_again_read e h = (event_written e h, tt)
 
 -- ---- numbers
-
-digit_word : (x : ℕ) → x < 10 → is_in class.Digit (48 + x) ≡ true
-digit_word x lt =
-    let a : nat_le 48 (48 + x) ≡ true = le-leb 48 (48 + x) (omega arith) in
-    let b : nat_le (48 + x) 57 ≡ true = le-leb (48 + x) 57 (omega (arith, lt)) in
-    rw (a, b) refl
-
-abbrev pub IsSpelled : ℕ → List ℕ → Type 0
-IsSpelled n digits = IsWord class.Digit digits × (number_of digits ≡ n)
-
-some_behind : (x y : List ℕ) → y ≢ [] → x ++ y ≢ []
-some_behind [] y some e = some e
-some_behind (z ∷ x) y some e = absurd cc
-
-pub spelled : (n : ℕ) → n < 2 ^ 64 → IsSpelled n (decimal n)
-spelled n small = decimal_by_steps IsSpelled first more n small where
-  first : (m : ℕ) → m < 10 → IsSpelled m ((48 + m) ∷ [])
-  first m lt = ((rw (digit_word m lt) refl, not_empty (48 + m) []), omega arith)
-
-  more : (m : ℕ) (ds : List ℕ) → 10 ≤ m → IsSpelled (m / 10) ds → IsSpelled m (ds ++ ((48 + m % 10) ∷ []))
-  more m ds le h =
-      let last : AllPassing (is_in class.Digit) ((48 + m % 10) ∷ []) = rw (digit_word (m % 10) (omega arith)) refl in
-      let value : number_of (ds ++ ((48 + m % 10) ∷ [])) ≡ 10 * number_of ds + (48 + m % 10 - 48) = fold-append (λ n b. 10 * n + (b - 48)) 0 ds ((48 + m % 10) ∷ []) in
-      ((all-append (is_in class.Digit) ds ((48 + m % 10) ∷ []) h.0.0 last, some_behind ds ((48 + m % 10) ∷ []) (not_empty (48 + m % 10) [])), value ∙ omega (arith, h.1))
 
 seconds_word : (o : Option ℕ) → IfSome o Fits → IfSome (option_map decimal o) (IsWord class.Digit)
 seconds_word None h = tt
@@ -163,9 +135,9 @@ state_written s h =
     let e = seconds_word s.expires h.1 in
     let r = small_reason s.reason h.2 in
     let a = seconds_word s.retry_after h.3 in
-    let are3 = one_more class.Digit digit_value (codes "retry-after") (refl, not_empty 114 _) retry_after a [] [] refl in
-    let are2 = one_more class.Token token_value (codes "reason") (refl, not_empty 114 _) s.reason r.0 (third ++ []) ps3 are3 in
-    let are = one_more class.Digit digit_value (codes "expires") (refl, not_empty 101 _) expires e (second ++ (third ++ [])) ps2 are2 in
+    let are3 = one_more class.Digit digit_value (codes "retry-after") (refl, cons_some 114 _) retry_after a [] [] refl in
+    let are2 = one_more class.Token token_value (codes "reason") (refl, cons_some 114 _) s.reason r.0 (third ++ []) ps3 are3 in
+    let are = one_more class.Digit digit_value (codes "expires") (refl, cons_some 101 _) expires e (second ++ (third ++ [])) ps2 are2 in
     let behind : List ℕ = first ++ (second ++ (third ++ [])) in
     let small : str_to_ascii_lowercase s.word ≡ s.word = small_stays s.word h.0.1 in
     let same_expires : option_map number_of expires ≡ s.expires = seconds_same s.expires h.1 in
@@ -225,19 +197,11 @@ range_starts r rest h = rw (append_assoc r.main (47 ∷ r.sub) rest) (word_stops
 abbrev Closed : List ℕ → Type 0
 Closed t = (t ≢ []) × Stops is_space (reverse t)
 
-stops_more : (x y : List ℕ) → x ≢ [] → Stops is_space x → Stops is_space (x ++ y)
-stops_more [] y some h = absurd (some refl)
-stops_more (z ∷ x) y some h = h
-
-reversed_some : (t : List ℕ) → t ≢ [] → reverse t ≢ []
-reversed_some [] some e = some refl
-reversed_some (x ∷ xs) some e = omega (arith, ap length e, length-reverse (x ∷ xs))
-
 closed_behind : (x y : List ℕ) → Closed y → Closed (x ++ y)
-closed_behind x y c = (some_behind x y c.0, rw (reverse-append x y) (stops_more (reverse y) (reverse x) (reversed_some y c.0) c.1))
+closed_behind x y c = (some_behind x y c.0, ends_more x y c.0 c.1)
 
 closed_token : (t : List ℕ) → IsToken t → Closed t
-closed_token t w = (w.1, subst (Stops is_space) (append-nil (reverse t)) (word_stops_spaces (is_in class.Token) token (reverse t) [] (all-reverse (is_in class.Token) t w.0) (reversed_some t w.1)))
+closed_token t w = (w.1, subst (Stops is_space) (append-nil (reverse t)) (word_stops_spaces (is_in class.Token) token (reverse t) [] (all-reverse (is_in class.Token) t w.0) (nonempty_reverse t w.1)))
 
 closed_range : (r : Range) → IsRangeValue r → Closed (range_text r)
 closed_range r h = closed_behind r.main (47 ∷ r.sub) (closed_behind (47 ∷ []) r.sub (closed_token r.sub h.1.0))

@@ -1,15 +1,15 @@
 -- Whether a range of Accept covers a content type (RFC 3261 section 20.1).
 use Rattle.std.specs.Prelude.{ℕ, Bool, ◌&&◌, ◌||◌, ◌==◌, List, codes, bytes_eq}
 use Rattle.std.specs.List.{before_first, after_first}
-use Rattle.std.specs.Str.{str_eq_ignore_ascii_case}
+use Rattle.std.specs.Str.{byte, str_eq_ignore_ascii_case}
 use Rattle.event_headers.specs.Values.{Range}
 
 abbrev pub is_slash : ℕ → Bool
-is_slash b = b == 47
+is_slash b = b == byte "/"
 
 -- where the parameters of a content type begin: at a semicolon, SP or HT
 abbrev pub ends_type : ℕ → Bool
-ends_type b = (b == 59) || (b == 32) || (b == 9)
+ends_type b = (b == byte ";") || (b == byte " ") || (b == byte "\t")
 
 -- the content type without its parameters
 abbrev pub bare_type : List ℕ → List ℕ

@@ -2,7 +2,7 @@
 use Rattle.std.specs.Prelude.{ℕ, Bool, true, ◌&&◌, List, [], ◌∷◌, Option, Some, None, option_map, Result, Ok, Err, if◌then◌else◌, codes}
 use Rattle.event_headers.specs.declared.error.HeaderError.{HeaderError}
 use Rattle.event_headers.specs.declared.error.HeaderError.TheVariants as errors
-use Rattle.std.specs.Str.{str_to_ascii_lowercase}
+use Rattle.std.specs.Str.{byte, str_to_ascii_lowercase}
 use Rattle.sip_text.specs.declared.scan.Class.TheVariants as class
 use Rattle.sip_text.specs.Bytes.{is_in}
 use Rattle.event_headers.specs.Values.{EventValue, StateValue, Range}
@@ -37,7 +37,7 @@ expires_of t = do
 unfoldable pub pair_at : List ℕ → Option (Range × List ℕ)
 pair_at t = do
   main ← word_at (is_in class.Token) t
-  rest ← after_byte 47 (after_spaces main.1)
+  rest ← after_byte (byte "/") (after_spaces main.1)
   sub ← word_at (is_in class.Token) (after_spaces rest)
   Some (record { main = str_to_ascii_lowercase main.0; sub = str_to_ascii_lowercase sub.0 }, sub.1)
 

@@ -1,7 +1,7 @@
 -- The grammars of the event headers, as relations between a text and the value that it says. Numbers have no bound here; a kept number
 -- that a header's value can't hold (2 ^ 32 and more) is too large.
 use Rattle.std.specs.Prelude.{◌≡◌, ◌<◌, ◌^◌, ℕ, List, [], ◌∷◌, ◌++◌, Option, option_map, Result, Ok, Err, IfSome, codes}
-use Rattle.std.specs.Str.{str_to_ascii_lowercase}
+use Rattle.std.specs.Str.{byte, str_to_ascii_lowercase}
 use Rattle.event_headers.specs.declared.error.HeaderError.{HeaderError}
 use Rattle.event_headers.specs.declared.error.HeaderError.TheVariants as errors
 use Rattle.sip_text.specs.declared.scan.Class.TheVariants as class
@@ -64,7 +64,7 @@ pub record IsRange (text : List ℕ) (r : Range) : Type 0 where
   pub are : AreParameters behind parameters
   pub small_main : r.main ≡ str_to_ascii_lowercase main
   pub small_sub : r.sub ≡ str_to_ascii_lowercase sub
-  pub whole : text ≡ main ++ (left ++ 47 ∷ (right ++ (sub ++ behind)))
+  pub whole : text ≡ main ++ (left ++ byte "/" ∷ (right ++ (sub ++ behind)))
 
 -- no range, or ranges at commas
 abbrev pub AreRanges : List ℕ → List Range → Type 0

@@ -29,7 +29,7 @@ now (Mails m ∷ past) = now past
 now (Progresses p ∷ past) = now past
 now (Shuts ∷ past) = now past
 
--- ---- what is watched (RFC 6665 section 7)
+-- ---- what is watched (RFC 6665 section 5)
 
 abbrev pub same_class : Class → Class → Bool
 same_class c d = place c == place d
@@ -45,7 +45,7 @@ last_counts mailbox class first (Progresses p ∷ past) = last_counts mailbox cl
 last_counts mailbox class first (Ticks t ∷ past) = last_counts mailbox class first past
 last_counts mailbox class first (Shuts ∷ past) = last_counts mailbox class first past
 
--- what a mailbox holds, by what it held at first: of each class the last counts (RFC 3842 section 3.1)
+-- what a mailbox holds, by what it held at first: of each class the last counts (RFC 3842 section 3.5)
 unfoldable pub mail_content : List ℕ → List Event → Option Content → Option Content
 mail_content mailbox past None = None
 mail_content mailbox past (Some (OfStatus code reason)) = Some (OfStatus code reason)

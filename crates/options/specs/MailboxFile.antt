@@ -3,6 +3,7 @@
 --   file = *(line LF) [line]
 --   line = "" / "#" text / mailbox
 use Rattle.std.specs.Prelude.{◌≡◌, ℕ, true, false, List, [], Option, Some, None, ◌⊎◌}
+use Rattle.std.specs.Str.{byte}
 use Rattle.sip_text.specs.Reading.{begins}
 use Rattle.options.specs.declared.error.OptionsError.{OptionsError}
 use Rattle.options.specs.declared.error.OptionsError.TheVariants as error
@@ -10,12 +11,12 @@ use Rattle.options.specs.Settings.{IsMailbox}
 
 -- it names nothing
 abbrev pub IsBlank : List ℕ → Type 0
-IsBlank line = (line ≡ []) ⊎ (begins 35 line ≡ true)
+IsBlank line = (line ≡ []) ⊎ (begins (byte "#") line ≡ true)
 
 -- the line names this, or nothing
 abbrev pub Names : List ℕ → Option (List ℕ) → Type 0
 Names line None = IsBlank line
-Names line (Some name) = (name ≡ line) × IsMailbox line × (begins 35 line ≡ false)
+Names line (Some name) = (name ≡ line) × IsMailbox line × (begins (byte "#") line ≡ false)
 
 -- the line is none of a file, or memory ran out
 abbrev pub IsNoLine : List ℕ → OptionsError → Type 0

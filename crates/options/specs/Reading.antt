@@ -1,5 +1,6 @@
 -- What the reader of settings computes, piece by piece. No public contract cites this.
 use Rattle.std.specs.Prelude.{◌≡◌, ℕ, List, [], ◌∷◌, ◌++◌, if◌then◌else◌, ◌==◌, Option, Some, None, Result, Ok, Err, codes, bytes_eq}
+use Rattle.std.specs.Str.{byte}
 use Rattle.hex.specs.declared.error.FromHexError.{FromHexError}
 use Rattle.hex.specs.Hex.{decode_sized}
 use Rattle.sip_text.specs.Reading.{◌>>=◌, begins, addr_of, plain_up_to}
@@ -93,7 +94,7 @@ valued flag.Seed value = or_bad flag.Seed (seed_of value >>= λ s. Some (setting
 unfoldable pub alone : List ℕ → Result Setting OptionsError
 alone word =
     if bytes_eq word (codes "--keep-subscriptions") then Ok setting.KeepSubscriptions
-    else if begins 45 word then Err (error.Unknown word)
+    else if begins (byte "-") word then Err (error.Unknown word)
     else if is_word word then Ok (setting.Mailbox word)
     else Err (error.NoMailbox word)
 

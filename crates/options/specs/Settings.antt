@@ -12,6 +12,7 @@
 --
 -- Numbers are decimal without leading zeros, from 1 up to the greatest that the option takes.
 use Rattle.std.specs.Prelude.{◌≡◌, ◌≢◌, ℕ, ◌≤◌, true, false, List, [], ◌∷◌, ◌++◌, codes, decimal, Result, Ok, Err}
+use Rattle.std.specs.Str.{byte}
 use Rattle.hex.specs.Hex.{decode_sized}
 use Rattle.sip_text.specs.Addresses.{addr_text, IsAddr}
 use Rattle.sip_text.specs.Reading.{begins}
@@ -26,7 +27,7 @@ use Rattle.options.specs.Flags.{place_text, bound_text, flag_text, most}
 -- a name that a mailbox may have
 pub record IsMailbox (name : List ℕ) : Type 0 where
   pub word : is_word name ≡ true
-  pub no_option : begins 45 name ≡ false
+  pub no_option : begins (byte "-") name ≡ false
 
 -- the words are this setting
 abbrev pub IsSetting : List (List ℕ) → Setting → Type 0
@@ -51,10 +52,10 @@ BeginsWrong words (error.Bad flag) =
     (value : List ℕ) × (rest : List (List ℕ)) × (words ≡ flag_text flag ∷ value ∷ rest)
     × ((s : Setting) → ¬ (IsSetting (flag_text flag ∷ value ∷ []) s))
 BeginsWrong words (error.Unknown word) =
-    (rest : List (List ℕ)) × (words ≡ word ∷ rest) × (begins 45 word ≡ true) × (word ≢ codes "--keep-subscriptions")
+    (rest : List (List ℕ)) × (words ≡ word ∷ rest) × (begins (byte "-") word ≡ true) × (word ≢ codes "--keep-subscriptions")
     × ((flag : Flag) → word ≢ flag_text flag)
 BeginsWrong words (error.NoMailbox word) =
-    (rest : List (List ℕ)) × (words ≡ word ∷ rest) × ¬ (IsMailbox word) × (begins 45 word ≡ false)
+    (rest : List (List ℕ)) × (words ≡ word ∷ rest) × ¬ (IsMailbox word) × (begins (byte "-") word ≡ false)
 BeginsWrong words error.NoMemory = Unit {0}
 
 -- behind words that are settings, the words are wrong in this way

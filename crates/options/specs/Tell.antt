@@ -4,6 +4,7 @@
 --
 -- The line is its words with a space between each.
 use Rattle.std.specs.Prelude.{◌≡◌, ℕ, false, List, [], ◌∷◌, ◌++◌, codes, Option, Some, None, Result, Ok, Err}
+use Rattle.std.specs.Str.{byte}
 use Rattle.std.specs.List.{flat_map}
 use Rattle.sip_text.specs.declared.address.Addr.{Addr}
 use Rattle.sip_text.specs.Addresses.{addr_text, IsAddr}
@@ -26,7 +27,7 @@ pub record IsTellCall (words : List (List ℕ)) (call : TellCall) : Type 0 where
   pub says_where : SaysWhere place_words call.control
   pub first : List ℕ
   pub rest : List (List ℕ)
-  pub no_option : begins 45 first ≡ false
+  pub no_option : begins (byte "-") first ≡ false
   pub line : call.line ≡ joined first rest
   pub whole : words ≡ place_words ++ first ∷ rest
 

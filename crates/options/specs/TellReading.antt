@@ -1,5 +1,6 @@
 -- What the reader of a call of `notifyd tell` computes. No public contract cites this.
 use Rattle.std.specs.Prelude.{◌≡◌, ℕ, List, [], ◌∷◌, if◌then◌else◌, Option, Some, None, Result, Ok, Err, codes, bytes_eq}
+use Rattle.std.specs.Str.{byte}
 use Rattle.sip_text.specs.declared.address.Addr.{Addr}
 use Rattle.sip_text.specs.Reading.{◌>>=◌, begins, addr_of}
 use Rattle.options.specs.declared.tell.TellCall.{TellCall}
@@ -9,7 +10,7 @@ use Rattle.options.specs.Tell.{joined}
 
 unfoldable pub line_at : Option Addr → List (List ℕ) → Option TellCall
 line_at control [] = None
-line_at control (first ∷ rest) = if begins 45 first then None else Some (record { control = control; line = joined first rest })
+line_at control (first ∷ rest) = if begins (byte "-") first then None else Some (record { control = control; line = joined first rest })
 
 unfoldable pub tell_of : List (List ℕ) → Option TellCall
 tell_of [] = line_at None []

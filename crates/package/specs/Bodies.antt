@@ -5,7 +5,7 @@ use Rattle.package.specs.declared.counts.MailCounts.{MailCounts}
 use Rattle.package.specs.Content.{Content, OfMail, OfStatus}
 
 abbrev pub crlf : List ℕ
-crlf = 13 ∷ 10 ∷ []
+crlf = codes "\r\n"
 
 -- ---- mailboxes (RFC 3842 section 5.2)
 --

@@ -1,16 +1,12 @@
 //! The interface of event packages (RFC 6665 section 5).
 //!
-//! A package holds a content of each resource that it knows: the message counts of a mailbox (RFC 3842), or how far a
-//! transfer has come (RFC 3515). [`Package`] is all that a notifier sees of it: its name, its content type, whether it
-//! holds a resource, what a change makes of it, and the body of a NOTIFY. It does no input or output and knows no time.
+//! A package holds a content of each resource that it knows: the message counts of a mailbox (RFC 3842), or how far a transfer
+//! has come (RFC 3515). [`Package`] is all that a notifier sees of it. It does no input or output and knows no time. Each
+//! method promises exactly what it makes of the whole map of contents; [`laws`] says what many changes leave. A package that
+//! is dropped leaves its [`Closing`] in the [`ClosingCell`] that it was made with, which tests show.
 //!
-//! Begin with [`Package`], then [`Change`] and [`Outcome`]. Each method promises exactly what it makes of the whole map
-//! from resources to contents; the words for that are in `specs/`: `Content` (what is held), `Changes` (what a change
-//! makes of it), `Bodies` (the text of a NOTIFY), `Boxes` (several packages in a row), and `Run`, which tells what is
-//! held after a list of changes by the last of the list; [`laws`] ties that to the changes one by one.
-//!
-//! A package that is dropped leaves its [`Closing`] in the [`ClosingCell`] that it was made with, and takes no memory
-//! for it. That each package does so is shown by tests, since no contract speaks of a drop.
+//! Begin with [`Package`], [`Change`] and [`Outcome`], then `specs/Content` (what is held), `specs/Changes` (what a change makes
+//! of it), `specs/Bodies` (the text of a NOTIFY), `specs/Boxes` (several packages in a row), `specs/Run` (after many changes).
 #![tactic(auto)]
 
 pub mod change;

@@ -1,9 +1,8 @@
 -- The blocks of a script: what is found is one, and one is found.
-use Rattle.std.proofs.Common.{◌≡◌, ℕ, zero, suc, ◌<◌, ◌≤◌, Bool, true, false, eqb, cond, List, [], ◌∷◌, ◌++◌, length, take, drop, Option, Some, None, refl, sym, ap, subst, ◌∙◌, arith, append_assoc}
+use Rattle.std.proofs.Common.{◌≡◌, ℕ, zero, suc, ◌<◌, ◌≤◌, Bool, true, false, cond, List, [], ◌∷◌, ◌++◌, length, take, drop, Option, Some, None, refl, sym, ap, subst, ◌∙◌, arith, append_assoc}
 use Rattle.std.specs.Prelude.{decimal, codes, bytes_eq, nat_lt}
 use Rattle.std.specs.List.{flat_map, AllByRecursion}
-use Rattle.std.proofs.lemmas.List.{append-nil, length-append, take-append-drop, take_at, drop_at, length-take-le}
-use Rattle.std.proofs.lemmas.Bool.{eqb-true}
+use Rattle.std.proofs.lemmas.List.{length-append, take-append-drop, take_at, drop_at, length-take-le}
 use Rattle.std.proofs.lemmas.Bool.Decides.{nat_tests}
 use Rattle.sip_text.specs.declared.address.Addr.{Addr}
 use Rattle.scripts.specs.declared.script.Block.{Block}
@@ -18,6 +17,7 @@ use Rattle.sip_text.specs.Addresses.{addr_text, IsAddr}
 use Rattle.scripts.specs.Script.{sip_text, control_text, block_text, lf, IsControl, IsBlock, IsScript}
 use Rattle.sip_text.proofs.Cuts.{cut_takes, cut_again, Lacks, lacks_append}
 use Rattle.sip_text.proofs.Pieces.{bind_some, some_is, byte_taken}
+use Rattle.sip_text.proofs.Repeats.{IsRepeated, with_front, fails}
 use Rattle.sip_text.proofs.PlainNumbers.{up_to_takes, up_to_again}
 use Rattle.sip_text.proofs.Addresses.{addr_takes, addr_again, addr_lacks, decimal_lacks}
 use Rattle.scripts.proofs.Lines.{same_text, or_takes, named_takes, HasWord, mail_word, progress_word, tick_word, line_lacks}
@@ -196,49 +196,11 @@ script_again t bs h = subst (λ (l : List ℕ). blocks_of l ≡ Some bs) (sym h.
 
 -- ---- for the loop
 
-abbrev goes : ℕ → Option (Block × List ℕ) → Option (List Block)
-goes k o = o >>= λ b. blocks_at k b.1 >>= λ bs. Some (b.0 ∷ bs)
-
-goes_same : (n m : ℕ) (o : Option (Block × List ℕ)) → ((b : Block) (r : List ℕ) → o ≡ Some (b, r) → blocks_at n r ≡ blocks_at m r) → goes n o ≡ goes m o
-goes_same n m None f = refl
-goes_same n m (Some q) f = rw (f q.0 q.1 refl) refl
-
-enough : (n m : ℕ) (t : List ℕ) → length t ≤ n → length t ≤ m → blocks_at n t ≡ blocks_at m t
+pub blocks_repeat : IsRepeated block_at blocks_at
 unfolding blocks_at
-enough n m [] a b = refl
-enough zero m (x ∷ xs) a b = absurd (omega (arith, a))
-enough (suc n) zero (x ∷ xs) a b = absurd (omega (arith, b))
-enough (suc n) (suc m) (x ∷ xs) a b = goes_same n m (block_at (x ∷ xs)) (λ c r e. enough n m r (omega (arith, block_shortens (x ∷ xs) c r e)) (omega (arith, block_shortens (x ∷ xs) c r e)))
+blocks_repeat = record { none = λ n. refl; more = λ n y ys. refl; shortens = block_shortens }
 
-abbrev pub with_front : List Block → Option (List Block) → Option (List Block)
-with_front front read = read >>= λ bs. Some (front ++ bs)
-
-regroup : (front : List Block) (b : Block) (read : Option (List Block)) → with_front front (read >>= λ bs. Some (b ∷ bs)) ≡ with_front (front ++ b ∷ []) read
-regroup front b None = refl
-regroup front b (Some bs) = ap (λ (l : List Block). Some l) (sym (append_assoc front (b ∷ []) bs))
-
-step_of : (t : List ℕ) (b : Block) (r : List ℕ) → block_at t ≡ Some (b, r) → blocks_of t ≡ (blocks_of r >>= λ bs. Some (b ∷ bs))
-step_of [] b r e = absurd (nothing_at_end b r e)
-step_of (x ∷ xs) b r e =
-    let short = block_shortens (x ∷ xs) b r e in
-    let same : blocks_at (length xs) r ≡ blocks_at (length r) r = enough (length xs) (length r) r (omega arith) (omega arith) in
-    one_more (length xs) (x ∷ xs) b r e ∙ ap (λ (o : Option (List Block)). o >>= λ bs. Some (b ∷ bs)) same
-
-pub goes_on : (front : List Block) (t : List ℕ) (b : Block) (r : List ℕ) (total : Option (List Block)) → block_at t ≡ Some (b, r)
-    → with_front front (blocks_of t) ≡ total → with_front (front ++ b ∷ []) (blocks_of r) ≡ total
-goes_on front t b r total e so_far = sym (regroup front b (blocks_of r)) ∙ ap (with_front front) (sym (step_of t b r e)) ∙ so_far
-
-fails : (front : List Block) (t : List ℕ) (total : Option (List Block)) → eqb (length t) 0 ≡ false → block_at t ≡ None → with_front front (blocks_of t) ≡ total → total ≡ None
-unfolding blocks_at
-fails front [] total some e so_far = absurd cc
-fails front (x ∷ xs) total some e so_far = let k : with_front front (blocks_of (x ∷ xs)) ≡ None = rw e refl in sym so_far ∙ k
-
-pub is_done : (front : List Block) (t : List ℕ) (total : Option (List Block)) → eqb (length t) 0 ≡ true → with_front front (blocks_of t) ≡ total → total ≡ Some front
-unfolding blocks_at
-is_done front [] total len so_far = sym so_far ∙ ap (λ (l : List Block). Some l) (append-nil front)
-is_done front (x ∷ xs) total len so_far = absurd (omega (arith, eqb-true (length (x ∷ xs)) 0 len))
-
-pub ends : (front : List Block) (t : List ℕ) (total : Option (List Block)) (e : ScriptError) → eqb (length t) 0 ≡ false → Fails e (block_at t) → with_front front (blocks_of t) ≡ total → Fails e total
-ends front t total error.NoMemory some h so_far = tt
-ends front t total error.BadScript some h so_far = fails front t total some h so_far
-ends front t total error.Device some h so_far = h
+pub ends : (front : List Block) (t : List ℕ) (total : Option (List Block)) (e : ScriptError) → with_front front (blocks_of t) ≡ total → 0 < length t → Fails e (block_at t) → Fails e total
+ends front t total error.NoMemory so_far some h = tt
+ends front t total error.BadScript so_far some h = fails block_at blocks_at blocks_repeat front t total so_far some h
+ends front t total error.Device so_far some h = h

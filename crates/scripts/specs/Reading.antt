@@ -1,9 +1,6 @@
 -- What the reader of scripts computes, piece by piece. No public contract cites this.
-use Rattle.std.specs.Prelude.{◌≡◌, ℕ, zero, suc, ◌^◌, Bool, false, not, ◌&&◌, List, [], ◌∷◌, length, take, drop, nat_lt, nat_le, ◌==◌, if◌then◌else◌, Option, Some, None, Result, Ok, Err, codes, bytes_eq}
-use Rattle.std.specs.List.{prefix_len, list_all}
-use Rattle.std.specs.Char.{is_ascii_digit}
-use Rattle.std.specs.Str.{is_utf8}
-use Rattle.std.specs.Str.Parse.{digits_value}
+use Rattle.std.specs.Prelude.{◌≡◌, ℕ, zero, suc, List, [], ◌∷◌, length, take, drop, nat_lt, ◌==◌, if◌then◌else◌, Option, Some, None, Result, Ok, Err, codes, bytes_eq}
+use Rattle.std.specs.Str.{byte}
 use Rattle.sip_text.specs.declared.address.Addr.{Addr}
 use Rattle.sip_text.specs.Reading.{◌>>=◌, after_byte, cut_at, text_of, plain_number, plain_up_to, addr_of}
 use Rattle.package.specs.Values.{MailChange, Progress}
@@ -32,7 +29,7 @@ class_of w =
 -- a count before a space, and what stands behind that
 unfoldable pub count_at : List ℕ → Option (ℕ × List ℕ)
 count_at t = do
-  p ← cut_at 32 t
+  p ← cut_at (byte " ") t
   n ← plain_up_to 4294967295 p.0
   Some (n, p.1)
 
@@ -48,9 +45,9 @@ counts_of t = do
 -- the words of a MAIL line behind the first, which a mail change may refuse
 unfoldable pub mail_words : List ℕ → Option MailChange
 mail_words t = do
-  name ← cut_at 32 t
+  name ← cut_at (byte " ") t
   mailbox ← text_of name.0
-  word ← cut_at 32 name.1
+  word ← cut_at (byte " ") name.1
   which ← class_of word.0
   counts ← counts_of word.1
   Some (record { mailbox = mailbox; class = which; counts = counts })
@@ -63,9 +60,9 @@ mail_at t = do
 -- the words of a PROGRESS line behind the first, which a progress may refuse
 unfoldable pub progress_words : List ℕ → Option Progress
 progress_words t = do
-  word ← cut_at 32 t
+  word ← cut_at (byte " ") t
   tag ← text_of word.0
-  number ← cut_at 32 word.1
+  number ← cut_at (byte " ") word.1
   code ← plain_up_to 65535 number.0
   reason ← text_of number.1
   Some (record { tag = tag; code = code; reason = reason })
@@ -87,12 +84,12 @@ named_at name rest =
 
 -- the octets of a datagram, behind which LF stands, and the rest
 unfoldable pub octets_at : ℕ → List ℕ → Option (List ℕ × List ℕ)
-octets_at n t = if nat_lt (length t) n then None else (after_byte 10 (drop n t) >>= λ rest. Some (take n t, rest))
+octets_at n t = if nat_lt (length t) n then None else (after_byte (byte "\n") (drop n t) >>= λ rest. Some (take n t, rest))
 
 -- the head of a SIP block behind its first word: the address, and how many octets follow
 unfoldable pub sip_head : List ℕ → Option (Addr × ℕ)
 sip_head t = do
-  p ← cut_at 32 t
+  p ← cut_at (byte " ") t
   addr ← addr_of p.0
   len ← plain_up_to 65536 p.1
   Some (addr, len)
@@ -117,8 +114,8 @@ block_named name rest t =
 
 unfoldable pub block_at : List ℕ → Option (Block × List ℕ)
 block_at t = do
-  line ← cut_at 10 t
-  word ← cut_at 32 line.0
+  line ← cut_at (byte "\n") t
+  word ← cut_at (byte " ") line.0
   block_named word.0 word.1 line.1
 
 -- the blocks to the end of the bytes, at most this many
@@ -142,11 +139,11 @@ ended (Some p) t = if length p.1 == 0 then Some p.0 else None
 
 -- the line without the LF at its end
 unfoldable pub line_of : List ℕ → Option (List ℕ)
-line_of t = ended (cut_at 10 t) t
+line_of t = ended (cut_at (byte "\n") t) t
 
 -- a line without its LF
 unfoldable pub order_of : List ℕ → Option Control
-order_of line = if bytes_eq line (codes "CLOSE") then Some control.Close else (cut_at 32 line >>= λ word. named_at word.0 word.1)
+order_of line = if bytes_eq line (codes "CLOSE") then Some control.Close else (cut_at (byte " ") line >>= λ word. named_at word.0 word.1)
 
 unfoldable pub control_of : List ℕ → Option Control
 control_of t = do

@@ -11,7 +11,7 @@
 --   class    = "voice" / "fax" / "pager" / "multimedia" / "text"
 --
 -- Each number is decimal without leading zeros, so each block has one text, and a script is the texts of its blocks, joined.
-use Rattle.std.specs.Prelude.{◌≡◌, ℕ, ◌<◌, ◌≤◌, ◌^◌, List, [], ◌∷◌, ◌++◌, length, slice_index, codes, decimal, IsUtf8, ◌⊎◌, Result, Ok, Err}
+use Rattle.std.specs.Prelude.{◌≡◌, ℕ, ◌<◌, ◌≤◌, ◌^◌, List, ◌∷◌, ◌++◌, length, codes, decimal, IsUtf8, ◌⊎◌, Result, Ok, Err}
 use Rattle.std.specs.List.{flat_map, AllByRecursion}
 use Rattle.sip_text.specs.declared.address.Addr.{Addr}
 use Rattle.sip_text.specs.Addresses.{addr_text, IsAddr}
@@ -28,7 +28,7 @@ use Rattle.scripts.specs.declared.error.ScriptError.TheVariants as error
 -- ---- texts
 
 abbrev pub lf : List ℕ
-lf = 10 ∷ []
+lf = codes "\n"
 
 abbrev pub class_text : Class → List ℕ
 class_text class.Voice = codes "voice"

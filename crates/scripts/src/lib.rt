@@ -1,16 +1,12 @@
-//! Scripts in, pages out: the lower level of the server of a SIP notifier. It knows nothing of the notifier, and takes no
-//! handle: only a reader, a writer and memory.
+//! Scripts in, pages out, and the program's arguments. It knows nothing of the notifier: only a reader, a writer and memory.
 //!
-//! A script tells what happens, block by block: datagrams with their source, changes of mailboxes, progress of transfers,
-//! and the time. [`read_script`] reads all of it, [`parse_script`] cuts it into [`Block`]s, [`Page`] gathers what is to be
-//! printed of a run, line by line, and [`write_page`] writes that. [`parse_control`] reads one line by the same grammar for
-//! a server that runs, and [`parse_arguments`] the arguments of the program, [`parse_udp_arguments`] those of the program on the
-//! network.
+//! [`read_script`] reads a script, [`parse_script`] cuts it into [`Block`]s (datagrams, changes, progress, the time), [`Page`]
+//! gathers what is to be printed, and [`write_page`] writes it. [`parse_control`] reads one line for a server that runs,
+//! [`parse_arguments`] and [`parse_udp_arguments`] read arguments.
 //!
-//! Begin with [`Block`] and the grammar in `specs/Script`. Each block has one text, and a script is those texts joined: what
-//! is answered is so, what is so is answered, and [`one_reading`] is the law that no bytes are a script in two ways. What
-//! was read is all that the reader gave, and what is written is the page or a front of it. A [`ScriptError::Device`] comes
-//! only where a read or a write failed in that call, which [`Source`] and [`Sink`] count.
+//! Begin with [`Block`] and the grammar in `specs/Script`. Each block has one text, and a script is those texts joined: what is
+//! answered is so, and what is so is answered, want of memory apart; by [`one_reading`] no bytes are a script in two ways. A
+//! [`ScriptError::Device`] comes only where a read or a write failed in that call; [`Source`] and [`Sink`] count these.
 #![tactic(auto)]
 
 pub mod arguments;

@@ -8,7 +8,7 @@ use Rattle.sip_text.specs.Grammar.{AllPassing, AreSpaces, IsQuoted, Parameter, A
 use Rattle.sip_read.specs.declared.message.Party.{Party}
 
 -- a uri as far as the reader looks at it, of bytes of the class:
---   uri = letter *(letter / digit / "+" / "-" / ".") ":" 1*(33 to 126 but DQUOTE "<" ">")
+--   uri = letter *(letter / digit / "+" / "-" / ".") ":" 1*("!" to "~" but DQUOTE "<" ">")
 abbrev pub IsUri : Class → List ℕ → Type 0
 IsUri k uri = (x : ℕ) × (scheme rest : List ℕ) × (is_letter x ≡ true) × AllPassing (is_in class.Scheme) scheme × (rest ≢ []) × (uri ≡ x ∷ (scheme ++ byte ":" ∷ rest)) × AllPassing (is_in k) uri
 

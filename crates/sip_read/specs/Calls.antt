@@ -1,16 +1,17 @@
 -- Values of Call-ID and CSeq (RFC 3261 sections 20.8 and 20.16).
 use Rattle.std.specs.Prelude.{◌≡◌, ◌≢◌, ℕ, Bool, ◌<◌, ◌^◌, List, [], ◌++◌}
+use Rattle.std.specs.Str.{byte}
 use Rattle.sip_text.specs.declared.scan.Class.TheVariants as class
 use Rattle.sip_text.specs.Bytes.{is_within}
 use Rattle.sip_text.specs.Grammar.{AllPassing, IsWord, number_of}
 use Rattle.sip_read.specs.declared.call.Sequence.{Sequence}
 
--- 33 to 126
+-- ! to ~
 abbrev pub is_visible : ℕ → Bool
-is_visible b = is_within 33 126 b
+is_visible b = is_within (byte "!") (byte "~") b
 
 -- Call-ID, wider than the RFC's word ["@" word]:
---   call-id = 1*(33 to 126)
+--   call-id = 1*("!" to "~")
 abbrev pub IsCallId : List ℕ → Type 0
 IsCallId text = AllPassing is_visible text × (text ≢ [])
 

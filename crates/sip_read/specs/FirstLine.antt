@@ -10,7 +10,7 @@ pub data First : Type 0 where
   status : (code : ℕ) (reason : List ℕ) → First
 
 -- the letters of the version ignore case:
---   request-line = token SP 1*(33 to 126 but DQUOTE "<" ">") SP "SIP/2.0"
+--   request-line = token SP 1*("!" to "~" but DQUOTE "<" ">") SP "SIP/2.0"
 pub record IsRequestLine (line method uri : List ℕ) : Type 0 where
   pub version : List ℕ
   pub is_method : IsWord class.Token method

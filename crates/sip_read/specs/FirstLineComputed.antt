@@ -1,7 +1,7 @@
 -- What the reader computes of the first line, as functions on lists. The relation (FirstLine) is what they come to.
 use Rattle.std.specs.Prelude.{ℕ, ◌&&◌, List, length, nat_le, ◌==◌, if◌then◌else◌, Option, Some, None, codes}
 use Rattle.std.specs.List.{list_all}
-use Rattle.std.specs.Str.{str_eq_ignore_ascii_case}
+use Rattle.std.specs.Str.{byte, str_eq_ignore_ascii_case}
 use Rattle.sip_text.specs.declared.scan.Class.TheVariants as class
 use Rattle.sip_text.specs.Bytes.{is_in}
 use Rattle.sip_text.specs.Grammar.{number_of}
@@ -12,9 +12,9 @@ use Rattle.sip_read.specs.LinesComputed.{line_at}
 unfoldable pub request_line : List ℕ → Option First
 request_line line = do
   method ← span_at (is_in class.Token) line
-  behind ← after_byte 32 method.1
+  behind ← after_byte (byte " ") method.1
   uri ← span_at (is_in class.Uri) behind
-  version ← after_byte 32 uri.1
+  version ← after_byte (byte " ") uri.1
   m ← text_of method.0
   u ← text_of uri.0
   if str_eq_ignore_ascii_case version (codes "SIP/2.0") then Some (request m u) else None
@@ -23,16 +23,16 @@ request_line line = do
 unfoldable pub version_at : List ℕ → Option (List ℕ)
 version_at line = do
   name ← span_at (is_in class.Token) line
-  rest ← after_byte 47 name.1
+  rest ← after_byte (byte "/") name.1
   version ← span_at (is_in class.Token) rest
-  behind ← after_byte 32 version.1
+  behind ← after_byte (byte " ") version.1
   if str_eq_ignore_ascii_case name.0 (codes "SIP") && str_eq_ignore_ascii_case version.0 (codes "2.0") then Some behind else None
 
 unfoldable pub status_line : List ℕ → Option First
 status_line line = do
   rest ← version_at line
   digits ← span_at (is_in class.Digit) rest
-  behind ← after_byte 32 digits.1
+  behind ← after_byte (byte " ") digits.1
   reason ← text_of behind
   if (length digits.0 == 3) && (nat_le 100 (number_of digits.0) && (nat_le (number_of digits.0) 699 && list_all (is_in class.Shown) reason)) then Some (status (number_of digits.0) reason) else None
 

@@ -1,5 +1,6 @@
 -- What the reader computes of all values, header by header.
 use Rattle.std.specs.Prelude.{◌≡◌, ℕ, Bool, true, false, List, [], ◌∷◌, ◌++◌, Option, Some, None, option_map, min, ◌^◌}
+use Rattle.std.specs.Str.{byte}
 use Rattle.sip_text.specs.Grammar.{number_of}
 use Rattle.sip_text.specs.Reading.{◌>>=◌}
 use Rattle.event_headers.specs.Values.{EventValue}
@@ -47,7 +48,7 @@ nothing = record { vias = []; top = None; from = once.Absent; to = once.Absent; 
 -- the Accept lines so far with a comma and a further one
 abbrev pub accept_more : Option (List ℕ) → List ℕ → Option (List ℕ)
 accept_more None v = Some v
-accept_more (Some joined) v = Some (joined ++ 44 ∷ v)
+accept_more (Some joined) v = Some (joined ++ byte "," ∷ v)
 
 -- the first one stays
 abbrev pub first_or : {A : Type 0} → Option A → A → Option A

@@ -1,6 +1,7 @@
 -- What the reader computes of lines, as functions on lists. The relation (Folding) is what they come to.
 use Rattle.std.specs.Prelude.{ℕ, zero, suc, Bool, false, List, [], ◌∷◌, ◌++◌, length, take, drop, ◌==◌, if◌then◌else◌, Option, Some, None}
 use Rattle.std.specs.List.{prefix_len}
+use Rattle.std.specs.Str.{byte}
 use Rattle.sip_text.specs.declared.scan.Class.TheVariants as class
 use Rattle.sip_text.specs.Bytes.{is_in, is_space}
 use Rattle.sip_text.specs.Reading.{◌>>=◌, span_at, after_spaces, after_byte, trim_end, trimmed}
@@ -8,15 +9,15 @@ use Rattle.sip_text.specs.Reading.{◌>>=◌, span_at, after_spaces, after_byte,
 -- a line at the front, behind which a CRLF stands, and the rest
 unfoldable pub line_at : List ℕ → Option (List ℕ × List ℕ)
 line_at t = do
-  lf ← after_byte 13 (drop (prefix_len (is_in class.Line) t) t)
-  rest ← after_byte 10 lf
+  lf ← after_byte (byte "\r") (drop (prefix_len (is_in class.Line) t) t)
+  rest ← after_byte (byte "\n") lf
   Some (take (prefix_len (is_in class.Line) t) t, rest)
 
 -- a header's name and its value
 unfoldable pub header_of : List ℕ → Option (List ℕ × List ℕ)
 header_of line = do
   name ← span_at (is_in class.Token) line
-  value ← after_byte 58 (after_spaces name.1)
+  value ← after_byte (byte ":") (after_spaces name.1)
   Some (name.0, trimmed value)
 
 abbrev pub begins_space : List ℕ → Bool
@@ -25,7 +26,7 @@ begins_space (x ∷ xs) = is_space x
 
 -- a line with a further piece
 abbrev pub joined : List ℕ → List ℕ → List ℕ
-joined line piece = trim_end line ++ 32 ∷ after_spaces piece
+joined line piece = trim_end line ++ byte " " ∷ after_spaces piece
 
 -- the line that begins with this piece, and what stands behind its continuation lines
 unfoldable pub continued_at : ℕ → List ℕ → List ℕ → Option (List ℕ × List ℕ)

@@ -54,7 +54,7 @@ pub record IsProtocol (text : List ℕ) : Type 0 where
   pub whole : text ≡ first ++ (second ++ (transport ++ gap))
 
 --   via = protocol sent-by *param
---   sent-by = 1*(33 to 126 but DQUOTE "," ";" "<" ">")
+--   sent-by = 1*("!" to "~" but DQUOTE "," ";" "<" ">")
 pub record IsHop (text : List ℕ) (h : Hop) : Type 0 where
   pub protocol : List ℕ
   pub behind : List ℕ

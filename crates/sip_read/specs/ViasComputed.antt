@@ -1,7 +1,7 @@
 -- What the reader computes of Via values, as functions on lists. The relation (Vias) is what they come to.
 use Rattle.std.specs.Prelude.{ℕ, ◌-◌, List, length, take, if◌then◌else◌, Option, Some, None, codes}
 use Rattle.std.specs.List.{list_any}
-use Rattle.std.specs.Str.{str_eq_ignore_ascii_case}
+use Rattle.std.specs.Str.{byte, str_eq_ignore_ascii_case}
 use Rattle.sip_text.specs.declared.scan.Class.TheVariants as class
 use Rattle.sip_text.specs.Bytes.{is_in}
 use Rattle.sip_text.specs.Grammar.{Parameter}
@@ -16,7 +16,7 @@ taken t rest = take (length t - length rest) t
 unfoldable pub slashed_at : List ℕ → List ℕ → Option (List ℕ)
 slashed_at word t = do
   name ← span_at (is_in class.Token) t
-  rest ← after_byte 47 (after_spaces name.1)
+  rest ← after_byte (byte "/") (after_spaces name.1)
   if str_eq_ignore_ascii_case name.0 word then Some (after_spaces rest) else None
 
 -- what follows the protocol

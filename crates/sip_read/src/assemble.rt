@@ -46,23 +46,25 @@ fn top_required(top: Option<Via>) -> Result<Via, ReadError>
     }
 }
 
-/// The head, of what each message has.
-#[tactic(auto, unfolding(crate::specs::MessageComputed::head_of))]
-fn head_of(
-    vias: Vec<Text>,
-    top: Option<Via>,
+/// What the lines say of the call that a message stands in (RFC 3261 section 8.1.1).
+#[derive(Drop)]
+struct CallLines {
     from: Once<Party>,
     to: Once<Party>,
     call_id: Once<Text>,
     cseq: Once<Sequence>,
-) -> Result<Head, ReadError>
-    ensures { result ≡ head_of vias.items top from to call_id cseq }
+}
+
+/// The head, of what each message has.
+#[tactic(auto, unfolding(crate::specs::MessageComputed::head_of))]
+fn head_of(vias: Vec<Text>, top: Option<Via>, call: CallLines) -> Result<Head, ReadError>
+    ensures { result ≡ head_of vias.items top call.from call.to call.call_id call.cseq }
 {
     let top = top_required(top)?;
-    let from = from.required(HeaderName::From)?;
-    let to = to.required(HeaderName::To)?;
-    let call_id = call_id.required(HeaderName::CallId)?;
-    let cseq = cseq.required(HeaderName::CSeq)?;
+    let from = call.from.required(HeaderName::From)?;
+    let to = call.to.required(HeaderName::To)?;
+    let call_id = call.call_id.required(HeaderName::CallId)?;
+    let cseq = call.cseq.required(HeaderName::CSeq)?;
     Ok(Head {
         vias: Values::new(vias),
         top,
@@ -181,7 +183,13 @@ pub fn message_of(
         content_length,
         fields,
     } = gathered;
-    let head = head_of(vias, top, from, to, call_id, cseq)?;
+    let call = CallLines {
+        from,
+        to,
+        call_id,
+        cseq,
+    };
+    let head = head_of(vias, top, call)?;
     let body = body_of(content_length, rest)?;
     Ok(finished(alloc, first, head, fields, body)?)
 }

@@ -13,10 +13,10 @@ use sip_text::{Class, Text, capped_number, span_at, text_of, word_of};
 fn all_visible(text: &[u8]) -> bool
     ensures { result ≡ list_all is_visible text.now }
 {
-    text.iter().all(|byte| matches!(*byte, 33..=126))
+    text.iter().all(|byte| matches!(*byte, b'!'..=b'~'))
 }
 
-/// The whole text, if it is one or more bytes 33 to 126.
+/// The whole text, if it is one or more bytes from `!` to `~`.
 fn visible_of(text: &[u8]) -> Option<&[u8]>
     ensures { Finds (λ x. x.now) result (all_of is_visible text.now) }
 {
@@ -27,7 +27,7 @@ fn visible_of(text: &[u8]) -> Option<&[u8]>
     }
 }
 
-/// The Call-ID that the value is: one or more bytes 33 to 126.
+/// The Call-ID that the value is: one or more bytes from `!` to `~`.
 #[tactic(auto, unfolding(crate::specs::ValuesComputed::call_id_of))]
 pub fn call_id_of(value: &[u8]) -> Option<&str>
     ensures { Finds (λ x. x.now) result (call_id_of value.now) }

@@ -8,6 +8,7 @@ use Rattle.sip_text.specs.Reading.{◌>>=◌, after_byte, after_spaces, after_co
 use Rattle.sip_text.specs.Grammar.{AreSpaces, Stops, AreElements}
 use Rattle.sip_text.proofs.Pieces.{Takes, bind_some, some_is, spaces_taken, spaces_again, byte_taken, stops_at_spaces, stops_after_drop}
 use Rattle.sip_text.proofs.Utf8.{text_after_ascii, space_small, split_text, is_wide}
+use Rattle.sip_text.proofs.Repeats.{with_front, regroup}
 use Rattle.sip_text.proofs.Groups.{Ends, nothing_ends, comma_ends}
 
 -- ---- a comma
@@ -116,13 +117,6 @@ module _ {X : Type 0} (f : List ℕ → Option (X × List ℕ)) where
         rw (one, some, two, elements_again U cuts again (y ∷ xs) others n h.8 cut.1 short) refl
 
   -- ---- for the loop, which has room for n more elements
-
-  abbrev pub with_front : List X → Option (List X) → Option (List X)
-  with_front front read = read >>= λ xs. Some (front ++ xs)
-
-  regroup : (front : List X) (x : X) (read : Option (List X)) → with_front front (read >>= λ xs. found (x ∷ xs)) ≡ with_front (front ++ x ∷ []) read
-  regroup front x None = refl
-  regroup front x (Some xs) = ap found (sym (append_assoc front (x ∷ []) xs))
 
   -- room for one element more
   pub one_less : (front : List X) (t : List ℕ) (total : Option (List X)) (long count : ℕ) → with_front front (elements_at f (suc long - count) t) ≡ total → length t < suc long - count

@@ -4,6 +4,7 @@ use Rattle.std.proofs.lemmas.List.{append-nil, length-append}
 use Rattle.sip_text.specs.Reading.{◌>>=◌, parameter_at, parameters_at, parameters_of}
 use Rattle.sip_text.specs.Grammar.{Parameter, IsParameter, AreParameters}
 use Rattle.sip_text.proofs.Pieces.{bind_some, some_is}
+use Rattle.sip_text.proofs.Repeats.{IsRepeated}
 use Rattle.sip_text.proofs.Parameters.{parameter_takes, parameter_again, Follows, nothing_follows, parameter_follows}
 
 -- no parameter is empty
@@ -50,44 +51,6 @@ parameter_shortens t p r e =
 
 -- ---- for the loop
 
-abbrev goes : ℕ → Option (Parameter × List ℕ) → Option (List Parameter)
-goes k o = o >>= λ p. parameters_at k p.1 >>= λ ps. Some (p.0 ∷ ps)
-
-goes_same : (n m : ℕ) (o : Option (Parameter × List ℕ)) → ((p : Parameter) (r : List ℕ) → o ≡ Some (p, r) → parameters_at n r ≡ parameters_at m r) → goes n o ≡ goes m o
-goes_same n m None f = refl
-goes_same n m (Some q) f = rw (f q.0 q.1 refl) refl
-
-pub enough : (n m : ℕ) (t : List ℕ) → length t ≤ n → length t ≤ m → parameters_at n t ≡ parameters_at m t
+pub parameters_repeat : IsRepeated parameter_at parameters_at
 unfolding parameters_at
-enough n m [] a b = refl
-enough zero m (x ∷ xs) a b = absurd (omega (arith, a))
-enough (suc n) zero (x ∷ xs) a b = absurd (omega (arith, b))
-enough (suc n) (suc m) (x ∷ xs) a b = goes_same n m (parameter_at (x ∷ xs)) (λ p r e. enough n m r (omega (arith, parameter_shortens (x ∷ xs) p r e)) (omega (arith, parameter_shortens (x ∷ xs) p r e)))
-
-abbrev pub with_front : List Parameter → Option (List Parameter) → Option (List Parameter)
-with_front front read = read >>= λ ps. Some (front ++ ps)
-
-regroup : (front : List Parameter) (p : Parameter) (read : Option (List Parameter)) → with_front front (read >>= λ ps. Some (p ∷ ps)) ≡ with_front (front ++ p ∷ []) read
-regroup front p None = refl
-regroup front p (Some ps) = ap (λ (l : List Parameter). Some l) (sym (append_assoc front (p ∷ []) ps))
-
-step_of : (t : List ℕ) (p : Parameter) (r : List ℕ) → parameter_at t ≡ Some (p, r) → parameters_of t ≡ (parameters_of r >>= λ ps. Some (p ∷ ps))
-step_of [] p r e = absurd (nothing_at_end p r e)
-step_of (x ∷ xs) p r e =
-    let short = parameter_shortens (x ∷ xs) p r e in
-    let same : parameters_at (length xs) r ≡ parameters_at (length r) r = enough (length xs) (length r) r (omega arith) (omega arith) in
-    one_more (length xs) (x ∷ xs) p r e ∙ ap (λ (o : Option (List Parameter)). o >>= λ ps. Some (p ∷ ps)) same
-
-pub goes_on : (front : List Parameter) (t : List ℕ) (p : Parameter) (r : List ℕ) (total : Option (List Parameter)) → parameter_at t ≡ Some (p, r)
-    → with_front front (parameters_of t) ≡ total → with_front (front ++ p ∷ []) (parameters_of r) ≡ total
-goes_on front t p r total e so_far = sym (regroup front p (parameters_of r)) ∙ ap (with_front front) (sym (step_of t p r e)) ∙ so_far
-
-pub fails : (front : List Parameter) (t : List ℕ) (total : Option (List Parameter)) → 0 < length t → parameter_at t ≡ None → with_front front (parameters_of t) ≡ total → total ≡ None
-unfolding parameters_at
-fails front [] total some e so_far = absurd (omega (arith, some))
-fails front (x ∷ xs) total some e so_far = let k : with_front front (parameters_of (x ∷ xs)) ≡ None = rw e refl in sym so_far ∙ k
-
-pub is_done : (front : List Parameter) (t : List ℕ) (total : Option (List Parameter)) → length t ≡ 0 → with_front front (parameters_of t) ≡ total → total ≡ Some front
-unfolding parameters_at
-is_done front [] total len so_far = sym so_far ∙ ap (λ (l : List Parameter). Some l) (append-nil front)
-is_done front (x ∷ xs) total len so_far = absurd (omega (arith, len))
+parameters_repeat = record { none = λ n. refl; more = λ n y ys. refl; shortens = parameter_shortens }

@@ -12,9 +12,9 @@ pub enum Class {
     Space,
     /// Letters, digits and ``-.!%*_+`'~``.
     Token,
-    /// What stands in a parameter's value: 33 and above except 127 and `"`, `,`, `;`, `<`, `>`.
+    /// What stands in a parameter's value: `!` and above except DEL and `"`, `,`, `;`, `<`, `>`.
     Value,
-    /// What stands in a uri: 33 to 126 except `"`, `<`, `>`.
+    /// What stands in a uri: `!` to `~` except `"`, `<`, `>`.
     Uri,
     /// What stands in a uri's scheme: letters, digits, `+`, `-`, `.`.
     Scheme,
@@ -23,7 +23,7 @@ pub enum Class {
     Digit,
     /// What stands in a line: no control character but HT.
     Line,
-    /// What stands in the host and port of a Via: 33 to 126 except `"`, `,`, `;`, `<`, `>`.
+    /// What stands in the host and port of a Via: `!` to `~` except `"`, `,`, `;`, `<`, `>`.
     Host,
     /// What stands in a uri without angle brackets: that of a uri except `,`, `;`, `?`.
     Bare,
@@ -47,18 +47,18 @@ impl Class {
                         b'-' | b'.' | b'!' | b'%' | b'*' | b'_' | b'+' | b'`' | b'\'' | b'~'
                     )
             }
-            Class::Value => byte >= 33 && !matches!(byte, 127 | b'"' | b',' | b';' | b'<' | b'>'),
-            Class::Uri => matches!(byte, 33..=126) && !matches!(byte, b'"' | b'<' | b'>'),
+            Class::Value => byte >= b'!' && !matches!(byte, 127 | b'"' | b',' | b';' | b'<' | b'>'),
+            Class::Uri => matches!(byte, b'!'..=b'~') && !matches!(byte, b'"' | b'<' | b'>'),
             Class::Scheme => byte.is_ascii_alphanumeric() || matches!(byte, b'+' | b'-' | b'.'),
             Class::Display => !matches!(byte, b'"' | b'<' | b'>' | b',' | b';'),
             Class::Digit => byte.is_ascii_digit(),
-            Class::Host => matches!(byte, 33..=126)
+            Class::Host => matches!(byte, b'!'..=b'~')
                 && !matches!(byte, b'"' | b',' | b';' | b'<' | b'>'),
-            Class::Bare => matches!(byte, 33..=126)
+            Class::Bare => matches!(byte, b'!'..=b'~')
                 && !matches!(byte, b'"' | b'<' | b'>' | b',' | b';' | b'?'),
-            Class::Shown => byte >= 32 && byte != 127,
+            Class::Shown => byte >= b' ' && byte != 127,
             Class::Small => !byte.is_ascii_uppercase(),
-            Class::Line => matches!(byte, 32..=126) || byte >= 128 || byte == b'\t',
+            Class::Line => matches!(byte, b' '..=b'~') || byte >= 128 || byte == b'\t',
         }
     }
 }

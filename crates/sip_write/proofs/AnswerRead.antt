@@ -12,6 +12,8 @@ use Rattle.sip_text.specs.Grammar.{AllPassing, IsWord}
 use Rattle.sip_text.specs.Grammar.{IsToken}
 use Rattle.event_headers.specs.Headers.{Fits}
 use Rattle.event_headers.specs.Written.{parameter_text, comma_joined}
+use Rattle.sip_text.proofs.NotEmpty.{cons_some, some_before}
+use Rattle.sip_text.proofs.Numerals.{spelled}
 use Rattle.sip_text.proofs.Trims.{all-append}
 use Rattle.sip_read.specs.declared.call.Sequence.{Sequence}
 use Rattle.sip_read.specs.declared.header.Header.TheVariants as headers
@@ -32,11 +34,10 @@ use Rattle.sip_write.specs.Lines.{joined, header, header_of, contact_text}
 use Rattle.sip_write.specs.ReadAgain.{IsAddr, IsFieldText}
 use Rattle.sip_write.specs.Status.{code, phrase}
 use Rattle.sip_write.specs.Via.{top_via_text}
-use Rattle.sip_write.proofs.FieldTexts.{all_within, token_visible, visible_field, spaced_field, field_more, printed_text, comma_space, some_before, spelled, decimal_visible, literal_name, plain}
+use Rattle.sip_write.proofs.FieldTexts.{all_within, token_visible, visible_field, spaced_field, field_more, printed_text, comma_space, decimal_visible, literal_name, plain}
 use Rattle.sip_write.proofs.NotifyRead.{Laid, done, one, none, laid_plain, wire, joined_first, tagged, tag_visible, contact_visible}
 use Rattle.sip_write.proofs.TopVia.{top_again}
 use Rattle.sip_write.proofs.TopViaText.{hop_starts, top_field}
-use Rattle.sip_write.proofs.ViaPieces.{cons_some}
 
 -- ---- the status line
 

@@ -1,18 +1,16 @@
 -- Texts that stand in header lines, and lines of them.
-use Rattle.std.proofs.Common.{◌≡◌, ◌≢◌, ℕ, ◌<◌, ◌≤◌, ◌+◌, ◌-◌, ◌*◌, ◌/◌, ◌%◌, ◌^◌, Bool, true, List, [], ◌∷◌, ◌++◌, reverse, refl, sym, subst, ◌∙◌, arith, decimal}
-use Rattle.std.specs.Prelude.{nat_le}
+use Rattle.std.proofs.Common.{◌≡◌, ◌≢◌, ℕ, ◌<◌, ◌+◌, ◌-◌, ◌^◌, Bool, true, List, [], ◌∷◌, ◌++◌, reverse, refl, sym, subst, arith, decimal}
 use Rattle.std.specs.List.{list_all}
 use Rattle.std.specs.Str.{IsUtf8}
-use Rattle.std.proofs.lemmas.Bool.{le-leb}
 use Rattle.std.proofs.lemmas.Bool.Decides.{nat_tests}
-use Rattle.std.proofs.lemmas.Fmt.{decimal_by_steps}
 use Rattle.std.proofs.lemmas.List.{reverse-append}
-use Rattle.std.proofs.lemmas.List.Sums.{fold-append}
 use Rattle.std.proofs.lemmas.Str.{IsUtf8-append}
 use Rattle.sip_text.specs.declared.scan.Class.TheVariants as class
 use Rattle.sip_text.specs.Bytes.{is_in, is_space, is_within}
-use Rattle.sip_text.specs.Grammar.{AllPassing, IsWord, Stops, number_of}
+use Rattle.sip_text.specs.Grammar.{AllPassing, IsWord, Stops}
+use Rattle.sip_text.proofs.NotEmpty.{cons_some, ends_more}
 use Rattle.sip_text.proofs.Pieces.{and_both, no_space, NoSpace}
+use Rattle.sip_text.proofs.Numerals.{spelled}
 use Rattle.sip_text.proofs.Trims.{all-append, all-reverse}
 use Rattle.sip_text.proofs.Utf8.{text_from_ascii, token_small}
 use Rattle.sip_read.specs.Calls.{is_visible}
@@ -20,7 +18,6 @@ use Rattle.sip_read.specs.Headers.{header_named}
 use Rattle.sip_read.specs.Items.{Item, AreValues}
 use Rattle.sip_read.proofs.PlainLines.{IsPlain, named_line, named_begins}
 use Rattle.sip_write.specs.Lines.{header}
-use Rattle.sip_write.proofs.ViaPieces.{ends_more, cons_some}
 use Rattle.sip_write.specs.ReadAgain.{IsFieldText}
 
 -- ---- bytes
@@ -114,35 +111,6 @@ comma_space y b some = record {
 }
 
 -- ---- numbers
-
-digit_word : (x : ℕ) → x < 10 → is_in class.Digit (48 + x) ≡ true
-digit_word x lt =
-    let a : nat_le 48 (48 + x) ≡ true = le-leb 48 (48 + x) (omega arith) in
-    let b : nat_le (48 + x) 57 ≡ true = le-leb (48 + x) 57 (omega (arith, lt)) in
-    rw (a, b) refl
-
--- digits that stand for a number
-abbrev pub IsSpelled : ℕ → List ℕ → Type 0
-IsSpelled n digits = IsWord class.Digit digits × (number_of digits ≡ n)
-
-pub some_behind : (x y : List ℕ) → y ≢ [] → x ++ y ≢ []
-some_behind [] y some e = some e
-some_behind (z ∷ x) y some e = absurd cc
-
-pub some_before : (x y : List ℕ) → x ≢ [] → x ++ y ≢ []
-some_before [] y some e = some refl
-some_before (z ∷ x) y some e = absurd cc
-
-pub spelled : (n : ℕ) → n < 2 ^ 64 → IsSpelled n (decimal n)
-spelled n small = decimal_by_steps IsSpelled first more n small where
-  first : (m : ℕ) → m < 10 → IsSpelled m ((48 + m) ∷ [])
-  first m lt = ((rw (digit_word m lt) refl, cons_some (48 + m) []), omega arith)
-
-  more : (m : ℕ) (ds : List ℕ) → 10 ≤ m → IsSpelled (m / 10) ds → IsSpelled m (ds ++ ((48 + m % 10) ∷ []))
-  more m ds le h =
-      let last : AllPassing (is_in class.Digit) ((48 + m % 10) ∷ []) = rw (digit_word (m % 10) (omega arith)) refl in
-      let value : number_of (ds ++ ((48 + m % 10) ∷ [])) ≡ 10 * number_of ds + (48 + m % 10 - 48) = fold-append (λ n b. 10 * n + (b - 48)) 0 ds ((48 + m % 10) ∷ []) in
-      ((all-append (is_in class.Digit) ds ((48 + m % 10) ∷ []) h.0.0 last, some_behind ds ((48 + m % 10) ∷ []) (cons_some (48 + m % 10) [])), value ∙ omega (arith, h.1))
 
 pub decimal_visible : (n : ℕ) → n < 2 ^ 64 → AllPassing is_visible (decimal n)
 decimal_visible n small = all_within (is_in class.Digit) is_visible digit_visible (decimal n) (spelled n small).0.0

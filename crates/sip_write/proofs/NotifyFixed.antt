@@ -19,7 +19,8 @@ use Rattle.sip_text.proofs.Trims.{all-append}
 use Rattle.event_headers.proofs.WrittenTexts.{event_again_read, state_again_read}
 use Rattle.sip_read.specs.Calls.{is_visible}
 use Rattle.sip_read.proofs.PlainLines.{on_wire}
-use Rattle.sip_write.specs.Lines.{header, addr_text, contact_text}
+use Rattle.sip_text.specs.Addresses.{addr_text}
+use Rattle.sip_write.specs.Lines.{header, contact_text}
 use Rattle.sip_write.specs.Notify.{NotifyText, request_line, via_text}
 use Rattle.sip_write.specs.ReadAgain.{is_kept_in_line, IsOneLine, KeepsItsLines, TellsTheSame, NotifyFixesItsValues}
 use Rattle.sip_write.proofs.FieldTexts.{all_within, decimal_visible}

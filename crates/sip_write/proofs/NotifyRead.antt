@@ -11,6 +11,8 @@ use Rattle.sip_text.specs.Grammar.{IsToken, IsSmallToken}
 use Rattle.event_headers.specs.Headers.{IsEventValue, IsStateValue, Fits}
 use Rattle.event_headers.specs.Values.{EventValue, StateValue}
 use Rattle.event_headers.specs.Written.{parameter_text, event_text, state_text}
+use Rattle.sip_text.proofs.NotEmpty.{cons_some, some_behind, some_before}
+use Rattle.sip_text.proofs.Numerals.{spelled}
 use Rattle.sip_text.proofs.Trims.{all-append}
 use Rattle.event_headers.proofs.WrittenTexts.{event_again_read}
 use Rattle.sip_read.specs.declared.call.Sequence.{Sequence}
@@ -24,11 +26,11 @@ use Rattle.sip_read.specs.Items.{Item, item}
 use Rattle.sip_read.specs.Message.{HasHead}
 use Rattle.sip_read.specs.Vias.{Hop, IsHop}
 use Rattle.sip_read.proofs.PlainLines.{on_wire, IsPlain, ArePlain, plain_head}
-use Rattle.sip_write.specs.Lines.{joined, header, addr_text, ip_text, contact_text}
+use Rattle.sip_text.specs.Addresses.{addr_text, ip_text}
+use Rattle.sip_write.specs.Lines.{joined, header, contact_text}
 use Rattle.sip_write.specs.Notify.{NotifyText, request_line, via_text, dialog_lines, event_lines, notify_lines, notify_text}
 use Rattle.sip_write.specs.ReadAgain.{IsAddr, IsFieldText, IsNotify, branch_text, NotifyIsReadAgain}
-use Rattle.sip_write.proofs.FieldTexts.{all_within, visible_line, token_visible, digit_visible, uri_visible, field_more, visible_field, spaced_field, some_behind, some_before, spelled, decimal_visible, literal_name, plain}
-use Rattle.sip_write.proofs.ViaPieces.{cons_some}
+use Rattle.sip_write.proofs.FieldTexts.{all_within, visible_line, token_visible, digit_visible, uri_visible, field_more, visible_field, spaced_field, decimal_visible, literal_name, plain}
 
 -- ---- the whole as lines
 

@@ -1,8 +1,7 @@
 -- The values of a message that was read: each stands in a header line, in its grammar.
-use Rattle.std.proofs.Common.{◌≡◌, ◌≢◌, ℕ, zero, suc, ◌<◌, ◌^◌, Bool, true, false, List, [], ◌∷◌, ◌++◌, ◌⊎◌, length, reverse, Option, Some, None, inl, inr, refl, sym, ap, subst, ◌∙◌, append_assoc, append-nil, arith}
+use Rattle.std.proofs.Common.{◌≡◌, ◌≢◌, ℕ, zero, suc, ◌<◌, ◌^◌, Bool, true, false, List, [], ◌∷◌, ◌++◌, ◌⊎◌, reverse, Option, Some, None, inl, inr, refl, sym, ap, subst, ◌∙◌, append_assoc, append-nil, arith}
 use Rattle.std.specs.Prelude.{All, IfSome}
 use Rattle.std.specs.List.{list_all, filter_map}
-use Rattle.std.specs.Str.{IsUtf8}
 use Rattle.std.proofs.lemmas.Bool.Decides.{nat_tests}
 use Rattle.std.proofs.lemmas.List.Folds.{list_all-append}
 use Rattle.sip_text.specs.declared.field.Field.{Field}
@@ -12,6 +11,7 @@ use Rattle.sip_text.specs.declared.scan.Class.TheVariants as class
 use Rattle.sip_text.specs.Bytes.{is_in, is_space, is_within}
 use Rattle.sip_text.specs.Grammar.{AllPassing, AreSpaces, IsWord, Stops, IsValue, Parameter, IsAssigned, IsParameter, AreParameters, AreElements}
 use Rattle.sip_text.specs.Grammar.{IsToken}
+use Rattle.sip_text.proofs.NotEmpty.{cons_some, some_behind, ends_more}
 use Rattle.sip_text.proofs.Pieces.{and_both}
 use Rattle.sip_text.proofs.Trims.{all-append, stops_front}
 use Rattle.sip_text.proofs.Utf8.{is_wide, text_after_ascii}
@@ -32,9 +32,9 @@ use Rattle.sip_write.specs.AnswerAgain.{IsViaField, IsRouteField, IsPartyField, 
 use Rattle.sip_write.specs.ReadAgain.{IsFieldText}
 use Rattle.sip_write.specs.RequestRead.{WhatIsReadIsInItsGrammar, AnswerToWhatWasReadIsReadAgain}
 use Rattle.sip_write.proofs.AnswerRead.{answer_again}
-use Rattle.sip_write.proofs.FieldTexts.{all_within, some_behind}
+use Rattle.sip_write.proofs.FieldTexts.{all_within}
 use Rattle.sip_write.proofs.TopViaText.{IsInLine, cut_in_line, space_narrow}
-use Rattle.sip_write.proofs.ViaPieces.{ends_more, cons_some, word_ends}
+use Rattle.sip_write.proofs.ViaPieces.{word_ends}
 
 -- ---- lines
 

@@ -1,25 +1,26 @@
 -- The top Via of an answer is a Via value with the same sent-by and branch.
-use Rattle.std.proofs.Common.{◌≡◌, ℕ, Bool, true, false, List, [], ◌∷◌, ◌++◌, length, take, Some, refl, sym, ap, subst, ◌∙◌, append_assoc, append-nil, arith, codes, decimal, cond, inr}
+use Rattle.std.proofs.Common.{◌≡◌, ℕ, Bool, true, false, List, [], ◌∷◌, ◌++◌, Some, refl, sym, ap, subst, ◌∙◌, append_assoc, append-nil, arith, codes, decimal, cond, inr}
 use Rattle.std.specs.Prelude.{◌&&◌, not, bytes_eq, is_some, slice_index}
-use Rattle.std.specs.List.{list_any, flat_map, prefix_len}
+use Rattle.std.specs.List.{list_any, flat_map}
 use Rattle.std.specs.Str.{str_eq_ignore_ascii_case, str_to_ascii_lowercase}
-use Rattle.std.proofs.lemmas.List.{take_at}
 use Rattle.std.proofs.lemmas.Slice.Eq.{bytes_eq-Decides}
 use Rattle.sip_text.specs.declared.scan.Class.TheVariants as class
 use Rattle.sip_text.specs.Bytes.{is_in, is_space, is_token_byte}
 use Rattle.sip_text.specs.Grammar.{AllPassing, IsWord, Parameter, IsParameter, AreParameters, has_name}
-use Rattle.sip_text.proofs.Pieces.{and_both, prefix_again}
+use Rattle.sip_text.proofs.NotEmpty.{some_before, ends_more}
+use Rattle.sip_text.proofs.Numerals.{spelled}
+use Rattle.sip_text.proofs.Pieces.{and_both}
 use Rattle.sip_text.proofs.Trims.{all-append}
 use Rattle.sip_text.specs.declared.address.Addr.{Addr}
 use Rattle.sip_read.specs.Vias.{Hop, branch_of, is_bare_rport, IsSlashed, IsProtocol, IsHop}
 use Rattle.sip_write.specs.Laws.{is_front_byte, IsViaFront, ArePieces}
-use Rattle.sip_write.specs.Lines.{ip_text}
+use Rattle.sip_text.specs.Addresses.{ip_text}
 use Rattle.sip_write.specs.ReadAgain.{IsAddr, TopViaIsReadAgain}
-use Rattle.sip_write.specs.Via.{is_lead, lead_of, host_of, Parts, parts_of, marked_parameter, marked_parts, top_via_text, is_received as is_received_piece, is_bare_rport as is_bare_piece}
-use Rattle.sip_write.proofs.FieldTexts.{all_within, spelled, literal_name, some_before}
+use Rattle.sip_write.specs.Via.{lead_of, host_of, Parts, parts_of, marked_parameter, marked_parts, top_via_text, is_received as is_received_piece, is_bare_rport as is_bare_piece}
+use Rattle.sip_write.proofs.FieldTexts.{all_within, literal_name}
 use Rattle.sip_write.proofs.NotifyRead.{digit_value}
-use Rattle.sip_write.proofs.ViaNames.{spaces_lead, token_ends_lead, tells}
-use Rattle.sip_write.proofs.ViaPieces.{of_class, ends_more, word_ends, cuts}
+use Rattle.sip_write.proofs.ViaNames.{lead_and_name, tells}
+use Rattle.sip_write.proofs.ViaPieces.{of_class, word_ends, cuts}
 
 -- ---- the front
 
@@ -72,16 +73,6 @@ mark source p = marked_as source (has_name (codes "received") p) (is_bare_rport 
 port_digits : (source : Addr) → IsAddr source → IsWord class.Digit (decimal source.port)
 port_digits source is = (spelled source.port (omega (arith, is.port))).0
 
--- the semicolon and the blanks before a name
-pub lead_is : (piece : List ℕ) (p : Parameter) (is : IsParameter piece p) → lead_of piece ≡ is.before ++ 59 ∷ is.behind
-lead_is piece p is =
-    let lead : List ℕ = is.before ++ 59 ∷ is.behind in
-    let rest : List ℕ = p.name ++ is.assigned in
-    let whole : piece ≡ lead ++ rest = is.whole ∙ sym (append_assoc is.before (59 ∷ is.behind) rest) in
-    let all : AllPassing is_lead lead = all-append is_lead is.before (59 ∷ is.behind) (spaces_lead is.before is.spaces_before) (spaces_lead is.behind is.spaces_behind) in
-    let count : prefix_len is_lead (lead ++ rest) ≡ length lead = prefix_again is_lead lead rest all (token_ends_lead p.name is.assigned is.name.0 is.name.1) in
-    ap lead_of whole ∙ ap (λ (n : ℕ). take n (lead ++ rest)) count ∙ take_at lead rest (length lead) refl
-
 rport_is : (source : Addr) (piece : List ℕ) (p : Parameter) → IsAddr source → IsParameter piece p → IsParameter (lead_of piece ++ (codes "rport=" ++ decimal source.port)) (rport_of source)
 rport_is source piece p addr is =
     let digits = port_digits source addr in
@@ -93,7 +84,7 @@ rport_is source piece p addr is =
       spaces_behind = is.spaces_behind;
       name = literal_name 114 (codes "port") refl;
       value = ([], [], refl, refl, inr (all_within (is_in class.Digit) (is_in class.Value) digit_value (decimal source.port) digits.0, digits.1), refl);
-      whole = ap (λ (t : List ℕ). t ++ (codes "rport=" ++ decimal source.port)) (lead_is piece p is) ∙ append_assoc is.before (59 ∷ is.behind) (codes "rport=" ++ decimal source.port);
+      whole = ap (λ (t : List ℕ). t ++ (codes "rport=" ++ decimal source.port)) (lead_and_name piece p is).0 ∙ append_assoc is.before (59 ∷ is.behind) (codes "rport=" ++ decimal source.port);
     }
 
 piece_marked : (source : Addr) (piece : List ℕ) (p : Parameter) → IsAddr source → IsParameter piece p → AreParameters (marked_parameter source piece) (mark source p)

@@ -9,6 +9,8 @@ use Rattle.std.proofs.lemmas.Bool.Decides.{nat_tests}
 use Rattle.sip_text.specs.declared.scan.Class.TheVariants as class
 use Rattle.sip_text.specs.Bytes.{is_in, is_space, is_token_byte}
 use Rattle.sip_text.specs.Grammar.{AllPassing, AreSpaces, Stops, Parameter, IsParameter}
+use Rattle.sip_text.proofs.NotEmpty.{ends_more}
+use Rattle.sip_text.proofs.Numerals.{spelled}
 use Rattle.sip_text.proofs.Pieces.{and_both, word_stops_spaces}
 use Rattle.sip_text.proofs.Trims.{all-append}
 use Rattle.sip_text.proofs.Utf8.{is_wide, split_text, text_from_ascii, space_small}
@@ -18,12 +20,13 @@ use Rattle.sip_read.specs.Vias.{Hop, via_of, IsHop}
 use Rattle.sip_write.specs.declared.quoting.Quoting.{Quoting}
 use Rattle.sip_write.specs.declared.quoting.Quoting.TheVariants.{Outside}
 use Rattle.sip_write.specs.Laws.{ArePieces}
-use Rattle.sip_write.specs.Lines.{ip_text}
+use Rattle.sip_text.specs.Addresses.{ip_text}
 use Rattle.sip_write.specs.ReadAgain.{IsAddr, IsFieldText}
 use Rattle.sip_write.specs.Via.{Parts, lead_of, host_of, quoting_after, begins_parameter, with_blank, with_character, parts_from, parts_of, is_received, is_bare_rport, marked_parameter, marked_parts, top_via_text}
-use Rattle.sip_write.proofs.FieldTexts.{all_within, visible_line, visible_text, visible_field, digit_visible, spelled}
-use Rattle.sip_write.proofs.TopVia.{lead_is, via_front}
-use Rattle.sip_write.proofs.ViaPieces.{cuts, ends_more}
+use Rattle.sip_write.proofs.FieldTexts.{all_within, visible_line, visible_text, visible_field, digit_visible}
+use Rattle.sip_write.proofs.TopVia.{via_front}
+use Rattle.sip_write.proofs.ViaNames.{lead_and_name}
+use Rattle.sip_write.proofs.ViaPieces.{cuts}
 
 -- ---- the parts are the whole text
 
@@ -98,7 +101,7 @@ piece_in_line : (source : Addr) (piece : List ℕ) (p : Parameter) → IsAddr so
 unfolding marked_parameter
 piece_in_line source piece p addr is line = step (is_received piece) (is_bare_rport piece) where
   lead : IsInLine (lead_of piece)
-  lead = subst IsInLine (sym (lead_is piece p is)) (in_line_more is.before (59 ∷ is.behind) (spaces_in_line is.before is.spaces_before) (in_line_more (59 ∷ []) is.behind (visible_in_line (59 ∷ []) refl) (spaces_in_line is.behind is.spaces_behind)))
+  lead = subst IsInLine (sym (lead_and_name piece p is).0) (in_line_more is.before (59 ∷ is.behind) (spaces_in_line is.before is.spaces_before) (in_line_more (59 ∷ []) is.behind (visible_in_line (59 ∷ []) refl) (spaces_in_line is.behind is.spaces_behind)))
 
   step : (r b : Bool) → IsInLine (cond r [] (cond b (lead_of piece ++ (codes "rport=" ++ decimal source.port)) piece))
   step true b = record { bytes = refl; is_text = IsUtf8-nil }

@@ -1,12 +1,13 @@
 -- The Via lines of an answer.
-use Rattle.std.proofs.Common.{◌≡◌, ◌≢◌, ℕ, ◌-◌, ◌<◌, ◌≤◌, Bool, true, false, cond, List, [], ◌∷◌, ◌++◌, refl, sym, ap, ◌∙◌, codes, decimal, map, length, get_or, take, drop, append_assoc, append-nil, arith}
+use Rattle.std.proofs.Common.{◌≡◌, ℕ, ◌-◌, ◌<◌, ◌≤◌, Bool, true, false, cond, List, [], ◌∷◌, ◌++◌, refl, sym, ap, ◌∙◌, codes, decimal, map, length, get_or, take, drop, append_assoc, append-nil, arith}
 use Rattle.std.specs.Prelude.{bytes_eq, ◌&&◌, not}
 use Rattle.std.specs.List.{flat_map}
 use Rattle.std.proofs.Math.Seq.{take-length}
 use Rattle.sip_text.specs.declared.address.Addr.{Addr}
 use Rattle.sip_read.specs.declared.message.Via.{Via}
 use Rattle.sip_write.specs.declared.page.Page.{Page}
-use Rattle.sip_write.specs.Lines.{joined, header, ip_text}
+use Rattle.sip_text.specs.Addresses.{ip_text}
+use Rattle.sip_write.specs.Lines.{joined, header}
 use Rattle.sip_write.specs.Answer.{via_lines}
 use Rattle.sip_write.specs.Pages.{Puts}
 use Rattle.sip_write.specs.Via.{top_via_text, marked_parameter, marked_parts, Parts, parts_of, is_received, is_bare_rport, lead_of, host_of}

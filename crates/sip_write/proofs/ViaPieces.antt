@@ -2,11 +2,12 @@
 use Rattle.std.proofs.Common.{◌≡◌, ◌≢◌, ℕ, Bool, true, false, eqb, List, [], ◌∷◌, ◌++◌, reverse, Option, Some, None, refl, sym, ap, subst, ◌∙◌, append_assoc, inl, inr}
 use Rattle.std.specs.Prelude.{not}
 use Rattle.std.specs.List.{list_all}
-use Rattle.std.proofs.lemmas.List.{reverse-append, reverse-reverse, append-nil}
+use Rattle.std.proofs.lemmas.List.{append-nil}
 use Rattle.std.proofs.lemmas.Bool.{ne_eqb}
 use Rattle.sip_text.specs.declared.scan.Class.TheVariants as class
 use Rattle.sip_text.specs.Bytes.{is_space, is_token_byte, is_value_byte}
 use Rattle.sip_text.specs.Grammar.{AllPassing, AreSpaces, IsWord, Stops, IsInside, nothing, plain, escaped, IsQuoted, IsValue, IsAssigned, Parameter, AreParameters}
+use Rattle.sip_text.proofs.NotEmpty.{cons_some, some_behind, ends_more}
 use Rattle.sip_text.proofs.Pieces.{and_both, no_space, NoSpace, apart}
 use Rattle.sip_write.specs.declared.quoting.Quoting.{Quoting}
 use Rattle.sip_write.specs.declared.quoting.Quoting.TheVariants.{Outside, Inside}
@@ -76,19 +77,6 @@ class_open p h k x all = front_open x (of_class p h k x all)
 
 -- ---- the end of a text
 
-pub nonempty_reverse : (x : List ℕ) → x ≢ [] → reverse x ≢ []
-nonempty_reverse x some e = some (sym (reverse-reverse x) ∙ ap (λ (l : List ℕ). reverse l) e)
-
-pub stops_more : (p : ℕ → Bool) (x y : List ℕ) → x ≢ [] → Stops p x → Stops p (x ++ y)
-stops_more p [] y some h = absurd (some refl)
-stops_more p (c ∷ x) y some h = h
-
-pub ends_more : (x y : List ℕ) → y ≢ [] → Stops is_space (reverse y) → Stops is_space (reverse (x ++ y))
-ends_more x y some h = subst (Stops is_space) (sym (reverse-append x y)) (stops_more is_space (reverse y) (reverse x) (nonempty_reverse y some) h)
-
-pub cons_some : (c : ℕ) (x : List ℕ) → (c ∷ x) ≢ []
-cons_some c x e = cc
-
 pub word_ends : (p : ℕ → Bool) → NoSpace p → (x : List ℕ) → AllPassing p x → x ≢ [] → Stops is_space (reverse x)
 word_ends p none [] all some = absurd (some refl)
 word_ends p none (c ∷ []) all some = no_space p none c (and_both (p c) true all).0
@@ -104,10 +92,7 @@ record IsSolid (text : List ℕ) : Type 0 where
   ends : Stops is_space (reverse text)
 
 solid_more : (x y : List ℕ) → IsOpen Outside x → IsSolid y → IsSolid (x ++ y)
-solid_more x y open_x k = record { open_text = open-append Outside x y open_x k.open_text; some = some_behind x y k.some; ends = ends_more x y k.some k.ends } where
-  some_behind : (x y : List ℕ) → y ≢ [] → (x ++ y) ≢ []
-  some_behind [] y h = h
-  some_behind (c ∷ x) y h = λ e. cc
+solid_more x y open_x k = record { open_text = open-append Outside x y open_x k.open_text; some = some_behind x y k.some; ends = ends_more x y k.some k.ends }
 
 word_solid : (p : ℕ → Bool) → p 34 ≡ false → p 59 ≡ false → NoSpace p → (x : List ℕ) → AllPassing p x → x ≢ [] → IsSolid x
 word_solid p h k none x all some = record { open_text = class_open p h k x all; some = some; ends = word_ends p none x all some }

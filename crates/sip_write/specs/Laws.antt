@@ -1,12 +1,13 @@
 -- What the laws say.
 use Rattle.std.specs.Prelude.{◌≡◌, ℕ, Bool, ◌&&◌, not, ◌==◌, List, [], ◌∷◌, ◌++◌, reverse, codes, is_some}
+use Rattle.std.specs.Str.{byte}
 use Rattle.sip_text.specs.Bytes.{is_space}
 use Rattle.sip_text.specs.Grammar.{AllPassing, Stops, Parameter, IsParameter, AreParameters, has_name}
 use Rattle.sip_write.specs.Via.{parts_of, is_received, is_bare_rport}
 
 -- what stands before the parameters of a Via value: no quote, no semicolon, and no blank at its end
 abbrev pub is_front_byte : ℕ → Bool
-is_front_byte c = not (c == 34) && not (c == 59)
+is_front_byte c = not (c == byte "\"") && not (c == byte ";")
 
 pub record IsViaFront (front : List ℕ) : Type 0 where
   pub bytes : AllPassing is_front_byte front

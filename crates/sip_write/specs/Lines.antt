@@ -1,10 +1,11 @@
 -- Header lines (RFC 3261 section 7.3), and the values that several of them share.
-use Rattle.std.specs.Prelude.{ℕ, List, [], ◌∷◌, ◌++◌, Option, None, Some, codes, decimal, slice_index}
+use Rattle.std.specs.Prelude.{ℕ, List, [], ◌∷◌, ◌++◌, Option, None, Some, codes, decimal}
 use Rattle.sip_text.specs.declared.address.Addr.{Addr}
+use Rattle.sip_text.specs.Addresses.{addr_text}
 
 -- CRLF
 abbrev pub line_end : List ℕ
-line_end = 13 ∷ 10 ∷ []
+line_end = codes "\r\n"
 
 -- lines, each with its end
 unfoldable pub joined : List (List ℕ) → List ℕ
@@ -19,17 +20,6 @@ header name value = name ++ (codes ": " ++ value)
 abbrev pub header_of : List ℕ → Option (List ℕ) → List (List ℕ)
 header_of name None = []
 header_of name (Some value) = header name value ∷ []
-
--- an IPv4 address: `a.b.c.d`
-abbrev pub ip_text : List ℕ → List ℕ
-ip_text ip =
-    decimal (slice_index ip 0)
-    ++ (codes "." ++ (decimal (slice_index ip 1)
-    ++ (codes "." ++ (decimal (slice_index ip 2) ++ (codes "." ++ decimal (slice_index ip 3))))))
-
--- `a.b.c.d:port`
-abbrev pub addr_text : Addr → List ℕ
-addr_text a = ip_text a.ip ++ (codes ":" ++ decimal a.port)
 
 -- the address of this server, as a Contact (RFC 3261 section 20.10)
 abbrev pub contact_text : Addr → List ℕ

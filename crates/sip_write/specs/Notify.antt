@@ -3,7 +3,8 @@ use Rattle.std.specs.Prelude.{ℕ, List, [], ◌∷◌, ◌++◌, map, length, S
 use Rattle.event_headers.specs.Values.{EventValue, StateValue}
 use Rattle.event_headers.specs.Written.{event_text, state_text, parameter_text}
 use Rattle.sip_text.specs.declared.address.Addr.{Addr}
-use Rattle.sip_write.specs.Lines.{joined, header, addr_text, contact_text, call_lines}
+use Rattle.sip_text.specs.Addresses.{addr_text}
+use Rattle.sip_write.specs.Lines.{joined, header, contact_text, call_lines}
 
 pub record NotifyText : Type 0 where
   -- the Request-URI: the subscriber's Contact

@@ -1,6 +1,6 @@
 -- What a reader of messages finds in what is written.
 use Rattle.std.specs.Prelude.{◌≡◌, ℕ, Bool, not, ◌==◌, ◌<◌, ◌≤◌, ◌^◌, false, List, [], ◌∷◌, ◌++◌, length, All, Some, None, codes, decimal, slice_index}
-use Rattle.std.specs.Str.{IsUtf8}
+use Rattle.std.specs.Str.{byte, IsUtf8}
 use Rattle.sip_text.specs.declared.field.Field.TheVariants as field
 use Rattle.sip_text.specs.declared.scan.Class.TheVariants as class
 use Rattle.sip_text.specs.Bytes.{is_in}
@@ -15,7 +15,7 @@ use Rattle.sip_read.specs.Addresses.{IsParty}
 use Rattle.sip_read.specs.Calls.{IsCallId}
 use Rattle.sip_read.specs.Message.{Reads}
 use Rattle.sip_read.specs.Vias.{Hop, via_of, IsHop}
-use Rattle.sip_write.specs.Lines.{addr_text}
+use Rattle.sip_text.specs.Addresses.{addr_text}
 use Rattle.sip_write.specs.Notify.{NotifyText, notify_text, via_text}
 use Rattle.sip_write.specs.Via.{top_via_text}
 
@@ -85,7 +85,7 @@ NotifyIsReadAgain =
 
 -- no CR
 abbrev pub is_kept_in_line : ℕ → Bool
-is_kept_in_line b = not (b == 13)
+is_kept_in_line b = not (b == byte "\r")
 
 -- a text that does not end its line
 abbrev pub IsOneLine : List ℕ → Type 0

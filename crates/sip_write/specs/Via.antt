@@ -1,13 +1,13 @@
 -- The top Via of an answer (RFC 3261 sections 18.2.1 and 18.2.2, RFC 3581 section 4).
 use Rattle.std.specs.Prelude.{ℕ, Bool, false, ◌&&◌, ◌||◌, not, List, [], ◌∷◌, ◌++◌, drop, ◌==◌, if◌then◌else◌, bytes_eq, codes, decimal}
 use Rattle.std.specs.List.{before_first, flat_map, prefix_len, take_while}
-use Rattle.std.specs.Str.{str_eq_ignore_ascii_case}
+use Rattle.std.specs.Str.{byte, str_eq_ignore_ascii_case}
 use Rattle.sip_text.specs.Bytes.{is_space}
 use Rattle.sip_text.specs.declared.address.Addr.{Addr}
 use Rattle.sip_read.specs.declared.message.Via.{Via}
 use Rattle.sip_write.specs.declared.quoting.Quoting.{Quoting}
 use Rattle.sip_write.specs.declared.quoting.Quoting.TheVariants as quoting
-use Rattle.sip_write.specs.Lines.{ip_text}
+use Rattle.sip_text.specs.Addresses.{ip_text}
 
 -- ---- the parts of a Via value
 --   via-parm = sent-protocol LWS sent-by *( SEMI via-params )        (RFC 3261 section 20.42)
@@ -19,13 +19,13 @@ pub record Parts : Type 0 where
 
 -- where a character leads: quotes open and close a quoted string, in which a backslash takes the next character along
 abbrev pub quoting_after : Quoting → ℕ → Quoting
-quoting_after quoting.Outside c = if c == 34 then quoting.Inside else quoting.Outside
-quoting_after quoting.Inside c = if c == 34 then quoting.Outside else if c == 92 then quoting.Escaped else quoting.Inside
+quoting_after quoting.Outside c = if c == byte "\"" then quoting.Inside else quoting.Outside
+quoting_after quoting.Inside c = if c == byte "\"" then quoting.Outside else if c == byte "\\" then quoting.Escaped else quoting.Inside
 quoting_after quoting.Escaped c = quoting.Inside
 
 -- a semicolon outside quoted strings begins a parameter
 abbrev pub begins_parameter : Quoting → ℕ → Bool
-begins_parameter quoting.Outside c = c == 59
+begins_parameter quoting.Outside c = c == byte ";"
 begins_parameter quoting.Inside c = false
 begins_parameter quoting.Escaped c = false
 
@@ -53,7 +53,7 @@ parts_of text = parts_from quoting.Outside text
 
 -- the semicolon and the blanks around it, and what stands behind them
 abbrev pub is_lead : ℕ → Bool
-is_lead c = is_space c || c == 59
+is_lead c = is_space c || c == byte ";"
 
 abbrev pub lead_of : List ℕ → List ℕ
 lead_of parameter = take_while is_lead parameter
@@ -61,9 +61,13 @@ lead_of parameter = take_while is_lead parameter
 abbrev pub behind_lead : List ℕ → List ℕ
 behind_lead parameter = drop (prefix_len is_lead parameter) parameter
 
+-- a name ends at a blank or an equals sign
+abbrev pub ends_name : ℕ → Bool
+ends_name c = is_space c || c == byte "="
+
 -- names ignore case (RFC 3261 section 7.3.1)
 abbrev pub is_received : List ℕ → Bool
-is_received parameter = str_eq_ignore_ascii_case (before_first (λ c. is_space c || c == 61) (behind_lead parameter)) (codes "received")
+is_received parameter = str_eq_ignore_ascii_case (before_first ends_name (behind_lead parameter)) (codes "received")
 
 -- `rport` without a value (RFC 3581 section 3)
 abbrev pub is_bare_rport : List ℕ → Bool
@@ -82,9 +86,12 @@ unfoldable pub marked_parts : Addr → Parts → List ℕ
 marked_parts source parts =
     parts.front ++ (flat_map (marked_parameter source) parts.parameters ++ (codes ";received=" ++ ip_text source.ip))
 
+abbrev pub is_colon : ℕ → Bool
+is_colon c = c == byte ":"
+
 -- the host of a sent-by
 abbrev pub host_of : List ℕ → List ℕ
-host_of sent_by = before_first (λ c. c == 58) sent_by
+host_of sent_by = before_first is_colon sent_by
 
 -- a top Via that names the source and asks for no port is copied
 unfoldable pub top_via_text : Addr → Via → List ℕ → List ℕ

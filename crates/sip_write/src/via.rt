@@ -1,9 +1,9 @@
 //! The top Via of an answer (RFC 3261 section 18.2.1, RFC 3581 section 4).
-ghost use Rattle.std.specs.Prelude.{◌≡◌, ◌≢◌, ◌++◌, ◌∷◌, [], ◌≤◌, ◌<◌, ◌&&◌, ◌||◌, ◌==◌, not, ℕ, List, length, take, drop, codes, bytes_eq};
+ghost use Rattle.std.specs.Prelude.{◌≡◌, ◌≢◌, ◌++◌, ◌∷◌, [], ◌≤◌, ◌<◌, ◌&&◌, not, ℕ, List, length, take, drop, codes, bytes_eq};
 ghost use Rattle.std.specs.List.{prefix_len, suffix_len, position_or_len, flat_map};
-ghost use Rattle.sip_text.specs.Bytes.{is_space};
-ghost use Rattle.sip_write.specs.Lines.{joined, header, ip_text};
-ghost use Rattle.sip_write.specs.Via.{top_via_text, marked_parts, marked_parameter, parts_of, is_lead as is_lead_byte, is_received as is_received_parameter, is_bare_rport as is_bare_rport_parameter, lead_of, behind_lead, host_of};
+ghost use Rattle.sip_text.specs.Addresses.{ip_text};
+ghost use Rattle.sip_write.specs.Lines.{joined, header};
+ghost use Rattle.sip_write.specs.Via.{top_via_text, marked_parts, marked_parameter, parts_of, is_lead as is_lead_byte, is_received as is_received_parameter, is_bare_rport as is_bare_rport_parameter, lead_of, behind_lead, ends_name, is_colon, host_of};
 ghost use Rattle.sip_write.specs.Cutting.{first_cut};
 ghost use Rattle.sip_write.specs.Pages.{Puts};
 ghost use Rattle.sip_write.specs.declared.quoting.Quoting.TheVariants as quoting;
@@ -41,7 +41,7 @@ fn lead_len(parameter: &[u8]) -> usize
 
 /// How long the name at the front is.
 fn name_len(text: &[u8]) -> usize
-    ensures value { result ≡ position_or_len (λ c. is_space c || c == 61) text.now }
+    ensures value { result ≡ position_or_len ends_name text.now }
     ensures bound { result ≤ length text.now }
 {
     text.iter()
@@ -51,7 +51,7 @@ fn name_len(text: &[u8]) -> usize
 
 /// How long the host is.
 fn host_len(sent_by: &[u8]) -> usize
-    ensures value { result ≡ position_or_len (λ c. c == 58) sent_by.now }
+    ensures value { result ≡ position_or_len is_colon sent_by.now }
     ensures bound { result ≤ length sent_by.now }
 {
     sent_by

@@ -1,6 +1,6 @@
 use Rattle.std.proofs.Common.{◌≡◌, length}
 use Rattle.scripts.specs.Reading.{blocks_of}
-use Rattle.scripts.proofs.Blocks.{with_front}
+use Rattle.sip_text.proofs.Repeats.{with_front}
 use Rattle.scripts.proofs.block.blocks_of.Given as goal
 
 abbrev pub invariant-loop-rest : goal.invariant-loop-rest
