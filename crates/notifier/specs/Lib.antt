@@ -17,8 +17,10 @@ pub mod Told
 pub mod Sound
 pub mod Home
 pub mod Causes
+pub mod Tellers
 pub mod Book
 pub mod Run
 pub mod Ledger
+pub mod Incoming
 pub mod Standing
 pub mod Errors

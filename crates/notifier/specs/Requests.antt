@@ -1,7 +1,7 @@
 -- The tests on one request. They look at the request, the limits and the boxes, and at nothing that is carried along.
 use Rattle.std.specs.Prelude.{ℕ, min, Bool, true, false, not, ◌&&◌, ◌||◌, List, [], is_none, if◌then◌else◌, nat_eq, nat_lt, nat_le, ◌==◌, Some, None, codes, bytes_eq, decimal, Option, unwrap_or}
 use Rattle.std.specs.List.{list_any, before_first, after_first, starts_with}
-use Rattle.std.specs.Str.{str_eq_ignore_ascii_case}
+use Rattle.std.specs.Str.{byte, str_eq_ignore_ascii_case}
 use Rattle.event_headers.specs.Values.{EventValue, Range}
 use Rattle.event_headers.specs.Covering.{covers}
 use Rattle.sip_read.specs.declared.message.Request.{Request}
@@ -43,10 +43,10 @@ key_of_request r = key_with r r.head.top.branch
 -- ---- the Request-URI
 
 abbrev pub is_colon : ℕ → Bool
-is_colon c = c == 58
+is_colon c = c == byte ":"
 
 abbrev pub is_at : ℕ → Bool
-is_at c = c == 64
+is_at c = c == byte "@"
 
 -- The scheme is what stands before the first colon; its case is ignored (RFC 3261 section 19.1.4).
 unfoldable pub is_sip_uri : List ℕ → Bool

@@ -7,13 +7,13 @@ ghost use Rattle.sip_write.specs.Views.{answer_view};
 ghost use Rattle.notifier.specs.Answers as spec;
 ghost use Rattle.notifier.specs.Requests.{is_strange as is_strange_word};
 
+use crate::incoming::Incoming;
 use crate::limits::Limits;
 use crate::place::Place;
 use crate::refusal::Refusal;
 use crate::request::{granted, is_refer, is_strange, is_unwatched};
 use crate::tag::refusal_tag;
 use package::Package;
-use sip_read::{Addr, Request};
 use sip_text::{NoMemory, Octets, Text};
 use sip_write::{Answer, Status, write_response};
 use std::alloc::Global;
@@ -30,14 +30,15 @@ fn answer_bytes(alloc: Global, answer: &Answer<'_>) -> Result<Octets, NoMemory>
 pub fn renewal_answer(
     alloc: Global,
     place: &Place,
-    source: Addr,
-    request: &Request,
+    incoming: &Incoming<'_>,
 ) -> Result<Octets, NoMemory>
-    ensures { IfOk result (λ bytes. bytes ≡ answer_text (spec.renewal_answer place.now source request.now)) }
+    ensures { IfOk result (λ bytes.
+        bytes ≡ answer_text (spec.renewal_answer place.now incoming.now.source incoming.now.request.now)) }
 {
+    let request = incoming.request;
     let answer = Answer {
         head: &request.head,
-        source,
+        source: incoming.source,
         status: Status::Ok,
         tag: None,
         record_routes: &[],
@@ -56,16 +57,17 @@ pub fn renewal_answer(
 pub fn birth_answer<'a>(
     alloc: Global,
     place: &Place,
-    source: Addr,
-    request: &'a Request,
+    incoming: &Incoming<'a>,
     tag: &'a Text,
 ) -> Result<Octets, NoMemory>
-    ensures { IfOk result (λ bytes. bytes ≡ answer_text (spec.birth_answer place.now source request.now tag.now)) }
+    ensures { IfOk result (λ bytes.
+        bytes ≡ answer_text (spec.birth_answer place.now incoming.now.source incoming.now.request.now tag.now)) }
 {
+    let request = incoming.request;
     let by_refer = is_refer(request);
     let answer = Answer {
         head: &request.head,
-        source,
+        source: incoming.source,
         status: if by_refer {
             Status::Accepted
         } else {
@@ -90,8 +92,8 @@ pub fn birth_answer<'a>(
 
 /// Puts a word behind those that are there, if it isn't understood.
 fn push_strange<'a>(words: &mut Vec<&'a str>, word: &'a Text) -> Result<(), NoMemory>
-    ensures { OnOk result (map (λ w. w.now) words.new.items ≡ map (λ w. w.now) words.old.items
-        ++ filter is_strange_word (word.now ∷ [])) }
+    ensures { OnOk result (map (λ w. w.now) words.new.items
+        ≡ map (λ w. w.now) words.old.items ++ filter is_strange_word (word.now ∷ [])) }
 {
     if is_strange(word) {
         words.push(word.as_str())?;
@@ -118,34 +120,6 @@ fn names_of<P: Package>(alloc: Global, boxes: &Vec<P>) -> Result<Vec<&str>, NoMe
         names.push(found.event())?;
     }
     Ok(names)
-}
-
-/// The answer to a refused request, with what its status asks for (RFC 3261 sections 20.5, 20.23 and 20.40, RFC 6665 section
-/// 8.2.2).
-pub fn refusal_answer<P: Package>(
-    alloc: Global,
-    place: &Place,
-    boxes: &Vec<P>,
-    source: Addr,
-    request: &Request,
-    refused: Refusal,
-) -> Result<Octets, NoMemory>
-    ensures { IfOk result (λ bytes. bytes
-        ≡ answer_text (spec.refusal_answer place.now (map P.seen boxes.now.items) source request.now refused)) }
-{
-    let tag = refusal_tag(alloc, place.worker)?;
-    let names = names_of(alloc, boxes)?;
-    let strange = strange_of(alloc, request.require.as_slice())?;
-    refusal_bytes(
-        alloc,
-        place,
-        source,
-        request,
-        refused,
-        tag.as_str(),
-        names.as_slice(),
-        strange.as_slice(),
-    )
 }
 
 fn min_expires_of(limits: &Limits, refused: Refusal) -> Option<u32>
@@ -186,34 +160,64 @@ fn unsupported_of<'a>(words: &'a [&'a str], refused: Refusal) -> Option<&'a [&'a
     }
 }
 
-/// The same, where the tag, the names of the packages and the extensions that aren't understood are at hand.
-fn refusal_bytes<'a>(
-    alloc: Global,
-    place: &Place,
-    source: Addr,
-    request: &'a Request,
-    refused: Refusal,
+/// What a refusal may say: the tag that it adds, the names of the packages, and the required extensions that aren't
+/// understood.
+#[derive(Drop)]
+struct Words<'a> {
     tag: &'a str,
     names: &'a [&'a str],
     strange: &'a [&'a str],
+}
+
+/// The same, where the words of the answer are at hand.
+fn refusal_bytes(
+    alloc: Global,
+    place: &Place,
+    incoming: &Incoming<'_>,
+    refused: Refusal,
+    words: &Words<'_>,
 ) -> Result<Octets, NoMemory>
-    requires { map (λ n. n.now) strange.now ≡ filter is_strange_word request.now.require }
-    ensures { IfOk result (λ bytes. bytes
-        ≡ answer_text (spec.refusal_text place.now (map (λ n. n.now) names.now) tag.now source request.now refused)) }
+    requires { map (λ n. n.now) words.now.strange.now ≡ filter is_strange_word incoming.now.request.now.require }
+    ensures { IfOk result (λ bytes. bytes ≡ answer_text (spec.refusal_text place.now
+        (map (λ n. n.now) words.now.names.now) words.now.tag.now
+        incoming.now.source incoming.now.request.now refused)) }
 {
     let answer = Answer {
-        head: &request.head,
-        source,
+        head: &incoming.request.head,
+        source: incoming.source,
         status: refused.status(),
-        tag: Some(tag),
+        tag: Some(words.tag),
         record_routes: &[],
         contact: None,
         expires: None,
         min_expires: min_expires_of(&place.limits, refused),
         allow: allow_of(refused),
-        allow_events: allow_events_of(names, refused),
-        unsupported: unsupported_of(strange, refused),
+        allow_events: allow_events_of(words.names, refused),
+        unsupported: unsupported_of(words.strange, refused),
         without_subscription: false,
     };
     answer_bytes(alloc, &answer)
+}
+
+/// The answer to a refused request, with what its status asks for (RFC 3261 sections 20.5, 20.23 and 20.40, RFC 6665
+/// section 8.2.2).
+pub fn refusal_answer<P: Package>(
+    alloc: Global,
+    place: &Place,
+    boxes: &Vec<P>,
+    incoming: &Incoming<'_>,
+    refused: Refusal,
+) -> Result<Octets, NoMemory>
+    ensures { IfOk result (λ bytes. bytes ≡ answer_text (spec.refusal_answer place.now (map P.seen boxes.now.items)
+        incoming.now.source incoming.now.request.now refused)) }
+{
+    let tag = refusal_tag(alloc, place.worker)?;
+    let names = names_of(alloc, boxes)?;
+    let strange = strange_of(alloc, incoming.request.require.as_slice())?;
+    let words = Words {
+        tag: tag.as_str(),
+        names: names.as_slice(),
+        strange: strange.as_slice(),
+    };
+    refusal_bytes(alloc, place, incoming, refused, &words)
 }

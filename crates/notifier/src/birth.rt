@@ -5,16 +5,20 @@ ghost use Rattle.std.specs.Prelude.{false, ◌≡◌, ◌≤◌, ◌<◌, ◌^�
 ghost use Rattle.subscription.specs.Table as table;
 ghost use Rattle.notifier.specs.Book as spec;
 ghost use Rattle.notifier.specs.Fields as fields;
+ghost use Rattle.notifier.specs.Incoming.{first_told_of};
 ghost use Rattle.notifier.specs.Out.{out_of};
 ghost use Rattle.notifier.specs.Requests as requests;
 ghost use Rattle.notifier.specs.Rows as rows;
 
 use crate::boxes::change_first;
 use crate::dialog::tag_or_empty;
+use crate::incoming::Incoming;
+use crate::ledger::Ledger;
 use crate::notice::copy_want;
 use crate::place::Place;
 use crate::request::{Birth, granted, is_refer};
-use crate::rules::{After, Stub, turned};
+use crate::rules::{After, Stub};
+use crate::teller::Teller;
 use crate::uri::user_part;
 use event_headers::EventValue;
 use package::{Change, Package};
@@ -22,6 +26,14 @@ use sip_read::{Addr, Request};
 use sip_text::{Field, NoMemory, Text, Values};
 use std::alloc::Global;
 use subscription::{Step, Sub, Usage, Want};
+
+/// A subscription that a request makes: what it is, its serial and its local tag.
+#[derive(Drop)]
+pub struct Newborn {
+    pub kind: Birth,
+    pub serial: u32,
+    pub tag: Text,
+}
 
 fn copy_texts(alloc: Global, texts: &[Text]) -> Result<Values<Text>, NoMemory>
     ensures { IfOk result (λ copies. copies ≡ texts.now) }
@@ -111,38 +123,39 @@ fn new_want(
     })
 }
 
-/// A subscription that goes on for the time granted.
-fn first_accepted(place: &Place, clock: u64, usage: Usage, want: Want, request: &Request) -> Step
-    requires number { 1 ≤ want.max_cseq }
-    requires clock { clock < 2 ^ 63 }
-    requires asks { requests.asks_nothing place.now.limits request.now ≡ false }
-    ensures { result ≡ table.accept usage want clock (requests.granted place.now.limits request.now) }
-{
-    Sub::accept(usage, want, clock, granted(&place.limits, request))
-}
+impl<P: Package> Teller<'_, P> {
+    /// A subscription that goes on for the time granted.
+    fn first_accepted(&self, usage: Usage, want: Want, request: &Request) -> Step
+        requires number { 1 ≤ want.max_cseq }
+        requires clock { self.now.clock < 2 ^ 63 }
+        requires asks { requests.asks_nothing self.now.place.now.limits request.now ≡ false }
+        ensures { result
+            ≡ table.accept usage want self.now.clock (requests.granted self.now.place.now.limits request.now) }
+    {
+        Sub::accept(
+            usage,
+            want,
+            self.clock,
+            granted(&self.place.limits, request),
+        )
+    }
 
-/// How the subscription begins, if there is one.
-fn first_step(
-    place: &Place,
-    clock: u64,
-    usage: Usage,
-    want: Want,
-    request: &Request,
-    kind: Birth,
-) -> Option<Step>
-    requires number { 1 ≤ want.max_cseq }
-    requires clock { clock < 2 ^ 63 }
-    requires kind { kind ≡ requests.birth_of place.now.limits request.now }
-    ensures { result ≡ spec.first_step place.now.limits clock usage want request.now kind }
-{
-    match kind {
-        Birth::Fetch => {
-            let (usage, notice) = Sub::fetch(usage, want);
-            Some(Step::Over(usage, notice))
+    /// How the subscription begins, if there is one.
+    fn first_step(&self, usage: Usage, want: Want, request: &Request, kind: Birth) -> Option<Step>
+        requires number { 1 ≤ want.max_cseq }
+        requires clock { self.now.clock < 2 ^ 63 }
+        requires kind { kind ≡ requests.birth_of self.now.place.now.limits request.now }
+        ensures { result ≡ spec.first_step self.now.place.now.limits self.now.clock usage want request.now kind }
+    {
+        match kind {
+            Birth::Fetch => {
+                let (usage, notice) = Sub::fetch(usage, want);
+                Some(Step::Over(usage, notice))
+            }
+            Birth::Unwatched => None,
+            Birth::Watch => Some(self.first_accepted(usage, want, request)),
+            Birth::Transfer => Some(self.first_accepted(usage, want, request)),
         }
-        Birth::Unwatched => None,
-        Birth::Watch => Some(first_accepted(place, clock, usage, want, request)),
-        Birth::Transfer => Some(first_accepted(place, clock, usage, want, request)),
     }
 }
 
@@ -183,36 +196,35 @@ fn untold() -> After
 pub fn first_told<P: Package>(
     alloc: Global,
     place: &Place,
-    boxes: &Vec<P>,
-    clock: u64,
-    serial: u32,
-    source: Addr,
-    request: &Request,
-    kind: Birth,
-    tag: &Text,
+    ledger: &Ledger<P>,
+    incoming: &Incoming<'_>,
+    newborn: &Newborn,
 ) -> Result<After, NoMemory>
-    requires clock { clock < 2 ^ 63 }
-    requires fits { requests.misfit request.now ≡ None }
-    requires kind { kind ≡ requests.birth_of place.now.limits request.now }
+    requires clock { ledger.now.clock < 2 ^ 63 }
+    requires fits { requests.misfit incoming.now.request.now ≡ None }
+    requires kind { newborn.now.kind ≡ requests.birth_of place.now.limits incoming.now.request.now }
     ensures row { IfOk result (λ after. after.row
-        ≡ (spec.first_told place.now (map P.seen boxes.now.items) clock tag.now source request.now serial
-        (spec.first_step place.now.limits clock (spec.new_usage tag.now request.now)
-        (spec.new_want place.now tag.now source request.now) request.now kind)).row) }
-    ensures out { IfOk result (λ after. option_to_list after.out
-        ≡ map out_of (spec.first_told place.now (map P.seen boxes.now.items) clock tag.now source request.now serial
-        (spec.first_step place.now.limits clock (spec.new_usage tag.now request.now)
-        (spec.new_want place.now tag.now source request.now) request.now kind)).notifies) }
+        ≡ (first_told_of place.now (map P.seen ledger.now.boxes.items) ledger.now.clock incoming.now newborn.now).row) }
+    ensures out { IfOk result (λ after. option_to_list after.out ≡ map out_of
+        (first_told_of place.now (map P.seen ledger.now.boxes.items) ledger.now.clock
+        incoming.now newborn.now).notifies) }
 {
-    let usage = new_usage(alloc, tag, request)?;
-    let want = new_want(alloc, place, tag, source, request)?;
+    let request = incoming.request;
+    let usage = new_usage(alloc, &newborn.tag, request)?;
+    let want = new_want(alloc, place, &newborn.tag, incoming.source, request)?;
     let told = copy_want(alloc, &want)?;
     let stub = Stub {
-        serial,
+        serial: newborn.serial,
         last_cseq: request.head.cseq,
         unanswered: Values::new(Vec::new(alloc)),
     };
-    match first_step(place, clock, usage, want, request, kind) {
+    let teller = Teller {
+        place,
+        boxes: &ledger.boxes,
+        clock: ledger.clock,
+    };
+    match teller.first_step(usage, want, request, newborn.kind) {
         None => Ok(untold()),
-        Some(next) => turned(alloc, place, boxes, clock, source, &told, stub, next),
+        Some(next) => teller.turned(alloc, incoming.source, &told, stub, next),
     }
 }

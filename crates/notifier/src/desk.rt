@@ -7,7 +7,6 @@ ghost use Rattle.notifier.specs.Errors.{number_of};
 ghost use Rattle.notifier.specs.Start.{place_of};
 
 use crate::event::{Event, Out};
-use crate::event_steps::act;
 use crate::kept::KeptAnswers;
 use crate::ledger::Ledger;
 use crate::place::{Place, Setup};
@@ -117,7 +116,7 @@ impl<P: Package> Desk<P> {
             return Err(DeskError::Spent);
         }
         self.spent = true;
-        match act(alloc, &self.place, &mut self.ledger, event) {
+        match self.ledger.act(alloc, &self.place, event) {
             Err(_) => Err(DeskError::NoMemory),
             Ok(outs) => {
                 self.spent = false;

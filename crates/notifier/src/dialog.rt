@@ -8,15 +8,15 @@ ghost use Rattle.notifier.specs.Limits.{AreLimits};
 ghost use Rattle.notifier.specs.Out.{Answers, out_of};
 ghost use Rattle.sip_write.specs.Answer.{answer_text};
 ghost use Rattle.notifier.specs.Fields as fields;
-ghost use Rattle.notifier.specs.Ledger.{book_of, IsStep, IsSound};
-ghost use Rattle.notifier.specs.Requests.{key_of_request};
+ghost use Rattle.notifier.specs.Incoming.{IsNamed, Serves};
+ghost use Rattle.notifier.specs.Ledger.{book_of, IsSound};
 ghost use Rattle.notifier.specs.Rows as rows;
 ghost use Rattle.notifier.specs.Sound.{IsOwn};
 ghost use Rattle.notifier.specs.Stored.{rows_of, IsIndexed};
-ghost use Rattle.notifier.specs.Transactions.{key_of};
 
 use crate::answer::{refusal_answer, renewal_answer};
 use crate::event::Out;
+use crate::incoming::Incoming;
 use crate::ledger::Ledger;
 use crate::place::Place;
 use crate::refusal::Refusal;
@@ -24,11 +24,10 @@ use crate::request::unheard;
 use crate::row::Row;
 use crate::rows::Rows;
 use crate::rule::Cause;
-use crate::telling::{all_rows, answer};
+use crate::telling::answer;
 use crate::touched::serial_in;
-use crate::transaction::Transaction;
 use package::Package;
-use sip_read::{Addr, Request};
+use sip_read::Request;
 use sip_text::{NoMemory, Text};
 use std::alloc::Global;
 
@@ -65,206 +64,132 @@ fn find_dialog<'a>(place: &Place, live: &'a Rows, request: &Request, tag: &Text)
     }
 }
 
-/// Refuses a request.
-pub fn refuse<P: Package>(
-    alloc: Global,
-    place: &Place,
-    ledger: &mut Ledger<P>,
-    source: Addr,
-    request: &Request,
-    transaction: Option<Transaction>,
-    refused: Refusal,
-) -> Result<Vec<Out>, NoMemory>
-    requires named { option_map key_of transaction ≡ key_of_request request.now }
-    requires sound { IsSound place.now ledger.old }
-    ensures step { IfOk result (λ outs. IsStep
-        (spec.refused place.now (book_of P.seen ledger.old) source request.now refused)
-        (book_of P.seen ledger.new) outs.items) }
-    ensures sound { OnOk result (IsSound place.now ledger.new) }
-{
-    let bytes = refusal_answer(alloc, place, &ledger.boxes, source, request, refused)?;
-    answer(
-        alloc,
-        &place.limits,
-        &mut ledger.ring,
-        transaction,
-        source,
-        bytes,
-    )
+/// A refusal in the dialog of the row with this serial.
+#[derive(Clone, Copy, Debug)]
+pub struct Denial {
+    pub serial: u32,
+    pub cause: Refusal,
 }
 
-/// A request in the dialog of the row with this serial, which something stands against.
-fn hear_refused<P: Package>(
-    alloc: Global,
-    place: &Place,
-    ledger: &mut Ledger<P>,
-    source: Addr,
-    request: &Request,
-    transaction: Option<Transaction>,
-    serial: u32,
-    refused: Refusal,
-) -> Result<Vec<Out>, NoMemory>
-    requires named { option_map key_of transaction ≡ key_of_request request.now }
-    requires sound { IsSound place.now ledger.old }
-    ensures step { IfOk result (λ outs. IsStep
-        (spec.denied place.now (book_of P.seen ledger.old) source request.now serial refused)
-        (book_of P.seen ledger.new) outs.items) }
-    ensures sound { OnOk result (IsSound place.now ledger.new) }
-{
-    let mut outs = refuse(alloc, place, ledger, source, request, transaction, refused)?;
-    all_rows(
-        alloc,
-        place,
-        ledger,
-        &Cause::Refused(serial, request),
-        &mut outs,
-    )?;
-    Ok(outs)
-}
-
-/// Accepts a SUBSCRIBE in a dialog.
-fn answer_renewal<P: Package>(
-    alloc: Global,
-    place: &Place,
-    ledger: &mut Ledger<P>,
-    source: Addr,
-    request: &Request,
-    transaction: Option<Transaction>,
-) -> Result<Vec<Out>, NoMemory>
-    requires named { option_map key_of transaction ≡ key_of_request request.now }
-    requires sound { IsSound place.now ledger.old }
-    ensures book { OnOk result (book_of P.seen ledger.new
-        ≡ spec.keeping place.now (book_of P.seen ledger.old) request.now
-        (answers.renewal_answer place.now source request.now)) }
-    ensures outs { IfOk result (λ outs. outs.items
-        ≡ map out_of (Answers source (answer_text (answers.renewal_answer place.now source request.now)) ∷ [])) }
-    ensures sound { OnOk result (IsSound place.now ledger.new) }
-    ensures limits { OnOk result (AreLimits place.now.limits) }
-{
-    place.limits.are_in_range();
-    let bytes = renewal_answer(alloc, place, source, request)?;
-    answer(
-        alloc,
-        &place.limits,
-        &mut ledger.ring,
-        transaction,
-        source,
-        bytes,
-    )
-}
-
-/// A SUBSCRIBE in the dialog of the row with this serial, which nothing stands against.
-fn hear_renewal<P: Package>(
-    alloc: Global,
-    place: &Place,
-    ledger: &mut Ledger<P>,
-    source: Addr,
-    request: &Request,
-    transaction: Option<Transaction>,
-    serial: u32,
-) -> Result<Vec<Out>, NoMemory>
-    requires named { option_map key_of transaction ≡ key_of_request request.now }
-    requires sound { IsSound place.now ledger.old }
-    ensures step { IfOk result (λ outs. IsStep
-        (spec.accepted place.now (book_of P.seen ledger.old) source request.now serial)
-        (book_of P.seen ledger.new) outs.items) }
-    ensures sound { OnOk result (IsSound place.now ledger.new) }
-{
-    let mut outs = answer_renewal(alloc, place, ledger, source, request, transaction)?;
-    all_rows(
-        alloc,
-        place,
-        ledger,
-        &Cause::Renewal(serial, source, request),
-        &mut outs,
-    )?;
-    Ok(outs)
-}
-
-/// A request in the dialog of the row with this serial, by what stands against it.
-fn hear<P: Package>(
-    alloc: Global,
-    place: &Place,
-    ledger: &mut Ledger<P>,
-    source: Addr,
-    request: &Request,
-    transaction: Option<Transaction>,
-    serial: u32,
-    against: Option<Refusal>,
-) -> Result<Vec<Out>, NoMemory>
-    requires named { option_map key_of transaction ≡ key_of_request request.now }
-    requires sound { IsSound place.now ledger.old }
-    ensures step { IfOk result (λ outs. IsStep
-        (spec.served place.now (book_of P.seen ledger.old) source request.now (spec.unless_denied serial against))
-        (book_of P.seen ledger.new) outs.items) }
-    ensures sound { OnOk result (IsSound place.now ledger.new) }
-{
-    match against {
-        Some(refused) => hear_refused(
-            alloc,
-            place,
-            ledger,
-            source,
-            request,
-            transaction,
-            serial,
-            refused,
-        ),
-        None => hear_renewal(alloc, place, ledger, source, request, transaction, serial),
+impl<P: Package> Ledger<P> {
+    /// Refuses a request.
+    pub fn refuse(
+        &mut self,
+        alloc: Global,
+        place: &Place,
+        incoming: Incoming<'_>,
+        cause: Refusal,
+    ) -> Result<Vec<Out>, NoMemory>
+        requires named { IsNamed incoming }
+        requires sound { IsSound place.now self.old }
+        ensures step { IfOk result (λ outs.
+            Serves P.seen place.now self.old incoming.entry (spec.Refused cause) self.new outs.items) }
+        ensures sound { OnOk result (IsSound place.now self.new) }
+    {
+        let bytes = refusal_answer(alloc, place, &self.boxes, &incoming, cause)?;
+        answer(alloc, &place.limits, &mut self.ring, incoming, bytes)
     }
-}
 
-/// A request with this To tag.
-pub fn serve_in_dialog<P: Package>(
-    alloc: Global,
-    place: &Place,
-    ledger: &mut Ledger<P>,
-    source: Addr,
-    request: &Request,
-    transaction: Option<Transaction>,
-    tag: &Text,
-) -> Result<Vec<Out>, NoMemory>
-    requires named { option_map key_of transaction ≡ key_of_request request.now }
-    requires sound { IsSound place.now ledger.old }
-    ensures step { IfOk result (λ outs. IsStep
-        (spec.served place.now (book_of P.seen ledger.old) source request.now
-        (spec.in_dialog place.now.limits request.now
-        (find (rows.is_dialog request.now tag.now) (rows_of ledger.old.rows))))
-        (book_of P.seen ledger.new) outs.items) }
-    ensures sound { OnOk result (IsSound place.now ledger.new) }
-{
-    let Some(row) = find_dialog(place, &ledger.rows, request, tag) else {
-        return refuse(
+    /// Refuses a request in a dialog, which has heard its CSeq.
+    fn deny(
+        &mut self,
+        alloc: Global,
+        place: &Place,
+        incoming: Incoming<'_>,
+        denial: Denial,
+    ) -> Result<Vec<Out>, NoMemory>
+        requires named { IsNamed incoming }
+        requires sound { IsSound place.now self.old }
+        ensures step { IfOk result (λ outs.
+            Serves P.seen place.now self.old incoming.entry (spec.Denied denial.serial denial.cause)
+            self.new outs.items) }
+        ensures sound { OnOk result (IsSound place.now self.new) }
+    {
+        let request = incoming.request;
+        let mut outs = self.refuse(alloc, place, incoming, denial.cause)?;
+        self.all_rows(
             alloc,
             place,
-            ledger,
-            source,
-            request,
-            transaction,
-            Refusal::NoDialog,
-        );
-    };
-    if request.head.cseq <= row.last_cseq {
-        return refuse(
-            alloc,
-            place,
-            ledger,
-            source,
-            request,
-            transaction,
-            Refusal::OldCseq,
-        );
+            &Cause::Refused(denial.serial, request),
+            &mut outs,
+        )?;
+        Ok(outs)
     }
-    let serial = row.serial;
-    let against = unheard(&place.limits, &row.sub.want().event, request);
-    hear(
-        alloc,
-        place,
-        ledger,
-        source,
-        request,
-        transaction,
-        serial,
-        against,
-    )
+
+    /// The 200 to a SUBSCRIBE in a dialog.
+    fn answer_renewal(
+        &mut self,
+        alloc: Global,
+        place: &Place,
+        incoming: Incoming<'_>,
+    ) -> Result<Vec<Out>, NoMemory>
+        requires named { IsNamed incoming }
+        requires sound { IsSound place.now self.old }
+        ensures book { OnOk result (book_of P.seen self.new ≡ spec.keeping place.now (book_of P.seen self.old)
+            incoming.entry.request.now
+            (answers.renewal_answer place.now incoming.entry.source incoming.entry.request.now)) }
+        ensures outs { IfOk result (λ outs. outs.items ≡ map out_of (Answers incoming.entry.source
+            (answer_text (answers.renewal_answer place.now incoming.entry.source incoming.entry.request.now)) ∷ [])) }
+        ensures sound { OnOk result (IsSound place.now self.new) }
+        ensures limits { OnOk result (AreLimits place.now.limits) }
+    {
+        place.limits.are_in_range();
+        let bytes = renewal_answer(alloc, place, &incoming)?;
+        answer(alloc, &place.limits, &mut self.ring, incoming, bytes)
+    }
+
+    /// Accepts a SUBSCRIBE in the dialog of the row with this serial.
+    fn renew(
+        &mut self,
+        alloc: Global,
+        place: &Place,
+        incoming: Incoming<'_>,
+        serial: u32,
+    ) -> Result<Vec<Out>, NoMemory>
+        requires named { IsNamed incoming }
+        requires sound { IsSound place.now self.old }
+        ensures step { IfOk result (λ outs.
+            Serves P.seen place.now self.old incoming.entry (spec.Renewed serial) self.new outs.items) }
+        ensures sound { OnOk result (IsSound place.now self.new) }
+    {
+        let (source, request) = (incoming.source, incoming.request);
+        let mut outs = self.answer_renewal(alloc, place, incoming)?;
+        self.all_rows(
+            alloc,
+            place,
+            &Cause::Renewal(serial, source, request),
+            &mut outs,
+        )?;
+        Ok(outs)
+    }
+
+    /// A request with this To tag.
+    pub fn serve_in_dialog(
+        &mut self,
+        alloc: Global,
+        place: &Place,
+        incoming: Incoming<'_>,
+        tag: &Text,
+    ) -> Result<Vec<Out>, NoMemory>
+        requires named { IsNamed incoming }
+        requires sound { IsSound place.now self.old }
+        ensures step { IfOk result (λ outs. Serves P.seen place.now self.old incoming.entry
+            (spec.in_dialog place.now.limits incoming.entry.request.now
+            (find (rows.is_dialog incoming.entry.request.now tag.now) (rows_of self.old.rows))) self.new outs.items) }
+        ensures sound { OnOk result (IsSound place.now self.new) }
+    {
+        let request = incoming.request;
+        let Some(row) = find_dialog(place, &self.rows, request, tag) else {
+            return self.refuse(alloc, place, incoming, Refusal::NoDialog);
+        };
+        if request.head.cseq <= row.last_cseq {
+            return self.refuse(alloc, place, incoming, Refusal::OldCseq);
+        }
+        let serial = row.serial;
+        let against = unheard(&place.limits, &row.sub.want().event, request);
+        match against {
+            Some(cause) => self.deny(alloc, place, incoming, Denial { serial, cause }),
+            None => self.renew(alloc, place, incoming, serial),
+        }
+    }
 }

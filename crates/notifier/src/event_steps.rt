@@ -5,98 +5,83 @@ ghost use Rattle.std.specs.Prelude.{◌≡◌, IfOk, OnOk};
 ghost use Rattle.notifier.specs.Book.{step};
 ghost use Rattle.notifier.specs.Ledger.{book_of, IsStep, IsSound};
 
-use crate::changes::{content_changed, reply, shut, tick};
+use crate::changes::News;
 use crate::event::{Event, Out};
 use crate::ledger::Ledger;
 use crate::place::Place;
-use crate::request_steps::serve;
 use package::{Change, MailChange, Package, Progress};
 use sip_text::NoMemory;
 use std::alloc::Global;
 
-fn mail<P: Package>(
-    alloc: Global,
-    place: &Place,
-    ledger: &mut Ledger<P>,
-    change: &MailChange,
-) -> Result<Vec<Out>, NoMemory>
-    requires { IsSound place.now ledger.old }
-    ensures step { IfOk result (λ outs. IsStep
-        (step place.now (book_of P.seen ledger.old) (Event.Mail change.now)) (book_of P.seen ledger.new) outs.items) }
-    ensures sound { OnOk result (IsSound place.now ledger.new) }
-{
-    let copy = Change::Mail(change.copy(alloc)?);
-    content_changed(
-        alloc,
-        place,
-        ledger,
-        "message-summary",
-        change.mailbox(),
-        false,
-        &copy,
-    )
-}
-
-fn progress<P: Package>(
-    alloc: Global,
-    place: &Place,
-    ledger: &mut Ledger<P>,
-    change: &Progress,
-) -> Result<Vec<Out>, NoMemory>
-    requires { IsSound place.now ledger.old }
-    ensures step { IfOk result (λ outs. IsStep
-        (step place.now (book_of P.seen ledger.old) (Event.Progress change.now))
-        (book_of P.seen ledger.new) outs.items) }
-    ensures sound { OnOk result (IsSound place.now ledger.new) }
-{
-    let copy = Change::Step(change.copy(alloc)?);
-    content_changed(
-        alloc,
-        place,
-        ledger,
-        "refer",
-        change.tag(),
-        200 <= change.code(),
-        &copy,
-    )
-}
-
-fn time<P: Package>(
-    alloc: Global,
-    place: &Place,
-    ledger: &mut Ledger<P>,
-    moment: u64,
-) -> Result<Vec<Out>, NoMemory>
-    requires { IsSound place.now ledger.old }
-    ensures step { IfOk result (λ outs. IsStep (step place.now (book_of P.seen ledger.old) (Event.Tick moment))
-        (book_of P.seen ledger.new) outs.items) }
-    ensures sound { OnOk result (IsSound place.now ledger.new) }
-{
-    if moment > 9223372036854775807 {
-        return Ok(Vec::new(alloc));
+impl<P: Package> Ledger<P> {
+    fn mail(
+        &mut self,
+        alloc: Global,
+        place: &Place,
+        change: &MailChange,
+    ) -> Result<Vec<Out>, NoMemory>
+        requires { IsSound place.now self.old }
+        ensures step { IfOk result (λ outs. IsStep
+            (step place.now (book_of P.seen self.old) (Event.Mail change.now)) (book_of P.seen self.new) outs.items) }
+        ensures sound { OnOk result (IsSound place.now self.new) }
+    {
+        let copy = Change::Mail(change.copy(alloc)?);
+        let news = News {
+            package: "message-summary",
+            resource: change.mailbox(),
+            is_over: false,
+        };
+        self.content_changed(alloc, place, &news, &copy)
     }
-    let clock = ledger.clock.max(moment);
-    tick(alloc, place, ledger, clock)
-}
 
-/// One event.
-pub fn act<P: Package>(
-    alloc: Global,
-    place: &Place,
-    ledger: &mut Ledger<P>,
-    event: &Event,
-) -> Result<Vec<Out>, NoMemory>
-    requires { IsSound place.now ledger.old }
-    ensures step { IfOk result (λ outs. IsStep (step place.now (book_of P.seen ledger.old) event.now)
-        (book_of P.seen ledger.new) outs.items) }
-    ensures sound { OnOk result (IsSound place.now ledger.new) }
-{
-    match event {
-        Event::Request(source, request) => serve(alloc, place, ledger, *source, request),
-        Event::Reply(response) => reply(alloc, place, ledger, response),
-        Event::Mail(change) => mail(alloc, place, ledger, change),
-        Event::Progress(change) => progress(alloc, place, ledger, change),
-        Event::Tick(moment) => time(alloc, place, ledger, *moment),
-        Event::Shut => shut(alloc, place, ledger),
+    fn progress(
+        &mut self,
+        alloc: Global,
+        place: &Place,
+        change: &Progress,
+    ) -> Result<Vec<Out>, NoMemory>
+        requires { IsSound place.now self.old }
+        ensures step { IfOk result (λ outs. IsStep
+            (step place.now (book_of P.seen self.old) (Event.Progress change.now))
+            (book_of P.seen self.new) outs.items) }
+        ensures sound { OnOk result (IsSound place.now self.new) }
+    {
+        let copy = Change::Step(change.copy(alloc)?);
+        let news = News {
+            package: "refer",
+            resource: change.tag(),
+            is_over: 200 <= change.code(),
+        };
+        self.content_changed(alloc, place, &news, &copy)
+    }
+
+    fn time(&mut self, alloc: Global, place: &Place, moment: u64) -> Result<Vec<Out>, NoMemory>
+        requires { IsSound place.now self.old }
+        ensures step { IfOk result (λ outs. IsStep (step place.now (book_of P.seen self.old) (Event.Tick moment))
+            (book_of P.seen self.new) outs.items) }
+        ensures sound { OnOk result (IsSound place.now self.new) }
+    {
+        if moment > 9223372036854775807 {
+            return Ok(Vec::new(alloc));
+        }
+        let clock = self.clock.max(moment);
+        self.tick(alloc, place, clock)
+    }
+
+    /// One event.
+    pub fn act(&mut self, alloc: Global, place: &Place, event: &Event) -> Result<Vec<Out>, NoMemory>
+        requires { IsSound place.now self.old }
+        ensures step { IfOk result (λ outs. IsStep (step place.now (book_of P.seen self.old) event.now)
+            (book_of P.seen self.new) outs.items) }
+        ensures sound { OnOk result (IsSound place.now self.new) }
+    {
+        match event {
+            Event::Request(source, request) => self.serve(alloc, place, *source, request),
+            Event::Reply(response) => self.reply(alloc, place, response),
+            Event::Mail(change) => self.mail(alloc, place, change),
+            Event::Progress(change) => self.progress(alloc, place, change),
+            Event::Tick(moment) => self.time(alloc, place, *moment),
+            Event::Shut => self.shut(alloc, place),
+        }
     }
 }

@@ -37,7 +37,8 @@ fn place_at(room: usize, newest: usize, slot: usize) -> usize
     }
 }
 
-/// The answers that are kept, newest first, each found by its transaction in constant time. When there is no room the oldest goes.
+/// The answers that are kept, newest first, each found by its transaction in constant time. When there is no room the
+/// oldest goes.
 #[derive(Drop)]
 pub struct KeptAnswers {
     /// Newest first.
@@ -157,7 +158,8 @@ impl KeptAnswers {
         bytes: Octets,
     ) -> Result<(), NoMemory>
         ensures { OnOk result ((limits : LimitsSeen) → self.old.capacity ≡ limits.kept
-            → self.new ≡ buffer (spec.ring_with limits self.old.items (option_map key_of transaction) bytes) self.old.capacity) }
+            → self.new ≡ buffer
+            (spec.ring_with limits self.old.items (option_map key_of transaction) bytes) self.old.capacity) }
     {
         match transaction {
             None => Ok(()),

@@ -8,10 +8,11 @@ ghost use Rattle.sip_write.specs.Notify as layout;
 ghost use Rattle.sip_write.specs.Views.{notify_view};
 ghost use Rattle.notifier.specs.Out.{Notifies, out_of};
 ghost use Rattle.notifier.specs.Rows as spec;
+ghost use Rattle.notifier.specs.Tellers.{boxes_of};
 
 use crate::boxes::{body_of, type_of};
 use crate::event::Out;
-use crate::place::Place;
+use crate::teller::Teller;
 use event_headers::StateValue;
 use package::Package;
 use sip_read::Addr;
@@ -54,44 +55,46 @@ fn notify_bytes(alloc: Global, text: &NotifyText<'_>) -> Result<Octets, NoMemory
     Ok(Octets::new(bytes))
 }
 
-/// The NOTIFY that tells of a subscription.
-pub fn notice_out<'a, P: Package>(
-    alloc: Global,
-    place: &Place,
-    boxes: &'a Vec<P>,
-    to: Addr,
-    usage: &'a Usage,
-    want: &'a Want,
-    notice: Notice,
-) -> Result<Out, NoMemory>
-    ensures { IfOk result (λ out. out
-        ≡ out_of (Notifies to (spec.notify place.now (map P.seen boxes.now.items) usage.now want.now notice))) }
-{
-    let package = want.event.package();
-    let body = body_of(alloc, boxes, package, want.resource.as_str())?;
-    let state = state_value(alloc, notice.phase)?;
-    let text = NotifyText {
-        target: usage.target.as_str(),
-        routes: usage.routes.as_slice(),
-        me: place.me,
-        local: usage.local.as_str(),
-        local_tag: usage.local_tag.as_str(),
-        remote: usage.remote.as_str(),
-        call_id: usage.call_id.as_str(),
-        number: notice.number,
-        event: &want.event,
-        state: &state,
-        content_type: type_of(boxes, package),
-        body: body.as_slice(),
-    };
-    let bytes = notify_bytes(alloc, &text)?;
-    let terminated = state.word() == "terminated";
-    let tag = usage.local_tag.copy(alloc)?;
-    Ok(Out::Notify {
-        tag,
-        number: notice.number,
-        terminated,
-        to,
-        bytes,
-    })
+impl<P: Package> Teller<'_, P> {
+    /// The NOTIFY that tells of a subscription.
+    pub fn notice_out(
+        &self,
+        alloc: Global,
+        to: Addr,
+        usage: &Usage,
+        want: &Want,
+        notice: Notice,
+    ) -> Result<Out, NoMemory>
+        ensures { IfOk result (λ out. out
+            ≡ out_of (Notifies to
+            (spec.notify self.now.place.now (boxes_of P.seen self.now) usage.now want.now notice))) }
+    {
+        let package = want.event.package();
+        let body = body_of(alloc, self.boxes, package, want.resource.as_str())?;
+        let state = state_value(alloc, notice.phase)?;
+        let text = NotifyText {
+            target: usage.target.as_str(),
+            routes: usage.routes.as_slice(),
+            me: self.place.me,
+            local: usage.local.as_str(),
+            local_tag: usage.local_tag.as_str(),
+            remote: usage.remote.as_str(),
+            call_id: usage.call_id.as_str(),
+            number: notice.number,
+            event: &want.event,
+            state: &state,
+            content_type: type_of(self.boxes, package),
+            body: body.as_slice(),
+        };
+        let bytes = notify_bytes(alloc, &text)?;
+        let terminated = state.word() == "terminated";
+        let tag = usage.local_tag.copy(alloc)?;
+        Ok(Out::Notify {
+            tag,
+            number: notice.number,
+            terminated,
+            to,
+            bytes,
+        })
+    }
 }

@@ -2,17 +2,18 @@
 ghost use Rattle.std.specs.Prelude.{◌≡◌, ◌++◌, [], ◌<◌, ◌^◌, map, All, IfOk, IfSome, OnOk, option_to_list};
 ghost use Rattle.std.specs.Option.{option_and_then};
 ghost use Rattle.notifier.specs.Among.{among, said_at, gone_with, RiseFrom};
-ghost use Rattle.notifier.specs.Causes.{rule_of, CanTell};
+ghost use Rattle.notifier.specs.Causes.{CanTell};
 ghost use Rattle.notifier.specs.Out.{out_of};
 ghost use Rattle.notifier.specs.Rows as spec;
 ghost use Rattle.notifier.specs.Stored.{rows_of, row_at, IsIndexed, Turns};
+ghost use Rattle.notifier.specs.Tellers.{rule_by};
 ghost use Rattle.notifier.specs.Told.{IsTold};
 
 use crate::event::Out;
-use crate::place::Place;
 use crate::row::Row;
 use crate::rows::Rows;
-use crate::rules::{After, count, renew, stop, take_answer, tell_watcher, time_out};
+use crate::rules::{After, count, take_answer};
+use crate::teller::Teller;
 use crate::timers::{alarm, move_timer, stop_timer};
 use crate::watchers::unwatch_text;
 use package::Package;
@@ -35,33 +36,6 @@ pub enum Cause<'a> {
     Time,
     /// The notifier stops.
     Stop,
-}
-
-/// Tells one row.
-fn tell<P: Package>(
-    alloc: Global,
-    place: &Place,
-    boxes: &Vec<P>,
-    clock: u64,
-    cause: &Cause<'_>,
-    row: Row,
-) -> Result<After, NoMemory>
-    requires clock { clock < 2 ^ 63 }
-    requires live { CanTell clock cause.now row }
-    ensures { IfOk result (λ after. IsTold (rule_of place.now (map P.seen boxes.now.items) clock cause.now) row after) }
-{
-    match cause {
-        Cause::Response(response) => Ok(take_answer(response, row)),
-        Cause::Refused(serial, request) => Ok(count(*serial, request, row)),
-        Cause::Renewal(serial, source, request) => {
-            renew(alloc, place, boxes, clock, *serial, *source, request, row)
-        }
-        Cause::Change(name, resource, is_over) => {
-            tell_watcher(alloc, place, boxes, clock, name, resource, *is_over, row)
-        }
-        Cause::Time => time_out(alloc, place, boxes, clock, row),
-        Cause::Stop => stop(alloc, place, boxes, clock, row),
-    }
 }
 
 pub fn push_some<T: Drop>(items: &mut Vec<T>, item: Option<T>) -> Result<(), NoMemory>
@@ -93,119 +67,135 @@ fn silence() -> Word
     }
 }
 
-/// Tells the row with this serial, and moves what leads to it.
-fn turn<P: Package>(
-    alloc: Global,
-    place: &Place,
-    boxes: &Vec<P>,
-    clock: u64,
-    cause: &Cause<'_>,
-    rows: &mut Rows,
-    serial: u32,
-) -> Result<Word, NoMemory>
-    requires clock { clock < 2 ^ 63 }
-    requires indexed { IsIndexed rows.old }
-    requires live { IfSome (row_at rows.old serial) (CanTell clock cause.now) }
-    ensures turns { OnOk result (Turns rows.old rows.new serial
-        (option_and_then (λ r. (rule_of place.now (map P.seen boxes.now.items) clock cause.now r).row)
-        (row_at rows.old serial))) }
-    ensures indexed { OnOk result (IsIndexed rows.new) }
-    ensures out { IfOk result (λ word. option_to_list word.out
-        ≡ map out_of (said_at (rule_of place.now (map P.seen boxes.now.items) clock cause.now)
-        (row_at rows.old serial))) }
-    ensures gone { IfOk result (λ word. option_to_list word.gone
-        ≡ gone_with (rule_of place.now (map P.seen boxes.now.items) clock cause.now) (row_at rows.old serial)) }
-{
-    let Some(key) = rows.order.get(&serial).copied() else {
-        return Ok(silence());
-    };
-    let Some(row) = rows.slab.try_remove(key) else {
-        return Ok(silence());
-    };
-    let before = alarm(&row);
-    let resource = row.sub.want().resource.copy(alloc)?;
-    let After {
-        row: after,
-        out,
-        gone,
-    } = tell(alloc, place, boxes, clock, cause, row)?;
-    let word = Word { out, gone };
-    match after {
-        Some(row) => {
-            drop(resource);
-            let after = alarm(&row);
-            rows.slab.insert_reserved(row);
-            move_timer(&mut rows.timers, serial, before, after)?;
-            Ok(word)
-        }
-        None => {
-            rows.order.remove(&serial);
-            stop_timer(&mut rows.timers, serial, before);
-            unwatch_text(&mut rows.watchers, resource, serial);
-            Ok(word)
+impl<P: Package> Teller<'_, P> {
+    /// Tells one row.
+    fn tell(&self, alloc: Global, cause: &Cause<'_>, row: Row) -> Result<After, NoMemory>
+        requires clock { self.now.clock < 2 ^ 63 }
+        requires live { CanTell self.now.clock cause.now row }
+        ensures { IfOk result (λ after. IsTold (rule_by P.seen self.now cause.now) row after) }
+    {
+        match cause {
+            Cause::Response(response) => Ok(take_answer(response, row)),
+            Cause::Refused(serial, request) => Ok(count(*serial, request, row)),
+            Cause::Renewal(serial, source, request) => {
+                self.renew(alloc, *serial, *source, request, row)
+            }
+            Cause::Change(name, resource, is_over) => {
+                self.tell_watcher(alloc, name, resource, *is_over, row)
+            }
+            Cause::Time => self.time_out(alloc, row),
+            Cause::Stop => self.stop(alloc, row),
         }
     }
-}
 
-/// Tells the row with this serial: all others stay.
-fn tell_one<P: Package>(
-    alloc: Global,
-    place: &Place,
-    boxes: &Vec<P>,
-    clock: u64,
-    cause: &Cause<'_>,
-    rows: &mut Rows,
-    serial: u32,
-) -> Result<Word, NoMemory>
-    requires clock { clock < 2 ^ 63 }
-    requires indexed { IsIndexed rows.old }
-    requires live { All (CanTell clock cause.now) (rows_of rows.old) }
-    ensures rows { OnOk result (rows_of rows.new
-        ≡ spec.left (spec.only serial (rule_of place.now (map P.seen boxes.now.items) clock cause.now))
-        (rows_of rows.old)) }
-    ensures indexed { OnOk result (IsIndexed rows.new) }
-    ensures out { IfOk result (λ word. option_to_list word.out
-        ≡ map out_of (spec.said (spec.only serial (rule_of place.now (map P.seen boxes.now.items) clock cause.now))
-        (rows_of rows.old))) }
-    ensures gone { IfOk result (λ word. option_to_list word.gone
-        ≡ spec.gone (spec.only serial (rule_of place.now (map P.seen boxes.now.items) clock cause.now))
-        (rows_of rows.old)) }
-{
-    turn(alloc, place, boxes, clock, cause, rows, serial)
-}
-
-/// Tells the rows with these serials. The NOTIFYs go behind the outs that are there, and the tags of the transfers that go come
-/// back.
-pub fn tell_each<P: Package>(
-    alloc: Global,
-    place: &Place,
-    boxes: &Vec<P>,
-    clock: u64,
-    cause: &Cause<'_>,
-    rows: &mut Rows,
-    serials: &[u32],
-    outs: &mut Vec<Out>,
-) -> Result<Vec<Text>, NoMemory>
-    requires clock { clock < 2 ^ 63 }
-    requires indexed { IsIndexed rows.old }
-    requires live { All (CanTell clock cause.now) (rows_of rows.old) }
-    requires rise { RiseFrom 0 serials.now }
-    ensures rows { OnOk result (rows_of rows.new
-        ≡ spec.left (among serials.now (rule_of place.now (map P.seen boxes.now.items) clock cause.now))
-        (rows_of rows.old)) }
-    ensures indexed { OnOk result (IsIndexed rows.new) }
-    ensures gone { IfOk result (λ tags. tags.items
-        ≡ spec.gone (among serials.now (rule_of place.now (map P.seen boxes.now.items) clock cause.now))
-        (rows_of rows.old)) }
-    ensures outs { OnOk result (outs.new.items ≡ outs.old.items
-        ++ map out_of (spec.said (among serials.now (rule_of place.now (map P.seen boxes.now.items) clock cause.now))
-        (rows_of rows.old))) }
-{
-    let mut tags = Vec::new(alloc);
-    for serial in serials {
-        let word = tell_one(alloc, place, boxes, clock, cause, rows, *serial)?;
-        push_some(outs, word.out)?;
-        push_some(&mut tags, word.gone)?;
+    /// Tells the row with this serial, and moves what leads to it.
+    fn turn(
+        &self,
+        alloc: Global,
+        cause: &Cause<'_>,
+        rows: &mut Rows,
+        serial: u32,
+    ) -> Result<Word, NoMemory>
+        requires clock { self.now.clock < 2 ^ 63 }
+        requires indexed { IsIndexed rows.old }
+        requires live { IfSome (row_at rows.old serial) (CanTell self.now.clock cause.now) }
+        ensures turns { OnOk result (Turns rows.old rows.new serial
+            (option_and_then (λ r. (rule_by P.seen self.now cause.now r).row)
+            (row_at rows.old serial))) }
+        ensures indexed { OnOk result (IsIndexed rows.new) }
+        ensures out { IfOk result (λ word. option_to_list word.out
+            ≡ map out_of (said_at (rule_by P.seen self.now cause.now)
+            (row_at rows.old serial))) }
+        ensures gone { IfOk result (λ word. option_to_list word.gone
+            ≡ gone_with (rule_by P.seen self.now cause.now) (row_at rows.old serial)) }
+    {
+        let Some(key) = rows.order.get(&serial).copied() else {
+            return Ok(silence());
+        };
+        let Some(row) = rows.slab.try_remove(key) else {
+            return Ok(silence());
+        };
+        let before = alarm(&row);
+        let resource = row.sub.want().resource.copy(alloc)?;
+        let After {
+            row: after,
+            out,
+            gone,
+        } = self.tell(alloc, cause, row)?;
+        let word = Word { out, gone };
+        match after {
+            Some(row) => {
+                drop(resource);
+                let after = alarm(&row);
+                rows.slab.insert_reserved(row);
+                move_timer(&mut rows.timers, serial, before, after)?;
+                Ok(word)
+            }
+            None => {
+                rows.order.remove(&serial);
+                stop_timer(&mut rows.timers, serial, before);
+                unwatch_text(&mut rows.watchers, resource, serial);
+                Ok(word)
+            }
+        }
     }
-    Ok(tags)
+
+    /// Tells the row with this serial: all others stay.
+    fn tell_one(
+        &self,
+        alloc: Global,
+        cause: &Cause<'_>,
+        rows: &mut Rows,
+        serial: u32,
+    ) -> Result<Word, NoMemory>
+        requires clock { self.now.clock < 2 ^ 63 }
+        requires indexed { IsIndexed rows.old }
+        requires live { All (CanTell self.now.clock cause.now) (rows_of rows.old) }
+        ensures rows { OnOk result (rows_of rows.new
+            ≡ spec.left (spec.only serial (rule_by P.seen self.now cause.now))
+            (rows_of rows.old)) }
+        ensures indexed { OnOk result (IsIndexed rows.new) }
+        ensures out { IfOk result (λ word. option_to_list word.out
+            ≡ map out_of (spec.said (spec.only serial (rule_by P.seen self.now cause.now))
+            (rows_of rows.old))) }
+        ensures gone { IfOk result (λ word. option_to_list word.gone
+            ≡ spec.gone (spec.only serial (rule_by P.seen self.now cause.now))
+            (rows_of rows.old)) }
+    {
+        self.turn(alloc, cause, rows, serial)
+    }
+
+    /// Tells the rows with these serials. The NOTIFYs go behind the outs that are there, and the tags of the transfers
+    /// that go come back.
+    pub fn tell_each(
+        &self,
+        alloc: Global,
+        cause: &Cause<'_>,
+        rows: &mut Rows,
+        serials: &[u32],
+        outs: &mut Vec<Out>,
+    ) -> Result<Vec<Text>, NoMemory>
+        requires clock { self.now.clock < 2 ^ 63 }
+        requires indexed { IsIndexed rows.old }
+        requires live { All (CanTell self.now.clock cause.now) (rows_of rows.old) }
+        requires rise { RiseFrom 0 serials.now }
+        ensures rows { OnOk result (rows_of rows.new
+            ≡ spec.left (among serials.now (rule_by P.seen self.now cause.now))
+            (rows_of rows.old)) }
+        ensures indexed { OnOk result (IsIndexed rows.new) }
+        ensures gone { IfOk result (λ tags. tags.items
+            ≡ spec.gone (among serials.now (rule_by P.seen self.now cause.now))
+            (rows_of rows.old)) }
+        ensures outs { OnOk result (outs.new.items ≡ outs.old.items
+            ++ map out_of (spec.said (among serials.now (rule_by P.seen self.now cause.now))
+            (rows_of rows.old))) }
+    {
+        let mut tags = Vec::new(alloc);
+        for serial in serials {
+            let word = self.tell_one(alloc, cause, rows, *serial)?;
+            push_some(outs, word.out)?;
+            push_some(&mut tags, word.gone)?;
+        }
+        Ok(tags)
+    }
 }

@@ -7,13 +7,14 @@ ghost use Rattle.notifier.specs.Rows as spec;
 ghost use Rattle.notifier.specs.Fields.{value_of};
 ghost use Rattle.notifier.specs.Out.{out_of};
 ghost use Rattle.notifier.specs.Sound.{IsLive};
+ghost use Rattle.notifier.specs.Tellers.{boxes_of};
 ghost use Rattle.notifier.specs.Told.{IsTold, row_with};
 
 use crate::event::Out;
-use crate::notice::{copy_want, notice_out};
-use crate::place::Place;
+use crate::notice::copy_want;
 use crate::request::{asks_nothing, granted};
 use crate::row::{Row, Unanswered};
+use crate::teller::Teller;
 use package::Package;
 use sip_read::{Addr, Request, Response};
 use sip_text::{Field, NoMemory, Text, Values};
@@ -165,76 +166,6 @@ fn opened(stub: Stub, sub: Sub, clock: u64, notice: Notice) -> Result<Row, NoMem
     })
 }
 
-/// A step of a subscription, whose NOTIFY goes to this address.
-pub fn turned<P: Package>(
-    alloc: Global,
-    place: &Place,
-    boxes: &Vec<P>,
-    clock: u64,
-    to: Addr,
-    want: &Want,
-    stub: Stub,
-    next: Step,
-) -> Result<After, NoMemory>
-    ensures row { IfOk result (λ after. after.row
-        ≡ (spec.turned place.now (map P.seen boxes.now.items) clock to want.now (row_with stub) next).row) }
-    ensures out { IfOk result (λ after. option_to_list after.out
-        ≡ map out_of (spec.turned place.now (map P.seen boxes.now.items) clock to want.now
-        (row_with stub) next).notifies) }
-    ensures gone { IfOk result (λ after. option_to_list after.gone
-        ≡ (if is_of_refer_event want.now.event
-        && is_none (spec.turned place.now (map P.seen boxes.now.items) clock to want.now
-        (row_with stub) next).row then (spec.usage_after next).local_tag ∷ [] else [])) }
-{
-    match next {
-        Step::Live(sub, notice) => {
-            let out = notice_out(alloc, place, boxes, to, sub.usage(), want, notice)?;
-            let row = opened(stub, sub, clock, notice)?;
-            Ok(After {
-                row: Some(row),
-                out: Some(out),
-                gone: None,
-            })
-        }
-        Step::Over(usage, notice) => {
-            let out = notice_out(alloc, place, boxes, to, &usage, want, notice)?;
-            Ok(After {
-                row: None,
-                out: Some(out),
-                gone: gone_tag(is_of_refer(want), usage),
-            })
-        }
-    }
-}
-
-/// The end of a row, with a last NOTIFY that says why.
-fn end<P: Package>(
-    alloc: Global,
-    place: &Place,
-    boxes: &Vec<P>,
-    clock: u64,
-    reason: Reason,
-    row: Row,
-) -> Result<After, NoMemory>
-    ensures { IfOk result (λ after. IsTold (spec.ends place.now (map P.seen boxes.now.items) clock reason) row after) }
-{
-    let want = copy_want(alloc, row.sub.want())?;
-    let Row {
-        serial,
-        sub,
-        last_cseq,
-        unanswered,
-    } = row;
-    let stub = Stub {
-        serial,
-        last_cseq,
-        unanswered,
-    };
-    let (usage, notice) = sub.end(reason);
-    let next = Step::Over(usage, notice);
-    turned(alloc, place, boxes, clock, want.to, &want, stub, next)
-}
-
 /// Whether a NOTIFY of it was unanswered for too long.
 fn is_overdue(clock: u64, row: &Row) -> bool
     ensures { result ≡ spec.is_overdue clock row.now }
@@ -245,78 +176,12 @@ fn is_overdue(clock: u64, row: &Row) -> bool
         .any(|notify| clock.saturating_sub(notify.moment) >= 32)
 }
 
-/// Time: a row of which a NOTIFY was unanswered for too long goes, else one whose time is up gets a last NOTIFY.
-pub fn time_out<P: Package>(
-    alloc: Global,
-    place: &Place,
-    boxes: &Vec<P>,
-    clock: u64,
-    row: Row,
-) -> Result<After, NoMemory>
-    ensures { IfOk result (λ after. IsTold (spec.times_out place.now (map P.seen boxes.now.items) clock) row after) }
-{
-    if is_overdue(clock, &row) {
-        return Ok(goes(row));
-    }
-    if row.sub.due() > clock {
-        return Ok(stays(row));
-    }
-    end(alloc, place, boxes, clock, Reason::Timeout, row)
-}
-
-/// The planned stop: each row gets a last NOTIFY.
-pub fn stop<P: Package>(
-    alloc: Global,
-    place: &Place,
-    boxes: &Vec<P>,
-    clock: u64,
-    row: Row,
-) -> Result<After, NoMemory>
-    ensures { IfOk result (λ after. IsTold (spec.stops place.now (map P.seen boxes.now.items) clock) row after) }
-{
-    end(alloc, place, boxes, clock, Reason::Deactivated, row)
-}
-
 /// Whether a row watches this resource of this package.
 fn watches(row: &Row, name: &str, resource: &str) -> bool
     ensures { result ≡ spec.watches name.now resource.now row.now }
 {
     let want = row.sub.want();
     want.event.package() == name && want.resource.is(resource)
-}
-
-/// A change: a row that watches its resource is told.
-pub fn tell_watcher<P: Package>(
-    alloc: Global,
-    place: &Place,
-    boxes: &Vec<P>,
-    clock: u64,
-    name: &str,
-    resource: &str,
-    is_over: bool,
-    row: Row,
-) -> Result<After, NoMemory>
-    requires { IsLive clock row }
-    ensures { IfOk result (λ after. IsTold
-        (spec.tells_watcher place.now (map P.seen boxes.now.items) clock name.now resource.now is_over) row after) }
-{
-    if !watches(&row, name, resource) {
-        return Ok(stays(row));
-    }
-    let want = copy_want(alloc, row.sub.want())?;
-    let Row {
-        serial,
-        sub,
-        last_cseq,
-        unanswered,
-    } = row;
-    let stub = Stub {
-        serial,
-        last_cseq,
-        unanswered,
-    };
-    let next = sub.changed(clock, is_over);
-    turned(alloc, place, boxes, clock, want.to, &want, stub, next)
 }
 
 fn target_of(alloc: Global, contact: &Field<Text>) -> Result<Option<Text>, NoMemory>
@@ -328,79 +193,196 @@ fn target_of(alloc: Global, contact: &Field<Text>) -> Result<Option<Text>, NoMem
     }
 }
 
-/// What a SUBSCRIBE in its dialog makes of a subscription.
-fn renewed_sub(
-    alloc: Global,
-    place: &Place,
-    clock: u64,
-    source: Addr,
-    request: &Request,
-    sub: Sub,
-) -> Result<Step, NoMemory>
-    requires { clock < 2 ^ 63 }
-    ensures { IfOk result (λ next. next ≡ spec.renewed_sub place.now clock source request.now sub) }
-{
-    if asks_nothing(&place.limits, request) {
-        let (usage, notice) = sub.end(Reason::Timeout);
-        return Ok(Step::Over(usage, notice));
+impl<P: Package> Teller<'_, P> {
+    /// A step of a subscription, whose NOTIFY goes to this address.
+    pub fn turned(
+        &self,
+        alloc: Global,
+        to: Addr,
+        want: &Want,
+        stub: Stub,
+        next: Step,
+    ) -> Result<After, NoMemory>
+        ensures row { IfOk result (λ after. after.row
+            ≡ (spec.turned self.now.place.now (boxes_of P.seen self.now) self.now.clock to want.now
+            (row_with stub) next).row) }
+        ensures out { IfOk result (λ after. option_to_list after.out
+            ≡ map out_of (spec.turned self.now.place.now (boxes_of P.seen self.now) self.now.clock to want.now
+            (row_with stub) next).notifies) }
+        ensures gone { IfOk result (λ after. option_to_list after.gone
+            ≡ (if is_of_refer_event want.now.event
+            && is_none (spec.turned self.now.place.now (boxes_of P.seen self.now) self.now.clock to want.now
+            (row_with stub) next).row then (spec.usage_after next).local_tag ∷ [] else [])) }
+    {
+        match next {
+            Step::Live(sub, notice) => {
+                let out = self.notice_out(alloc, to, sub.usage(), want, notice)?;
+                let row = opened(stub, sub, self.clock, notice)?;
+                Ok(After {
+                    row: Some(row),
+                    out: Some(out),
+                    gone: None,
+                })
+            }
+            Step::Over(usage, notice) => {
+                let out = self.notice_out(alloc, to, &usage, want, notice)?;
+                Ok(After {
+                    row: None,
+                    out: Some(out),
+                    gone: gone_tag(is_of_refer(want), usage),
+                })
+            }
+        }
     }
-    let target = target_of(alloc, &request.contact)?;
-    Ok(sub.refresh(
-        request.head.cseq,
-        target,
-        source,
-        clock,
-        granted(&place.limits, request),
-    ))
-}
 
-/// A SUBSCRIBE in its dialog renews a row, or ends it.
-fn renew_row<P: Package>(
-    alloc: Global,
-    place: &Place,
-    boxes: &Vec<P>,
-    clock: u64,
-    source: Addr,
-    request: &Request,
-    row: Row,
-) -> Result<After, NoMemory>
-    requires { clock < 2 ^ 63 }
-    ensures { IfOk result (λ after. IsTold
-        (spec.renewed place.now (map P.seen boxes.now.items) clock source request.now) row after) }
-{
-    let want = copy_want(alloc, row.sub.want())?;
-    let Row {
-        serial,
-        sub,
-        unanswered,
-        ..
-    } = row;
-    let stub = Stub {
-        serial,
-        last_cseq: request.head.cseq,
-        unanswered,
-    };
-    let next = renewed_sub(alloc, place, clock, source, request, sub)?;
-    turned(alloc, place, boxes, clock, source, &want, stub, next)
-}
-
-/// The same of the row with this serial alone.
-pub fn renew<P: Package>(
-    alloc: Global,
-    place: &Place,
-    boxes: &Vec<P>,
-    clock: u64,
-    wanted: u32,
-    source: Addr,
-    request: &Request,
-    row: Row,
-) -> Result<After, NoMemory>
-    requires { clock < 2 ^ 63 }
-    ensures { IfOk result (λ after. IsTold
-        (spec.only wanted (spec.renewed place.now (map P.seen boxes.now.items) clock source request.now)) row after) }
-{
-    if row.serial != wanted {
-        return Ok(stays(row));
+    /// The end of a row, with a last NOTIFY that says why.
+    fn end(&self, alloc: Global, reason: Reason, row: Row) -> Result<After, NoMemory>
+        ensures { IfOk result (λ after. IsTold
+            (spec.ends self.now.place.now (boxes_of P.seen self.now) self.now.clock reason) row after) }
+    {
+        let want = copy_want(alloc, row.sub.want())?;
+        let Row {
+            serial,
+            sub,
+            last_cseq,
+            unanswered,
+        } = row;
+        let stub = Stub {
+            serial,
+            last_cseq,
+            unanswered,
+        };
+        let (usage, notice) = sub.end(reason);
+        let next = Step::Over(usage, notice);
+        self.turned(alloc, want.to, &want, stub, next)
     }
-    renew_row(alloc, place, boxes, clock, source, request, row)
+
+    /// Time: a row of which a NOTIFY was unanswered for too long goes, else one whose time is up gets a last NOTIFY.
+    pub fn time_out(&self, alloc: Global, row: Row) -> Result<After, NoMemory>
+        ensures { IfOk result (λ after. IsTold
+            (spec.times_out self.now.place.now (boxes_of P.seen self.now) self.now.clock) row after) }
+    {
+        if is_overdue(self.clock, &row) {
+            return Ok(goes(row));
+        }
+        if row.sub.due() > self.clock {
+            return Ok(stays(row));
+        }
+        self.end(alloc, Reason::Timeout, row)
+    }
+
+    /// The planned stop: each row gets a last NOTIFY.
+    pub fn stop(&self, alloc: Global, row: Row) -> Result<After, NoMemory>
+        ensures { IfOk result (λ after. IsTold
+            (spec.stops self.now.place.now (boxes_of P.seen self.now) self.now.clock) row after) }
+    {
+        self.end(alloc, Reason::Deactivated, row)
+    }
+
+    /// A change: a row that watches its resource is told.
+    pub fn tell_watcher(
+        &self,
+        alloc: Global,
+        name: &str,
+        resource: &str,
+        is_over: bool,
+        row: Row,
+    ) -> Result<After, NoMemory>
+        requires { IsLive self.now.clock row }
+        ensures { IfOk result (λ after. IsTold
+            (spec.tells_watcher self.now.place.now (boxes_of P.seen self.now) self.now.clock
+            name.now resource.now is_over) row after) }
+    {
+        if !watches(&row, name, resource) {
+            return Ok(stays(row));
+        }
+        let want = copy_want(alloc, row.sub.want())?;
+        let Row {
+            serial,
+            sub,
+            last_cseq,
+            unanswered,
+        } = row;
+        let stub = Stub {
+            serial,
+            last_cseq,
+            unanswered,
+        };
+        let next = sub.changed(self.clock, is_over);
+        self.turned(alloc, want.to, &want, stub, next)
+    }
+
+    /// What a SUBSCRIBE in its dialog makes of a subscription.
+    fn renewed_sub(
+        &self,
+        alloc: Global,
+        source: Addr,
+        request: &Request,
+        sub: Sub,
+    ) -> Result<Step, NoMemory>
+        requires { self.now.clock < 2 ^ 63 }
+        ensures { IfOk result (λ next. next
+            ≡ spec.renewed_sub self.now.place.now self.now.clock source request.now sub) }
+    {
+        if asks_nothing(&self.place.limits, request) {
+            let (usage, notice) = sub.end(Reason::Timeout);
+            return Ok(Step::Over(usage, notice));
+        }
+        let target = target_of(alloc, &request.contact)?;
+        Ok(sub.refresh(
+            request.head.cseq,
+            target,
+            source,
+            self.clock,
+            granted(&self.place.limits, request),
+        ))
+    }
+
+    /// A SUBSCRIBE in its dialog renews a row, or ends it.
+    fn renew_row(
+        &self,
+        alloc: Global,
+        source: Addr,
+        request: &Request,
+        row: Row,
+    ) -> Result<After, NoMemory>
+        requires { self.now.clock < 2 ^ 63 }
+        ensures { IfOk result (λ after. IsTold
+            (spec.renewed self.now.place.now (boxes_of P.seen self.now) self.now.clock source request.now) row after) }
+    {
+        let want = copy_want(alloc, row.sub.want())?;
+        let Row {
+            serial,
+            sub,
+            unanswered,
+            ..
+        } = row;
+        let stub = Stub {
+            serial,
+            last_cseq: request.head.cseq,
+            unanswered,
+        };
+        let next = self.renewed_sub(alloc, source, request, sub)?;
+        self.turned(alloc, source, &want, stub, next)
+    }
+
+    /// The same of the row with this serial alone.
+    pub fn renew(
+        &self,
+        alloc: Global,
+        wanted: u32,
+        source: Addr,
+        request: &Request,
+        row: Row,
+    ) -> Result<After, NoMemory>
+        requires { self.now.clock < 2 ^ 63 }
+        ensures { IfOk result (λ after. IsTold
+            (spec.only wanted
+            (spec.renewed self.now.place.now (boxes_of P.seen self.now) self.now.clock source request.now)) row after) }
+    {
+        if row.serial != wanted {
+            return Ok(stays(row));
+        }
+        self.renew_row(alloc, source, request, row)
+    }
 }

@@ -10,21 +10,22 @@ ghost use Rattle.notifier.specs.Out.{Send, out_of};
 ghost use Rattle.notifier.specs.Rows as spec;
 ghost use Rattle.notifier.specs.Sound.{IsOwn};
 ghost use Rattle.notifier.specs.Stored.{rows_of, IsIndexed};
+ghost use Rattle.notifier.specs.Tellers.{rule_by};
 ghost use Rattle.notifier.specs.Transactions.{key_of};
 ghost use Rattle.circular_buffer.specs.Buffer.{buffer};
 
 use crate::boxes::change_first;
 use crate::event::Out;
+use crate::incoming::Incoming;
 use crate::kept::KeptAnswers;
 use crate::ledger::Ledger;
 use crate::limits::Limits;
 use crate::place::Place;
 use crate::rows::Rows;
-use crate::rule::{Cause, tell_each};
+use crate::rule::Cause;
+use crate::teller::Teller;
 use crate::touched::touched;
-use crate::transaction::Transaction;
 use package::{Change, Package};
-use sip_read::Addr;
 use sip_text::{NoMemory, Octets, Text};
 use std::alloc::Global;
 
@@ -42,41 +43,31 @@ fn forget_all<P: Package>(
     Ok(())
 }
 
-/// Tells all rows that a cause may change, and then forgets the transfers of those that go. The NOTIFYs go behind the outs that are there.
-pub fn tell_rows<P: Package>(
-    alloc: Global,
-    place: &Place,
-    clock: u64,
-    rows: &mut Rows,
-    boxes: &mut Vec<P>,
-    cause: &Cause<'_>,
-    outs: &mut Vec<Out>,
-) -> Result<(), NoMemory>
-    requires clock { clock < 2 ^ 63 }
-    requires indexed { IsIndexed rows.old }
-    requires own { All (IsOwn place.now (2 ^ 32)) (rows_of rows.old) }
-    requires live { All (CanTell clock cause.now) (rows_of rows.old) }
-    ensures indexed { OnOk result (IsIndexed rows.new) }
-    ensures rows { OnOk result (rows_of rows.new
-        ≡ spec.left (rule_of place.now (map P.seen boxes.old.items) clock cause.now) (rows_of rows.old)) }
-    ensures boxes { OnOk result (map P.seen boxes.new.items
-        ≡ spec.forgetting (spec.gone (rule_of place.now (map P.seen boxes.old.items) clock cause.now)
-        (rows_of rows.old)) (map P.seen boxes.old.items)) }
-    ensures outs { OnOk result (outs.new.items ≡ outs.old.items
-        ++ map out_of (spec.said (rule_of place.now (map P.seen boxes.old.items) clock cause.now) (rows_of rows.old))) }
-{
-    let serials = touched(alloc, place.worker, rows, clock, cause)?;
-    let tags = tell_each(
-        alloc,
-        place,
-        boxes,
-        clock,
-        cause,
-        rows,
-        serials.as_slice(),
-        outs,
-    )?;
-    forget_all(alloc, boxes, tags)
+impl<P: Package> Teller<'_, P> {
+    /// Tells all rows that a cause may change. The NOTIFYs go behind the outs that are there, and the tags of the
+    /// transfers that go come back.
+    fn tell_rows(
+        &self,
+        alloc: Global,
+        cause: &Cause<'_>,
+        rows: &mut Rows,
+        outs: &mut Vec<Out>,
+    ) -> Result<Vec<Text>, NoMemory>
+        requires clock { self.now.clock < 2 ^ 63 }
+        requires indexed { IsIndexed rows.old }
+        requires own { All (IsOwn self.now.place.now (2 ^ 32)) (rows_of rows.old) }
+        requires live { All (CanTell self.now.clock cause.now) (rows_of rows.old) }
+        ensures indexed { OnOk result (IsIndexed rows.new) }
+        ensures rows { OnOk result (rows_of rows.new
+            ≡ spec.left (rule_by P.seen self.now cause.now) (rows_of rows.old)) }
+        ensures gone { IfOk result (λ tags. tags.items
+            ≡ spec.gone (rule_by P.seen self.now cause.now) (rows_of rows.old)) }
+        ensures outs { OnOk result (outs.new.items
+            ≡ outs.old.items ++ map out_of (spec.said (rule_by P.seen self.now cause.now) (rows_of rows.old))) }
+    {
+        let serials = touched(alloc, self.place.worker, rows, self.clock, cause)?;
+        self.tell_each(alloc, cause, rows, serials.as_slice(), outs)
+    }
 }
 
 pub fn copy_bytes(alloc: Global, bytes: &Octets) -> Result<Octets, NoMemory>
@@ -86,59 +77,60 @@ pub fn copy_bytes(alloc: Global, bytes: &Octets) -> Result<Octets, NoMemory>
     Ok(Octets::new(bytes))
 }
 
-/// Sends an answer, and keeps it where its request has a transaction.
+/// Answers a request, and keeps the answer where the request names a transaction.
 pub fn answer(
     alloc: Global,
     limits: &Limits,
     ring: &mut KeptAnswers,
-    transaction: Option<Transaction>,
-    to: Addr,
+    incoming: Incoming<'_>,
     bytes: Octets,
 ) -> Result<Vec<Out>, NoMemory>
     requires { ring.old.capacity ≡ limits.now.kept }
     ensures ring { OnOk result (ring.new
-        ≡ buffer (ring_with limits.now ring.old.items (option_map key_of transaction) bytes) ring.old.capacity) }
-    ensures outs { IfOk result (λ outs. outs.items ≡ Out.Answer to bytes ∷ []) }
+        ≡ buffer (ring_with limits.now ring.old.items (option_map key_of incoming.entry.transaction) bytes)
+        ring.old.capacity) }
+    ensures outs { IfOk result (λ outs. outs.items ≡ Out.Answer incoming.entry.source bytes ∷ []) }
 {
-    let copy = copy_bytes(alloc, &bytes)?;
     let _ = limits;
-    ring.keep(alloc, transaction, copy)?;
+    let copy = copy_bytes(alloc, &bytes)?;
+    let to = incoming.source;
+    ring.keep(alloc, incoming.transaction, copy)?;
     let mut outs = Vec::new(alloc);
     outs.push(Out::Answer { to, bytes })?;
     Ok(outs)
 }
 
-/// Tells all rows of a ledger. The NOTIFYs go behind the outs that are there.
-pub fn all_rows<P: Package>(
-    alloc: Global,
-    place: &Place,
-    ledger: &mut Ledger<P>,
-    cause: &Cause<'_>,
-    outs: &mut Vec<Out>,
-) -> Result<(), NoMemory>
-    requires clock { ledger.old.clock < 2 ^ 63 }
-    requires next { ledger.old.next ≤ 2 ^ 32 }
-    requires indexed { IsIndexed ledger.old.rows }
-    requires own { All (IsOwn place.now ledger.old.next) (rows_of ledger.old.rows) }
-    requires live { All (CanTell ledger.old.clock cause.now) (rows_of ledger.old.rows) }
-    ensures step { OnOk result ((sends : List Send) → outs.old.items ≡ map out_of sends
-        → IsStep (book.all_rows (book_of P.seen ledger.old)
-        (rule_of place.now (map P.seen ledger.old.boxes.items) ledger.old.clock cause.now) sends)
-        (book_of P.seen ledger.new) outs.new.items) }
-    ensures rows { OnOk result (rows_of ledger.new.rows
-        ≡ spec.left (rule_of place.now (map P.seen ledger.old.boxes.items) ledger.old.clock cause.now)
-        (rows_of ledger.old.rows)) }
-    ensures indexed { OnOk result (IsIndexed ledger.new.rows) }
-    ensures same { OnOk result ((ledger.new.clock ≡ ledger.old.clock) × (ledger.new.next ≡ ledger.old.next)
-        × (ledger.new.ring ≡ ledger.old.ring)) }
-{
-    tell_rows(
-        alloc,
-        place,
-        ledger.clock,
-        &mut ledger.rows,
-        &mut ledger.boxes,
-        cause,
-        outs,
-    )
+impl<P: Package> Ledger<P> {
+    /// Tells all rows, and then forgets the transfers of those that go. The NOTIFYs go behind the outs that are there.
+    pub fn all_rows(
+        &mut self,
+        alloc: Global,
+        place: &Place,
+        cause: &Cause<'_>,
+        outs: &mut Vec<Out>,
+    ) -> Result<(), NoMemory>
+        requires clock { self.old.clock < 2 ^ 63 }
+        requires next { self.old.next ≤ 2 ^ 32 }
+        requires indexed { IsIndexed self.old.rows }
+        requires own { All (IsOwn place.now self.old.next) (rows_of self.old.rows) }
+        requires live { All (CanTell self.old.clock cause.now) (rows_of self.old.rows) }
+        ensures step { OnOk result ((sends : List Send) → outs.old.items ≡ map out_of sends
+            → IsStep (book.all_rows (book_of P.seen self.old)
+            (rule_of place.now (map P.seen self.old.boxes.items) self.old.clock cause.now) sends)
+            (book_of P.seen self.new) outs.new.items) }
+        ensures rows { OnOk result (rows_of self.new.rows
+            ≡ spec.left (rule_of place.now (map P.seen self.old.boxes.items) self.old.clock cause.now)
+            (rows_of self.old.rows)) }
+        ensures indexed { OnOk result (IsIndexed self.new.rows) }
+        ensures same { OnOk result ((self.new.clock ≡ self.old.clock) × (self.new.next ≡ self.old.next)
+            × (self.new.ring ≡ self.old.ring)) }
+    {
+        let teller = Teller {
+            place,
+            boxes: &self.boxes,
+            clock: self.clock,
+        };
+        let tags = teller.tell_rows(alloc, cause, &mut self.rows, outs)?;
+        forget_all(alloc, &mut self.boxes, tags)
+    }
 }
