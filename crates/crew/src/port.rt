@@ -79,6 +79,7 @@ impl Port {
         ensures closed { self.new.still_open ≡ 0 }
         ensures ends { MatchResult result (λ _. Closes self.old self.new)
             (λ _. ClosesSome self.old.seats self.new.seats) }
+        ensures again { self.old.still_open ≡ 0 → (result ≡ Ok tt) × (self.new ≡ self.old) }
     {
         let mut all_there = true;
         while let Some(sender) = self.senders.pop() {

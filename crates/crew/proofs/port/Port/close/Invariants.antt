@@ -10,7 +10,7 @@ invariant-loop-sender g l = record {
   few : vec_len l.self-inside.senders ≤ 256;
   some : (olds : List SenderSeat) × (l.fn.self.seats ≡ l.self-inside.senders.items ++ olds) × ClosesSome olds (reverse l.self-inside.sents.items)
       × (l.all_there ≡ true → 0 < l.fn.self.still_open → reverse l.self-inside.sents.items ≡ map (λ s. with_sent s (end_item s.number)) olds);
-  none : l.fn.self.still_open ≡ 0 → (l.self-inside.sents.items ≡ l.initial.self-inside.sents.items) × (vec_len l.self-inside.senders ≡ 0);
+  none : l.fn.self.still_open ≡ 0 → (l.self-inside.sents.items ≡ l.initial.self-inside.sents.items) × (vec_len l.self-inside.senders ≡ 0) × (l.all_there ≡ true);
 }
 
 abbrev pub decreases-loop-sender : goal.decreases-loop-sender
