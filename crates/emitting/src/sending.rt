@@ -9,9 +9,17 @@ use notifier::Out;
 use outbox::{Posted, Taker};
 use scripts::Sink;
 use std::io::Write;
+use std::rt::Clock;
 use std::sync::Wait;
 use std::thread;
+use std::time::Duration;
 use wires::Wire;
+
+/// How often nothing may be posted before the thread sleeps.
+const TURNS: u32 = 200;
+
+/// How long it sleeps then, in microseconds: much less than a phone notices.
+const NAP: u64 = 500;
 
 /// What became of an out.
 #[derive(Clone, Copy, Debug, PartialEq, Eq)]
@@ -92,10 +100,19 @@ impl EmitReport {
     }
 }
 
+/// Waits a little where nothing was posted so many times in a row.
+fn rest<R: Clock>(rt: &R, idle: u32) {
+    if idle < TURNS {
+        thread::yield_now();
+    } else {
+        thread::sleep(rt, Duration::from_micros(NAP));
+    }
+}
+
 /// Sends out what the workers post, in the order in which it is taken, until each worker has ended: answers and NOTIFYs by the
 /// wire, and a line for each transfer that starts. What fails is counted, and the rest goes on. Where nothing is posted the
-/// thread yields. No worker's end mark was taken yet.
-pub fn emit<R: Wait, W: Wire, F: Write>(
+/// thread yields, and after a while it sleeps between two looks. No worker's end mark was taken yet.
+pub fn emit<R: Wait + Clock, W: Wire, F: Write>(
     rt: &R,
     wire: &mut W,
     sink: &mut Sink<F>,
@@ -120,6 +137,7 @@ pub fn emit<R: Wait, W: Wire, F: Write>(
         failed: 0,
     };
     let mut left = workers;
+    let mut idle = 0u32;
     for _ in rt.forever() {
         if left == 0 {
             return report;
@@ -127,10 +145,14 @@ pub fn emit<R: Wait, W: Wire, F: Write>(
         match taker.take(rt) {
             Some(Posted::Ended(_)) => left -= 1,
             Some(Posted::Out(_, out)) => {
+                idle = 0;
                 let fate = put_out(rt, wire, sink, &out);
                 report.add(rt, fate);
             }
-            None => thread::yield_now(),
+            None => {
+                rest(rt, idle);
+                idle = idle.saturating_add(1);
+            }
         }
     }
     unreachable!()

@@ -15,6 +15,7 @@ use sip_text::{Addr, Octets, Text};
 use std::alloc::Global;
 use std::io;
 use std::io::{ErrorKind, Write};
+use std::rt::Clock;
 use std::sync::{Arc, Wait};
 use std::thread::Threads;
 use worker::Open;
@@ -44,7 +45,7 @@ fn coming(alloc: Global) -> Result<Vec<Datagram>, RunError> {
 /// Feeds two datagrams to a crew of one worker. Where it is asked the second receive fails.
 pub(crate) fn feed_two<R>(rt: R, alloc: Global, is_second_to_fail: bool) -> Result<String, RunError>
 where
-    R: Threads + Wait + Copy + Send + 'static,
+    R: Threads + Wait + Clock + Copy + Send + 'static,
 {
     let Some(setup) = setup() else {
         return Err(RunError::Memory);
@@ -119,7 +120,7 @@ fn taken_text(alloc: Global, wire: &MemoryWire) -> Result<String, RunError> {
 }
 
 /// Emits what an outbox holds, over a wire whose send fails after so many others, if any.
-fn emit_all<R: Wait, F: Write + Drop>(
+fn emit_all<R: Wait + Clock, F: Write + Drop>(
     rt: &R,
     alloc: Global,
     outs: Vec<Out>,
@@ -138,7 +139,10 @@ fn emit_all<R: Wait, F: Write + Drop>(
 }
 
 /// Emits three answers. The second send fails.
-pub(crate) fn second_send_fails<R: Wait>(rt: &R, alloc: Global) -> Result<String, RunError> {
+pub(crate) fn second_send_fails<R: Wait + Clock>(
+    rt: &R,
+    alloc: Global,
+) -> Result<String, RunError> {
     let mut outs = Vec::new(alloc);
     for text in ["A", "BB", "CCC"] {
         outs.push(answer(alloc, text)?)?;
@@ -156,7 +160,7 @@ fn two_starts(alloc: Global) -> Result<Vec<Out>, RunError> {
 }
 
 /// Emits two transfers that start, and an answer.
-pub(crate) fn transfers_start<R: Wait>(rt: &R, alloc: Global) -> Result<String, RunError> {
+pub(crate) fn transfers_start<R: Wait + Clock>(rt: &R, alloc: Global) -> Result<String, RunError> {
     let mut sink = Sink::new(Vec::new(alloc));
     let mut text = emit_all(rt, alloc, two_starts(alloc)?, None, &mut sink)?;
     let Ok(written) = str::from_utf8(sink.writer.as_slice()) else {
@@ -181,6 +185,6 @@ impl Write for Shut {
 }
 
 /// Emits the same to a writer that takes nothing.
-pub(crate) fn writer_fails<R: Wait>(rt: &R, alloc: Global) -> Result<String, RunError> {
+pub(crate) fn writer_fails<R: Wait + Clock>(rt: &R, alloc: Global) -> Result<String, RunError> {
     emit_all(rt, alloc, two_starts(alloc)?, None, &mut Sink::new(Shut))
 }

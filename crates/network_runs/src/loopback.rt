@@ -10,6 +10,7 @@ use scripts::Sink;
 use sip_text::Addr;
 use std::alloc::Global;
 use std::net::Net;
+use std::rt::Clock;
 use std::sync::{Arc, Wait};
 use std::thread;
 use std::thread::{JoinHandle, Threads};
@@ -116,7 +117,7 @@ fn told_text<R: Threads>(rt: &R, alloc: Global, running: Running) -> Result<Stri
 /// A phone subscribes to alice's mailbox at a notifier in the same process, gets the answer and the NOTIFY, and ends it.
 pub(crate) fn loopback<R>(rt: R, alloc: Global) -> Result<String, RunError>
 where
-    R: Threads + Wait + Net + Copy + Send + 'static,
+    R: Threads + Wait + Net + Clock + Copy + Send + 'static,
 {
     let Some(setup) = setup() else {
         return Err(RunError::Memory);

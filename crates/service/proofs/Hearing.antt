@@ -1,5 +1,5 @@
 -- The SIP datagrams that were heard so far.
-use Rattle.std.proofs.Common.{◌≡◌, inl, true, false, ℕ, List, [], ◌∷◌, Option, refl, arith}
+use Rattle.std.proofs.Common.{◌≡◌, inl, true, false, ℕ, List, [], ◌∷◌, Option, refl}
 use Rattle.crew.specs.Ports.{PortSeats}
 use Rattle.wires.specs.declared.datagram.Datagram.{Datagram}
 use Rattle.wires.specs.Wires.{Grows}
@@ -45,7 +45,7 @@ module _ {old now : PortSeats} {given given' : Option (List Datagram)} (was : He
   served_done after d more =
       let f = was.feeding in (
         f.log,
-        (d ∷ [], omega arith, grows_more given given' after (datagrams f.log) (d ∷ []) f.given more),
+        (d, grows_more given given' after (datagrams f.log) (d ∷ []) f.given more),
         record { say = f.say; ends = (f.sends, inl (refl, f.unclosed)) },
       )
 

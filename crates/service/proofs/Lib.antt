@@ -5,3 +5,4 @@ pub mod Ran
 pub mod Ticking
 pub mod Hearing
 pub mod Taking
+pub mod Refusing

@@ -1,6 +1,6 @@
 -- A crew that ran as a service to its end.
 use Rattle.std.proofs.Common.{◌≡◌, ℕ, List, [], ◌∷◌, sym, subst}
-use Rattle.std.specs.Prelude.{IfOk, Result, Ok, Err}
+use Rattle.std.specs.Prelude.{IfOk, IfErr, OnErr, Result, Ok, Err}
 use Rattle.queue_rule.specs.declared.items.Item.{Item}
 use Rattle.notifier.specs.declared.event.Out.{Out}
 use Rattle.notifier.specs.Start.{Start}
@@ -15,12 +15,27 @@ use Rattle.service.specs.declared.feeding.Task.{Task}
 use Rattle.service.specs.declared.running.Feeders.{Feeders}
 use Rattle.service.specs.declared.running.Outcome.{Outcome}
 use Rattle.service.specs.Handing.{AreErrands}
-use Rattle.service.specs.Running.{SendsDatagrams, SendsLines, SendsTicks, SendsFor, ThenCloses, Runs}
+use Rattle.service.specs.Running.{SendsDatagrams, SendsLines, SendsTicks, SendsFor, ThenCloses, Runs, Leaves}
 use Rattle.service.proofs.Closed.{taker_new}
 
 pub on_ok : {T E : Type 0} {P Q : T → Type 0} (r : Result T E) → IfOk r P → ((x : T) → P x → Q x) → IfOk r Q
 on_ok (Ok x) p f = f x p
 on_ok (Err e) p f = p
+
+-- what came of an error that has one cause
+module _ {T E P : Type 0} where
+  pub no_other : (r : Result T E) (a b : E) → IfErr r (λ e. e ≡ a) → r ≡ Err b → (a ≡ b → ⊥) → P
+  no_other (Ok x) a b is e apart = absurd cc
+  no_other (Err f) a b is e apart = absurd (apart cc)
+
+pub on_err : {T E P Q : Type 0} (r : Result T E) → OnErr r P → (P → Q) → OnErr r Q
+on_err (Ok x) p f = p
+on_err (Err e) p f = f p
+
+pub leaves : {got got' : List (Item Out)} {wire wire' : WireSeen} {writer writer' : WriterSeen} (fates : Fates) (report : EmitReport)
+    → got ≡ [] → IsEmitted fates got got' wire wire' writer writer' report → Leaves wire wire' writer writer'
+leaves {got' = got'} {wire = wire} {wire' = wire'} {writer = writer} {writer' = writer'} fates report none is =
+    let P : List (Item Out) → Type 0 = λ l. IsEmitted fates l got' wire wire' writer writer' report in (fates, got', report, subst P none is)
 
 -- what each thread sent, once its errand is known
 module _ {mailboxes : List (List ℕ)} {f : Feeders} (are : AreErrands mailboxes f) (end : FeedEnd) (old new : PortSeats) where

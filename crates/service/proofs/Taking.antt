@@ -1,5 +1,5 @@
 -- The control lines that were taken so far.
-use Rattle.std.proofs.Common.{◌≡◌, ℕ, ◌+◌, suc, List, [], ◌∷◌, ◌++◌, length, Option, Some, None, refl, ap, sym, ◌∙◌, subst, arith, length-append}
+use Rattle.std.proofs.Common.{◌≡◌, inl, inr, ℕ, ◌+◌, suc, List, [], ◌∷◌, ◌++◌, length, Option, Some, None, refl, ap, sym, ◌∙◌, subst, arith, length-append}
 use Rattle.std.specs.List.{filter, AllByRecursion}
 use Rattle.std.proofs.lemmas.List.{append-nil, map-append}
 use Rattle.std.proofs.lemmas.List.Elements.{filter-append, filter_map-append}
@@ -17,14 +17,13 @@ use Rattle.network.proofs.Sending.{sends_none, sends_more}
 use Rattle.telling.specs.declared.answer.Answer.TheVariants as answer
 use Rattle.service.specs.declared.lines.Done.{Done}
 use Rattle.service.specs.declared.lines.Done.TheVariants as did
-use Rattle.service.specs.Served.{Gave}
-use Rattle.service.specs.Taken.{Line, IsLine, IsMeant, IsDone, end_after, MayReply, Replies, datagrams_of, events, replies, reply_to, is_none, unanswered, AreTaken, AreAnswered}
+use Rattle.service.specs.Taken.{Line, IsLine, IsMeant, IsDone, end_after, MayReply, Replies, datagrams_of, events, replies, reply_to, is_none, unanswered, AllGoOn, EndsWith, Gave, AreTaken, AreAnswered}
 
-all_more : (mailboxes : List (List ℕ)) (log more : List Line) → AllByRecursion (IsLine mailboxes) log → AllByRecursion (IsLine mailboxes) more → AllByRecursion (IsLine mailboxes) (log ++ more)
-all_more mailboxes [] more a b = b
-all_more mailboxes (x ∷ log) more a b = (a.0, all_more mailboxes log more a.1 b)
+pub all_more : (P : Line → Type 0) (log more : List Line) → AllByRecursion P log → AllByRecursion P more → AllByRecursion P (log ++ more)
+all_more P [] more a b = b
+all_more P (x ∷ log) more a b = (a.0, all_more P log more a.1 b)
 
-came_more : (log more : List Line) → datagrams_of (log ++ more) ≡ datagrams_of log ++ datagrams_of more
+pub came_more : (log more : List Line) → datagrams_of (log ++ more) ≡ datagrams_of log ++ datagrams_of more
 came_more log more = map-append (λ (l : Line). l.came) log more
 
 events_more : (log more : List Line) → events (log ++ more) ≡ events log ++ events more
@@ -51,7 +50,7 @@ book_none mailboxes given taken failures = record {
   answered = record { taken = grows_none taken; counted = refl };
 }
 
-answered_more : (log : List Line) (d : Datagram) (e : Option Event) (x : Done) (reply : Option (List ℕ)) (taken taken' after : Option (List Datagram)) (failures failures' more : ℕ)
+pub answered_more : (log : List Line) (d : Datagram) (e : Option Event) (x : Done) (reply : Option (List ℕ)) (taken taken' after : Option (List Datagram)) (failures failures' more : ℕ)
     → AreAnswered log taken taken' failures failures' → Replies d.peer reply taken' after failures' more
     → AreAnswered (log ++ record { came = d; event = e; done = x; reply = reply } ∷ []) taken after failures more
 answered_more log d e x None taken taken' after failures failures' more was is =
@@ -77,7 +76,7 @@ module _ {mailboxes : List (List ℕ)} {given given' taken taken' : Option (List
   book_more after after' more d e x reply gave meant may replied =
       let line : Line = record { came = d; event = e; done = x; reply = reply } in
       let P : List Datagram → Type 0 = λ l. Grows given after l in record {
-        each = all_more mailboxes log (line ∷ []) was.each (record { meant = meant; answered = may }, tt);
+        each = all_more (IsLine mailboxes) log (line ∷ []) was.each (record { meant = meant; answered = may }, tt);
         came_are = subst P (sym (came_more log (line ∷ []))) (grows_more given given' after (datagrams_of log) (d ∷ []) was.came_are gave);
         answered = answered_more log d e x reply taken taken' after' failures failures' more was.answered replied;
       }
@@ -86,54 +85,71 @@ module _ {mailboxes : List (List ℕ)} {given given' taken taken' : Option (List
 pub record Taking (mailboxes : List (List ℕ)) (old now : PortSeats) (given given' taken taken' : Option (List Datagram)) (failures failures' : ℕ) : Type 0 where
   pub log : List Line
   pub book : Book mailboxes given given' taken taken' failures failures' log
+  pub on : AllGoOn log
   pub sends : Sends old (events log) now
 
 pub taking_none : (mailboxes : List (List ℕ)) (p : PortSeats) (given taken : Option (List Datagram)) (failures : ℕ)
     → Taking mailboxes p p given given taken taken failures failures
-taking_none mailboxes p given taken failures = record { log = []; book = book_none mailboxes given taken failures; sends = sends_none p }
+taking_none mailboxes p given taken failures = record { log = []; book = book_none mailboxes given taken failures; on = tt; sends = sends_none p }
 
 module _ {mailboxes : List (List ℕ)} {old now : PortSeats} {given given' taken taken' : Option (List Datagram)} {failures failures' : ℕ}
     (was : Taking mailboxes old now given given' taken taken' failures failures') where
   module _ (next : PortSeats) (after after' : Option (List Datagram)) (more : ℕ) (d : Datagram) (reply : Option (List ℕ)) (gave : Grows given' after (d ∷ [])) where
-    with_event : (x : Done) (e : Event) → IsMeant mailboxes d.octets (Some e) x → MayReply x reply → Replies d.peer reply taken' after' failures' more
+    with_event : (x : Done) (e : Event) → end_after x ≡ None → IsMeant mailboxes d.octets (Some e) x → MayReply x reply → Replies d.peer reply taken' after' failures' more
         → Sends now (e ∷ []) next → Taking mailboxes old next given after taken after' failures more
-    with_event x e meant may replied sent =
+    with_event x e on meant may replied sent =
         let line : Line = record { came = d; event = Some e; done = x; reply = reply } in
         let P : List Event → Type 0 = λ es. Sends old es next in record {
           log = was.log ++ line ∷ [];
           book = book_more was.book after after' more d (Some e) x reply gave meant may replied;
+          on = all_more (λ (l : Line). end_after l.done ≡ None) was.log (line ∷ []) was.on (on, tt);
           sends = subst P (sym (events_more was.log (line ∷ []))) (sends_more old now next (events was.log) (e ∷ []) was.sends sent);
         }
 
-    without : (x : Done) → IsMeant mailboxes d.octets None x → MayReply x reply → Replies d.peer reply taken' after' failures' more
+    without : (x : Done) → end_after x ≡ None → IsMeant mailboxes d.octets None x → MayReply x reply → Replies d.peer reply taken' after' failures' more
         → next ≡ now → Taking mailboxes old next given after taken after' failures more
-    without x meant may replied same =
+    without x on meant may replied same =
         let line : Line = record { came = d; event = None; done = x; reply = reply } in
         let P : List Event → Type 0 = λ es. Sends old es now in
         let Q : PortSeats → Type 0 = λ p. Sends old (events (was.log ++ line ∷ [])) p in record {
           log = was.log ++ line ∷ [];
           book = book_more was.book after after' more d None x reply gave meant may replied;
+          on = all_more (λ (l : Line). end_after l.done ≡ None) was.log (line ∷ []) was.on (on, tt);
           sends = subst Q (sym same) (subst P (sym (events_more was.log (line ∷ []) ∙ append-nil (events was.log))) was.sends);
         }
 
     pub taking_more : (x : Done) → IsDone mailboxes d.octets now next x → MayReply x reply → Replies d.peer reply taken' after' failures' more
         → end_after x ≡ None → Taking mailboxes old next given after taken after' failures more
-    taking_more (did.Answered answer.Done) is may replied on = with_event (did.Answered answer.Done) is.0 (is.0, refl, is.1) may replied is.2
-    taking_more (did.Answered answer.BadLine) is may replied on = without (did.Answered answer.BadLine) (refl, is.0) may replied is.1
+    taking_more (did.Answered answer.Done) is may replied on = with_event (did.Answered answer.Done) is.0 refl (is.0, refl, is.1) may replied is.2
+    taking_more (did.Answered answer.BadLine) is may replied on = without (did.Answered answer.BadLine) refl (refl, is.0) may replied is.1
     taking_more (did.Answered answer.UnknownMailbox) is may replied on =
-        without (did.Answered answer.UnknownMailbox) (is.0, refl, is.1, is.2) may replied is.3
+        without (did.Answered answer.UnknownMailbox) refl (is.0, refl, is.1, is.2) may replied is.3
     taking_more (did.Answered answer.Closed) is may replied on = absurd is
-    taking_more (did.Answered answer.NoMemory) is may replied on = without (did.Answered answer.NoMemory) refl may replied is
-    taking_more did.Counters is may replied on = without did.Counters (refl, is.0) may replied is.1
+    taking_more (did.Answered answer.NoMemory) is may replied on = without (did.Answered answer.NoMemory) refl refl may replied is
+    taking_more did.Counters is may replied on = without did.Counters refl (refl, is.0) may replied is.1
     taking_more did.Closing is may replied on = absurd cc
     taking_more did.Gone is may replied on = absurd cc
 
-    pub taking_close : IsDone mailboxes d.octets now next did.Closing → MayReply did.Closing reply → Replies d.peer reply taken' after' failures' more
-        → Taking mailboxes old next given after taken after' failures more
-    taking_close is may replied = without did.Closing (refl, is.0) may replied is.1
+    pub taken_close : IsDone mailboxes d.octets now next did.Closing → MayReply did.Closing reply → Replies d.peer reply taken' after' failures' more
+        → (log : List Line) × Gave given after log ends.Done × AreTaken mailboxes log old next ends.Done × AreAnswered log taken after' failures more
+    taken_close is may replied =
+        let line : Line = record { came = d; event = None; done = did.Closing; reply = reply } in
+        let book = book_more was.book after after' more d None did.Closing reply gave (refl, is.0) may replied in
+        let P : List Event → Type 0 = λ es. Sends old es now in
+        let Q : PortSeats → Type 0 = λ p. Sends old (events (was.log ++ line ∷ [])) p in
+        let last : EndsWith did.Closing (was.log ++ line ∷ []) = record { before = was.log; last = line; whole = refl; on = was.on; is = refl } in (
+          was.log ++ line ∷ [],
+          inl (last, book.came_are),
+          record {
+            each = book.each;
+            stops = inl last;
+            sends = subst Q (sym is.1) (subst P (sym (events_more was.log (line ∷ []) ∙ append-nil (events was.log))) was.sends);
+          },
+          book.answered,
+        )
 
     pub taken_gone : IsDone mailboxes d.octets now next did.Gone → MayReply did.Gone reply → Replies d.peer reply taken' after' failures' more
-        → (log : List Line) × Gave given after (datagrams_of log) ends.Gone × AreTaken mailboxes log old next ends.Gone × AreAnswered log taken after' failures more
+        → (log : List Line) × Gave given after log ends.Gone × AreTaken mailboxes log old next ends.Gone × AreAnswered log taken after' failures more
     taken_gone is may replied =
         let line : Line = record { came = d; event = Some is.0; done = did.Gone; reply = reply } in
         let book = book_more was.book after after' more d (Some is.0) did.Gone reply gave (is.0, refl, is.1) may replied in (
@@ -141,6 +157,7 @@ module _ {mailboxes : List (List ℕ)} {old now : PortSeats} {given given' taken
           book.came_are,
           record {
             each = book.each;
+            stops = record { before = was.log; last = line; whole = refl; on = was.on; is = refl };
             sends = record { before = was.log; last = line; event = is.0; mid = now; whole = refl; is = refl; sent = was.sends; missed = is.2 };
           },
           book.answered,
@@ -148,33 +165,23 @@ module _ {mailboxes : List (List ℕ)} {old now : PortSeats} {given given' taken
 
   -- the service closed: one datagram more came, and was dropped
   pub taken_dropped : (after : Option (List Datagram)) (d : Datagram) → Grows given' after (d ∷ [])
-      → (log : List Line) × Gave given after (datagrams_of log) ends.Done × AreTaken mailboxes log old now ends.Done × AreAnswered log taken taken' failures failures'
+      → (log : List Line) × Gave given after log ends.Done × AreTaken mailboxes log old now ends.Done × AreAnswered log taken taken' failures failures'
   taken_dropped after d gave = (
     was.log,
-    (d ∷ [], omega arith, grows_more given given' after (datagrams_of was.log) (d ∷ []) was.book.came_are gave),
-    record { each = was.book.each; sends = was.sends },
+    inr (d, was.on, grows_more given given' after (datagrams_of was.log) (d ∷ []) was.book.came_are gave),
+    record { each = was.book.each; stops = inr was.on; sends = was.sends },
     was.book.answered,
   )
 
   pub taking_open : now.still_open ≡ old.still_open
   taking_open = was.sends.still_open
 
-  -- CLOSE came
-  pub taken_closed : (log : List Line) × Gave given given' (datagrams_of log) ends.Done × AreTaken mailboxes log old now ends.Done × AreAnswered log taken taken' failures failures'
-  taken_closed =
-      let P : List Datagram → Type 0 = λ l. Grows given given' l in (
-        was.log,
-        ([], omega arith, subst P (sym (append-nil (datagrams_of was.log))) was.book.came_are),
-        record { each = was.book.each; sends = was.sends },
-        was.book.answered,
-      )
-
   pub taken_fault : (after : Option (List Datagram)) → Grows given' after []
-      → (log : List Line) × Gave given after (datagrams_of log) ends.Fault × AreTaken mailboxes log old now ends.Fault × AreAnswered log taken taken' failures failures'
+      → (log : List Line) × Gave given after log ends.Fault × AreTaken mailboxes log old now ends.Fault × AreAnswered log taken taken' failures failures'
   taken_fault after none = (
     was.log,
     grows_same given given' after (datagrams_of was.log) was.book.came_are none,
-    record { each = was.book.each; sends = was.sends },
+    record { each = was.book.each; stops = was.on; sends = was.sends },
     was.book.answered,
   )
 
@@ -186,12 +193,12 @@ module _ {mailboxes : List (List ℕ)} {old now : PortSeats} {given given' taken
     (was : Taking mailboxes old now given given' taken taken' failures failures')
     (next : PortSeats) (after after' : Option (List Datagram)) (more : ℕ) (d : Datagram) (reply : Option (List ℕ)) (gave : Grows given' after (d ∷ [])) where
   pub taken_last : (x : Done) (end : FeedEnd) → end_after x ≡ Some end → IsDone mailboxes d.octets now next x → MayReply x reply → Replies d.peer reply taken' after' failures' more
-      → (log : List Line) × Gave given after (datagrams_of log) end × AreTaken mailboxes log old next end × AreAnswered log taken after' failures more
+      → (log : List Line) × Gave given after log end × AreTaken mailboxes log old next end × AreAnswered log taken after' failures more
   taken_last (did.Answered a) end e is may replied = absurd cc
   taken_last did.Counters end e is may replied = absurd cc
   taken_last did.Closing end e is may replied =
-      let P : FeedEnd → Type 0 = λ z. (log : List Line) × Gave given after (datagrams_of log) z × AreTaken mailboxes log old next z × AreAnswered log taken after' failures more in
-      subst P (end_is ends.Done end e) (taken_closed (taking_close was next after after' more d reply gave is may replied))
+      let P : FeedEnd → Type 0 = λ z. (log : List Line) × Gave given after log z × AreTaken mailboxes log old next z × AreAnswered log taken after' failures more in
+      subst P (end_is ends.Done end e) (taken_close was next after after' more d reply gave is may replied)
   taken_last did.Gone end e is may replied =
-      let P : FeedEnd → Type 0 = λ z. (log : List Line) × Gave given after (datagrams_of log) z × AreTaken mailboxes log old next z × AreAnswered log taken after' failures more in
+      let P : FeedEnd → Type 0 = λ z. (log : List Line) × Gave given after log z × AreTaken mailboxes log old next z × AreAnswered log taken after' failures more in
       subst P (end_is ends.Gone end e) (taken_gone was next after after' more d reply gave is may replied)

@@ -3,7 +3,7 @@
 --   a SIP datagram -> port 0 -+              +-> an answer or a NOTIFY, by the wire
 --   a control line -> port 1 -+-> workers ->-+
 --   a tick         -> port 2 -+              +-> START <tag> <refer_to>, by the writer
-use Rattle.std.specs.Prelude.{◌≡◌, ◌⊎◌, ℕ, List, [], ◌∷◌}
+use Rattle.std.specs.Prelude.{◌≡◌, ◌⊎◌, ◌||◌, ℕ, Bool, true, false, List, [], ◌∷◌}
 use Rattle.queue_rule.specs.declared.items.Item.{Item}
 use Rattle.notifier.specs.declared.event.Out.{Out}
 use Rattle.notifier.specs.Start.{Start}
@@ -15,6 +15,7 @@ use Rattle.crew.specs.Joined.{IsJoined}
 use Rattle.emitting.specs.declared.sending.EmitReport.{EmitReport}
 use Rattle.emitting.specs.Emitted.{Fates, WireSeen, WriterSeen, IsEmitted}
 use Rattle.network.specs.declared.feeding.FeedEnd.{FeedEnd}
+use Rattle.network.specs.declared.feeding.FeedEnd.TheVariants as ends
 use Rattle.network.specs.Fed.{Log}
 use Rattle.service.specs.declared.feeding.Task.{Task}
 use Rattle.service.specs.declared.feeding.Task.TheVariants as task
@@ -47,6 +48,17 @@ pub record ThenCloses (sends : PortSeats → PortSeats → Type 0) (old new : Po
   pub ends : Closes fed_to new ⊎ ClosesSome fed_to.seats new.seats
   pub seats : SameSeats old new
 
+-- ---- how it ended
+
+abbrev pub is_fault : FeedEnd → Bool
+is_fault ends.Done = false
+is_fault ends.Fault = true
+is_fault ends.Gone = false
+
+-- did a wire or the clock fail?
+abbrev pub is_faulty : Outcome → Bool
+is_faulty o = is_fault o.sip || is_fault o.lines || is_fault o.time
+
 -- ---- all of it
 
 -- workers with these starts handled what the three ports sent until all were closed, and each of their outs was sent, written or
@@ -73,3 +85,10 @@ pub record Runs (start : ℕ → Start) (workers : ℕ) (mailboxes : List (List 
   pub fates : Fates
   pub emitted_as : EmitReport
   pub emitted : IsEmitted fates [] got wire wire' writer writer' emitted_as
+
+-- ---- a service that doesn't run
+
+-- what left by a wire and a writer were outs that were got: each was sent, written or failed, in order
+abbrev pub Leaves : WireSeen → WireSeen → WriterSeen → WriterSeen → Type 0
+Leaves wire wire' writer writer' =
+    (fates : Fates) × (got : List (Item Out)) × (report : EmitReport) × IsEmitted fates [] got wire wire' writer writer' report

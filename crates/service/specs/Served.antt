@@ -1,5 +1,5 @@
 -- What a wire gave while a service listened, and what its port sent of it.
-use Rattle.std.specs.Prelude.{◌≤◌, Bool, true, false, List, ◌++◌, length, Option}
+use Rattle.std.specs.Prelude.{Bool, true, false, List, [], ◌∷◌, ◌++◌, length, Option}
 use Rattle.crew.specs.Ports.{PortSeats}
 use Rattle.wires.specs.declared.datagram.Datagram.{Datagram}
 use Rattle.wires.specs.Wires.{Grows}
@@ -16,9 +16,9 @@ is_gone told.Unread = false
 is_gone told.Close = false
 is_gone told.Gone = true
 
--- it gave these, and where the service closed perhaps one more, which was dropped
+-- it gave these, and where the service closed one more, which was dropped
 abbrev pub Gave : Option (List Datagram) → Option (List Datagram) → List Datagram → FeedEnd → Type 0
-Gave old new came Done = (dropped : List Datagram) × (length dropped ≤ 1) × Grows old new (came ++ dropped)
+Gave old new came Done = (dropped : Datagram) × Grows old new (came ++ dropped ∷ [])
 Gave old new came Fault = Grows old new came
 Gave old new came Gone = Grows old new came
 

@@ -1,5 +1,5 @@
 -- What a service does with control lines, and what it answers.
-use Rattle.std.specs.Prelude.{◌≡◌, ℕ, Bool, true, false, List, [], ◌∷◌, ◌++◌, length, map, codes, bytes_eq, ◌⊎◌, Option, Some, None}
+use Rattle.std.specs.Prelude.{◌≡◌, ◌≤◌, ℕ, Bool, true, false, List, [], ◌∷◌, ◌++◌, length, map, codes, bytes_eq, ◌⊎◌, Option, Some, None}
 use Rattle.std.specs.List.{filter, filter_map, list_any, AllByRecursion}
 use Rattle.sip_text.specs.declared.address.Addr.{Addr}
 use Rattle.package.specs.Values.{MailChange, Progress}
@@ -170,12 +170,62 @@ SendsLines log old new ends.Done = Sends old (events log) new
 SendsLines log old new ends.Fault = Sends old (events log) new
 SendsLines log old new ends.Gone = MissesLine log old new
 
--- each of these lines was done as it asks, and the port has sent their events
+-- ---- until when lines are taken
+
+-- after each of these more lines are taken
+abbrev pub AllGoOn : List Line → Type 0
+AllGoOn log = AllByRecursion (λ (l : Line). end_after l.done ≡ None) log
+
+-- after the last of them none are, since this was done with it
+pub record EndsWith (done : Done) (log : List Line) : Type 0 where
+  pub before : List Line
+  pub last : Line
+  pub whole : log ≡ before ++ last ∷ []
+  pub on : AllGoOn before
+  pub is : last.done ≡ done
+
+-- a CLOSE or a worker that is gone ends it at once, and so does a service that closes for another cause, or a fault
+abbrev pub Stops : List Line → FeedEnd → Type 0
+Stops log ends.Done = EndsWith did.Closing log ⊎ AllGoOn log
+Stops log ends.Fault = AllGoOn log
+Stops log ends.Gone = EndsWith did.Gone log
+
+-- the wire gave these lines, and one more, which was dropped, where the service closed for another cause than a CLOSE of them
+abbrev pub Gave : Option (List Datagram) → Option (List Datagram) → List Line → FeedEnd → Type 0
+Gave old new log ends.Done =
+    (EndsWith did.Closing log × Grows old new (datagrams_of log))
+    ⊎ ((dropped : Datagram) × AllGoOn log × Grows old new (datagrams_of log ++ dropped ∷ []))
+Gave old new log ends.Fault = Grows old new (datagrams_of log)
+Gave old new log ends.Gone = Grows old new (datagrams_of log)
+
+-- each of these lines was done as it asks, until one ended it, and the port has sent their events
 pub record AreTaken (mailboxes : List (List ℕ)) (log : List Line) (old new : PortSeats) (end : FeedEnd) : Type 0 where
   pub each : AllByRecursion (IsLine mailboxes) log
+  pub stops : Stops log end
   pub sends : SendsLines log old new end
 
 -- the wire took the answers, each to who asked, and failed at the others
 pub record AreAnswered (log : List Line) (old new : Option (List Datagram)) (failures failures' : ℕ) : Type 0 where
   pub taken : Grows old new (replies log)
   pub counted : failures' ≡ rises (unanswered log) failures
+
+-- ---- lines that come while the service closes
+
+abbrev pub has_octets : List ℕ → Bool
+has_octets [] = false
+has_octets (octet ∷ octets) = true
+
+abbrev pub is_line : Datagram → Bool
+is_line d = has_octets d.octets
+
+-- what came until all was sent out, but for the last perhaps: each datagram that isn't empty was answered `closed`, or the wire
+-- failed at it, and nothing else was sent
+pub record AreRefused (given given' taken taken' : Option (List Datagram)) (failures failures' : ℕ) : Type 0 where
+  pub came : List Datagram
+  pub dropped : List Datagram
+  pub one : length dropped ≤ 1
+  pub gave : Grows given given' (came ++ dropped)
+  pub log : List Line
+  pub lines : datagrams_of log ≡ filter is_line came
+  pub each : AllByRecursion (λ (l : Line). MayReply (did.Answered answer.Closed) l.reply) log
+  pub answered : AreAnswered log taken taken' failures failures'

@@ -4,9 +4,8 @@ ghost use Rattle.std.specs.List.{list_any};
 ghost use Rattle.wires.specs.Wires.{Grows};
 ghost use Rattle.crew.specs.Kept.{SameSeats};
 ghost use Rattle.telling.specs.Lines.{answer_text};
-ghost use Rattle.service.specs.Served.{Gave};
 ghost use Rattle.service.specs.Taken as spec;
-ghost use Rattle.service.specs.Taken.{Line, IsSent, IsChanged, IsDone, IsReport, Offers, IsAnswered, datagrams_of, AreTaken, AreAnswered};
+ghost use Rattle.service.specs.Taken.{Line, IsSent, IsChanged, IsDone, IsReport, Offers, IsAnswered, Gave, AreTaken, AreAnswered, AreRefused};
 
 use crate::shared::{Counter, Shared};
 use crew::Port;
@@ -207,7 +206,7 @@ impl<W: Wire> ControlDesk<W> {
     ) -> FeedEnd
         requires still_open { 0 < port.old.still_open }
         ensures taken { (log : List Line)
-            × Gave (W.given self.old.coming) (W.given self.new.coming) (datagrams_of log) result
+            × Gave (W.given self.old.coming) (W.given self.new.coming) log result
             × AreTaken self.old.mailboxes.items log port.old port.new result
             × AreAnswered log (W.taken self.old.going) (W.taken self.new.going)
             (W.failures self.old.going) (W.failures self.new.going) }
@@ -233,7 +232,12 @@ impl<W: Wire> ControlDesk<W> {
     }
 
     /// Answers `closed` to whoever asks, until all was sent out or the wire fails. An empty datagram is not answered.
-    pub fn refuse_lines<R: Wait>(&mut self, rt: &R, shared: &Shared) {
+    pub fn refuse_lines<R: Wait>(&mut self, rt: &R, shared: &Shared)
+        ensures refused { AreRefused (W.given self.old.coming) (W.given self.new.coming)
+            (W.taken self.old.going) (W.taken self.new.going)
+            (W.failures self.old.going) (W.failures self.new.going) }
+        ensures mailboxes { self.new.mailboxes ≡ self.old.mailboxes }
+    {
         let mut octets = [0; ROOM];
         for _ in rt.forever() {
             let Ok((length, source)) = self.coming.recv(rt, &mut octets) else {

@@ -4,6 +4,8 @@ ghost use Rattle.queue_rule.specs.Ended.{AllEnded};
 ghost use Rattle.wires.specs.Wires.{Grows};
 ghost use Rattle.emitting.specs.declared.sending.EmitReport.{EmitReport};
 ghost use Rattle.emitting.specs.Emitted.{Fates, IsEmitted};
+ghost use Rattle.service.specs.Taken.{Offers};
+ghost use Rattle.service.specs.Rung.{Rings};
 
 use crate::shared::{Counter, Shared};
 use network::{Fate, put_out};
@@ -52,22 +54,36 @@ fn count(shared: &Shared, out: &Out, fate: Fate) {
 /// What wakes the threads that wait for a datagram, by an empty one at the address of each, so that they see that the service
 /// closes.
 #[derive(Drop)]
-pub struct Bell {
-    pub wire: UdpWire,
+pub struct Bell<W> {
+    pub wire: W,
     pub sip: Addr,
     pub control: Addr,
 }
 
-impl Bell {
+/// Sends an empty datagram.
+fn wake<R: Wait, W: Wire>(rt: &R, wire: &mut W, to: Addr)
+    ensures { Offers to [] (W.taken wire.old) (W.taken wire.new) (W.failures wire.old) (W.failures wire.new) }
+{
+    match wire.send(rt, to, b"") {
+        Ok(()) | Err(_) => {}
+    }
+}
+
+impl<W: Wire> Bell<W> {
     /// Sends an empty datagram to each address. One that isn't sent is sent again at the next ring.
-    pub fn ring<R: Wait>(&mut self, rt: &R) {
-        let _ = self.wire.send(rt, self.sip, b"");
-        let _ = self.wire.send(rt, self.control, b"");
+    pub fn ring<R: Wait>(&mut self, rt: &R)
+        ensures rung { Rings self.old.sip self.old.control
+            (W.taken self.old.wire) (W.taken self.new.wire) (W.failures self.old.wire) (W.failures self.new.wire) }
+        ensures sip { self.new.sip ≡ self.old.sip }
+        ensures control { self.new.control ≡ self.old.control }
+    {
+        wake(rt, &mut self.wire, self.sip);
+        wake(rt, &mut self.wire, self.control);
     }
 }
 
 /// Waits a little where nothing was posted so many times in a row, and rings while the service closes.
-fn rest<R: Wait + Clock>(rt: &R, bell: &mut Bell, shared: &Shared, idle: u32) {
+fn rest<R: Wait + Clock>(rt: &R, bell: &mut Bell<UdpWire>, shared: &Shared, idle: u32) {
     if idle < TURNS {
         thread::yield_now();
         return;
@@ -93,7 +109,7 @@ pub fn send_outs<R: Wait + Clock, W: Wire, F: Write>(
     exit: &mut Exit<W, F>,
     taker: &mut Taker,
     workers: u32,
-    bell: &mut Bell,
+    bell: &mut Bell<UdpWire>,
     shared: &Shared,
 )
     requires workers { workers ≡ taker.old.workers }

@@ -1,10 +1,12 @@
 //! A crew that runs as a service, to its end.
-ghost use Rattle.std.specs.Prelude.{◌≡◌, ◌<◌, ◌≤◌, ◌∷◌, [], ℕ, List, get_or, vec_len, vec_capacity, IfOk};
+ghost use Rattle.std.specs.Prelude.{◌≡◌, ◌<◌, ◌≤◌, ◌⊎◌, ◌∷◌, [], ℕ, List, get_or, vec_len, vec_capacity, Err, IfOk, IfErr, OnErr};
 ghost use Rattle.notifier.specs.Start.{Start};
 ghost use Rattle.crew.specs.Ports.{PortSeats};
 ghost use Rattle.crew.specs.Ready.{start_of};
 ghost use Rattle.service.specs.Handing.{IsNew, NoneClosed, AreLent, AreErrands};
-ghost use Rattle.service.specs.Running.{Runs};
+ghost use Rattle.service.specs.Running as spec;
+ghost use Rattle.service.specs.declared.error.RunError.TheVariants as error;
+ghost use Rattle.service.specs.Running.{Runs, Leaves, is_faulty};
 
 use crate::error::RunError;
 use crate::feeding::{Feeder, NoThread, Task, start_feeder};
@@ -33,7 +35,7 @@ pub struct Work {
     /// What takes control lines.
     pub desk: ControlDesk<UdpWire>,
     /// What wakes those two.
-    pub bell: Bell,
+    pub bell: Bell<UdpWire>,
     pub shared: Arc<Shared, Global>,
 }
 
@@ -50,10 +52,21 @@ pub struct Outcome {
     pub report: Report,
 }
 
+fn is_fault(end: FeedEnd) -> bool
+    ensures { result ≡ spec.is_fault end }
+{
+    match end {
+        FeedEnd::Fault => true,
+        FeedEnd::Done | FeedEnd::Gone => false,
+    }
+}
+
 impl Outcome {
     /// Whether a wire or the clock failed.
-    pub fn is_faulty(&self) -> bool {
-        self.sip == FeedEnd::Fault || self.lines == FeedEnd::Fault || self.time == FeedEnd::Fault
+    pub fn is_faulty(&self) -> bool
+        ensures { result ≡ is_faulty self.now }
+    {
+        is_fault(self.sip) || is_fault(self.lines) || is_fault(self.time)
     }
 }
 
@@ -63,7 +76,7 @@ pub(crate) struct Running {
     pub(crate) crew: Crew,
     pub(crate) taker: Taker,
     pub(crate) workers: u32,
-    pub(crate) bell: Bell,
+    pub(crate) bell: Bell<UdpWire>,
     pub(crate) shared: Arc<Shared, Global>,
 }
 
@@ -132,6 +145,11 @@ fn wind_up<R: Threads + Wait + Clock, W: Wire, F: Write>(
     exit: &mut Exit<W, F>,
 )
     requires { (start : ℕ → Start) × (ports : List PortSeats) × IsNew start ports running }
+    ensures { Leaves
+        (record { taken = W.taken exit.old.wire; failures = W.failures exit.old.wire })
+        (record { taken = W.taken exit.new.wire; failures = W.failures exit.new.wire })
+        (record { contents = F.contents exit.old.sink.writer; failures = exit.old.sink.failures })
+        (record { contents = F.contents exit.new.sink.writer; failures = exit.new.sink.failures }) }
 {
     let Running {
         crew,
@@ -209,12 +227,18 @@ where
     F: Write,
     requires some { 0 < running.workers }
     requires new { (start : ℕ → Start) × IsNew start ports.items running }
-    ensures { IfOk result (λ o. (start : ℕ → Start) → IsNew start ports.items running
+    ensures served { IfOk result (λ o. (start : ℕ → Start) → IsNew start ports.items running
         → Runs start running.workers ears.desk.mailboxes.items
         (record { taken = W.taken exit.old.wire; failures = W.failures exit.old.wire })
         (record { taken = W.taken exit.new.wire; failures = W.failures exit.new.wire })
         (record { contents = F.contents exit.old.sink.writer; failures = exit.old.sink.failures })
         (record { contents = F.contents exit.new.sink.writer; failures = exit.new.sink.failures }) o) }
+    ensures refused { IfErr result (λ e. e ≡ error.NoThread) }
+    ensures left { OnErr result (Leaves
+        (record { taken = W.taken exit.old.wire; failures = W.failures exit.old.wire })
+        (record { taken = W.taken exit.new.wire; failures = W.failures exit.new.wire })
+        (record { contents = F.contents exit.old.sink.writer; failures = exit.old.sink.failures })
+        (record { contents = F.contents exit.new.sink.writer; failures = exit.new.sink.failures })) }
 {
     match start_feeders(rt, alloc, &mut ports, ears, &running.shared) {
         Ok(feeders) => Ok(serve_to_end(&rt, running, ports, feeders, exit)),
@@ -247,6 +271,13 @@ where
         (record { taken = W.taken exit.new.wire; failures = W.failures exit.new.wire })
         (record { contents = F.contents exit.old.sink.writer; failures = exit.old.sink.failures })
         (record { contents = F.contents exit.new.sink.writer; failures = exit.new.sink.failures }) o) }
+    // Without memory nothing is started, and nothing leaves. Where a thread is refused only outs of workers that were started do.
+    ensures no_memory { result ≡ Err error.NoMemory → exit.new ≡ exit.old }
+    ensures no_thread { OnErr result ((exit.new ≡ exit.old) ⊎ Leaves
+        (record { taken = W.taken exit.old.wire; failures = W.failures exit.old.wire })
+        (record { taken = W.taken exit.new.wire; failures = W.failures exit.new.wire })
+        (record { contents = F.contents exit.old.sink.writer; failures = exit.old.sink.failures })
+        (record { contents = F.contents exit.new.sink.writer; failures = exit.new.sink.failures })) }
 {
     let Work {
         setup,

@@ -1,4 +1,6 @@
 //! Why a service doesn't run.
+ghost use Rattle.std.specs.Prelude.{◌≡◌};
+ghost use Rattle.serving.specs.Statuses.{status_of, status_of_words};
 
 use options::{Flag, OptionsError, Place};
 use service::RunError;
@@ -43,7 +45,9 @@ pub enum ServeError {
 }
 
 /// The exit status where the words can't be read. An address in another form may be a host that can't be found.
-fn options_status(error: &OptionsError) -> u8 {
+fn options_status(error: &OptionsError) -> u8
+    ensures { result ≡ status_of_words error.now }
+{
     match error {
         OptionsError::NoMemory => 4,
         OptionsError::Bad(Flag::Address(_)) => 3,
@@ -56,7 +60,9 @@ fn options_status(error: &OptionsError) -> u8 {
 
 impl ServeError {
     /// The exit status of the program: 1 where the words ask for no service, 4 where memory was wanted, and else 3.
-    pub fn status(&self) -> u8 {
+    pub fn status(&self) -> u8
+        ensures { result ≡ status_of self.now }
+    {
         match self {
             ServeError::Options(error) => options_status(error),
             ServeError::Times | ServeError::NoContact | ServeError::NoMailbox => 1,

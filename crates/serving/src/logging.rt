@@ -3,6 +3,7 @@
 use service::{Bell, Shared};
 use sip_text::{Addr, NoMemory};
 use std::rt::Clock;
+use wires::UdpWire;
 
 /// Whether only this machine reaches the address.
 fn is_loopback(addr: Addr) -> bool {
@@ -12,7 +13,7 @@ fn is_loopback(addr: Addr) -> bool {
 /// Says where the service is, and warns of a control address that other machines may reach.
 pub(crate) fn say_hello<R: Eprint + AllocGlobal>(
     rt: &R,
-    bell: &Bell,
+    bell: &Bell<UdpWire>,
     workers: u32,
     mailboxes: usize,
 ) -> Result<(), NoMemory> {

@@ -17,7 +17,7 @@ pub(crate) struct Sockets {
     pub(crate) outgoing: UdpWire,
     pub(crate) lines: UdpWire,
     pub(crate) replies: UdpWire,
-    pub(crate) bell: Bell,
+    pub(crate) bell: Bell<UdpWire>,
 }
 
 /// Two wires over a socket at this address, which an option named.
@@ -31,7 +31,7 @@ fn bind<R: Wait + Net>(rt: &R, place: Place, addr: Addr) -> Result<(UdpWire, Udp
 }
 
 /// What wakes the threads that listen at these addresses.
-fn bell_for<R: Wait + Net>(rt: &R, sip: Addr, control: Addr) -> Result<Bell, ServeError>
+fn bell_for<R: Wait + Net>(rt: &R, sip: Addr, control: Addr) -> Result<Bell<UdpWire>, ServeError>
     ensures { IfOk result (λ bell. bell.sip ≡ sip) }
 {
     let any = Addr {

@@ -19,6 +19,7 @@ use sip_text::Text;
 use std::alloc::Global;
 use std::io::Write;
 use std::net::Net;
+use std::rt::Clock;
 use std::sync::{Arc, Wait};
 use std::thread::Threads;
 
@@ -140,7 +141,7 @@ fn serve_sockets<H, F>(
     sink: &mut Sink<F>,
 ) -> Result<Served, Status>
 where
-    H: Threads + Wait + Copy + Send + 'static,
+    H: Threads + Wait + Clock + Copy + Send + 'static,
     F: Write,
     requires some { 0 < call.now.workers }
     requires few { call.now.workers ≤ 256 }
@@ -175,7 +176,7 @@ where
 /// Reads the arguments, binds the ports and serves them.
 fn attempt<H, F>(rt: H, alloc: Global, words: &[Text], sink: &mut Sink<F>) -> Result<Served, Status>
 where
-    H: Threads + Wait + Net + Copy + Send + 'static,
+    H: Threads + Wait + Net + Clock + Copy + Send + 'static,
     F: Write,
     ensures served { IfOk result (λ served. AsksFor words.now (λ call.
         Serves F.contents (start_at call) call.workers call.count sink.old sink.new (outcome_of served))) }
@@ -200,7 +201,7 @@ where
 /// line for each worker. Both ports are free again then. Arguments are looked at before a port is bound.
 pub fn run<H, F>(rt: H, alloc: Global, words: &[Text], sink: &mut Sink<F>) -> Status
 where
-    H: Threads + Wait + Net + Copy + Send + 'static,
+    H: Threads + Wait + Net + Clock + Copy + Send + 'static,
     F: Write,
     // No wire failed, each out was sent or written, and each worker came to the end of what the ports sent.
     ensures done { result ≡ status.Done → AsksFor words.now (λ call.

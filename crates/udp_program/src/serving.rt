@@ -12,6 +12,7 @@ use outbox::Taker;
 use scripts::Sink;
 use std::alloc::Global;
 use std::io::Write;
+use std::rt::Clock;
 use std::sync::Wait;
 use std::thread::Threads;
 
@@ -49,7 +50,7 @@ struct Listeners {
 }
 
 /// Waits for the end of a crew whose ports are gone or ending. Its lines of transfers are not written.
-fn wind_up<H: Threads + Wait>(rt: &H, alloc: Global, running: Running)
+fn wind_up<H: Threads + Wait + Clock>(rt: &H, alloc: Global, running: Running)
     requires { (start : ℕ → Start) × (ports : List PortSeats) × IsNew start ports running }
 {
     let Running {
@@ -65,7 +66,7 @@ fn wind_up<H: Threads + Wait>(rt: &H, alloc: Global, running: Running)
 }
 
 /// Sends out what the workers post until both ports have ended, and joins all threads. There is room for the ports.
-fn serve_to_end<H: Threads + Wait, F: Write>(
+fn serve_to_end<H: Threads + Wait + Clock, F: Write>(
     rt: &H,
     running: Running,
     mut ports: Vec<Port>,
@@ -128,7 +129,7 @@ pub(crate) fn serve<H, F>(
     sink: &mut Sink<F>,
 ) -> Result<Served, NoThread>
 where
-    H: Threads + Wait + Copy + Send + 'static,
+    H: Threads + Wait + Clock + Copy + Send + 'static,
     F: Write,
     requires some { 0 < running.workers }
     requires new { (start : ℕ → Start) × IsNew start ports.items running }

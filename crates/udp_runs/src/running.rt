@@ -8,6 +8,7 @@ use std::alloc::Global;
 use std::io;
 use std::io::{ErrorKind, Write};
 use std::net::{Net, UdpSocket};
+use std::rt::Clock;
 use std::sync::Wait;
 use std::thread::{JoinHandle, Threads};
 use udp_program::{Status, run};
@@ -105,7 +106,7 @@ impl Ended {
 /// Runs the program with these words to its end.
 pub(crate) fn run_to_end<H>(rt: H, alloc: Global, words: &[Text], is_shut: bool) -> Ended
 where
-    H: Threads + Wait + Net + Copy + Send + 'static,
+    H: Threads + Wait + Net + Clock + Copy + Send + 'static,
 {
     let mut sink = Sink::new(Paper {
         octets: Vec::new(alloc),

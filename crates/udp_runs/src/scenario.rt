@@ -7,6 +7,7 @@ use crate::phone::Ports;
 use crate::running::{Ended, Watching, are_free, arguments, free_ports, join_all, run_to_end};
 use std::alloc::Global;
 use std::net::Net;
+use std::rt::Clock;
 use std::sync::Wait;
 use std::thread::Threads;
 
@@ -52,7 +53,7 @@ impl Scenario {
     /// Runs the program at these ports, with the phones at it, until all have ended.
     fn play_at<H>(self, rt: H, alloc: Global, ports: Ports) -> Result<Ended, RunError>
     where
-        H: Threads + Wait + Net + Copy + Send + 'static,
+        H: Threads + Wait + Net + Clock + Copy + Send + 'static,
     {
         let words = arguments(alloc, ports, self.datagrams())?;
         let phones = self.start(&rt, alloc, ports)?;
@@ -64,7 +65,7 @@ impl Scenario {
     /// Runs the program at free ports, which are free again then.
     fn try_to_play<H>(self, rt: H, alloc: Global) -> Result<Ended, RunError>
     where
-        H: Threads + Wait + Net + Copy + Send + 'static,
+        H: Threads + Wait + Net + Clock + Copy + Send + 'static,
     {
         let ports = free_ports(&rt)?;
         let ended = self.play_at(rt, alloc, ports)?;
@@ -75,7 +76,7 @@ impl Scenario {
     /// What came of it.
     pub(crate) fn play<H>(self, rt: H, alloc: Global) -> Result<String, RunError>
     where
-        H: Threads + Wait + Net + Copy + Send + 'static,
+        H: Threads + Wait + Net + Clock + Copy + Send + 'static,
     {
         for _ in 1..TRIES {
             if let Ok(ended) = self.try_to_play(rt, alloc) {

@@ -1,7 +1,7 @@
-use Rattle.std.proofs.Common.{◌≡◌, get_or, vec_len, arith}
+use Rattle.std.proofs.Common.{◌≡◌, inr, get_or, vec_len, arith}
 use Rattle.crew.specs.Ready.{start_of}
 use Rattle.crew.proofs.Starting.{element}
-use Rattle.service.proofs.Ran.{on_ok, started_with, runs_with}
+use Rattle.service.proofs.Ran.{on_ok, on_err, no_other, started_with, runs_with}
 use Rattle.service.proofs.running.run_crew.Goals as goal
 
 pub serve-requires-clause-some : goal.serve-requires-clause-some
@@ -17,8 +17,13 @@ serve-requires-clause-new g c κs within =
       started_with c.len-workers.ensures (c.in_ok-crew.ensures.started held),
     )
 
-pub returns : goal.returns
-returns g c = record {
-  runs = on_ok c.serve.result c.serve.ensures
-      (λ o runs held. runs_with c.len-workers.ensures (runs _ (started_with c.len-workers.ensures (c.in_ok-crew.ensures.started held))));
-}
+pub returns-clause-runs : goal.returns-clause-runs
+returns-clause-runs g c =
+    on_ok c.serve.result c.serve.ensures.served
+    (λ o runs held. runs_with c.len-workers.ensures (runs _ (started_with c.len-workers.ensures (c.in_ok-crew.ensures.started held))))
+
+pub returns-clause-no_memory : goal.returns-clause-no_memory
+returns-clause-no_memory g c = λ e. no_other c.serve.result _ _ c.serve.ensures.refused e (λ same. cc)
+
+pub returns-clause-no_thread : goal.returns-clause-no_thread
+returns-clause-no_thread g c = on_err c.serve.result c.serve.ensures.left (λ left. inr left)

@@ -17,5 +17,5 @@ serve_to_end-requires-clause-errands g c = (c.args.ears.desk.mailboxes.items, c.
 pub wind_up-requires : goal.wind_up-requires
 wind_up-requires g c = (c.requires.new.0, c.args.ports.items, c.requires.new.1)
 
-pub returns-in-Ok : goal.returns-in-Ok
-returns-in-Ok g c = λ start is. c.serve_to_end.ensures start c.args.ports.items c.args.ears.desk.mailboxes.items is c.in-Ok.ensures.ports c.in-Ok.ensures.errands
+pub returns-in-Ok-clause-served : goal.returns-in-Ok-clause-served
+returns-in-Ok-clause-served g c = λ start is. c.serve_to_end.ensures start c.args.ports.items c.args.ears.desk.mailboxes.items is c.in-Ok.ensures.ports c.in-Ok.ensures.errands

@@ -1,6 +1,7 @@
 use Rattle.std.proofs.Common.{sym}
 use Rattle.crew.proofs.Keeping.{started_end}
 use Rattle.service.proofs.Closed.{taker_new, taker_workers}
+use Rattle.service.proofs.Ran.{leaves}
 use Rattle.service.proofs.running.wind_up.Goals as goal
 
 pub send_outs-requires-clause-workers : goal.send_outs-requires-clause-workers
@@ -11,3 +12,6 @@ send_outs-requires-clause-none g c = taker_new c.requires.2
 
 pub join-report-requires-clause-ended : goal.join-report-requires-clause-ended
 join-report-requires-clause-ended g c = started_end c.requires.2 c.send_outs.new.taker c.send_outs.ensures.outbox c.send_outs.ensures.ended
+
+pub returns : goal.returns
+returns g c = let sent = c.send_outs.ensures.emitted in leaves sent.0 sent.1 (taker_new c.requires.2) sent.2

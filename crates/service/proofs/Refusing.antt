@@ -1,0 +1,108 @@
+-- What came while the service closed, and was refused so far.
+use Rattle.std.proofs.Common.{◌≡◌, ◌<◌, ◌≤◌, take, ℕ, true, false, List, [], ◌∷◌, ◌++◌, length, Option, Some, None, refl, ap, sym, ◌∙◌, subst, arith, ⊎_elim}
+use Rattle.std.specs.List.{filter, AllByRecursion}
+use Rattle.std.proofs.lemmas.List.{append-nil, length-take-le}
+use Rattle.std.proofs.lemmas.List.Elements.{filter-append}
+use Rattle.wires.specs.declared.datagram.Datagram.{Datagram}
+use Rattle.wires.specs.Wires.{Grows}
+use Rattle.emitting.proofs.Telling.{grows_none, grows_more, grows_same}
+use Rattle.telling.specs.declared.answer.Answer.TheVariants as answer
+use Rattle.telling.specs.Lines.{answer_text}
+use Rattle.service.specs.declared.lines.Done.TheVariants as did
+use Rattle.service.specs.Taken.{Line, MayReply, Replies, Offers, datagrams_of, has_octets, is_line, AreAnswered, AreRefused}
+use Rattle.service.proofs.Taking.{all_more, came_more, answered_more}
+
+pub record Refusing (given given' taken taken' : Option (List Datagram)) (failures failures' : ℕ) : Type 0 where
+  pub came : List Datagram
+  pub gave : Grows given given' came
+  pub log : List Line
+  pub lines : datagrams_of log ≡ filter is_line came
+  pub each : AllByRecursion (λ (l : Line). MayReply (did.Answered answer.Closed) l.reply) log
+  pub answered : AreAnswered log taken taken' failures failures'
+
+pub refusing_none : (given taken : Option (List Datagram)) (failures : ℕ) → Refusing given given taken taken failures failures
+refusing_none given taken failures = record {
+  came = [];
+  gave = grows_none given;
+  log = [];
+  lines = refl;
+  each = tt;
+  answered = record { taken = grows_none taken; counted = refl };
+}
+
+some_octets : (octets : List ℕ) → 0 < length octets → has_octets octets ≡ true
+some_octets [] some = absurd (omega (arith, some))
+some_octets (octet ∷ octets) some = refl
+
+no_octets : (octets : List ℕ) → length octets ≡ 0 → has_octets octets ≡ false
+no_octets [] none = refl
+no_octets (octet ∷ octets) none = absurd (omega (arith, none))
+
+-- the first n bytes of a buffer
+pub some_taken : (n : ℕ) (buffer : List ℕ) → n ≤ length buffer → 0 < n → has_octets (take n buffer) ≡ true
+some_taken n buffer within some = some_octets (take n buffer) (let is = length-take-le n buffer within in omega (arith, some))
+
+pub none_taken : (n : ℕ) (buffer : List ℕ) → n ≤ length buffer → n ≤ 0 → has_octets (take n buffer) ≡ false
+none_taken n buffer within none = no_octets (take n buffer) (let is = length-take-le n buffer within in omega (arith, none))
+
+one_line : (d : Datagram) → is_line d ≡ true → filter is_line (d ∷ []) ≡ d ∷ []
+one_line d is = rw is refl
+
+no_line : (d : Datagram) → is_line d ≡ false → filter is_line (d ∷ []) ≡ []
+no_line d is = rw is refl
+
+module _ {given given' taken taken' : Option (List Datagram)} {failures failures' : ℕ} (was : Refusing given given' taken taken' failures failures')
+    (after : Option (List Datagram)) (d : Datagram) (gave : Grows given' after (d ∷ [])) where
+  pub refusing_blank : is_line d ≡ false → Refusing given after taken taken' failures failures'
+  refusing_blank blank = record {
+    came = was.came ++ d ∷ [];
+    gave = grows_more given given' after was.came (d ∷ []) was.gave gave;
+    log = was.log;
+    lines = was.lines ∙ sym (filter-append is_line was.came (d ∷ []) ∙ ap (λ l. filter is_line was.came ++ l) (no_line d blank) ∙ append-nil (filter is_line was.came));
+    each = was.each;
+    answered = was.answered;
+  }
+
+  replied : (reply : Option (List ℕ)) (after' : Option (List Datagram)) (more : ℕ) → is_line d ≡ true
+      → MayReply (did.Answered answer.Closed) reply → Replies d.peer reply taken' after' failures' more → Refusing given after taken after' failures more
+  replied reply after' more is may replies =
+      let line : Line = record { came = d; event = None; done = did.Answered answer.Closed; reply = reply } in record {
+        came = was.came ++ d ∷ [];
+        gave = grows_more given given' after was.came (d ∷ []) was.gave gave;
+        log = was.log ++ line ∷ [];
+        lines = came_more was.log (line ∷ []) ∙ ap (λ l. l ++ d ∷ []) was.lines ∙ sym (filter-append is_line was.came (d ∷ []) ∙ ap (λ l. filter is_line was.came ++ l) (one_line d is));
+        each = all_more (λ (l : Line). MayReply (did.Answered answer.Closed) l.reply) was.log (line ∷ []) was.each (may, tt);
+        answered = answered_more was.log d None (did.Answered answer.Closed) reply taken taken' after' failures failures' more was.answered replies;
+      }
+
+  pub refusing_more : (after' : Option (List Datagram)) (more : ℕ) → is_line d ≡ true
+      → Offers d.peer (answer_text answer.Closed) taken' after' failures' more → Refusing given after taken after' failures more
+  refusing_more after' more is offers =
+      ⊎_elim (λ k. replied (Some (answer_text answer.Closed)) after' more is refl k) (λ k. replied None after' more is tt k) offers
+
+  -- all was sent out: this one was dropped
+  pub refused_dropped : AreRefused given after taken taken' failures failures'
+  refused_dropped = record {
+    came = was.came;
+    dropped = d ∷ [];
+    one = omega arith;
+    gave = grows_more given given' after was.came (d ∷ []) was.gave gave;
+    log = was.log;
+    lines = was.lines;
+    each = was.each;
+    answered = was.answered;
+  }
+
+pub refused_fault : {given given' taken taken' : Option (List Datagram)} {failures failures' : ℕ} → Refusing given given' taken taken' failures failures'
+    → (after : Option (List Datagram)) → Grows given' after [] → AreRefused given after taken taken' failures failures'
+refused_fault {given = given} {given' = given'} was after none =
+    let P : List Datagram → Type 0 = λ l. Grows given after l in record {
+      came = was.came;
+      dropped = [];
+      one = omega arith;
+      gave = subst P (sym (append-nil was.came)) (grows_same given given' after was.came was.gave none);
+      log = was.log;
+      lines = was.lines;
+      each = was.each;
+      answered = was.answered;
+    }
