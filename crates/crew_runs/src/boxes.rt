@@ -19,6 +19,11 @@ pub(crate) enum Manner {
     Waits(Arc<Meeting, Global>),
     /// It tells that it has come.
     Comes(Arc<Meeting, Global>),
+    /// It tells that it has come, and waits until the other side has.
+    Meets {
+        mine: Arc<Meeting, Global>,
+        other: Arc<Meeting, Global>,
+    },
     /// It takes so many changes, and then says that memory ran out.
     Refuses(u32),
 }
@@ -40,6 +45,11 @@ fn goes_on(manner: &mut Manner) -> bool {
         }
         Manner::Comes(meeting) => {
             meeting.come();
+            true
+        }
+        Manner::Meets { mine, other } => {
+            mine.come();
+            other.wait();
             true
         }
         Manner::Refuses(left) => {

@@ -7,7 +7,7 @@ use std::io;
 use thiserror::Error;
 
 /// Why a run tells nothing.
-#[derive(Clone, Copy, Debug, PartialEq, Eq, Error)]
+#[derive(Clone, Copy, Debug, Error)]
 pub(crate) enum RunError {
     #[error("out of memory")]
     Memory,

@@ -31,3 +31,20 @@ pub(crate) fn voice(alloc: Global, mailbox: &str, new_count: u32) -> Result<Even
         None => Err(RunError::NoEvent),
     }
 }
+
+/// What a shared desk is told.
+#[derive(Clone, Copy)]
+pub(crate) enum News {
+    /// Alice's phone subscribes to her mailbox.
+    Subscription,
+    /// A voice message comes for her.
+    Voice,
+}
+
+/// The event that brings the news.
+pub(crate) fn event_of(alloc: Global, news: News) -> Result<Event, RunError> {
+    match news {
+        News::Subscription => subscribe(alloc, "alice", "c1"),
+        News::Voice => voice(alloc, "alice", 1),
+    }
+}

@@ -4,10 +4,11 @@
 //! <times>` runs one scenario so many times. The stored output was worked out by hand from the rules.
 //!
 //! There is nothing here that others build on. Begin with `scenarios`, `many` and `refusals`, then `running`, which starts a crew,
-//! feeds each of its ports from a thread of its own, takes what it posts, and joins it.
+//! feeds each of its ports from a thread of its own, takes what it posts, and joins it. `desks` needs no crew.
 #![tactic(auto)]
 
 mod boxes;
+mod desks;
 mod error;
 mod events;
 mod feeding;
@@ -18,6 +19,7 @@ mod refusals;
 mod running;
 mod scenarios;
 
+use crate::desks::shared_desks;
 use crate::error::RunError;
 use crate::many::many_mails;
 use crate::refusals::{closed_port, closings, dropped_ports, refused_starts};
@@ -32,7 +34,7 @@ use std::sync::Wait;
 use std::thread::Threads;
 
 /// The scenarios, and how often each is run where nothing else is asked.
-const SCENARIOS: [(&str, u32); 13] = [
+const SCENARIOS: [(&str, u32); 14] = [
     ("two_workers", 3),
     ("mail_through_one_place", 3),
     ("many_mails", 1),
@@ -46,6 +48,7 @@ const SCENARIOS: [(&str, u32); 13] = [
     ("closed_port", 3),
     ("closings", 3),
     ("refused_starts", 3),
+    ("shared_desks", 3),
 ];
 
 /// Runs one scenario once.
@@ -67,6 +70,7 @@ where
         "closed_port" => closed_port(rt, alloc),
         "closings" => closings(rt, alloc),
         "refused_starts" => refused_starts(rt, alloc),
+        "shared_desks" => shared_desks(rt, alloc),
         _ => Err(RunError::NoScenario),
     }
 }

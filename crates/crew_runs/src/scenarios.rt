@@ -182,7 +182,11 @@ where
 }
 
 /// The text, with a line that says whether the two sides met.
-fn told_with(alloc: Global, mut text: String, has_met: bool) -> Result<String, RunError> {
+pub(crate) fn told_with(
+    alloc: Global,
+    mut text: String,
+    has_met: bool,
+) -> Result<String, RunError> {
     let line = if has_met {
         "they met\n"
     } else {

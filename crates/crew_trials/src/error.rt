@@ -7,12 +7,14 @@ use std::io;
 use thiserror::Error;
 
 /// Why a trial tells nothing.
-#[derive(Clone, Copy, Debug, PartialEq, Eq, Error)]
+#[derive(Clone, Copy, Debug, Error)]
 pub(crate) enum TrialError {
     #[error("out of memory")]
     Memory,
     #[error("no crew: {0}")]
     Start(StartError),
+    #[error("limits out of range")]
+    NoLimits,
     #[error("not an event")]
     NoEvent,
     #[error("no such trial")]

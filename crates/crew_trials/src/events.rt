@@ -1,9 +1,10 @@
-//! The events of the trials.
+//! What phones and the voicemail system send.
 
 use crate::error::TrialError;
 use notifier::Event;
 use package::{Class, MailChange};
-use sip_read::{Addr, Message, read};
+use sip_read::{Addr, Head, Message, Request, Response, read};
+use sip_text::Text;
 use std::alloc::Global;
 
 /// The address that each request comes from.
@@ -12,33 +13,88 @@ const PHONE: Addr = Addr {
     port: 5070,
 };
 
-/// A SUBSCRIBE for this user's mailbox, with this Call-ID. Its branch is of the Call-ID, too.
-pub(crate) fn subscribe(alloc: Global, user: &str, call: &str) -> Result<Event, TrialError> {
-    let text = format!(in alloc;
-        "SUBSCRIBE sip:{user}@127.0.0.1 SIP/2.0\r\nVia: SIP/2.0/UDP 127.0.0.1:5070;branch=z9hG4bK{call}\r\nMax-Forwards: 70\r\nFrom: <sip:{user}@127.0.0.1>;tag=f1\r\nTo: <sip:{user}@127.0.0.1>\r\nCall-ID: {call}\r\nCSeq: 1 SUBSCRIBE\r\nContact: <sip:{user}@127.0.0.1:5070>\r\nEvent: message-summary\r\nContent-Length: 0\r\n\r\n"
-    )?;
-    request_of(alloc, text.as_str())
+/// What a phone asks for.
+#[derive(Clone, Copy)]
+pub(crate) enum Wish<'a> {
+    /// A subscription.
+    Begin,
+    /// More time, in the dialog with this tag of the notifier.
+    GoOn(&'a str),
+    /// An end, in the dialog with this tag.
+    Leave(&'a str),
 }
 
-/// The second SUBSCRIBE of this user's phone in the dialog with this Call-ID and this local tag.
-pub(crate) fn refresh(
-    alloc: Global,
-    user: &str,
-    call: &str,
-    tag: &str,
-) -> Result<Event, TrialError> {
-    let text = format!(in alloc;
-        "SUBSCRIBE sip:{user}@127.0.0.1 SIP/2.0\r\nVia: SIP/2.0/UDP 127.0.0.1:5070;branch=z9hG4bK{call}-2\r\nMax-Forwards: 70\r\nFrom: <sip:{user}@127.0.0.1>;tag=f1\r\nTo: <sip:{user}@127.0.0.1>;tag={tag}\r\nCall-ID: {call}\r\nCSeq: 2 SUBSCRIBE\r\nContact: <sip:{user}@127.0.0.1:5070>\r\nEvent: message-summary\r\nContent-Length: 0\r\n\r\n"
-    )?;
-    request_of(alloc, text.as_str())
+/// What a wish writes: the parameter of To by its two parts, the CSeq number, and the Expires line.
+struct Parts<'a> {
+    name: &'static str,
+    tag: &'a str,
+    cseq: u32,
+    expires: &'static str,
 }
 
-/// The request that this text is.
-fn request_of(alloc: Global, text: &str) -> Result<Event, TrialError> {
-    match read(alloc, text.as_bytes()) {
-        Ok(Message::Request(request)) => Ok(Event::Request(PHONE, request)),
-        _ => Err(TrialError::NoEvent),
+fn parts_of(wish: Wish<'_>) -> Parts<'_> {
+    let (name, tag, cseq, expires) = match wish {
+        Wish::Begin => ("", "", 1, ""),
+        Wish::GoOn(tag) => (";tag=", tag, 2, ""),
+        Wish::Leave(tag) => (";tag=", tag, 3, "Expires: 0\r\n"),
+    };
+    Parts {
+        name,
+        tag,
+        cseq,
+        expires,
     }
+}
+
+/// The SUBSCRIBE of a phone for this mailbox, with this Call-ID. Its branch is of the Call-ID and the CSeq number.
+fn subscribe_text(
+    alloc: Global,
+    mailbox: &str,
+    call: &str,
+    wish: Wish<'_>,
+) -> Result<String, TrialError> {
+    let Parts {
+        name,
+        tag,
+        cseq,
+        expires,
+    } = parts_of(wish);
+    let text = format!(in alloc;
+        "SUBSCRIBE sip:{mailbox}@127.0.0.1 SIP/2.0\r\nVia: SIP/2.0/UDP 127.0.0.1:5070;branch=z9hG4bK{call}-{cseq}\r\nMax-Forwards: 70\r\nFrom: <sip:phone@127.0.0.1>;tag=f\r\nTo: <sip:{mailbox}@127.0.0.1>{name}{tag}\r\nCall-ID: {call}\r\nCSeq: {cseq} SUBSCRIBE\r\nContact: <sip:phone@127.0.0.1:5070>\r\nEvent: message-summary\r\n{expires}Content-Length: 0\r\n\r\n"
+    )?;
+    Ok(text)
+}
+
+/// The request that these bytes are; nothing where they are none.
+pub(crate) fn request_in(alloc: Global, bytes: &[u8]) -> Option<Request> {
+    match read(alloc, bytes) {
+        Ok(Message::Request(request)) => Some(request),
+        _ => None,
+    }
+}
+
+/// The SUBSCRIBE of a phone for this mailbox, with this Call-ID.
+pub(crate) fn subscribe(
+    alloc: Global,
+    mailbox: &str,
+    call: &str,
+    wish: Wish<'_>,
+) -> Result<Event, TrialError> {
+    let text = subscribe_text(alloc, mailbox, call, wish)?;
+    match request_in(alloc, text.as_bytes()) {
+        Some(request) => Ok(Event::Request(PHONE, request)),
+        None => Err(TrialError::NoEvent),
+    }
+}
+
+/// The 200 to the request with this head (RFC 3261 section 8.2.6.2).
+pub(crate) fn accepted(alloc: Global, head: Head) -> Result<Event, TrialError> {
+    let reason = Text::of(alloc, "OK")?;
+    Ok(Event::Reply(Response {
+        status: 200,
+        reason,
+        head,
+    }))
 }
 
 /// So many new messages of this class in this mailbox.

@@ -1,11 +1,12 @@
 //! A crew of one worker to which an allocation is refused.
 
 use crate::error::TrialError;
-use crate::events::{mail, subscribe};
-use crate::running::{Outcome, run_to_end, setup_with};
+use crate::events::{Wish, mail, subscribe};
+use crate::listed::{Listed, Outcome};
+use crate::running::one_name;
 use crew::{End, StartError};
 use message_summary::Mailboxes;
-use notifier::{Event, Out};
+use notifier::Out;
 use package::{Class, ClosingCell, Package};
 use refer::Transfers;
 use std::alloc::Global;
@@ -22,27 +23,35 @@ struct Cells {
 /// The packages of one worker.
 #[derive(Drop)]
 struct Packages {
-    mailboxes: Mailboxes,
-    transfers: Transfers,
+    mailboxes: Box<Mailboxes>,
+    transfers: Box<Transfers>,
+}
+
+/// Alice's mailbox.
+fn new_mailboxes(alloc: Global, cells: &Cells) -> Result<Mailboxes, TrialError> {
+    let cell = Arc::try_clone(&cells.mail)?;
+    let names = one_name(alloc, "alice")?;
+    Ok(Mailboxes::new(alloc, names, cell)?)
 }
 
 /// Alice's mailbox, and transfers.
 fn new_packages(alloc: Global, cells: &Cells) -> Result<Packages, TrialError> {
-    let mut names = Vec::new(alloc);
-    names.push(String::from_str(alloc, "alice")?)?;
+    let cell = Arc::try_clone(&cells.transfers)?;
+    let transfers = Box::new(alloc, Transfers::new(alloc, cell)?)?;
+    let mailboxes = Box::new(alloc, new_mailboxes(alloc, cells)?)?;
     Ok(Packages {
-        mailboxes: Mailboxes::new(alloc, names, Arc::try_clone(&cells.mail)?)?,
-        transfers: Transfers::new(alloc, Arc::try_clone(&cells.transfers)?)?,
+        mailboxes,
+        transfers,
     })
 }
 
 /// Alice subscribes, and two messages come.
-fn three_events(alloc: Global) -> Result<Vec<Event>, TrialError> {
-    let mut events = Vec::new(alloc);
-    events.push(subscribe(alloc, "alice", "c1")?)?;
-    events.push(mail(alloc, "alice", Class::Voice, 2)?)?;
-    events.push(mail(alloc, "alice", Class::Fax, 1)?)?;
-    Ok(events)
+fn three_events(alloc: Global) -> Listed {
+    let mut trial = Listed::new(alloc);
+    trial.add(subscribe(alloc, "alice", "c1", Wish::Begin));
+    trial.add(mail(alloc, "alice", Class::Voice, 2));
+    trial.add(mail(alloc, "alice", Class::Fax, 1));
+    trial
 }
 
 /// How often a package of this name with so many resources changed; nothing where it left another Closing, or none.
@@ -72,7 +81,12 @@ fn are_outs_of(outs: &[Out], events: u64) -> bool {
         2 => 3,
         _ => 4,
     };
-    outs.len() == wanted && outs.iter().enumerate().all(|(at, out)| is_at(out, at))
+    for (at, out) in outs.iter().enumerate() {
+        if !is_at(out, at) {
+            return false;
+        }
+    }
+    outs.len() == wanted
 }
 
 /// Runs the three events through a crew of one worker with these cells.
@@ -80,18 +94,15 @@ fn run_three<R>(rt: R, alloc: Global, cells: &Cells) -> Result<Outcome, TrialErr
 where
     R: Threads + Wait + Copy + Send + 'static,
 {
-    let setup = setup_with(false)?;
     let Packages {
         mailboxes,
         transfers,
     } = new_packages(alloc, cells)?;
-    let mut boxes: Vec<Box<dyn Package>> = Vec::new(alloc);
-    boxes.push(Box::new(alloc, mailboxes)?)?;
-    boxes.push(Box::new(alloc, transfers)?)?;
-    let mut workers = Vec::new(alloc);
-    workers.push(boxes)?;
-    let events = three_events(alloc)?;
-    run_to_end(rt, alloc, &setup, workers, events)
+    let mailboxes: Box<dyn Package> = mailboxes;
+    let transfers: Box<dyn Package> = transfers;
+    let boxes = Vec::from_array(alloc, [mailboxes, transfers])?;
+    let workers = Vec::from_array(alloc, [boxes])?;
+    three_events(alloc).run(rt, alloc, false, workers)
 }
 
 /// How often the mailboxes changed, where both packages left their Closings and the transfers never changed.

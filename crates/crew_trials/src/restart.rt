@@ -2,11 +2,11 @@
 ghost use Rattle.std.specs.Prelude.{◌≡◌, ◌+◌, vec_len, OnOk};
 
 use crate::error::TrialError;
-use crate::events::{refresh, subscribe};
-use crate::running::{run_to_end, setup_with};
+use crate::events::{Wish, subscribe};
+use crate::listed::Listed;
+use crate::running::{add_worker, one_name};
 use message_summary::Mailboxes;
 use notifier::Out;
-use package::ClosingCell;
 use std::alloc::Global;
 use std::sync::Wait;
 use std::thread::Threads;
@@ -49,29 +49,21 @@ fn tell_outs(alloc: Global, text: &mut String, outs: &[Out]) -> Result<(), Trial
 }
 
 /// The local tag of the last NOTIFY; nothing where none went out.
-fn last_tag(alloc: Global, outs: &[Out]) -> Result<String, TrialError> {
+fn last_tag(outs: &[Out]) -> &str {
     for out in outs.iter().rev() {
         if let Out::Notify { tag, .. } = out {
-            return Ok(String::from_str(alloc, tag.as_str())?);
+            return tag.as_str();
         }
     }
-    Ok(String::new(alloc))
+    ""
 }
 
 /// One worker more, with this mailbox.
-fn add_worker(
-    alloc: Global,
-    boxes: &mut Vec<Vec<Mailboxes>>,
-    mailbox: &str,
-) -> Result<(), TrialError>
+fn add_one(alloc: Global, boxes: &mut Vec<Vec<Mailboxes>>, mailbox: &str) -> Result<(), TrialError>
     ensures { OnOk result (vec_len boxes.new ≡ vec_len boxes.old + 1) }
 {
-    let mut names = Vec::new(alloc);
-    names.push(String::from_str(alloc, mailbox)?)?;
-    let mut worker = Vec::new(alloc);
-    worker.push(Mailboxes::new(alloc, names, ClosingCell::new(alloc)?)?)?;
-    boxes.push(worker)?;
-    Ok(())
+    let names = one_name(alloc, mailbox)?;
+    add_worker(alloc, boxes, names)
 }
 
 /// Bob subscribes at a crew of two workers, which stops as planned.
@@ -79,13 +71,12 @@ fn before<R>(rt: R, alloc: Global) -> Result<Vec<Out>, TrialError>
 where
     R: Threads + Wait + Copy + Send + 'static,
 {
-    let setup = setup_with(true)?;
     let mut boxes = Vec::new(alloc);
-    add_worker(alloc, &mut boxes, "alice")?;
-    add_worker(alloc, &mut boxes, "bob")?;
-    let mut events = Vec::new(alloc);
-    events.push(subscribe(alloc, "bob", "c3")?)?;
-    Ok(run_to_end(rt, alloc, &setup, boxes, events)?.outs)
+    add_one(alloc, &mut boxes, "alice")?;
+    add_one(alloc, &mut boxes, "bob")?;
+    let mut trial = Listed::new(alloc);
+    trial.add(subscribe(alloc, "bob", "c3", Wish::Begin));
+    Ok(trial.run(rt, alloc, true, boxes)?.outs)
 }
 
 /// At a crew of one worker his phone first asks in the old dialog, whose local tag this is, and then subscribes anew.
@@ -93,13 +84,12 @@ fn after<R>(rt: R, alloc: Global, tag: &str) -> Result<Vec<Out>, TrialError>
 where
     R: Threads + Wait + Copy + Send + 'static,
 {
-    let setup = setup_with(false)?;
     let mut boxes = Vec::new(alloc);
-    add_worker(alloc, &mut boxes, "bob")?;
-    let mut events = Vec::new(alloc);
-    events.push(refresh(alloc, "bob", "c3", tag)?)?;
-    events.push(subscribe(alloc, "bob", "c4")?)?;
-    Ok(run_to_end(rt, alloc, &setup, boxes, events)?.outs)
+    add_one(alloc, &mut boxes, "bob")?;
+    let mut trial = Listed::new(alloc);
+    trial.add(subscribe(alloc, "bob", "c3", Wish::GoOn(tag)));
+    trial.add(subscribe(alloc, "bob", "c4", Wish::Begin));
+    Ok(trial.run(rt, alloc, false, boxes)?.outs)
 }
 
 /// A planned stop of a crew of two workers, and a crew of one worker after it.
@@ -110,9 +100,8 @@ where
     let mut text = String::new(alloc);
     let outs = before(rt, alloc)?;
     tell_outs(alloc, &mut text, outs.as_slice())?;
-    let tag = last_tag(alloc, outs.as_slice())?;
     text.push_str("with one worker\n")?;
-    let outs = after(rt, alloc, tag.as_str())?;
+    let outs = after(rt, alloc, last_tag(outs.as_slice()))?;
     tell_outs(alloc, &mut text, outs.as_slice())?;
     Ok(text)
 }

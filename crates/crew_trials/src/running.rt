@@ -1,37 +1,43 @@
-//! A crew with one port that is run to its end.
-ghost use Rattle.std.specs.Prelude.{◌≡◌, ◌≤◌, [], vec_len};
+//! A crew that is run to its end.
+ghost use Rattle.std.specs.Prelude.{◌≡◌, ◌+◌, ◌≤◌, [], vec_len, OnOk};
 ghost use Rattle.queue_rule.specs.Ended.{AllEnded};
 
 use crate::error::TrialError;
-use crew::{Crew, End, Open, Port};
+use crew::{Crew, Open, Port, Report};
 use homes::is_for_all;
+use message_summary::Mailboxes;
 use notifier::{Event, Limits, Out, Setup};
 use outbox::{Posted, Taker};
-use package::Package;
+use package::{ClosingCell, Package};
 use sip_read::Addr;
 use std::alloc::Global;
 use std::sync::{Arc, Wait};
-use std::thread;
 use std::thread::Threads;
+use std::{mem, thread};
 
-/// How many outs a trial keeps in room that is made before its crew starts.
-const ROOM: usize = 16;
+/// What a trial sends through the ports of a crew, and what becomes of the outs.
+pub(crate) trait Trial {
+    /// Sends through the ports of a crew that has started, or hands them to the threads that do.
+    fn send<R: Wait>(&mut self, rt: &R, alloc: Global, ports: Vec<Port>);
 
-/// What came of a crew with one port.
-#[derive(Drop)]
-pub(crate) struct Outcome {
-    /// How the first worker ended.
-    pub(crate) end: Option<End>,
-    /// What the workers posted, as it was taken.
-    pub(crate) outs: Vec<Out>,
+    /// Takes an out of this worker.
+    fn take<R: Wait>(&mut self, rt: &R, worker: u32, out: Out);
 }
 
-/// The setup of a trial: the limits of `notifyd`, and whether a stop is planned.
-pub(crate) fn setup_with(stop: bool) -> Result<Setup, TrialError> {
+/// How a crew is run.
+#[derive(Clone, Copy)]
+pub(crate) struct Plan {
+    pub(crate) ports: u32,
+    /// Whether its subscriptions are told of a planned stop at the end.
+    pub(crate) stop: bool,
+}
+
+/// The setup of a trial: the limits of `notifyd` with queues of 64 places, and whether a stop is planned.
+fn setup_with(stop: bool) -> Result<Setup, TrialError> {
     let Some(limits) = Limits::new(
         60, 86400, 3600, 180, 2147483647, 1024, 4294967295, 64, 64, 64,
     ) else {
-        return Err(TrialError::NoTrial);
+        return Err(TrialError::NoLimits);
     };
     Ok(Setup {
         limits,
@@ -44,37 +50,44 @@ pub(crate) fn setup_with(stop: bool) -> Result<Setup, TrialError> {
     })
 }
 
-/// Sends one event that has a home.
-fn send<R: Wait>(rt: &R, port: &mut Port, event: Event) {
+/// This name alone.
+pub(crate) fn one_name(alloc: Global, name: &str) -> Result<Vec<String>, TrialError> {
+    let name = String::from_str(alloc, name)?;
+    let mut names = Vec::new(alloc);
+    names.push(name)?;
+    Ok(names)
+}
+
+/// One worker more, with these mailboxes.
+pub(crate) fn add_worker(
+    alloc: Global,
+    boxes: &mut Vec<Vec<Mailboxes>>,
+    names: Vec<String>,
+) -> Result<(), TrialError>
+    ensures { OnOk result (vec_len boxes.new ≡ vec_len boxes.old + 1) }
+{
+    let cell = ClosingCell::new(alloc)?;
+    let mailboxes = Mailboxes::new(alloc, names, cell)?;
+    let mut worker = Vec::new(alloc);
+    worker.push(mailboxes)?;
+    boxes.push(worker)?;
+    Ok(())
+}
+
+/// Sends one event that has a home, and tells whether it was sent.
+pub(crate) fn send_one<R: Wait>(rt: &R, port: &mut Port, event: Event) -> bool {
     if is_for_all(&event) {
         drop(event);
-        return;
+        return false;
     }
     let told = port.send(rt, event);
+    let is_sent = told.is_ok();
     drop(told);
+    is_sent
 }
 
-/// Sends these events through the port, and closes it.
-fn send_and_close<R: Wait>(rt: &R, mut port: Port, events: Vec<Event>) {
-    for event in events {
-        send(rt, &mut port, event);
-    }
-    let told = port.close(rt);
-    drop(told);
-    drop(port);
-}
-
-/// Adds an out to the list. Where memory ran out it is dropped.
-fn keep(outs: &mut Vec<Out>, out: Out) {
-    if outs.try_reserve(1).is_err() {
-        drop(out);
-        return;
-    }
-    outs.push_reserved(out);
-}
-
-/// Takes what the workers post until each has ended, and keeps it. Where the outbox is empty the thread yields.
-fn gather<R: Wait>(rt: &R, taker: &mut Taker, workers: usize, outs: &mut Vec<Out>)
+/// Takes what the workers post until each has ended, and hands it to the trial. Where the outbox is empty the thread yields.
+fn gather<R: Wait, T: Trial>(rt: &R, taker: &mut Taker, workers: usize, trial: &mut T)
     requires none { taker.old.got ≡ [] }
     requires workers { workers ≡ taker.old.workers }
     ensures outbox { taker.new.outbox ≡ taker.old.outbox }
@@ -87,37 +100,33 @@ fn gather<R: Wait>(rt: &R, taker: &mut Taker, workers: usize, outs: &mut Vec<Out
         }
         match taker.take(rt) {
             Some(Posted::Ended(_)) => left -= 1,
-            Some(Posted::Out(_, out)) => keep(outs, out),
+            Some(Posted::Out(worker, out)) => trial.take(rt, worker, out),
             None => thread::yield_now(),
         }
     }
     unreachable!()
 }
 
-/// Runs a crew with these boxes and one port, through which these events come, to its end.
-pub(crate) fn run_to_end<R, P>(
+/// Runs a crew with these boxes to its end: the trial gets its ports, and then what the workers post.
+pub(crate) fn run_crew<R, P, T>(
     rt: R,
     alloc: Global,
-    setup: &Setup,
+    plan: Plan,
     boxes: Vec<Vec<P>>,
-    events: Vec<Event>,
-) -> Result<Outcome, TrialError>
+    trial: &mut T,
+) -> Result<Report, TrialError>
 where
     R: Threads + Wait + Copy + Send + 'static,
     P: Package + 'static,
+    T: Trial,
     requires few_workers { vec_len boxes ≤ 256 }
+    requires few_ports { plan.ports ≤ 256 }
 {
     let workers = boxes.len();
-    let mut outs = Vec::with_capacity(alloc, ROOM)?;
+    let setup = setup_with(plan.stop)?;
     let gate = Arc::new(alloc, Open)?;
-    let (crew, mut ports, mut taker) = Crew::start(rt, alloc, setup, 1, boxes, gate)?;
-    if let Some(port) = ports.pop() {
-        send_and_close(&rt, port, events);
-    }
-    drop(ports);
-    gather(&rt, &mut taker, workers, &mut outs);
-    let report = crew.join(&rt, Vec::new(alloc), taker);
-    let end = report.workers.first().map(|worker| worker.end);
-    drop(report);
-    Ok(Outcome { end, outs })
+    let (crew, ports, mut taker) = Crew::start(rt, alloc, &setup, plan.ports, boxes, gate)?;
+    trial.send(&rt, alloc, ports);
+    gather(&rt, &mut taker, workers, trial);
+    Ok(crew.join(&rt, Vec::new(alloc), taker))
 }

@@ -1,16 +1,16 @@
 //! A thread that has a port of the crew: it brings mail, and it is the phones of one worker's mailboxes.
 
-use crate::counts::{CLASSES, counts_in};
-use crate::error::StormError;
-use crate::events::{Wish, accepted, mail, subscribe};
-use crate::mailboxes::{MAILBOXES, WORKERS, name_of};
-use crate::phone::{Manner, News, Phone};
+use crate::error::TrialError;
+use crate::events::{Wish, accepted, mail, request_in, subscribe};
+use crate::running::send_one;
+use crate::storm::counts::{CLASSES, counts_in};
+use crate::storm::mailboxes::{MAILBOXES, WORKERS, name_of};
+use crate::storm::phone::{Manner, News, Phone, Told, told_of};
 use crew::Port;
 use crossbeam_channel::Receiver;
-use homes::is_for_all;
 use notifier::{Event, Out};
 use package::Class;
-use sip_read::{Message, Request, read};
+use sip_read::Request;
 use std::alloc::Global;
 use std::rt::Clock;
 use std::sync::{Arc, Barrier, Wait};
@@ -26,12 +26,20 @@ const MOST_HEARD: u32 = 256;
 /// How many milliseconds all rest after each half. Nothing is on its way then: who counts allocations counts them there.
 const REST: u64 = 100;
 
+/// What a feeder is handed: its port first, and then the outs of the worker of its number.
+#[derive(Drop)]
+pub(crate) enum Handed {
+    Port(Port),
+    Out(Out),
+}
+
 /// A port, the NOTIFYs of the worker of the same number, and the phones to which they go.
 #[derive(Drop)]
 pub(crate) struct Feeder {
     pub(crate) number: u32,
-    pub(crate) port: Port,
-    pub(crate) heard: Receiver<Out, Global>,
+    /// Nothing before it is handed over.
+    pub(crate) port: Option<Port>,
+    pub(crate) heard: Receiver<Handed, Global>,
     pub(crate) phones: Vec<Phone>,
     /// Where the feeders meet after each half.
     pub(crate) meeting: Arc<Barrier, Global>,
@@ -82,29 +90,27 @@ impl Tally {
     }
 }
 
-/// Sends one event that has a home, and tells whether it was sent.
-fn send_one<R: Wait>(rt: &R, port: &mut Port, event: Event) -> bool {
-    if is_for_all(&event) {
-        drop(event);
-        return false;
-    }
-    let told = port.send(rt, event);
-    let is_sent = told.is_ok();
-    drop(told);
-    is_sent
-}
-
 /// The Call-ID of this visit of a phone.
-fn call_of(alloc: Global, feeder: u32, place: usize, visits: u32) -> Result<String, StormError> {
+fn call_of(alloc: Global, feeder: u32, place: usize, visits: u32) -> Result<String, TrialError> {
     Ok(format!(in alloc; "p{feeder}-{place}-{visits}")?)
 }
 
 /// The phone that a Call-ID names, and its visit.
 fn phone_named(call: &str) -> Option<(usize, u32)> {
-    let mut parts = call.split('-').skip(1);
-    let place = parts.next()?.parse::<usize>().ok()?;
-    let visits = parts.next()?.parse::<u32>().ok()?;
+    let (_, rest) = call.split_once('-')?;
+    let (place, visits) = rest.split_once('-')?;
+    let place = place.parse::<usize>().ok()?;
+    let visits = visits.parse::<u32>().ok()?;
     Some((place, visits))
+}
+
+/// What a NOTIFY tells.
+fn news_in(request: &Request, is_last: bool) -> News {
+    News {
+        number: request.head.cseq,
+        is_last,
+        counts: counts_in(request.body.as_slice()),
+    }
 }
 
 /// What a visitor wants after a NOTIFY with this number and tag.
@@ -120,10 +126,40 @@ fn wish_after<'a>(phone: &Phone, number: u32, tag: &'a str) -> Option<Wish<'a>> 
 }
 
 impl Feeder {
+    /// Waits for its port.
+    fn take_port<R: Wait>(&mut self, rt: &R) {
+        match self.heard.recv(rt) {
+            Ok(Handed::Port(port)) => self.port = Some(port),
+            _ => self.fail(),
+        }
+    }
+
+    /// Closes its port.
+    fn close<R: Wait>(&mut self, rt: &R) {
+        let is_closed = match &mut self.port {
+            Some(port) => port.close(rt).is_ok(),
+            None => false,
+        };
+        if !is_closed {
+            self.fail();
+        }
+    }
+
+    /// Sends an event, and tells whether it was sent.
+    fn send_made<R: Wait>(&mut self, rt: &R, event: Event) -> bool {
+        match &mut self.port {
+            Some(port) => send_one(rt, port, event),
+            None => {
+                drop(event);
+                false
+            }
+        }
+    }
+
     /// Sends an event, if it could be made.
-    fn send<R: Wait>(&mut self, rt: &R, made: Result<Event, StormError>) {
+    fn send<R: Wait>(&mut self, rt: &R, made: Result<Event, TrialError>) {
         let is_sent = match made {
-            Ok(event) => send_one(rt, &mut self.port, event),
+            Ok(event) => self.send_made(rt, event),
             Err(_) => false,
         };
         if is_sent {
@@ -145,7 +181,7 @@ impl Feeder {
         place: usize,
         phone: Phone,
         wish: Wish<'_>,
-    ) -> Result<Event, StormError> {
+    ) -> Result<Event, TrialError> {
         let mailbox = name_of(alloc, phone.mailbox)?;
         let call = call_of(alloc, self.number, place, phone.visits)?;
         subscribe(alloc, mailbox.as_str(), call.as_str(), wish)
@@ -171,61 +207,68 @@ impl Feeder {
         }
     }
 
-    /// A phone is told by this NOTIFY, and does what it wants then. None where it is nobody's.
-    fn tell<R: Wait>(
-        &mut self,
-        rt: &R,
-        alloc: Global,
-        request: &Request,
-        is_last: bool,
-    ) -> Option<()> {
+    /// The phone of a NOTIFY is told, and its place. None where it is nobody's.
+    fn tell(&mut self, request: &Request, is_last: bool) -> Option<(usize, Phone)> {
         let (place, visits) = phone_named(request.head.call_id.as_str())?;
-        let news = News {
-            number: request.head.cseq,
-            is_last,
-            counts: counts_in(request.body.as_slice()),
-        };
         let phone = self.phones.get_mut(place)?;
         if phone.visits != visits {
             return None;
         }
-        phone.hear(&news);
-        let told = *phone;
-        let Some(tag) = &request.head.from.tag else {
-            return None;
-        };
-        if let Some(wish) = wish_after(&told, news.number, tag.as_str()) {
-            let made = self.subscribe_of(alloc, place, told, wish);
+        phone.hear(&news_in(request, is_last));
+        Some((place, *phone))
+    }
+
+    /// A NOTIFY told the phone at this place, which does what it wants then. None where the NOTIFY has no tag.
+    fn act<R: Wait>(
+        &mut self,
+        rt: &R,
+        alloc: Global,
+        request: &Request,
+        told: (usize, Phone),
+    ) -> Option<()> {
+        let (place, phone) = told;
+        let tag = request.head.from.tag.as_ref()?;
+        if let Some(wish) = wish_after(&phone, request.head.cseq, tag.as_str()) {
+            let made = self.subscribe_of(alloc, place, phone, wish);
             self.send(rt, made);
         }
         Some(())
     }
 
     /// A NOTIFY comes: its phone is told, and answers.
-    fn hear<R: Wait>(&mut self, rt: &R, alloc: Global, out: Out) {
-        let Out::Notify {
-            terminated,
-            bytes,
-            ..
-        } = out
-        else {
-            return;
-        };
-        let Ok(Message::Request(request)) = read(alloc, bytes.as_slice()) else {
+    fn hear_notify<R: Wait>(&mut self, rt: &R, alloc: Global, bytes: &[u8], is_last: bool) {
+        let Some(request) = request_in(alloc, bytes) else {
             self.fail();
             return;
         };
-        if self.tell(rt, alloc, &request, terminated).is_none() {
+        let is_heard = match self.tell(&request, is_last) {
+            Some(told) => self.act(rt, alloc, &request, told).is_some(),
+            None => false,
+        };
+        if !is_heard {
             self.fail();
         }
         let made = accepted(alloc, request.head);
         self.send(rt, made);
     }
 
+    /// An out comes. Answers say nothing here.
+    fn hear<R: Wait>(&mut self, rt: &R, alloc: Global, out: Out) {
+        if let Out::Notify {
+            terminated,
+            bytes,
+            ..
+        } = &out
+        {
+            self.hear_notify(rt, alloc, bytes.as_slice(), *terminated);
+        }
+        drop(out);
+    }
+
     /// Hears what came.
     fn hear_some<R: Wait>(&mut self, rt: &R, alloc: Global) {
         for _ in 0..MOST_HEARD {
-            let Ok(out) = self.heard.try_recv(rt) else {
+            let Ok(Handed::Out(out)) = self.heard.try_recv(rt) else {
                 return;
             };
             self.hear(rt, alloc, out);
@@ -245,44 +288,23 @@ impl Feeder {
         }
     }
 
-    /// Whether each phone was told all, where each mailbox holds so many messages of each class.
-    fn is_done(&self, rounds: u32) -> bool {
-        self.phones.iter().all(|phone| phone.is_done(rounds))
+    /// What its phones were told, where each mailbox holds so many messages of each class.
+    fn told(&self, rounds: u32) -> Told {
+        told_of(self.phones.as_slice(), rounds)
     }
 
     /// Hears until each phone was told all, or nothing comes any more.
     fn hear_all<R: Wait + Clock>(&mut self, rt: &R, alloc: Global, rounds: u32) {
         for _ in 0..u64::MAX {
-            if self.is_done(rounds) {
+            if self.told(rounds).waiting == 0 {
                 return;
             }
-            let Ok(out) = self.heard.recv_timeout(rt, Duration::from_secs(PATIENCE)) else {
+            let Ok(Handed::Out(out)) = self.heard.recv_timeout(rt, Duration::from_secs(PATIENCE))
+            else {
                 return;
             };
             self.hear(rt, alloc, out);
         }
-    }
-
-    /// How many phones are of this manner and were told all.
-    fn count(&self, manner: Manner, rounds: u32) -> u32 {
-        let mut count = 0u32;
-        for phone in self.phones.iter() {
-            if phone.manner == manner && phone.visits > 0 && phone.is_done(rounds) {
-                count = count.saturating_add(1);
-            }
-        }
-        count
-    }
-
-    /// How many phones missed a NOTIFY, or got one out of order.
-    fn disorders(&self) -> u32 {
-        let mut count = 0u32;
-        for phone in self.phones.iter() {
-            if !phone.is_in_order {
-                count = count.saturating_add(1);
-            }
-        }
-        count
     }
 
     /// Meets the other feeders, and rests with them.
@@ -301,7 +323,7 @@ impl Feeder {
             self.bring_mail(rt, alloc, class, round.saturating_add(1));
         }
         self.hear_all(rt, alloc, to);
-        let watchers = self.count(Manner::Watcher, to);
+        let watchers = self.told(to).watchers;
         self.meet(rt);
         watchers
     }
@@ -322,17 +344,17 @@ pub(crate) fn feed<R: Wait + Clock>(
     mut feeder: Feeder,
     rounds: u32,
 ) -> Tally {
+    feeder.take_port(rt);
     let half = rounds / 2;
     let halfway = feeder.run_half(rt, alloc, 0, half);
     let watchers = feeder.run_half(rt, alloc, half, rounds);
-    if feeder.port.close(rt).is_err() {
-        feeder.fail();
-    }
+    feeder.close(rt);
+    let told = feeder.told(rounds);
     Tally {
         halfway,
         watchers,
-        visitors: feeder.count(Manner::Visitor, rounds),
-        disorders: feeder.disorders(),
+        visitors: told.visitors,
+        disorders: told.disorders,
         sent: feeder.sent,
         failures: feeder.failures,
     }

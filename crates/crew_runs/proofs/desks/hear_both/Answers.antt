@@ -1,8 +1,8 @@
 use denote.Exit.{no}
 use denote.Param.{param, copied}
 use denote.Param.Send.{sendable, param_send, arg_send}
-use Rattle.replay_runs.proofs.Sent.{call_send}
-use Rattle.replay_runs.proofs.sharing.hear_both.Goals as goal
+use Rattle.crew_runs.proofs.Sent.{call_send}
+use Rattle.crew_runs.proofs.desks.hear_both.Goals as goal
 
 pub spawn-requires-send-F : goal.spawn-requires-send-F
 spawn-requires-send-F g c κs within =

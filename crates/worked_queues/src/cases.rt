@@ -1,7 +1,6 @@
-//! The rows of both queues, and runs with threads over queues that hold one item.
+//! Small cases of both queues: ends that are gone or done, and calls that sleep and are woken.
 ghost use Rattle.std.specs.Prelude.{◌≡◌, ◌<◌, IfSome};
 
-use crate::pipeline::hand_over;
 use inbox::Sender;
 use notifier::{Event, Out};
 use outbox::{Posted, Poster, Taker};
@@ -24,7 +23,7 @@ fn send<R: Wait>(rt: &R, sender: &mut Sender, second: u64) -> u32 {
 }
 
 /// What a send answers, and whether the end mark was put, where the receiver was dropped.
-fn without_receiver<R: Wait>(rt: &R, alloc: Global) -> Option<(u32, bool)> {
+pub(crate) fn without_receiver<R: Wait>(rt: &R, alloc: Global) -> Option<(u32, bool)> {
     let (mut senders, receiver) = inbox::make(alloc, 1, 2).ok()?;
     drop(receiver);
     let mut sender = senders.pop()?;
@@ -34,24 +33,14 @@ fn without_receiver<R: Wait>(rt: &R, alloc: Global) -> Option<(u32, bool)> {
     Some((answer, is_put))
 }
 
-#[test]
-fn a_gone_receiver_hands_the_event_back(rt: HostRuntime) {
-    assert_eq!(rt; without_receiver(&rt, rt.alloc()), Some((1, false)));
-}
-
 /// Whether a take answers Left, where both senders were dropped.
-fn without_senders<R: Wait>(rt: &R, alloc: Global) -> Option<bool> {
+pub(crate) fn without_senders<R: Wait>(rt: &R, alloc: Global) -> Option<bool> {
     let (senders, mut receiver) = inbox::make(alloc, 1, 2).ok()?;
     drop(senders);
     let taken = receiver.take(rt);
     let is_left = taken.is_err();
     drop(taken);
     Some(is_left)
-}
-
-#[test]
-fn dropped_senders_have_left(rt: HostRuntime) {
-    assert_eq!(rt; without_senders(&rt, rt.alloc()), Some(true));
 }
 
 /// The ends of an outbox of one worker.
@@ -88,7 +77,7 @@ fn kind(posted: Option<Posted>) -> u32 {
 }
 
 /// What is taken before and after a post and an end mark.
-fn posted_one_by_one<R: Wait>(rt: &R, alloc: Global) -> Option<[u32; 4]> {
+pub(crate) fn posted_one_by_one<R: Wait>(rt: &R, alloc: Global) -> Option<[u32; 4]> {
     let out = start(alloc)?;
     let (mut poster, mut taker) = one_worker(alloc, 1)?;
     let empty = kind(taker.take(rt));
@@ -100,13 +89,8 @@ fn posted_one_by_one<R: Wait>(rt: &R, alloc: Global) -> Option<[u32; 4]> {
     Some([empty, posted, again, ended])
 }
 
-#[test]
-fn an_out_is_posted_and_taken(rt: HostRuntime) {
-    assert_eq!(rt; posted_one_by_one(&rt, rt.alloc()), Some([0, 1, 0, 2]));
-}
-
 /// What is taken of a worker that is done.
-fn taken_after<R: Wait>(rt: &R, alloc: Global) -> Option<[u32; 3]> {
+pub(crate) fn taken_after<R: Wait>(rt: &R, alloc: Global) -> Option<[u32; 3]> {
     let out = start(alloc)?;
     let (mut poster, mut taker) = one_worker(alloc, 2)?;
     poster.post(rt, out);
@@ -115,11 +99,6 @@ fn taken_after<R: Wait>(rt: &R, alloc: Global) -> Option<[u32; 3]> {
     let second = kind(taker.take(rt));
     let third = kind(taker.take(rt));
     Some([first, second, third])
-}
-
-#[test]
-fn a_worker_that_is_done_is_drained(rt: HostRuntime) {
-    assert_eq!(rt; taken_after(&rt, rt.alloc()), Some([1, 2, 0]));
 }
 
 /// Sends until the receiver is gone, at most a thousand times. How many were sent.
@@ -141,7 +120,7 @@ fn drop_late<T: Drop>(value: T) {
 }
 
 /// Whether no more was sent than an inbox of one item holds, where the receiver goes late.
-fn gone_late<R: Threads + Wait + Sync>(rt: &R, alloc: Global) -> Option<bool> {
+pub(crate) fn gone_late<R: Threads + Wait + Sync>(rt: &R, alloc: Global) -> Option<bool> {
     let (mut senders, receiver) = inbox::make(alloc, 1, 1).ok()?;
     let sender = senders.pop()?;
     let (sent, ()) = thread::join(rt, move || fill(rt, sender), move || drop_late(receiver));
@@ -149,7 +128,7 @@ fn gone_late<R: Threads + Wait + Sync>(rt: &R, alloc: Global) -> Option<bool> {
 }
 
 /// Whether a take that waits answers Left, where the senders go late.
-fn left_late<R: Threads + Wait + Sync>(rt: &R, alloc: Global) -> Option<bool> {
+pub(crate) fn left_late<R: Threads + Wait + Sync>(rt: &R, alloc: Global) -> Option<bool> {
     let (senders, mut receiver) = inbox::make(alloc, 1, 2).ok()?;
     let (is_left, ()) = thread::join(
         rt,
@@ -157,15 +136,4 @@ fn left_late<R: Threads + Wait + Sync>(rt: &R, alloc: Global) -> Option<bool> {
         move || drop_late(senders),
     );
     Some(is_left)
-}
-
-#[test]
-fn who_sleeps_is_woken(rt: HostRuntime) {
-    assert_eq!(rt; gone_late(&rt, rt.alloc()), Some(true));
-    assert_eq!(rt; left_late(&rt, rt.alloc()), Some(true));
-}
-
-#[test]
-fn nothing_is_lost_over_queues_of_one_item(rt: HostRuntime) {
-    assert_eq!(rt; hand_over(&rt, rt.alloc(), 1, 5000), Ok(10000));
 }

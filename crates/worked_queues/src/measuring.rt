@@ -1,10 +1,6 @@
-//! What the way through both queues costs: two ports, two workers, one taker, each in a thread of its own.
-//!
-//! Without arguments it hands a few events over and prints how many came, which is the same whatever the threads do.
-//! `bench_queues <events a port> <capacity>...` prints, for each capacity, the time that an event takes. `bench/queues`
-//! at the top of the repository runs it beside plain Rust over `sync_channel`s.
-#![tactic(auto)]
+//! What an event takes on its way through both queues.
 
+use crate::pipeline::hand_over;
 use notifier::{Event, Out};
 use std::alloc::Global;
 use std::rt::Runtime;
@@ -12,10 +8,9 @@ use std::sync::Wait;
 use std::thread::Threads;
 use std::time::Instant;
 use std::{env, io, mem};
-use worked_queues::pipeline::hand_over;
 
 /// The numbers that the program was given, and none for a word that is no number.
-fn numbers_of<R: Runtime>(rt: &R) -> io::Result<Vec<u32, R::A>> {
+pub(crate) fn numbers_of<R: Runtime>(rt: &R) -> io::Result<Vec<u32, R::A>> {
     let mut numbers = Vec::new(rt.alloc());
     for word in env::args(rt)?.skip(1) {
         if let Ok(number) = word.parse::<u32>() {
@@ -26,7 +21,7 @@ fn numbers_of<R: Runtime>(rt: &R) -> io::Result<Vec<u32, R::A>> {
 }
 
 /// Hands this many events of each port over, and prints what one takes.
-fn measure<R: Runtime + Threads + Wait + Sync>(
+fn measure_one<R: Runtime + Threads + Wait + Sync>(
     rt: &R,
     alloc: Global,
     capacity: u32,
@@ -49,21 +44,20 @@ fn measure<R: Runtime + Threads + Wait + Sync>(
     )
 }
 
-fn main(rt: HostRuntime) -> io::Result<()> {
-    let numbers = numbers_of(&rt)?;
-    let Some((&count, capacities)) = numbers.as_slice().split_first() else {
-        let Ok(outs) = hand_over(&rt, rt.alloc(), 1, 1000) else {
-            return println!(rt; "out of memory");
-        };
-        return println!(rt; "2 ports, 2 workers, capacity 1: {outs} outs of 2000 events");
-    };
+/// Prints for each capacity what an event takes, where each port brings so many.
+pub(crate) fn measure<R: Runtime + Threads + Wait + Sync>(
+    rt: &R,
+    alloc: Global,
+    count: u32,
+    capacities: &[u32],
+) -> io::Result<()> {
     println!(rt;
         "an event has {} bytes, an out {}",
         mem::size_of::<Event>(),
         mem::size_of::<Out>()
     )?;
     for &capacity in capacities {
-        measure(&rt, rt.alloc(), capacity, count)?;
+        measure_one(rt, alloc, capacity, count)?;
     }
     Ok(())
 }

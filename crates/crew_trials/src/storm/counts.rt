@@ -27,12 +27,9 @@ impl Counts {
 
     /// Whether no class has fewer messages than here.
     fn is_within(self, later: Counts) -> bool {
-        let Counts(before) = self;
-        let Counts(after) = later;
-        before
-            .iter()
-            .zip(after.iter())
-            .all(|(before, after)| before <= after)
+        let Counts([voice, fax, pager, multimedia]) = self;
+        let Counts([voices, faxes, pagers, multimedias]) = later;
+        voice <= voices && fax <= faxes && pager <= pagers && multimedia <= multimedias
     }
 
     /// Whether one class has one message more, and the others as many.

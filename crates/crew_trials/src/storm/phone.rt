@@ -1,6 +1,12 @@
-//! A phone, and what it is told.
+//! Phones, and what they are told.
 
-use crate::counts::Counts;
+use crate::error::TrialError;
+use crate::storm::counts::Counts;
+use crate::storm::mailboxes::{MAILBOXES, is_home};
+use std::alloc::Global;
+
+/// How many mailboxes of each worker have a visitor too.
+const VISITORS: usize = 5;
 
 /// Why a phone is there.
 #[derive(Clone, Copy, PartialEq)]
@@ -25,7 +31,7 @@ pub(crate) struct Phone {
     /// Whether its subscription is over, or it has none yet.
     pub(crate) is_over: bool,
     /// Whether each NOTIFY was the next one, with the whole state, and none came after the end.
-    pub(crate) is_in_order: bool,
+    is_in_order: bool,
 }
 
 /// What a NOTIFY tells a phone.
@@ -75,10 +81,74 @@ impl Phone {
     }
 
     /// Whether it waits for no more, where a mailbox holds so many messages of each class at the end.
-    pub(crate) fn is_done(&self, rounds: u32) -> bool {
+    fn is_done(&self, rounds: u32) -> bool {
         match self.manner {
             Manner::Watcher => !self.is_over && self.counts == Counts([rounds; 4]),
             Manner::Visitor => self.is_over,
         }
     }
+}
+
+/// The watcher of this mailbox, and a visitor where there are few yet.
+fn add_phones(phones: &mut Vec<Phone>, mailbox: u32) -> Result<(), TrialError> {
+    let has_few = phones.len() < 2 * VISITORS;
+    phones.push(Phone::new(Manner::Watcher, mailbox))?;
+    if has_few {
+        phones.push(Phone::new(Manner::Visitor, mailbox))?;
+    }
+    Ok(())
+}
+
+/// The phones that watch mailboxes of this worker.
+pub(crate) fn phones_at(alloc: Global, worker: u32) -> Result<Vec<Phone>, TrialError> {
+    let mut phones = Vec::new(alloc);
+    for mailbox in 0..MAILBOXES {
+        if is_home(alloc, worker, mailbox)? {
+            add_phones(&mut phones, mailbox)?;
+        }
+    }
+    Ok(phones)
+}
+
+/// How many phones were told what.
+#[derive(Clone, Copy)]
+pub(crate) struct Told {
+    /// Phones that wait for more.
+    pub(crate) waiting: u32,
+    /// Watchers that wait for no more.
+    pub(crate) watchers: u32,
+    /// Visitors that came, and wait for no more.
+    pub(crate) visitors: u32,
+    /// Phones that missed a NOTIFY, or got one out of order.
+    pub(crate) disorders: u32,
+}
+
+impl Told {
+    /// Counts a phone more.
+    fn count(&mut self, phone: &Phone, rounds: u32) {
+        if !phone.is_in_order {
+            self.disorders = self.disorders.saturating_add(1);
+        }
+        if !phone.is_done(rounds) {
+            self.waiting = self.waiting.saturating_add(1);
+        } else if phone.manner == Manner::Watcher {
+            self.watchers = self.watchers.saturating_add(1);
+        } else if phone.visits > 0 {
+            self.visitors = self.visitors.saturating_add(1);
+        }
+    }
+}
+
+/// What these phones were told, where each mailbox holds so many messages of each class at the end.
+pub(crate) fn told_of(phones: &[Phone], rounds: u32) -> Told {
+    let mut told = Told {
+        waiting: 0,
+        watchers: 0,
+        visitors: 0,
+        disorders: 0,
+    };
+    for phone in phones {
+        told.count(phone, rounds);
+    }
+    told
 }
