@@ -1,17 +1,13 @@
 //! Isolation: what a subscription's watcher is told depends on the subscription's own events alone.
 //!
-//! A notifier serves many watchers at once, and a crew of them many more. [`alone`] says that none is told anything else for
-//! that: all that goes out to a watcher, but for the tag that its subscription has, is what would go out if nothing had
-//! happened but its own events. Those are its SUBSCRIBE or REFER, what comes in its dialog, what changes its mailbox or its
-//! transfer, the time, and the planned stop. [`same`] is the form that serves an operator: in two runs in which they are the
-//! same it is told the same, whatever else happened there; and with several workers they all come to one ([`together`]). No
-//! function here does anything: each is a theorem over definitions.
+//! Those are its SUBSCRIBE or REFER, what comes in its dialog, what changes its mailbox or its transfer, the time, and the
+//! planned stop. [`alone`] says that all that its watcher is told, but for the tag, is what it would be told of these;
+//! [`same`] that in two runs in which they are the same it is told the same; [`together`] that with several workers they
+//! come to one. [`one_counter`] names a notifier that breaks this. Each function here is a theorem over definitions.
 //!
-//! What the laws ask is that its requests aren't taken for somebody else's (`specs/Apart`), which [`again`] shows to hold of
-//! whoever retransmits. What they don't promise is a place: a full table keeps a new subscription out.
-//!
-//! Begin with `specs/Own` and `specs/Laws`, then `specs/Together`. `specs/Notifiers` asks the law of any notifier, and
-//! [`one_counter`] names one that breaks it. `proofs/WorkedAlone` computes examples, and what goes wrong without a premise.
+//! What the laws ask is that its requests aren't taken for somebody else's (`specs/Apart`), which [`again`] shows of
+//! whoever retransmits. What they don't promise is a place: a full table keeps a new subscription out. Begin with
+//! `specs/Own`, `specs/Laws` and `specs/Together`; `proofs/WorkedAlone` computes what goes wrong without a premise.
 #![tactic(auto)]
 
 ghost use Rattle.isolation.specs.Laws.{AloneLaw, AgainLaw, SameLaw, OwnKeysLaw, OutsLaw};

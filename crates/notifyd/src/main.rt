@@ -1,12 +1,13 @@
 //! `notifyd`, a notifier of SIP event notification (RFC 6665).
 //!
-//! `notifyd serve [options] [<mailbox>...]` is the server that an operator runs, `notifyd tell <line>` tells it what happened.
-//! `notifyd udp [--seed <64 hex digits>] [--stop] <port> <control port> <workers> <count> <mailbox>...` is a notifier on
-//! 127.0.0.1 that ends after so many datagrams. `notifyd script [--seed <64 hex digits>] [--stop] <workers> <mailbox>...` reads
-//! a script from standard input and prints what the notifier sends; without arguments it is `notifyd script 1 alice`.
+//! `notifyd serve [options] [<mailbox>...]` is the server that an operator runs, `notifyd tell <line>` tells it what
+//! happened. `notifyd udp [--seed <64 hex digits>] [--stop] <port> <control port> <workers> <count> <mailbox>...` is a
+//! notifier on 127.0.0.1 that ends after so many datagrams and a CLOSE. `notifyd script [--seed <64 hex digits>] [--stop]
+//! <workers> <mailbox>...` reads a script from standard input and prints what the notifier sends; without arguments it is
+//! `notifyd script 1 alice`.
 //!
-//! What is proved of them are the contracts of the crate `serving`, of [`udp_program::run`] and of [`server::run`]. Here stand
-//! the words, the two streams and the exit status.
+//! What is proved of them are the contracts of the crate `serving`, of [`udp_program::run`] and of [`server::run`]. Here
+//! stand the words, the two streams and the exit status.
 #![tactic(auto)]
 
 use scripts::{Sink, Source};

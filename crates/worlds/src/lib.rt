@@ -1,4 +1,13 @@
 //! Worlds: what the taker of a crew's outs may rely on, in whatever order ports, workers and taker go on.
+//!
+//! A world is what stands in the lists of the two queues after any list of steps: an item is sent, taken, posted or got, or
+//! a worker quits. [`world`] says of each world what a subscription's watcher was told so far, [`rising`] how those NOTIFYs
+//! are numbered, [`inboxes`] and [`outbox`] what the queues keep. No function here does anything: each is a theorem over
+//! definitions.
+//!
+//! What it isn't: it knows no thread and no queue. That the calls of a crew take just these steps is read off their
+//! contracts, and is no theorem; what holds once a crew was joined is in `crew_laws`, and doesn't rest on this. Begin with
+//! `specs/World`, then `specs/Laws`. Worked worlds are computed in `proofs/WorkedWorlds`.
 #![tactic(auto)]
 
 ghost use Rattle.worlds.specs.Laws.{InboxLaw, OutboxLaw, WorldLaw, RisingLaw};
