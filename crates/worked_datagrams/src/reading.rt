@@ -1,6 +1,6 @@
 //! What a datagram is read as, in one line.
 
-use sip_read::{Head, Message, Request, read};
+use sip_read::{Head, Message, ReadError, Request};
 use sip_text::{Field, Text};
 use std::alloc::{AllocError, Global};
 
@@ -29,10 +29,13 @@ fn request_text(alloc: Global, request: &Request) -> Result<String, AllocError> 
     format!(in alloc; "{method}, {head}, Contact {contact}, body of {length}")
 }
 
-/// What is told of a datagram: of a message its parts, else why it is refused.
-pub(crate) fn reading_of(alloc: Global, datagram: &[u8]) -> Result<String, AllocError> {
-    match read(alloc, datagram) {
-        Ok(Message::Request(request)) => request_text(alloc, &request),
+/// What is told of a datagram in one line: of a message its parts, else why it is refused.
+pub(crate) fn summary_of(
+    alloc: Global,
+    read: &Result<Message, ReadError>,
+) -> Result<String, AllocError> {
+    match read {
+        Ok(Message::Request(request)) => request_text(alloc, request),
         Ok(Message::Response(response)) => {
             let head = head_text(alloc, &response.head)?;
             format!(in alloc; "answer {}, {head}", response.status)

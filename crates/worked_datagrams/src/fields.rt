@@ -1,17 +1,17 @@
-//! What a datagram is read as, as a text: a message line by line, or the number of its error and what the error says.
+//! What a datagram is read as, field by field: a message line by line, or the number of its error and what the error says.
 use event_headers::{EventValue, Range};
-use sip_read::{Head, Message, ReadError, Request, Response, read};
+use sip_read::{Head, Message, ReadError, Request, Response};
 use sip_text::{Field, Text, Values};
 use std::alloc::{AllocError, Global};
 use std::fmt;
 use std::fmt::{Formatter, Write};
 
-#[derive(Drop)]
-struct Reading(Result<Message, ReadError>);
+#[derive(Clone, Copy)]
+struct Reading<'a>(&'a Result<Message, ReadError>);
 
-impl fmt::Display for Reading {
+impl fmt::Display for Reading<'_> {
     fn fmt<W: Write>(&self, f: &mut Formatter<W>) -> fmt::Result {
-        match &self.0 {
+        match self.0 {
             Ok(Message::Request(request)) => write_request(f, request),
             Ok(Message::Response(response)) => write_response(f, response),
             Err(error) => writeln!(f, "error {}: {error}", error.number()),
@@ -154,8 +154,10 @@ fn write_response<W: Write>(f: &mut Formatter<W>, response: &Response) -> fmt::R
     write_head(f, &response.head)
 }
 
-/// What the datagram is read as.
-pub fn reading_of(alloc: Global, bytes: &[u8]) -> Result<String, AllocError> {
-    let answer = Reading(read(alloc, bytes));
-    format!(in alloc; "{answer}")
+/// The fields of what was read, a line each.
+pub(crate) fn fields_of(
+    alloc: Global,
+    read: &Result<Message, ReadError>,
+) -> Result<String, AllocError> {
+    format!(in alloc; "{}", Reading(read))
 }

@@ -1,0 +1,145 @@
+//! Whichever growth is refused, each call answers that memory is short, and the bytes before stay. `rt try --fail-alloc N` refuses
+//! the growths in turn; each line here says true in each such run.
+
+use crate::look::{Look, look_at};
+use crate::written::{Example, LEFT};
+use event_headers::{
+    EventValue, HeaderError, StateValue, read_accept, read_event, read_state, write_accept,
+    write_event, write_expires, write_state,
+};
+use sip_text::NoMemory;
+use std::alloc::Global;
+use std::io;
+
+/// A request with a value in each field.
+const REQUEST: &str = "SUBSCRIBE sip:a@b SIP/2.0\r\n\
+    v: SIP/2.0/UDP h;rport;branch=z\r\n ,SIP/2.0/UDP i\r\n\
+    f: sip:a@b;tag=f\r\n\
+    t: sip:a@b;tag=t\r\n\
+    i: x\r\n\
+    CSeq: 1 SUBSCRIBE\r\n\
+    m: <sip:a@b>;p=1\r\n\
+    r: <sip:c@d>\r\n\
+    o: a;id=b\r\n\
+    Accept: a/b;q=1\r\n\
+    Accept: c/d\r\n\
+    Require: p,q\r\n\
+    Record-Route: <sip:r;lr>;p\r\n\
+    \r\nxy";
+
+/// Its fields.
+const FIELDS: &str = "request SUBSCRIBE sip:a@b\n\
+    via SIP/2.0/UDP h;rport;branch=z\n\
+    via SIP/2.0/UDP i\n\
+    sent by h\n\
+    branch z\n\
+    rport bare\n\
+    from sip:a@b;tag=f\n\
+    from tag f\n\
+    to sip:a@b;tag=t\n\
+    to tag t\n\
+    call-id x\n\
+    cseq 1 SUBSCRIBE\n\
+    event a b\n\
+    expires absent\n\
+    accept a/b c/d\n\
+    contact sip:a@b\n\
+    refer-to sip:c@d\n\
+    require p\n\
+    require q\n\
+    record-route <sip:r;lr>;p\n\
+    body \"xy\"\n";
+
+/// A request to be answered, and one to be told about.
+const ANSWERED: &str = "SUBSCRIBE sip:alice@127.0.0.1 SIP/2.0\r\n\
+    Via: SIP/2.0/UDP 10.0.0.9;rport\r\n\
+    From: <sip:alice@127.0.0.1>;tag=f1\r\n\
+    To: <sip:alice@127.0.0.1>\r\n\
+    Call-ID: c1\r\n\
+    CSeq: 1 SUBSCRIBE\r\n\
+    Event: refer\r\n\
+    Record-Route: <sip:p1;lr>\r\n\
+    \r\n";
+
+const SHORT: &str = "error 7: out of memory\n";
+
+/// Whether a reading is whole, or memory was short.
+fn is_read(alloc: Global) -> bool {
+    match look_at(alloc, REQUEST.as_bytes(), Look::Fields) {
+        Ok(told) => told.as_str() == FIELDS || told.as_str() == SHORT,
+        Err(NoMemory) => true,
+    }
+}
+
+/// Whether something is written, or the bytes before it stay.
+fn is_written(alloc: Global, example: Example) -> bool {
+    match look_at(alloc, ANSWERED.as_bytes(), Look::Written(example)) {
+        Ok(told) => !told.is_empty() && told.as_str() != LEFT,
+        Err(NoMemory) => true,
+    }
+}
+
+/// Whether an event is read, written, copied and made, or the bytes before it stay.
+fn keeps_event(alloc: Global) -> bool {
+    let Ok(mut out) = Vec::from_slice(alloc, b"kept") else {
+        return true;
+    };
+    let event = match read_event(alloc, b"refer;x=1;id=93") {
+        Ok(event) => event,
+        Err(error) => return error == HeaderError::NoMemory,
+    };
+    let is_written = write_event(alloc, &event, &mut out).is_ok();
+    drop(event.copy(alloc));
+    drop(EventValue::numbered(alloc, "refer", 93));
+    is_written || out.as_slice() == b"kept".as_slice()
+}
+
+/// Whether a state is read, written and made, or the bytes before it stay.
+fn keeps_state(alloc: Global) -> bool {
+    let Ok(mut out) = Vec::from_slice(alloc, b"kept") else {
+        return true;
+    };
+    let state = match read_state(alloc, b"terminated;reason=timeout;retry-after=5") {
+        Ok(state) => state,
+        Err(error) => return error == HeaderError::NoMemory,
+    };
+    let is_written = write_state(alloc, &state, &mut out).is_ok();
+    drop(StateValue::worded(alloc, "terminated", None, Some("timeout"), Some(5)));
+    is_written || out.as_slice() == b"kept".as_slice()
+}
+
+/// Whether an expiry is written, or the bytes before it stay.
+fn keeps_expires(alloc: Global) -> bool {
+    let Ok(mut out) = Vec::from_slice(alloc, b"kept") else {
+        return true;
+    };
+    write_expires(alloc, 3600, &mut out).is_ok() || out.as_slice() == b"kept".as_slice()
+}
+
+/// Whether ranges are read and written, or the bytes before them stay.
+fn keeps_accept(alloc: Global) -> bool {
+    let Ok(mut out) = Vec::from_slice(alloc, b"kept") else {
+        return true;
+    };
+    let ranges = match read_accept(alloc, b"*/*, text/plain;q=1") {
+        Ok(ranges) => ranges,
+        Err(error) => return error == HeaderError::NoMemory,
+    };
+    write_accept(alloc, ranges.as_slice(), &mut out).is_ok() || out.as_slice() == b"kept".as_slice()
+}
+
+/// Tells whether each was done, or changed nothing.
+pub(crate) fn tell_all(rt: &impl Print, alloc: Global) -> io::Result<()> {
+    println!(rt; "read, or memory was short: {}", is_read(alloc))?;
+    let answered = is_written(alloc, Example::TaggedOptions);
+    println!(rt; "answered, or the bytes stay: {answered}")?;
+    let notified = is_written(alloc, Example::OfOpenTransfer);
+    println!(rt; "notified, or the bytes stay: {notified}")?;
+    println!(rt; "an Event, or the bytes stay: {}", keeps_event(alloc))?;
+    println!(rt;
+        "a Subscription-State, or the bytes stay: {}",
+        keeps_state(alloc)
+    )?;
+    println!(rt; "an Expires, or the bytes stay: {}", keeps_expires(alloc))?;
+    println!(rt; "an Accept, or the bytes stay: {}", keeps_accept(alloc))
+}
