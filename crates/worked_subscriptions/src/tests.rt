@@ -1,4 +1,4 @@
-//! Worked examples.
+//! Worked examples of subscriptions: each cause and the NOTIFY that tells of it (RFC 6665).
 ghost use Rattle.std.specs.Prelude.{◌≡◌, ◌≤◌};
 
 use event_headers::EventValue;
