@@ -1,5 +1,6 @@
 //! Why a run tells nothing.
 
+use crew::StartError;
 use service::RunError as ServiceError;
 use sip_text::NoMemory;
 use std::alloc::{AllocError, AllocFailed};
@@ -12,6 +13,8 @@ use wires::WireFault;
 pub(crate) enum RunError {
     #[error("out of memory")]
     Memory,
+    #[error("no crew: {0}")]
+    Start(StartError),
     #[error("no service: {0}")]
     Service(ServiceError),
     #[error("no thread")]
@@ -37,6 +40,12 @@ impl<T: Drop> From<AllocFailed<T>> for RunError {
 impl From<NoMemory> for RunError {
     fn from(_refused: NoMemory) -> RunError {
         RunError::Memory
+    }
+}
+
+impl From<StartError> for RunError {
+    fn from(error: StartError) -> RunError {
+        RunError::Start(error)
     }
 }
 

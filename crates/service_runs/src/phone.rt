@@ -30,7 +30,7 @@ pub(crate) struct Seen {
 }
 
 /// Whether the next datagram is this text.
-fn is_next<R: Wait>(rt: &R, wire: &mut UdpWire, text: &str) -> Result<bool, WireFault> {
+pub(crate) fn is_next<R: Wait>(rt: &R, wire: &mut UdpWire, text: &str) -> Result<bool, WireFault> {
     let mut octets = [0; 2048];
     let (length, _) = wire.recv(rt, &mut octets)?;
     Ok(octets.split_at(length).0 == text.as_bytes())

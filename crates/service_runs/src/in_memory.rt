@@ -3,8 +3,8 @@ ghost use Rattle.std.specs.Prelude.{◌≡◌, IfOk};
 ghost use Rattle.outbox.specs.Seats.{new_taker};
 
 use crate::error::RunError;
+use crate::reports::{emitted_text, fed_text, workers_text};
 use crate::running::{boxes, feed_port, setup};
-use crate::telling::{emitted_text, fed_text, workers_text};
 use crate::vectors::SUBSCRIBE;
 use crew::Crew;
 use network::{Datagram, EmitReport, MemoryWire, emit};
@@ -47,7 +47,7 @@ pub(crate) fn feed_two<R>(rt: R, alloc: Global, is_second_to_fail: bool) -> Resu
 where
     R: Threads + Wait + Clock + Copy + Send + 'static,
 {
-    let Some(setup) = setup() else {
+    let Some(setup) = setup(60, false) else {
         return Err(RunError::Memory);
     };
     let mut wire = MemoryWire::new(alloc, coming(alloc)?);
@@ -55,7 +55,7 @@ where
         wire.fail_receive(1);
     }
     let gate = Arc::new(alloc, Open)?;
-    let boxes = boxes(alloc)?;
+    let boxes = boxes(alloc, &["alice"])?;
     let (crew, mut ports, mut taker) = Crew::start(rt, alloc, &setup, 1, boxes, gate)?;
     let fed = match ports.pop() {
         Some(port) => feed_port(&rt, alloc, &mut wire, port, 2),
@@ -164,7 +164,7 @@ pub(crate) fn transfers_start<R: Wait + Clock>(rt: &R, alloc: Global) -> Result<
     let mut sink = Sink::new(Vec::new(alloc));
     let mut text = emit_all(rt, alloc, two_starts(alloc)?, None, &mut sink)?;
     let Ok(written) = str::from_utf8(sink.writer.as_slice()) else {
-        return Err(RunError::NoWriting);
+        return Err(RunError::Device);
     };
     text.push_str(written)?;
     Ok(text)

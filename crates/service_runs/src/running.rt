@@ -1,4 +1,4 @@
-//! A crew of one worker, and the threads that feed it.
+//! A notifier's setup and mailboxes, and the threads that feed its crew.
 ghost use Rattle.std.specs.Prelude.{◌≡◌, vec_len, IfOk};
 
 use crate::error::RunError;
@@ -17,25 +17,28 @@ const OWN: Addr = Addr {
     port: 5060,
 };
 
-/// The setup of the program `notifyd`, with a seed of zero.
-pub(crate) fn setup() -> Option<Setup> {
+/// The setup of the program `notifyd` with a seed of zero, but that it grants this time at least, and ends with a farewell or
+/// without.
+pub(crate) fn setup(min_time: u32, stop: bool) -> Option<Setup> {
     let limits = Limits::new(
-        60, 86400, 3600, 180, 2147483647, 1024, 4294967295, 64, 64, 64,
+        min_time, 86400, 3600, 180, 2147483647, 1024, 4294967295, 64, 64, 64,
     )?;
     Some(Setup {
         limits,
         seed: [0; 32],
         me: OWN,
-        stop: false,
+        stop,
     })
 }
 
-/// One worker's mailboxes: alice's.
-pub(crate) fn boxes(alloc: Global) -> Result<Vec<Vec<Mailboxes>>, RunError>
+/// One worker, with these mailboxes.
+pub(crate) fn boxes(alloc: Global, mailboxes: &[&str]) -> Result<Vec<Vec<Mailboxes>>, RunError>
     ensures { IfOk result (λ b. vec_len b ≡ 1) }
 {
     let mut names = Vec::new(alloc);
-    names.push(String::from_str(alloc, "alice")?)?;
+    for mailbox in mailboxes {
+        names.push(String::from_str(alloc, mailbox)?)?;
+    }
     let mut held = Vec::new(alloc);
     held.push(Mailboxes::new(alloc, names, ClosingCell::new(alloc)?)?)?;
     let mut boxes = Vec::new(alloc);

@@ -3,7 +3,7 @@ use Rattle.outbox.specs.Seats.{TakerSeat}
 use Rattle.queue_rule.proofs.Ended.{ended_none}
 use Rattle.crew.proofs.Starting.{element}
 use Rattle.crew.proofs.Keeping.{started_end}
-use Rattle.network_runs.proofs.loopback.loopback.Goals as goal
+use Rattle.service_runs.proofs.in_memory.feed_two.Goals as goal
 
 pub emit-emitted-requires-clause-workers : goal.emit-emitted-requires-clause-workers
 emit-emitted-requires-clause-workers g c =

@@ -1,8 +1,9 @@
 //! A phone and a notifier in one process, over sockets of this machine.
 
 use crate::error::RunError;
+use crate::phone::is_next;
+use crate::reports::{emitted_text, fed_text, workers_text};
 use crate::running::{boxes, control_port, feed_port, setup};
-use crate::telling::{emitted_text, fed_text, workers_text};
 use crate::vectors::{ANSWER, NOTIFY, SUBSCRIBE};
 use crew::{Crew, Port};
 use network::{FeedReport, UdpWire, Wire, WireFault, emit};
@@ -21,13 +22,6 @@ use worker::Open;
 struct Got {
     answer: bool,
     notify: bool,
-}
-
-/// Receives a datagram, and tells whether it is this text.
-fn is_next<R: Wait>(rt: &R, wire: &mut UdpWire, text: &str) -> Result<bool, WireFault> {
-    let mut octets = [0; 2048];
-    let (length, _) = wire.recv(rt, &mut octets)?;
-    Ok(octets.split_at(length).0 == text.as_bytes())
 }
 
 /// Subscribes, waits for the answer and the NOTIFY, and ends the notifier.
@@ -119,7 +113,7 @@ pub(crate) fn loopback<R>(rt: R, alloc: Global) -> Result<String, RunError>
 where
     R: Threads + Wait + Net + Clock + Copy + Send + 'static,
 {
-    let Some(setup) = setup() else {
+    let Some(setup) = setup(60, false) else {
         return Err(RunError::Memory);
     };
     let phone = UdpWire::bind(&rt, 0)?;
@@ -131,7 +125,7 @@ where
         control,
     };
     let gate = Arc::new(alloc, Open)?;
-    let boxes = boxes(alloc)?;
+    let boxes = boxes(alloc, &["alice"])?;
     let (crew, mut ports, mut taker) = Crew::start(rt, alloc, &setup, 2, boxes, gate)?;
     let (Some(second), Some(first)) = (ports.pop(), ports.pop()) else {
         return Err(RunError::NoThread);
