@@ -1,6 +1,9 @@
 -- What a replay is seen as.
-use Rattle.std.specs.Prelude.{◌≡◌, List, Option, None, Some}
+use Rattle.std.specs.Prelude.{◌≡◌, List, map, Option, None, Some}
 use Rattle.notifier.specs.declared.event.Event.{Event}
+use Rattle.notifier.specs.declared.event.Out.{Out}
+use Rattle.notifier.specs.Out.{out_of}
+use Rattle.notifier.specs.Book.{step}
 use Rattle.notifier.specs.Run.{run_from}
 use Rattle.notifier.specs.Standing.{Standing}
 
@@ -16,3 +19,9 @@ abbrev pub IsRun : Option Standing → List Event → Option Standing → Type 0
 IsRun None events now = now ≡ None
 IsRun (Some start) events None = Unit {0}
 IsRun (Some start) events (Some now) = now ≡ record { place = start.place; book = run_from start.place start.book events }
+
+-- these are the outs of this event at a desk that began somehow and had handled some events
+pub record AreOutsOf (event : Event) (outs : List Out) : Type 0 where
+  pub start : Standing
+  pub before : List Event
+  pub outs_are : outs ≡ map out_of (step start.place (run_from start.place start.book before) event).outs

@@ -1,6 +1,7 @@
 //! A desk with the list of its events.
 ghost use Rattle.std.specs.Prelude.{◌≡◌, ◌≢◌, ◌↔◌, ◌++◌, ◌∷◌, [], IfOk, OnErr, OnOk, Some, None, Err};
 ghost use Rattle.notifier.specs.Standing.{Standing, IsHandled};
+ghost use Rattle.replays.specs.Recorded.{IsRun};
 
 use notifier::{Desk, DeskError, Event, Out};
 use package::Package;
@@ -79,10 +80,12 @@ impl<P: Package> Replay<P> {
         }
     }
 
-    /// Handles one event as the desk does, and lists it. After want of memory, of the desk or of the list, there are no outs:
-    /// the replay is spent then, and its list is as it was. A spent replay answers Spent.
+    /// Handles one event as the desk does, and lists it. The desk had come to where it stood by the listed events. After want of
+    /// memory, of the desk or of the list, there are no outs: the replay is spent then, and its list is as it was. A spent
+    /// replay answers Spent.
     pub fn handle(&mut self, alloc: Global, event: Event) -> Result<Vec<Out>, DeskError>
         ensures start { self.new.start ≡ self.old.start }
+        ensures ran { OnOk result (IsRun self.old.start self.old.events self.old.now) }
         ensures ok { IfOk result (λ outs.
             (s : Standing) → self.old.now ≡ Some s → IsHandled s event self.new.now outs.items) }
         ensures added { OnOk result (self.new.events ≡ self.old.events ++ event ∷ []) }

@@ -1,4 +1,6 @@
 //! A desk for several threads.
+ghost use Rattle.std.specs.Prelude.{IfOk};
+ghost use Rattle.replays.specs.Recorded.{AreOutsOf};
 
 use crate::replay::Replay;
 use notifier::{DeskError, Event, Out};
@@ -20,13 +22,16 @@ impl<P: Package> SharedDesk<P> {
         }
     }
 
-    /// Handles one event as [`Replay::handle`] does, while no other thread does. It waits for its turn.
+    /// Handles one event as [`Replay::handle`] does, while no other thread does. It waits for its turn. The outs are those of
+    /// the event after some events; which those are no contract can say.
     pub fn handle<R: Wait>(
         &self,
         rt: &R,
         alloc: Global,
         event: Event,
-    ) -> Result<Vec<Out>, DeskError> {
+    ) -> Result<Vec<Out>, DeskError>
+        ensures { IfOk result (λ outs. AreOutsOf event outs.items) }
+    {
         self.replay.lock(rt).handle(alloc, event)
     }
 }
