@@ -3,7 +3,7 @@ use Rattle.std.proofs.Common.{◌≡◌, ◌⊎◌, Bool, true, false, List, [],
 use Rattle.std.proofs.lemmas.List.{reverse-append}
 use Rattle.queue_rule.specs.Values.{end_item}
 use Rattle.inbox.specs.Seats.{SenderSeat, with_sent}
-use Rattle.crew.specs.Ports.{ClosesSome}
+use Rattle.crew.specs.Ports.{ClosesSome, OneStays}
 
 abbrev pub ended : SenderSeat → SenderSeat
 ended s = with_sent s (end_item s.number)
@@ -23,13 +23,21 @@ when_true P Q false q e = cc e
 pub none_ends : (xs : List SenderSeat) → xs ≡ [] → reverse xs ≡ map ended (reverse xs)
 none_ends xs none = ap reverse none ∙ sym (ap (λ l. map ended (reverse l)) none)
 
+stays_one : (olds done : List SenderSeat) (s t : SenderSeat) (b was : Bool) → MatchBool b (t ≡ ended s) (t ≡ s) → (was ≡ false → OneStays olds done) → (was ≡ false) ⊎ (b ≡ false)
+    → OneStays (s ∷ olds) (t ∷ done)
+stays_one olds done s t b was told stays (inl e) = (t, done, refl, inr (stays e))
+stays_one olds done s t true was told stays (inr e) = cc e
+stays_one olds done s t false was told stays (inr e) = (t, done, refl, inl told)
+
 pub closes_one : (all senders front olds done done' : List SenderSeat) (s t : SenderSeat) (b was now : Bool) (Open : Type 0) → all ≡ senders ++ olds → senders ≡ front ++ s ∷ [] → done' ≡ done ++ t ∷ []
     → MatchBool b (t ≡ ended s) (t ≡ s) → ClosesSome olds (reverse done) → (was ≡ true → Open → reverse done ≡ map ended olds) → (now ≡ true → (was ≡ true) × (b ≡ true))
-    → (x : List SenderSeat) × (all ≡ front ++ x) × ClosesSome x (reverse done') × (now ≡ true → Open → reverse done' ≡ map ended x)
-closes_one all senders front olds done done' s t b was now Open whole last more told closed ends both =
+    → (was ≡ false → OneStays olds (reverse done)) → (now ≡ false → (was ≡ false) ⊎ (b ≡ false))
+    → (x : List SenderSeat) × (all ≡ front ++ x) × ClosesSome x (reverse done') × (now ≡ true → Open → reverse done' ≡ map ended x) × (now ≡ false → OneStays x (reverse done'))
+closes_one all senders front olds done done' s t b was now Open whole last more told closed ends both stays either =
     let turned : reverse done' ≡ t ∷ reverse done = ap reverse more ∙ reverse-append done (t ∷ []) in (
       s ∷ olds,
       whole ∙ ap (λ l. l ++ olds) last ∙ append_assoc front (s ∷ []) olds,
       (t, reverse done, turned, either_way b told, closed),
       λ e opened. let k = both e in turned ∙ ap (λ l. t ∷ l) (ends k.0 opened) ∙ ap (λ x. x ∷ map ended olds) (when_true _ _ b told k.1),
+      λ e. rw turned (stays_one olds (reverse done) s t b was told stays (either e)),
     )

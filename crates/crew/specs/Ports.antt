@@ -66,6 +66,11 @@ abbrev pub ClosesSome : List SenderSeat → List SenderSeat → Type 0
 ClosesSome [] new = new ≡ []
 ClosesSome (s ∷ old) new = (t : SenderSeat) × (rest : List SenderSeat) × (new ≡ t ∷ rest) × ((t ≡ s) ⊎ (t ≡ with_sent s (end_item s.number))) × ClosesSome old rest
 
+-- one of the seats at least is as it was
+abbrev pub OneStays : List SenderSeat → List SenderSeat → Type 0
+OneStays [] new = ⊥
+OneStays (s ∷ old) new = (t : SenderSeat) × (rest : List SenderSeat) × (new ≡ t ∷ rest) × ((t ≡ s) ⊎ OneStays old rest)
+
 -- each seat has its end mark; a closed port is as it was
 abbrev pub Closes : PortSeats → PortSeats → Type 0
 Closes old new = (0 < old.still_open → new.seats ≡ map (λ s. with_sent s (end_item s.number)) old.seats) × (old.still_open ≡ 0 → new ≡ old)

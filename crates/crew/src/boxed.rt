@@ -1,5 +1,5 @@
 //! Crews over boxed packages.
-ghost use Rattle.std.specs.Prelude.{◌≡◌, ◌≤◌, ℕ, map, get_or, vec_len, IfOk};
+ghost use Rattle.std.specs.Prelude.{◌≡◌, ◌↔◌, ◌<◌, ◌≤◌, ℕ, map, get_or, vec_len, IfOk, Err};
 ghost use Rattle.package.specs.Content.{Seen};
 ghost use Rattle.notifier.specs.Start.{place_of};
 ghost use Rattle.crew.specs.Started.{IsStarted};
@@ -29,12 +29,14 @@ where
     G: Gate + Drop + 'static,
     requires few_ports { ports ≤ 256 }
     requires few_workers { vec_len boxes ≤ 256 }
-    ensures { IfOk result (λ r. (b : _) → IsStarted
+    ensures started { IfOk result (λ r. (b : _) → IsStarted
         (λ w. record {
           place = place_of setup.now w;
           boxes = map {B = Seen} (λ x. seen x) (get_or boxes.items w b).items;
         })
         (vec_len boxes) ports r.0 r.1.items r.2) }
+    ensures no_workers { result ≡ Err StartError.NoWorkers ↔ vec_len boxes ≡ 0 }
+    ensures no_ports { result ≡ Err StartError.NoPorts ↔ (0 < vec_len boxes) × (ports ≡ 0) }
 {
     Crew::start(rt, alloc, setup, ports, boxes, gate)
 }

@@ -1,8 +1,8 @@
 //! Ports of a crew.
-ghost use Rattle.std.specs.Prelude.{◌≡◌, ◌<◌, ◌≤◌, false, length, reverse, OnOk, MatchBool, MatchResult, vec_len};
+ghost use Rattle.std.specs.Prelude.{◌≡◌, ◌<◌, ◌≤◌, false, length, reverse, OnOk, OnErr, MatchBool, MatchResult, vec_len};
 ghost use Rattle.notifier.specs.declared.event.Event.TheVariants as event;
 ghost use Rattle.notifier.specs.Home as spec;
-ghost use Rattle.crew.specs.Ports.{no_seats, seated, AllOpen, HaveRoom, TakeSeats, Closes, ClosesSome, SendsTo, SendsAt, sent_first, sends_first};
+ghost use Rattle.crew.specs.Ports.{no_seats, seated, AllOpen, HaveRoom, TakeSeats, Closes, ClosesSome, OneStays, SendsTo, SendsAt, sent_first, sends_first};
 ghost use Rattle.crew.specs.PortErrors.{GivesBack, TicksFirst};
 
 use crate::errors::{SendError, TickError};
@@ -74,11 +74,12 @@ impl Port {
 
 impl Port {
     /// Puts the end mark into each inbox, and waits while one is full. The port is closed then, also where a worker is gone,
-    /// which is [`Left`]. Closing again answers Ok and changes nothing.
+    /// which is [`Left`]: its seat is as it was then. Closing again answers Ok and changes nothing.
     pub fn close<R: Wait>(&mut self, rt: &R) -> Result<(), Left>
         ensures closed { self.new.still_open ≡ 0 }
         ensures ends { MatchResult result (λ _. Closes self.old self.new)
             (λ _. ClosesSome self.old.seats self.new.seats) }
+        ensures left { OnErr result (OneStays self.old.seats self.new.seats) }
         ensures again { self.old.still_open ≡ 0 → (result ≡ Ok tt) × (self.new ≡ self.old) }
     {
         let mut all_there = true;
