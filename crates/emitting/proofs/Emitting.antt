@@ -1,5 +1,5 @@
 -- What became of the outs, one by one.
-use Rattle.std.proofs.Common.{◌≡◌, ℕ, zero, suc, ◌+◌, ◌<◌, Bool, List, [], ◌∷◌, ◌++◌, length, Option, refl, ap, sym, ◌∙◌, subst, append_assoc, arith, length-append}
+use Rattle.std.proofs.Common.{◌≡◌, ℕ, zero, suc, ◌+◌, ◌<◌, ◌⊎◌, Bool, true, false, List, [], ◌∷◌, ◌++◌, length, Option, refl, ap, sym, ◌∙◌, subst, append_assoc, arith, length-append, ⊎_elim, inl, inr}
 use Rattle.std.specs.List.{filter}
 use Rattle.std.proofs.lemmas.List.{append-nil, map-append}
 use Rattle.std.proofs.lemmas.List.Elements.{filter-append, filter_map-append}
@@ -23,7 +23,7 @@ use Rattle.wires.specs.Wires.{Grows}
 use Rattle.emitting.specs.declared.sending.Fate.{Fate}
 use Rattle.emitting.specs.declared.sending.Fate.TheVariants.{Sent, Started, Failed}
 use Rattle.emitting.specs.declared.sending.EmitReport.{EmitReport}
-use Rattle.emitting.specs.Emitted.{Fates, MayMeet, Writes, line_of, counted, datagram_sent, sent_datagrams, lines, is_sent, is_started, is_failed, fails_to_start, fails_to_send, count, rises, AllMeet, IsCounted, WireSeen, WriterSeen, IsEmitted}
+use Rattle.emitting.specs.Emitted.{Fates, MayMeet, Writes, line_of, counted, is_start, datagram_sent, sent_datagrams, lines, is_sent, is_started, is_failed, fails_to_start, fails_to_send, count, rises, AllMeet, IsCounted, WireSeen, WriterSeen, IsEmitted}
 use Rattle.emitting.proofs.Telling.{grows_none, grows_more, grows_same}
 
 abbrev pub one : Out → Fate → Fates
@@ -96,6 +96,23 @@ wrote old new (out.Start tag refer_to) Failed w none = absurd (omega arith)
 lines_one : (log : Fates) (o : Out) (f : Fate) → lines (log ++ one o f) ≡ lines log ++ line_of o
 lines_one log o f =
     flat_map-append (λ (x : Out × Fate). line_of x.0) log (one o f) ∙ ap (λ l. lines log ++ l) (append-nil (line_of o))
+
+-- ---- what was flushed
+
+module _ {S : Type 0} (flushed : S → Bool) where
+  kept : (first old new : S) → new ≡ old → (old ≡ first) ⊎ (flushed old ≡ true) → (new ≡ first) ⊎ (flushed new ≡ true)
+  kept first old new same was = ⊎_elim (λ e. inl (same ∙ e)) (λ e. inr (ap flushed same ∙ e)) was
+
+  -- nothing was written, or what was written is flushed: the same holds after one out more
+  pub flushed_more : (first old new : S) (o : Out) (f : Fate) (r : EmitReport) → MayMeet o f
+      → (r.failed ≡ 0 → (old ≡ first) ⊎ (flushed old ≡ true)) → (f ≡ Started → flushed new ≡ true) → (is_start o ≡ false → new ≡ old)
+      → (counted r f).failed ≡ 0 → (new ≡ first) ⊎ (flushed new ≡ true)
+  flushed_more first old new o Started r may was written stays none = inr (written refl)
+  flushed_more first old new o Failed r may was written stays none = absurd (omega arith)
+  flushed_more first old new (out.Answer to octets) Sent r may was written stays none = kept first old new (stays refl) (was none)
+  flushed_more first old new (out.Notify tag number terminated to octets) Sent r may was written stays none =
+      kept first old new (stays refl) (was none)
+  flushed_more first old new (out.Start tag refer_to) Sent r may was written stays none = absurd may
 
 -- ---- the loop
 

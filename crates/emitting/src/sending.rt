@@ -1,8 +1,8 @@
 //! What sends out what workers post.
-ghost use Rattle.std.specs.Prelude.{◌≡◌, ◌+◌, ◌∷◌, [], true};
+ghost use Rattle.std.specs.Prelude.{◌≡◌, ◌⊎◌, ◌+◌, ◌∷◌, [], true, false};
 ghost use Rattle.queue_rule.specs.Ended.{count_ended, AllEnded};
 ghost use Rattle.wires.specs.Wires.{Grows};
-ghost use Rattle.emitting.specs.Emitted.{Fates, IsEmitted, MayMeet, Writes, counted, sent_datagrams, count, fails_to_send, fails_to_start, rises};
+ghost use Rattle.emitting.specs.Emitted.{Fates, IsEmitted, MayMeet, Writes, counted, is_start, sent_datagrams, count, fails_to_send, fails_to_start, rises};
 
 use crate::writing::write_start;
 use notifier::Out;
@@ -59,6 +59,7 @@ pub fn put_out<R: Wait, W: Wire, F: Write>(
         ≡ rises (count fails_to_start ((out.now, result) ∷ [])) sink.old.failures }
     ensures writes { Writes (F.contents sink.old.writer) (F.contents sink.new.writer) out.now result }
     ensures flushed { result ≡ Fate.Started → sink.new.is_flushed ≡ true }
+    ensures stays { is_start out.now ≡ false → sink.new ≡ sink.old }
 {
     match out {
         Out::Answer { to, bytes } => match wire.send(rt, *to, bytes.as_slice()) {
@@ -130,6 +131,7 @@ pub fn emit<R: Wait + Clock, W: Wire, F: Write>(
     ensures outbox { taker.new.outbox ≡ taker.old.outbox }
     ensures workers { taker.new.workers ≡ taker.old.workers }
     ensures ended { AllEnded taker.old.workers taker.new.got }
+    ensures flushed { result.failed ≡ 0 → (sink.new ≡ sink.old) ⊎ (sink.new.is_flushed ≡ true) }
 {
     let mut report = EmitReport {
         sent: 0,

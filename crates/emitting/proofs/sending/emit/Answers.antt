@@ -1,41 +1,55 @@
-use Rattle.std.proofs.Common.{◌-◌, arith}
-use Rattle.emitting.proofs.Emitting.{running_first, running_end, running_out, running_done, took_as}
+use Rattle.std.proofs.Common.{◌-◌, arith, refl, inl}
+use Rattle.emitting.proofs.Emitting.{running_first, running_end, running_out, running_done, took_as, flushed_more}
 use Rattle.emitting.proofs.sending.emit.Goals as goal
 
 pub loop-init : goal.loop-init
-loop-init g c = running_first c.args.taker.now c.args.workers _ _ _ c.requires.workers c.requires.none_ended
+loop-init g c = record {
+  running = running_first c.args.taker.now c.args.workers _ _ _ c.requires.workers c.requires.none_ended;
+  flushed = λ none. inl refl;
+}
 
 pub returns-then-left-eq0-clause-ended : goal.returns-then-left-eq0-clause-ended
-returns-then-left-eq0-clause-ended g c = running_done c.loop.invariant c.if-left-eq0.true
+returns-then-left-eq0-clause-ended g c = running_done c.loop.invariant.running c.if-left-eq0.true
 
 pub loop-preserved-in-Some-Ended : goal.loop-preserved-in-Some-Ended
 loop-preserved-in-Some-Ended g c =
-    let some = c.if-left-eq0.false in let at = c.in-Some-Ended in
-    running_end c.loop.invariant c.take.new.self (c.loop.left - 1) _ (took_as _ _ _ _ at.field-0-is at.ensures) (omega arith)
+    let some = c.if-left-eq0.false in let at = c.in-Some-Ended in record {
+      running = running_end c.loop.invariant.running c.take.new.self (c.loop.left - 1) _ (took_as _ _ _ _ at.field-0-is at.ensures) (omega arith);
+      flushed = c.loop.invariant.flushed;
+    }
 
 pub returns-then-left-eq0-clause-emitted : goal.returns-then-left-eq0-clause-emitted
-returns-then-left-eq0-clause-emitted g c = (c.loop.invariant.log, c.loop.invariant.emitted)
+returns-then-left-eq0-clause-emitted g c = (c.loop.invariant.running.log, c.loop.invariant.running.emitted)
 
 pub loop-preserved-in-Some-Out : goal.loop-preserved-in-Some-Out
 loop-preserved-in-Some-Out g c =
     let at = c.in-Some-Out in let put = c.put_out-fate.ensures in
-    rw c.add.ensures (running_out c.loop.invariant c.take.new.self _ at.out c.put_out-fate.result (g.W.Wire.given c.put_out-fate.new.wire)
-    (record { taken = g.W.Wire.taken c.put_out-fate.new.wire; failures = g.W.Wire.failures c.put_out-fate.new.wire })
-    (record { contents = g.F.Write.contents c.put_out-fate.new.sink.writer; failures = c.put_out-fate.new.sink.failures })
-    (took_as _ _ _ _ at.field-0-is at.ensures) put.fate put.given put.taken put.wire_failures put.failures put.writes)
+    rw c.add.ensures (record {
+      running = running_out c.loop.invariant.running c.take.new.self _ at.out c.put_out-fate.result (g.W.Wire.given c.put_out-fate.new.wire)
+          (record { taken = g.W.Wire.taken c.put_out-fate.new.wire; failures = g.W.Wire.failures c.put_out-fate.new.wire })
+          (record { contents = g.F.Write.contents c.put_out-fate.new.sink.writer; failures = c.put_out-fate.new.sink.failures })
+          (took_as _ _ _ _ at.field-0-is at.ensures) put.fate put.given put.taken put.wire_failures put.failures put.writes;
+      flushed = flushed_more (λ s. s.is_flushed) _ _ _ at.out c.put_out-fate.result _ put.fate c.loop.invariant.flushed put.flushed put.stays;
+    })
 
 pub loop-preserved-in-Some-Out-2 : goal.loop-preserved-in-Some-Out-2
 loop-preserved-in-Some-Out-2 g c =
     let at = c.in-Some-Out in let put = c.put_out-fate.ensures in
-    rw c.add.ensures (running_out c.loop.invariant c.take.new.self _ at.out c.put_out-fate.result (g.W.Wire.given c.put_out-fate.new.wire)
-    (record { taken = g.W.Wire.taken c.put_out-fate.new.wire; failures = g.W.Wire.failures c.put_out-fate.new.wire })
-    (record { contents = g.F.Write.contents c.put_out-fate.new.sink.writer; failures = c.put_out-fate.new.sink.failures })
-    (took_as _ _ _ _ at.field-0-is at.ensures) put.fate put.given put.taken put.wire_failures put.failures put.writes)
+    rw c.add.ensures (record {
+      running = running_out c.loop.invariant.running c.take.new.self _ at.out c.put_out-fate.result (g.W.Wire.given c.put_out-fate.new.wire)
+          (record { taken = g.W.Wire.taken c.put_out-fate.new.wire; failures = g.W.Wire.failures c.put_out-fate.new.wire })
+          (record { contents = g.F.Write.contents c.put_out-fate.new.sink.writer; failures = c.put_out-fate.new.sink.failures })
+          (took_as _ _ _ _ at.field-0-is at.ensures) put.fate put.given put.taken put.wire_failures put.failures put.writes;
+      flushed = flushed_more (λ s. s.is_flushed) _ _ _ at.out c.put_out-fate.result _ put.fate c.loop.invariant.flushed put.flushed put.stays;
+    })
 
 pub loop-preserved-in-Some-Out-3 : goal.loop-preserved-in-Some-Out-3
 loop-preserved-in-Some-Out-3 g c =
     let at = c.in-Some-Out in let put = c.put_out-fate.ensures in
-    rw c.add.ensures (running_out c.loop.invariant c.take.new.self _ at.out c.put_out-fate.result (g.W.Wire.given c.put_out-fate.new.wire)
-    (record { taken = g.W.Wire.taken c.put_out-fate.new.wire; failures = g.W.Wire.failures c.put_out-fate.new.wire })
-    (record { contents = g.F.Write.contents c.put_out-fate.new.sink.writer; failures = c.put_out-fate.new.sink.failures })
-    (took_as _ _ _ _ at.field-0-is at.ensures) put.fate put.given put.taken put.wire_failures put.failures put.writes)
+    rw c.add.ensures (record {
+      running = running_out c.loop.invariant.running c.take.new.self _ at.out c.put_out-fate.result (g.W.Wire.given c.put_out-fate.new.wire)
+          (record { taken = g.W.Wire.taken c.put_out-fate.new.wire; failures = g.W.Wire.failures c.put_out-fate.new.wire })
+          (record { contents = g.F.Write.contents c.put_out-fate.new.sink.writer; failures = c.put_out-fate.new.sink.failures })
+          (took_as _ _ _ _ at.field-0-is at.ensures) put.fate put.given put.taken put.wire_failures put.failures put.writes;
+      flushed = flushed_more (λ s. s.is_flushed) _ _ _ at.out c.put_out-fate.result _ put.fate c.loop.invariant.flushed put.flushed put.stays;
+    })
