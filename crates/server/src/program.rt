@@ -1,5 +1,5 @@
 //! The program, over any reader and writer.
-ghost use Rattle.std.specs.Prelude.{◌≡◌, ◌≢◌, ◌<◌, ◌≤◌, ◌∷◌, [], ◌++◌, List, map, option_map, string_bytes, ◌⊎◌, IfOk, OnOk, OnErr, IfErr, Err};
+ghost use Rattle.std.specs.Prelude.{◌≡◌, ◌≢◌, ◌<◌, ◌≤◌, ◌∷◌, [], ◌++◌, true, List, map, option_map, string_bytes, ◌⊎◌, IfOk, OnOk, OnErr, IfErr, Err};
 ghost use Rattle.scripts.specs.declared.arguments.Arguments.{Arguments};
 ghost use Rattle.scripts.specs.declared.arguments.ArgumentsError.TheVariants as reasons;
 ghost use Rattle.server.specs.Boxes.{box_seen};
@@ -158,10 +158,13 @@ fn run_one<R: Read, W: Write>(
     requires { call.now.workers ≡ 1 }
     ensures page { OnOk result
         (WritesPage R.remaining W.contents (starts_for call.now) source.old source.new sink.old sink.new) }
+    ensures flushed { OnOk result (sink.new.is_flushed ≡ true) }
     ensures bad_script { result ≡ Err ScriptError.BadScript → ReadsNoScript R.remaining source.old source.new }
     ensures unwritten { result ≢ Err ScriptError.Device → OnErr result (sink.new ≡ sink.old) }
     ensures device { result ≡ Err ScriptError.Device →
         MeetsFault R.remaining W.contents (starts_for call.now) source.old source.new sink.old sink.new }
+    ensures no_failure { result ≢ Err ScriptError.Device →
+        (source.new.failures ≡ source.old.failures) × (sink.new.failures ≡ sink.old.failures) }
 {
     let names = names_for(alloc, call.mailboxes.as_slice(), 1, 0)?;
     let boxes = boxes_with(alloc, names)?;
@@ -188,11 +191,14 @@ where
     requires few { call.now.workers ≤ 256 }
     ensures page { OnOk result
         (WritesPage R.remaining W.contents (starts_for call.now) source.old source.new sink.old sink.new) }
+    ensures flushed { OnOk result (sink.new.is_flushed ≡ true) }
     ensures bad_script { result ≡ Err ScriptError.BadScript → ReadsNoScript R.remaining source.old source.new }
     ensures unwritten { result ≢ Err ScriptError.Device → OnErr result (sink.new ≡ sink.old) }
     ensures device { result ≡ Err ScriptError.Device →
         MeetsFault R.remaining W.contents (starts_for call.now) source.old source.new sink.old sink.new
         ⊎ StartsNoThread R.remaining source.old source.new sink.old sink.new }
+    ensures no_failure { result ≢ Err ScriptError.Device →
+        (source.new.failures ≡ source.old.failures) × (sink.new.failures ≡ sink.old.failures) }
 {
     let boxes = boxes_for(alloc, call.mailboxes.as_slice(), call.workers)?;
     script_many(
@@ -219,10 +225,13 @@ where
     requires few { call.now.workers ≤ 256 }
     ensures page { OnOk result
         (WritesPage R.remaining W.contents (starts_for call.now) source.old source.new sink.old sink.new) }
+    ensures flushed { OnOk result (sink.new.is_flushed ≡ true) }
     ensures bad_script { result ≡ Err ScriptError.BadScript → ReadsNoScript R.remaining source.old source.new }
     ensures unwritten { result ≢ Err ScriptError.Device → OnErr result (sink.new ≡ sink.old) }
     ensures device { result ≡ Err ScriptError.Device →
         IsHindered R.remaining W.contents (starts_for call.now) source.old source.new sink.old sink.new }
+    ensures no_failure { result ≢ Err ScriptError.Device →
+        (source.new.failures ≡ source.old.failures) × (sink.new.failures ≡ sink.old.failures) }
 {
     if call.workers == 1 {
         return run_one(alloc, call, source, sink);
@@ -242,6 +251,7 @@ where
     H: Threads + Wait + Copy + Send + 'static,
     ensures done { OnOk result (AsksFor words.now (λ starts.
         WritesPage R.remaining W.contents starts source.old source.new sink.old sink.new)) }
+    ensures flushed { OnOk result (sink.new.is_flushed ≡ true) }
     ensures done_is { IfErr result (λ status. status ≢ Status.Done) }
     ensures bad_arguments { result ≡ Err Status.BadArguments → AsksForNone words.now × (source.new ≡ source.old) }
     ensures bad_script { result ≡ Err Status.BadScript → AsksFor words.now (λ starts.
@@ -249,6 +259,8 @@ where
     ensures device { result ≡ Err Status.DeviceFault →
         AsksFor words.now (λ starts. IsHindered R.remaining W.contents starts source.old source.new sink.old sink.new) }
     ensures unwritten { result ≢ Err Status.DeviceFault → OnErr result (sink.new ≡ sink.old) }
+    ensures no_failure { result ≢ Err Status.DeviceFault →
+        (source.new.failures ≡ source.old.failures) × (sink.new.failures ≡ sink.old.failures) }
 {
     let call = match parse_arguments(alloc, words) {
         Ok(call) => call,
@@ -279,6 +291,7 @@ where
     // What was written is the page of all that was read.
     ensures done { result ≡ Status.Done → AsksFor words.now (λ starts.
         WritesPage R.remaining W.contents starts source.old source.new sink.old sink.new) }
+    ensures flushed { result ≡ Status.Done → sink.new.is_flushed ≡ true }
 
     // Only words that ask for nothing are bad arguments, and then nothing is read.
     ensures bad_arguments { result ≡ Status.BadArguments → AsksForNone words.now × (source.new ≡ source.old) }
@@ -288,6 +301,8 @@ where
     // Only a read or a write that failed is a device fault, or that no thread could be started for several workers.
     ensures device { result ≡ Status.DeviceFault →
         AsksFor words.now (λ starts. IsHindered R.remaining W.contents starts source.old source.new sink.old sink.new) }
+    ensures no_failure { result ≢ Status.DeviceFault →
+        (source.new.failures ≡ source.old.failures) × (sink.new.failures ≡ sink.old.failures) }
 
     // Nothing is written but a page or a front of it.
     ensures unwritten { result ≢ Status.Done → result ≢ Status.DeviceFault → sink.new ≡ sink.old }
