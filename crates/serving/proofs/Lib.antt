@@ -1,2 +1,3 @@
 pub mod Named
 pub mod Started
+pub mod Refused

@@ -1,3 +1,3 @@
 pub mod Plans
 pub mod Serving
-pub mod Statuses
+pub mod Refused

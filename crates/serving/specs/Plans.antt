@@ -1,5 +1,5 @@
 -- What the words behind `notifyd serve` ask for, and what its workers start from.
-use Rattle.std.specs.Prelude.{◌≡◌, ℕ, ◌≤◌, not, List, [], ◌∷◌, ◌++◌, Option, Some, None}
+use Rattle.std.specs.Prelude.{◌≡◌, ◌≢◌, ℕ, ◌≤◌, not, List, [], ◌∷◌, ◌++◌, Option, Some, None}
 use Rattle.std.specs.List.{All}
 use Rattle.sip_text.specs.declared.address.Addr.{Addr}
 use Rattle.notifier.specs.Limits.{Limits, IsWithin}
@@ -56,6 +56,10 @@ IsSeed (Some asked) seed = seed ≡ asked
 
 -- ---- all of it
 
+-- phones reach a service at its contact, or where it listens, unless that is each of its addresses
+abbrev pub IsReached : Choices → Type 0
+IsReached choices = choices.contact ≡ None → choices.listen.ip ≢ 0 ∷ 0 ∷ 0 ∷ 0 ∷ []
+
 -- the words choose this, and name these mailboxes
 pub record AreRead (words : List (List ℕ)) (choices : Choices) (mailboxes : List (List ℕ)) : Type 0 where
   pub settings : List Setting
@@ -66,6 +70,8 @@ pub record AreRead (words : List (List ℕ)) (choices : Choices) (mailboxes : Li
 -- the words ask for this
 pub record IsPlan (words : List (List ℕ)) (plan : Plan) : Type 0 where
   pub read : AreRead words plan.choices plan.mailboxes.items
+  pub reached : IsReached plan.choices
+  pub some : plan.mailboxes.items ≢ []
   pub limits : plan.limits ≡ limits_of plan.choices.numbers
   pub seed : IsSeed plan.choices.seed plan.seed
   pub workers : IsCount plan.choices.numbers.workers plan.workers

@@ -1,6 +1,7 @@
 //! Why a service doesn't run.
 ghost use Rattle.std.specs.Prelude.{◌≡◌};
-ghost use Rattle.serving.specs.Statuses.{status_of, status_of_words};
+ghost use Rattle.serving.specs.declared.error.ServeError.TheVariants as error;
+ghost use Rattle.serving.specs.Refused.{status_of, status_of_words};
 
 use options::{Flag, OptionsError, Place};
 use service::RunError;
@@ -77,30 +78,42 @@ impl ServeError {
 }
 
 impl From<OptionsError> for ServeError {
+    ghost from_gives = { λ wrong e. e ≡ error.Options wrong };
+
     fn from(error: OptionsError) -> ServeError {
         ServeError::Options(error)
     }
 }
 
 impl From<NoMemory> for ServeError {
+    ghost from_gives = { λ _ e. e ≡ error.NoMemory };
+
     fn from(_refused: NoMemory) -> ServeError {
         ServeError::NoMemory
     }
 }
 
 impl From<AllocError> for ServeError {
+    ghost from_gives = { λ _ e. e ≡ error.NoMemory };
+
     fn from(_refused: AllocError) -> ServeError {
         ServeError::NoMemory
     }
 }
 
 impl<T: Drop> From<AllocFailed<T>> for ServeError {
+    ghost from_gives = { λ _ e. e ≡ error.NoMemory };
+
     fn from(_refused: AllocFailed<T>) -> ServeError {
         ServeError::NoMemory
     }
 }
 
 impl From<RunError> for ServeError {
+    ghost use Rattle.serving.specs.Refused.{IsOther};
+
+    ghost from_gives = { λ _ e. IsOther e };
+
     fn from(error: RunError) -> ServeError {
         match error {
             RunError::NoThread => ServeError::System,
@@ -110,6 +123,8 @@ impl From<RunError> for ServeError {
 }
 
 impl From<io::Error> for ServeError {
+    ghost from_gives = { λ _ e. e ≡ error.Device };
+
     fn from(_error: io::Error) -> ServeError {
         ServeError::Device
     }

@@ -1,8 +1,9 @@
 //! The mailboxes that the settings of a service name, by themselves or by files.
-ghost use Rattle.std.specs.Prelude.{IfOk};
+ghost use Rattle.std.specs.Prelude.{IfOk, IfErr};
 ghost use Rattle.std.specs.List.{All};
 ghost use Rattle.options.specs.Settings.{IsMailbox};
 ghost use Rattle.serving.specs.Plans.{Names, AreNamed};
+ghost use Rattle.serving.specs.Refused.{IsOther};
 
 use crate::error::ServeError;
 use options::{Setting, mailbox_in};
@@ -18,7 +19,8 @@ fn read_names<B: BufRead + Drop>(
     reader: B,
     path: &Text,
 ) -> Result<Vec<Text>, ServeError>
-    ensures { IfOk result (λ names. All IsMailbox names.items) }
+    ensures names { IfOk result (λ names. All IsMailbox names.items) }
+    ensures refused { IfErr result IsOther }
 {
     let mut names = Vec::new(alloc);
     let mut number = 0u64;
@@ -38,7 +40,8 @@ fn read_names<B: BufRead + Drop>(
 
 /// The mailboxes that the file at this path names.
 fn names_at<R: Files + AllocGlobal>(rt: &R, path: &Text) -> Result<Vec<Text>, ServeError>
-    ensures { IfOk result (λ names. All IsMailbox names.items) }
+    ensures names { IfOk result (λ names. All IsMailbox names.items) }
+    ensures refused { IfErr result IsOther }
 {
     let alloc = rt.alloc();
     match fs::open(rt, path.as_str()) {
@@ -49,7 +52,8 @@ fn names_at<R: Files + AllocGlobal>(rt: &R, path: &Text) -> Result<Vec<Text>, Se
 
 /// The mailboxes that one setting names.
 fn names_of<R: Files + AllocGlobal>(rt: &R, setting: &Setting) -> Result<Vec<Text>, ServeError>
-    ensures { IfOk result (λ names. Names setting.now names.items) }
+    ensures names { IfOk result (λ names. Names setting.now names.items) }
+    ensures refused { IfErr result IsOther }
 {
     match setting {
         Setting::Mailbox(name) => {
@@ -71,7 +75,8 @@ pub(crate) fn mailboxes_of<R: Files + AllocGlobal>(
     rt: &R,
     settings: &[Setting],
 ) -> Result<Vec<Text>, ServeError>
-    ensures { IfOk result (λ names. AreNamed settings.now names.items) }
+    ensures names { IfOk result (λ names. AreNamed settings.now names.items) }
+    ensures refused { IfErr result IsOther }
 {
     let mut names = Vec::new(rt.alloc());
     for setting in settings {

@@ -1,9 +1,12 @@
 //! What a service begins with, by the words behind `serve`.
-ghost use Rattle.std.specs.Prelude.{◌≡◌, ◌≤◌, ℕ, not, Some, IfOk};
+ghost use Rattle.std.specs.Prelude.{◌≡◌, ◌↔◌, ◌≤◌, ℕ, not, Some, IsTrue, IfOk, IfErr, OnErr};
+ghost use Rattle.notifier.specs.Limits.{AreLimits};
 ghost use Rattle.options.specs.Choices.{choices_of};
 ghost use Rattle.options.specs.Settings.{AreSettings};
+ghost use Rattle.serving.specs.declared.error.ServeError.TheVariants as error;
 ghost use Rattle.serving.specs.Plans as spec;
-ghost use Rattle.serving.specs.Plans.{AreNamed, IsCount, IsSeed, IsPlan};
+ghost use Rattle.serving.specs.Plans.{AreNamed, IsCount, IsSeed, IsReached, IsPlan};
+ghost use Rattle.serving.specs.Refused.{IsRefusal};
 
 use crate::error::ServeError;
 use crate::mailboxes::mailboxes_of;
@@ -27,7 +30,9 @@ pub struct Plan {
 
 /// The limits that the numbers ask for. Their times may not go together.
 fn limits_of(numbers: &Numbers) -> Result<Limits, ServeError>
-    ensures { IfOk result (λ limits. limits ≡ spec.limits_of numbers.now) }
+    ensures limits { IfOk result (λ limits. limits ≡ spec.limits_of numbers.now) }
+    ensures times { OnErr result (¬ (AreLimits (spec.limits_of numbers.now))) }
+    ensures refused { IfErr result (λ e. e ≡ error.Times) }
 {
     Limits::new(
         numbers.min_time,
@@ -46,7 +51,8 @@ fn limits_of(numbers: &Numbers) -> Result<Limits, ServeError>
 
 /// The seed that was asked for, or 32 bytes of the system's randomness.
 fn seed_of<R: RandomSource>(rt: &R, asked: Option<[u8; 32]>) -> Result<[u8; 32], ServeError>
-    ensures { IfOk result (IsSeed asked) }
+    ensures seed { IfOk result (IsSeed asked) }
+    ensures refused { IfErr result (λ e. e ≡ error.System) }
 {
     if let Some(seed) = asked {
         return Ok(seed);
@@ -78,16 +84,20 @@ fn workers_of<R: Threads>(rt: &R, asked: Option<u32>) -> u32
 }
 
 /// Whether phones are told an address where they reach the service: one that listens at all its addresses must name one.
-fn is_reached(choices: &Choices) -> bool {
+fn is_reached(choices: &Choices) -> bool
+    ensures { IsTrue result ↔ IsReached choices.now }
+{
     choices.contact.is_some() || choices.listen.ip != [0; 4]
 }
 
 /// What the words ask for, but for the mailboxes of files.
+#[tactic(auto, using(crate::proofs::Refused::other_is))]
 fn read_words<R: Files + AllocGlobal>(
     rt: &R,
     words: &[Text],
 ) -> Result<(Choices, Vec<Text>), ServeError>
-    ensures { IfOk result (λ r. spec.AreRead words.now r.0 r.1.items) }
+    ensures read { IfOk result (λ r. spec.AreRead words.now r.0 r.1.items) }
+    ensures refused { IfErr result (IsRefusal words.now) }
 {
     let settings = parse_settings(rt.alloc(), words)?;
     let mailboxes = mailboxes_of(rt, settings.as_slice())?;
@@ -95,10 +105,12 @@ fn read_words<R: Files + AllocGlobal>(
 }
 
 /// What the words ask for: a file is read and the system is asked for randomness, and no socket is opened.
+#[tactic(auto, using(crate::proofs::Refused::other_is))]
 pub fn plan_of<R>(rt: &R, words: &[Text]) -> Result<Plan, ServeError>
 where
     R: Threads + Files + RandomSource + AllocGlobal,
-    ensures { IfOk result (IsPlan words.now) }
+    ensures plan { IfOk result (IsPlan words.now) }
+    ensures refused { IfErr result (IsRefusal words.now) }
 {
     let (choices, mailboxes) = read_words(rt, words)?;
     if !is_reached(&choices) {

@@ -1,7 +1,8 @@
 //! `notifyd serve`.
-ghost use Rattle.std.specs.Prelude.{◌≡◌, ◌≤◌, get_or, vec_len, IfOk};
+ghost use Rattle.std.specs.Prelude.{◌≡◌, ◌≤◌, get_or, vec_len, IfOk, IfErr};
 ghost use Rattle.crew.specs.Ready.{start_of};
 ghost use Rattle.server.specs.Boxes.{box_seen};
+ghost use Rattle.serving.specs.Refused.{IsOther, IsRefusal};
 ghost use Rattle.serving.specs.Serving.{IsWork, Ran, Serves, new_sink};
 
 use crate::error::ServeError;
@@ -37,7 +38,9 @@ pub struct Served<F> {
 /// What the threads of a service share, which begins now: twice.
 fn begin<R: Clock + AllocGlobal>(
     rt: &R,
-) -> Result<(Arc<Shared, Global>, Arc<Shared, Global>), ServeError> {
+) -> Result<(Arc<Shared, Global>, Arc<Shared, Global>), ServeError>
+    ensures { IfErr result IsOther }
+{
     let shared = Arc::new(rt.alloc(), Shared::new(Instant::now(rt)?))?;
     let theirs = Arc::try_clone(&shared)?;
     Ok((shared, theirs))
@@ -82,7 +85,8 @@ where
     R: Threads + Wait + Clock + Eprint + AllocGlobal + Copy + Send + 'static,
     F: Write + Drop,
     requires few_workers { vec_len boxes ≤ 256 }
-    ensures { IfOk result (λ s. (b : _)
+    ensures refused { IfErr result IsOther }
+    ensures ran { IfOk result (λ s. (b : _)
         → Ran F.contents (λ w. start_of box_seen work.setup w (get_or boxes.items w b).items) (vec_len boxes)
         work.desk.mailboxes.items exit.sink s.sink s.outcome) }
 {
@@ -96,6 +100,7 @@ where
 }
 
 /// Runs the service that the words behind `serve` ask for until a CLOSE or a fault, and says on standard error where it is.
+#[tactic(auto, using(crate::proofs::Refused::other_is))]
 pub fn serve_words<R, F>(rt: R, words: &[Text], writer: F) -> Result<Served<F>, ServeError>
 where
     R: Threads
@@ -111,7 +116,9 @@ where
         + 'static,
     F: Write + Drop,
     // It ran as the words ask for it: what its ports sent, what its workers did with it, and what became of their outs.
-    ensures { IfOk result (λ s. Serves F.contents words.now (new_sink writer) s.sink s.outcome) }
+    ensures served { IfOk result (λ s. Serves F.contents words.now (new_sink writer) s.sink s.outcome) }
+    // A cause that is in the words stands in them.
+    ensures refused { IfErr result (IsRefusal words.now) }
 {
     let plan = plan_of(&rt, words)?;
     let boxes = boxes_for(rt.alloc(), plan.mailboxes.as_slice(), plan.workers)?;

@@ -1,5 +1,6 @@
 //! The sockets of a service.
-ghost use Rattle.std.specs.Prelude.{◌≡◌, IfOk};
+ghost use Rattle.std.specs.Prelude.{◌≡◌, IfOk, IfErr};
+ghost use Rattle.serving.specs.Refused.{IsOther};
 ghost use Rattle.serving.specs.Serving.{IsAt};
 
 use crate::error::ServeError;
@@ -22,7 +23,8 @@ pub(crate) struct Sockets {
 
 /// Two wires over a socket at this address, which an option named.
 fn bind<R: Wait + Net>(rt: &R, place: Place, addr: Addr) -> Result<(UdpWire, UdpWire), ServeError>
-    ensures { IfOk result (λ r. IsAt addr r.0.local) }
+    ensures at { IfOk result (λ r. IsAt addr r.0.local) }
+    ensures refused { IfErr result IsOther }
 {
     match UdpWire::bind_at(rt, addr) {
         Ok(wires) => Ok(wires),
@@ -32,7 +34,8 @@ fn bind<R: Wait + Net>(rt: &R, place: Place, addr: Addr) -> Result<(UdpWire, Udp
 
 /// What wakes the threads that listen at these addresses.
 fn bell_for<R: Wait + Net>(rt: &R, sip: Addr, control: Addr) -> Result<Bell<UdpWire>, ServeError>
-    ensures { IfOk result (λ bell. bell.sip ≡ sip) }
+    ensures sip { IfOk result (λ bell. bell.sip ≡ sip) }
+    ensures refused { IfErr result IsOther }
 {
     let any = Addr {
         ip: [0; 4],
@@ -46,7 +49,8 @@ fn bell_for<R: Wait + Net>(rt: &R, sip: Addr, control: Addr) -> Result<Bell<UdpW
 
 /// Opens the sockets.
 pub(crate) fn open<R: Wait + Net>(rt: &R, choices: &Choices) -> Result<Sockets, ServeError>
-    ensures { IfOk result (λ s. IsAt choices.now.listen s.bell.sip) }
+    ensures at { IfOk result (λ s. IsAt choices.now.listen s.bell.sip) }
+    ensures refused { IfErr result IsOther }
 {
     let (sip, outgoing) = bind(rt, Place::Listen, choices.listen)?;
     let (lines, replies) = bind(rt, Place::Control, choices.control)?;

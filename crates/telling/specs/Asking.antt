@@ -1,5 +1,5 @@
 -- How `notifyd tell` asks.
-use Rattle.std.specs.Prelude.{◌≡◌, ℕ, zero, suc, ◌≤◌, List, take}
+use Rattle.std.specs.Prelude.{◌≡◌, ℕ, zero, suc, ◌≤◌, List, length, take}
 use Rattle.scripts.specs.Devices.{one_more}
 use Rattle.telling.specs.declared.asking.Outcome.{Outcome}
 use Rattle.telling.specs.declared.asking.Outcome.TheVariants as outcome
@@ -17,12 +17,12 @@ abbrev pub rises : ℕ → ℕ → ℕ
 rises zero n = n
 rises (suc k) n = one_more (rises k n)
 
--- so many were asked before, so many are now, and this stands in the room. Who answered was asked five times at most, and
--- who was silent five times
+-- so many were asked before, so many are now, and this stands in the room. Who answered was asked at least once and five times
+-- at most, and who was silent five times
 abbrev pub IsTold : Outcome → ℕ → ℕ → List ℕ → Type 0
 IsTold (outcome.Done n) before after room =
-    (tries : ℕ) × (tries ≤ 5) × (after ≡ rises tries before) × IsYes (take n room)
+    (tries : ℕ) × (1 ≤ tries) × (tries ≤ 5) × (after ≡ rises tries before) × (n ≤ length room) × IsYes (take n room)
 IsTold (outcome.Refused n) before after room =
-    (tries : ℕ) × (tries ≤ 5) × (after ≡ rises tries before) × ¬ (IsYes (take n room))
+    (tries : ℕ) × (1 ≤ tries) × (tries ≤ 5) × (after ≡ rises tries before) × (n ≤ length room) × ¬ (IsYes (take n room))
 IsTold outcome.Silent before after room = after ≡ rises 5 before
-IsTold outcome.Fault before after room = (tries : ℕ) × (tries ≤ 5) × (after ≡ rises tries before)
+IsTold outcome.Fault before after room = (tries : ℕ) × (1 ≤ tries) × (tries ≤ 5) × (after ≡ rises tries before)

@@ -10,4 +10,4 @@ loop-setting-preserved g c =
     let more : take (at + 1) settings ≡ past ++ setting ∷ [] =
     take_more settings at setting c.loop-setting-test.true ∙ ap (λ s. past ++ s ∷ []) (sym c.setting-item.is) in
     let items = c.in_ok-append.ensures.items in
-    rw (more, items) (named-push past setting c.loop-setting.names.items c.in_ok-more.more.items c.loop-setting.invariant c.in_ok-more.ensures)
+    rw (more, items) (named-push past setting c.loop-setting.names.items c.in_ok-more.more.items c.loop-setting.invariant c.in_ok-more.ensures.names)

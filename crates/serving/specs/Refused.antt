@@ -1,15 +1,19 @@
--- The exit status of the program where no service runs, or one has failed.
+-- Why no service runs, and the exit status of the program then.
 --
 --   status   cause
 --   1        the words ask for no service
 --   3        an address, a file, a thread or a socket can't be had, or one failed
 --   4        memory was wanting
-use Rattle.std.specs.Prelude.{ℕ}
+use Rattle.std.specs.Prelude.{◌≡◌, ℕ, List, []}
+use Rattle.notifier.specs.Limits.{AreLimits}
+use Rattle.options.specs.declared.choices.Choices.{Choices}
 use Rattle.options.specs.declared.error.OptionsError.{OptionsError}
 use Rattle.options.specs.declared.error.OptionsError.TheVariants as wrong
 use Rattle.options.specs.declared.flag.Flag.TheVariants as flag
+use Rattle.options.specs.Settings.{AreWrong}
 use Rattle.serving.specs.declared.error.ServeError.{ServeError}
 use Rattle.serving.specs.declared.error.ServeError.TheVariants as error
+use Rattle.serving.specs.Plans.{limits_of, IsReached, AreRead}
 
 -- an address in another form may be a host that can't be found
 abbrev pub status_of_words : OptionsError → ℕ
@@ -40,3 +44,30 @@ status_of (error.Address place) = 3
 status_of error.System = 3
 status_of error.Device = 3
 status_of error.NoMemory = 4
+
+-- a cause that isn't in the words
+abbrev pub IsOther : ServeError → Type 0
+IsOther (error.Options e) = ⊥
+IsOther error.Times = ⊥
+IsOther error.NoContact = ⊥
+IsOther error.NoMailbox = ⊥
+IsOther (error.File path) = Unit {0}
+IsOther (error.Line path line e) = Unit {0}
+IsOther (error.Address place) = Unit {0}
+IsOther error.System = Unit {0}
+IsOther error.Device = Unit {0}
+IsOther error.NoMemory = Unit {0}
+
+-- the words ask for no service for this cause. Of a file, the system and memory no contract can tell
+abbrev pub IsRefusal : List (List ℕ) → ServeError → Type 0
+IsRefusal words (error.Options e) = AreWrong words e
+IsRefusal words error.Times =
+    (choices : Choices) × (names : List (List ℕ)) × AreRead words choices names × ¬ (AreLimits (limits_of choices.numbers))
+IsRefusal words error.NoContact = (choices : Choices) × (names : List (List ℕ)) × AreRead words choices names × ¬ (IsReached choices)
+IsRefusal words error.NoMailbox = (choices : Choices) × AreRead words choices []
+IsRefusal words (error.File path) = Unit {0}
+IsRefusal words (error.Line path line e) = Unit {0}
+IsRefusal words (error.Address place) = Unit {0}
+IsRefusal words error.System = Unit {0}
+IsRefusal words error.Device = Unit {0}
+IsRefusal words error.NoMemory = Unit {0}
