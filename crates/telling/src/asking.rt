@@ -1,7 +1,8 @@
 //! How `notifyd tell` asks.
-ghost use Rattle.std.specs.Prelude.{◌≡◌, ◌≤◌, ℕ, length, Ok, Some};
+ghost use Rattle.std.specs.Prelude.{◌≡◌, ◌≤◌, ℕ, List, [], ◌∷◌, length, Option, None, Ok, Some};
 ghost use Rattle.scripts.specs.Devices.{one_more};
-ghost use Rattle.telling.specs.Asking.{status_of, IsTold};
+ghost use Rattle.wires.specs.Wires.{Grows};
+ghost use Rattle.telling.specs.Asking.{status_of, came_in, Turn, IsTold};
 
 use crate::answer::is_yes;
 use std::sync::Wait;
@@ -15,10 +16,14 @@ pub const TRIES: u32 = 5;
 #[error("the socket failed")]
 pub struct SpeakerFault;
 
-/// Who sends a line and waits a while for an answer.
+/// Who sends a line and waits a while for an answer. It counts how often it has asked, and may tell which lines, and what came
+/// of each; one over a socket tells the count alone.
 pub trait Speaker {
     /// How often it has asked. It stays at 2^64 - 1 once there.
     ghost asked: { Self → ℕ };
+
+    /// The lines that it has asked, in order, and what came of each, where it tells them.
+    ghost turns: { Self → Option (List Turn) } = { λ _. None };
 
     /// Sends the line, waits a while, and puts the answer at the beginning of the room, of which it tells the length. None
     /// where none came in time.
@@ -29,7 +34,8 @@ pub trait Speaker {
         room: &mut [u8],
     ) -> Result<Option<usize>, SpeakerFault>
         ensures within { (n : ℕ) → result ≡ Ok (Some n) → n ≤ length room.new }
-        ensures asked { asked self.new ≡ one_more (asked self.old) };
+        ensures asked { asked self.new ≡ one_more (asked self.old) }
+        ensures turn { Grows (turns self.old) (turns self.new) ((line.now, came_in result room.new) ∷ []) };
 }
 
 /// What came of a line.
@@ -58,14 +64,16 @@ impl Outcome {
     }
 }
 
-/// Asks until an answer comes, five times at most. The answer stands at the beginning of the room.
+/// Asks this line until an answer comes, five times at most. The answer stands at the beginning of the room.
 pub fn tell_line<R: Wait, S: Speaker>(
     rt: &R,
     speaker: &mut S,
     line: &[u8],
     room: &mut [u8],
 ) -> Outcome
-    ensures { IsTold result (S.asked speaker.old) (S.asked speaker.new) room.new }
+    ensures { IsTold line.now result
+        (record { asked = S.asked speaker.old; turns = S.turns speaker.old })
+        (record { asked = S.asked speaker.new; turns = S.turns speaker.new }) room.new }
 {
     for _try in 0..TRIES {
         match speaker.ask(rt, line, room) {
