@@ -3,6 +3,7 @@ use Rattle.std.proofs.Common.{◌≡◌, ◌<◌, ◌≤◌, take, ℕ, true, fa
 use Rattle.std.specs.List.{filter, AllByRecursion}
 use Rattle.std.proofs.lemmas.List.{append-nil, length-take-le}
 use Rattle.std.proofs.lemmas.List.Elements.{filter-append}
+use Rattle.scripts.specs.Devices.{one_more}
 use Rattle.wires.specs.declared.datagram.Datagram.{Datagram}
 use Rattle.wires.specs.Wires.{Grows}
 use Rattle.emitting.proofs.Telling.{grows_none, grows_more, grows_same}
@@ -81,12 +82,13 @@ module _ {given given' taken taken' : Option (List Datagram)} {failures failures
       ⊎_elim (λ k. replied (Some (answer_text answer.Closed)) after' more is refl k) (λ k. replied None after' more is tt k) offers
 
   -- all was sent out: this one was dropped
-  pub refused_dropped : AreRefused given after taken taken' failures failures'
-  refused_dropped = record {
+  pub refused_dropped : (faults faults' : ℕ) → faults' ≡ faults → AreRefused given after faults faults' taken taken' failures failures'
+  refused_dropped faults faults' same = record {
     came = was.came;
     dropped = d ∷ [];
     one = omega arith;
     gave = grows_more given given' after was.came (d ∷ []) was.gave gave;
+    ended = same;
     log = was.log;
     lines = was.lines;
     each = was.each;
@@ -94,13 +96,15 @@ module _ {given given' taken taken' : Option (List Datagram)} {failures failures
   }
 
 pub refused_fault : {given given' taken taken' : Option (List Datagram)} {failures failures' : ℕ} → Refusing given given' taken taken' failures failures'
-    → (after : Option (List Datagram)) → Grows given' after [] → AreRefused given after taken taken' failures failures'
-refused_fault {given = given} {given' = given'} was after none =
+    → (after : Option (List Datagram)) → Grows given' after [] → (faults faults' : ℕ) → faults' ≡ one_more faults
+    → AreRefused given after faults faults' taken taken' failures failures'
+refused_fault {given = given} {given' = given'} was after none faults faults' failed =
     let P : List Datagram → Type 0 = λ l. Grows given after l in record {
       came = was.came;
       dropped = [];
       one = omega arith;
       gave = subst P (sym (append-nil was.came)) (grows_same given given' after was.came was.gave none);
+      ended = failed;
       log = was.log;
       lines = was.lines;
       each = was.each;

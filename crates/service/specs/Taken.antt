@@ -218,13 +218,19 @@ has_octets (octet ∷ octets) = true
 abbrev pub is_line : Datagram → Bool
 is_line d = has_octets d.octets
 
--- what came until all was sent out, but for the last perhaps: each datagram that isn't empty was answered `closed`, or the wire
--- failed at it, and nothing else was sent
-pub record AreRefused (given given' taken taken' : Option (List Datagram)) (failures failures' : ℕ) : Type 0 where
+-- the failures of a wire that gave this last, or failed where it gave none
+abbrev pub failures_by : List Datagram → ℕ → ℕ
+failures_by [] n = one_more n
+failures_by (d ∷ ds) n = n
+
+-- what came until all was sent out, and one datagram more, which was dropped, or until the wire failed: each that isn't empty was
+-- answered `closed`, or the other wire failed at it, and nothing else was sent
+pub record AreRefused (given given' : Option (List Datagram)) (faults faults' : ℕ) (taken taken' : Option (List Datagram)) (failures failures' : ℕ) : Type 0 where
   pub came : List Datagram
   pub dropped : List Datagram
   pub one : length dropped ≤ 1
   pub gave : Grows given given' (came ++ dropped)
+  pub ended : faults' ≡ failures_by dropped faults
   pub log : List Line
   pub lines : datagrams_of log ≡ filter is_line came
   pub each : AllByRecursion (λ (l : Line). MayReply (did.Answered answer.Closed) l.reply) log

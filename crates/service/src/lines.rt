@@ -3,6 +3,7 @@ ghost use Rattle.std.specs.Prelude.{◌≡◌, ◌<◌, ℕ, List, [], IfOk, IfS
 ghost use Rattle.std.specs.List.{list_any};
 ghost use Rattle.wires.specs.Wires.{Grows};
 ghost use Rattle.crew.specs.Kept.{SameSeats};
+ghost use Rattle.network.specs.Fed.{failures_at};
 ghost use Rattle.telling.specs.Lines.{answer_text};
 ghost use Rattle.service.specs.Taken as spec;
 ghost use Rattle.service.specs.Taken.{Line, IsSent, IsChanged, IsDone, IsReport, Offers, IsAnswered, Gave, AreTaken, AreAnswered, AreRefused};
@@ -149,6 +150,7 @@ impl<W: Wire> ControlDesk<W> {
         ensures offered { Offers to (answer_text answer)
             (W.taken self.old.going) (W.taken self.new.going)
             (W.failures self.old.going) (W.failures self.new.going) }
+        ensures given { Grows (W.given self.old.going) (W.given self.new.going) [] }
         ensures coming { self.new.coming ≡ self.old.coming }
         ensures mailboxes { self.new.mailboxes ≡ self.old.mailboxes }
     {
@@ -160,6 +162,7 @@ impl<W: Wire> ControlDesk<W> {
         ensures answered { IsAnswered Done.Counters to
             (W.taken self.old.going) (W.taken self.new.going)
             (W.failures self.old.going) (W.failures self.new.going) }
+        ensures given { Grows (W.given self.old.going) (W.given self.new.going) [] }
         ensures coming { self.new.coming ≡ self.old.coming }
         ensures mailboxes { self.new.mailboxes ≡ self.old.mailboxes }
     {
@@ -181,6 +184,7 @@ impl<W: Wire> ControlDesk<W> {
         ensures answered { IsAnswered done to
             (W.taken self.old.going) (W.taken self.new.going)
             (W.failures self.old.going) (W.failures self.new.going) }
+        ensures given { Grows (W.given self.old.going) (W.given self.new.going) [] }
         ensures coming { self.new.coming ≡ self.old.coming }
         ensures mailboxes { self.new.mailboxes ≡ self.old.mailboxes }
     {
@@ -210,6 +214,10 @@ impl<W: Wire> ControlDesk<W> {
             × AreTaken self.old.mailboxes.items log port.old port.new result
             × AreAnswered log (W.taken self.old.going) (W.taken self.new.going)
             (W.failures self.old.going) (W.failures self.new.going) }
+        // Nothing is sent where lines come in, and nothing is received where answers go.
+        ensures coming { Grows (W.taken self.old.coming) (W.taken self.new.coming) [] }
+        ensures failures { W.failures self.new.coming ≡ failures_at result (W.failures self.old.coming) }
+        ensures going { Grows (W.given self.old.going) (W.given self.new.going) [] }
         ensures mailboxes { self.new.mailboxes ≡ self.old.mailboxes }
         ensures seats { SameSeats port.old port.new }
     {
@@ -234,8 +242,11 @@ impl<W: Wire> ControlDesk<W> {
     /// Answers `closed` to whoever asks, until all was sent out or the wire fails. An empty datagram is not answered.
     pub fn refuse_lines<R: Wait>(&mut self, rt: &R, shared: &Shared)
         ensures refused { AreRefused (W.given self.old.coming) (W.given self.new.coming)
+            (W.failures self.old.coming) (W.failures self.new.coming)
             (W.taken self.old.going) (W.taken self.new.going)
             (W.failures self.old.going) (W.failures self.new.going) }
+        ensures coming { Grows (W.taken self.old.coming) (W.taken self.new.coming) [] }
+        ensures going { Grows (W.given self.old.going) (W.given self.new.going) [] }
         ensures mailboxes { self.new.mailboxes ≡ self.old.mailboxes }
     {
         let mut octets = [0; ROOM];

@@ -35,6 +35,7 @@ fn bind<R: Wait + Net>(rt: &R, place: Place, addr: Addr) -> Result<(UdpWire, Udp
 /// What wakes the threads that listen at these addresses.
 fn bell_for<R: Wait + Net>(rt: &R, sip: Addr, control: Addr) -> Result<Bell<UdpWire>, ServeError>
     ensures sip { IfOk result (λ bell. bell.sip ≡ sip) }
+    ensures control { IfOk result (λ bell. bell.control ≡ control) }
     ensures refused { IfErr result IsOther }
 {
     let any = Addr {
@@ -50,6 +51,10 @@ fn bell_for<R: Wait + Net>(rt: &R, sip: Addr, control: Addr) -> Result<Bell<UdpW
 /// Opens the sockets.
 pub(crate) fn open<R: Wait + Net>(rt: &R, choices: &Choices) -> Result<Sockets, ServeError>
     ensures at { IfOk result (λ s. IsAt choices.now.listen s.bell.sip) }
+    ensures control { IfOk result (λ s. IsAt choices.now.control s.bell.control) }
+    // It wakes what listens there.
+    ensures sip { IfOk result (λ s. s.sip.local ≡ s.bell.sip) }
+    ensures lines { IfOk result (λ s. s.lines.local ≡ s.bell.control) }
     ensures refused { IfErr result IsOther }
 {
     let (sip, outgoing) = bind(rt, Place::Listen, choices.listen)?;

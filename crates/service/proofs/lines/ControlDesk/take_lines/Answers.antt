@@ -1,5 +1,6 @@
 use Rattle.std.proofs.Common.{◌∙◌, ◌∷◌, [], refl, sym, take, arith}
 use Rattle.wires.specs.Wires.{Grows, datagram}
+use Rattle.emitting.proofs.Telling.{grows_none, grows_same}
 use Rattle.service.proofs.Taking.{taking_none, taking_more, taken_last, taken_dropped, taking_open}
 use Rattle.service.proofs.lines.ControlDesk.take_lines.Goals as goal
 
@@ -8,6 +9,9 @@ loop-init g c = record {
   still_open = c.requires.still_open;
   seats = refl;
   mailboxes = refl;
+  coming = grows_none (g.W.Wire.taken c.args.self.now.coming);
+  failures = refl;
+  going = grows_none (g.W.Wire.given c.args.self.now.going);
   taking = taking_none c.args.self.now.mailboxes.items c.args.port.now (g.W.Wire.given c.args.self.now.coming)
       (g.W.Wire.taken c.args.self.now.going) (g.W.Wire.failures c.args.self.now.going);
 }
@@ -42,5 +46,8 @@ loop-preserved g c =
       still_open = (let now = taking_open taking in let same = c.requires.still_open in omega arith);
       seats = c.take_line-done.ensures.seats ∙ at.seats;
       mailboxes = c.answer.ensures.mailboxes ∙ at.mailboxes;
+      coming = rw c.answer.ensures.coming (grows_same (g.W.Wire.taken c.args.self.now.coming) (g.W.Wire.taken c.loop.self.coming) (g.W.Wire.taken c.recv.new.self) _ at.coming c.recv.ensures.taken);
+      failures = rw c.answer.ensures.coming (c.in-Ok.ensures.counted ∙ at.failures);
+      going = grows_same (g.W.Wire.given c.args.self.now.going) (g.W.Wire.given c.loop.self.going) (g.W.Wire.given c.answer.new.self.going) _ at.going c.answer.ensures.given;
       taking = taking;
     }
