@@ -1,5 +1,5 @@
 -- The mailboxes that settings name.
-use Rattle.std.proofs.Common.{◌≡◌, ℕ, List, [], ◌∷◌, ◌++◌, refl, sym, ap, ◌∙◌, append_assoc}
+use Rattle.std.proofs.Common.{ℕ, List, [], ◌∷◌, ◌++◌, refl, sym, ap, ◌∙◌, append_assoc}
 use Rattle.std.proofs.lemmas.List.{append-nil}
 use Rattle.options.specs.declared.setting.Setting.{Setting}
 use Rattle.serving.specs.Plans.{Names, AreNamed}

@@ -1,5 +1,5 @@
 -- What the words behind `notifyd serve` ask for, and what its workers start from.
-use Rattle.std.specs.Prelude.{◌≡◌, ◌≢◌, ℕ, ◌≤◌, not, List, [], ◌∷◌, ◌++◌, Option, Some, None}
+use Rattle.std.specs.Prelude.{◌≡◌, ◌≢◌, ℕ, not, List, [], ◌∷◌, ◌++◌, Option, Some, None}
 use Rattle.std.specs.List.{All}
 use Rattle.sip_text.specs.declared.address.Addr.{Addr}
 use Rattle.notifier.specs.Limits.{Limits, IsWithin}

@@ -4,7 +4,7 @@
 --   1        the words ask for no service
 --   3        an address, a file, a thread or a socket can't be had, or one failed
 --   4        memory was wanting
-use Rattle.std.specs.Prelude.{◌≡◌, ℕ, List, []}
+use Rattle.std.specs.Prelude.{ℕ, List, []}
 use Rattle.notifier.specs.Limits.{AreLimits}
 use Rattle.options.specs.declared.choices.Choices.{Choices}
 use Rattle.options.specs.declared.error.OptionsError.{OptionsError}
