@@ -16,6 +16,7 @@ use Rattle.outbox.specs.Seats.{TakerSeat, PosterSeat, new_taker}
 use Rattle.worker.specs.Worked.{outs_for}
 use Rattle.crew.specs.Kept.{SameSeats}
 use Rattle.crew.specs.Ports.{PortSeats, new_seat, port_of}
+use Rattle.crew.specs.Ready.{start_of}
 use Rattle.crew.specs.Started.{Hired, IsStarted}
 use Rattle.crew.specs.Joined.{HasEndOf, IsPortOf}
 use Rattle.crew.specs.One.{all_events}
@@ -26,7 +27,7 @@ use Rattle.crew.proofs.OnePort.{told_of_one}
 use Rattle.server.specs.declared.work.Work.{Work}
 use Rattle.server.specs.declared.gathering.Gathered.{Gathered}
 use Rattle.server.specs.Page.{events_at}
-use Rattle.server.specs.Runs.{start_of, starts_of}
+use Rattle.server.specs.Runs.{starts_of}
 use Rattle.server.specs.Working.{AreWorks}
 use Rattle.server.specs.Sending.{HasSent}
 use Rattle.server.specs.Gathering.{IsGathered}

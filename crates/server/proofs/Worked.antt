@@ -18,7 +18,8 @@ use Rattle.notifier.specs.Home.{at_the_stop}
 use Rattle.homes.proofs.Homes.{one_law}
 use Rattle.server.specs.declared.work.Work.{Work}
 use Rattle.server.specs.Page.{out_text, worker_lines, events_at, worker_page}
-use Rattle.server.specs.Runs.{start_of, starts_on, starts_of}
+use Rattle.crew.specs.Ready.{start_of}
+use Rattle.server.specs.Runs.{starts_on, starts_of}
 use Rattle.server.specs.Working.{IsWork, AreWorks, AreNumbered, printed}
 
 -- ---- the starts

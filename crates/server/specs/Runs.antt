@@ -12,10 +12,6 @@ use Rattle.notifier.specs.declared.place.Setup.{Setup}
 use Rattle.notifier.specs.Start.{Start, place_of}
 use Rattle.server.specs.Page.{most_bytes, IsShortScript, IsPage}
 
--- the worker of this number with these boxes
-abbrev pub start_of : {P : Type 0} → (P → Seen) → Setup → ℕ → List P → Start
-start_of seen setup worker boxes = record { place = place_of setup worker; boxes = map seen boxes }
-
 -- workers numbered from 0, each with its boxes
 abbrev pub starts_on : Setup → List (List Seen) → List Start
 starts_on setup boxes = map (λ numbered. let s : Start = record { place = place_of setup numbered.0; boxes = numbered.1 } in s) (enumerate_from 0 boxes)

@@ -2,8 +2,9 @@
 ghost use Rattle.std.specs.Prelude.{◌≡◌, ◌≢◌, ◌≤◌, ◌<◌, ◌∷◌, ◌⊎◌, ◌++◌, [], true, List, length, vec_len, IfOk, IfErr, OnOk, OnErr, Err};
 ghost use Rattle.std.specs.List.{flat_map};
 ghost use Rattle.scripts.specs.declared.script.Block.{Block};
+ghost use Rattle.crew.specs.Ready.{start_of};
 ghost use Rattle.server.specs.Page.{most_bytes, IsShortScript, IsPage};
-ghost use Rattle.server.specs.Runs.{start_of, starts_of, WritesPage, ReadsNoScript, MeetsFault, StartsNoThread};
+ghost use Rattle.server.specs.Runs.{starts_of, WritesPage, ReadsNoScript, MeetsFault, StartsNoThread};
 ghost use Rattle.server.specs.Hearing.{IsHeard};
 ghost use Rattle.server.specs.Working.{printed};
 

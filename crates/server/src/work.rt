@@ -1,7 +1,7 @@
 //! What a worker does with the events of a script.
 ghost use Rattle.std.specs.Prelude.{◌++◌, IfOk};
 ghost use Rattle.notifier.specs.Home.{at_the_stop};
-ghost use Rattle.server.specs.Runs.{start_of};
+ghost use Rattle.crew.specs.Ready.{start_of};
 ghost use Rattle.server.specs.Working.{IsWork};
 
 use notifier::{Event, Out, Setup, play};

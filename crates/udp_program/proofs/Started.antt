@@ -10,10 +10,10 @@ use Rattle.notifier.specs.declared.place.Setup.{Setup}
 use Rattle.notifier.specs.Start.{Start, place_of}
 use Rattle.outbox.specs.Seats.{TakerSeat, new_taker}
 use Rattle.crew.specs.Ports.{PortSeats, port_of}
+use Rattle.crew.specs.Ready.{start_of}
 use Rattle.crew.specs.Started.{Hired, IsStarted}
 use Rattle.crew.proofs.Starting.{element}
 use Rattle.server.specs.Call.{setup_at, boxes_with, boxes_for, names_for}
-use Rattle.server.specs.Runs.{start_of}
 use Rattle.server.proofs.Started.{boxes-len}
 use Rattle.udp_program.specs.Call.{start_at}
 

@@ -1,7 +1,7 @@
 use Rattle.std.proofs.Common.{◌++◌, ◌∷◌, [], List, ap, ◌∙◌}
 use Rattle.std.specs.List.{flat_map}
+use Rattle.crew.specs.Ready.{start_of}
 use Rattle.server.specs.declared.work.Work.{Work}
-use Rattle.server.specs.Runs.{start_of}
 use Rattle.server.specs.Working.{printed}
 use Rattle.server.proofs.Worked.{one_works}
 use Rattle.server.proofs.Printed.{is_page}
