@@ -4,7 +4,8 @@ use Rattle.sip_text.specs.declared.address.Addr.{Addr}
 use Rattle.scripts.specs.declared.device.Sink.{Sink}
 use Rattle.notifier.specs.Start.{Start, place_of}
 use Rattle.server.specs.Call.{boxes_with, names_for}
-use Rattle.emitting.specs.Emitted.{WireSeen, WriterSeen}
+use Rattle.emitting.specs.Emitted.{WireSeen}
+use Rattle.udp_program.specs.Serving.{writer_seen}
 use Rattle.service.specs.declared.running.Outcome.{Outcome}
 use Rattle.service.specs.declared.running.Work.{Work}
 use Rattle.service.specs.Running.{Runs}
@@ -27,9 +28,6 @@ start_at plan local worker = record {
 pub record IsWork (plan : Plan) (local : Addr) (work : Work) : Type 0 where
   pub setup : work.setup ≡ setup_of plan local
   pub mailboxes : work.desk.mailboxes.items ≡ plan.mailboxes.items
-
-abbrev pub writer_seen : {W : Type 0} → (W → Option (List ℕ)) → Sink W → WriterSeen
-writer_seen contents sink = record { contents = contents sink.writer; failures = sink.failures }
 
 -- a writer that was not written to
 abbrev pub new_sink : {W : Type 0} → W → Sink W
