@@ -2,22 +2,21 @@
 use Rattle.std.proofs.Common.{◌≡◌, ℕ, Bool, zero, suc, ◌<◌, List, [], ◌∷◌, ◌++◌, length, map, get_or, Option, Some, refl, ap, sym, ◌∙◌, subst, arith, below_more, length-append}
 use Rattle.std.proofs.lemmas.List.{get_or_append_left}
 use Rattle.std.proofs.Math.Seq.{get_or-append_seam}
-use Rattle.atomic_table.specs.Seated.{TableId}
 use Rattle.notifier.specs.Start.{Start}
 use Rattle.notifier.specs.Standing.{Standing, first_standing}
 use Rattle.inbox.specs.Seats.{ReceiverSeat}
-use Rattle.outbox.specs.Seats.{PosterSeat, TakerSeat, new_posters}
+use Rattle.outbox.specs.Seats.{Outbox, PosterSeat, TakerSeat, new_posters}
 use Rattle.crew.specs.Ready.{IsReady}
 use Rattle.crew.specs.Started.{Hired, IsFit, IsHired}
 
-abbrev pub new_poster : TableId → ℕ → PosterSeat
+abbrev pub new_poster : Outbox → ℕ → PosterSeat
 new_poster outbox number = record { outbox = outbox; number = number; posted = [] }
 
-pub new_posters-length : (outbox : TableId) (n : ℕ) → length (new_posters outbox n) ≡ n
+pub new_posters-length : (outbox : Outbox) (n : ℕ) → length (new_posters outbox n) ≡ n
 new_posters-length outbox zero = refl
 new_posters-length outbox (suc n) = length-append (new_posters outbox n) (new_poster outbox n ∷ []) ∙ (let h = new_posters-length outbox n in omega arith)
 
-pub new_posters-at : (outbox : TableId) (n k : ℕ) (d : PosterSeat) → k < n → get_or (new_posters outbox n) k d ≡ new_poster outbox k
+pub new_posters-at : (outbox : Outbox) (n k : ℕ) (d : PosterSeat) → k < n → get_or (new_posters outbox n) k d ≡ new_poster outbox k
 new_posters-at outbox zero k d low = absurd (omega arith)
 new_posters-at outbox (suc n) k d low =
     let size = new_posters-length outbox n in
@@ -41,9 +40,10 @@ ready_fit start begun n p p' stop desk r none k = record {
 }
 
 pub hired_is : (start begun : Start) (n w : ℕ) (taker : TakerSeat) (p' : PosterSeat) (stop : Bool) (desk : Option Standing) (r : ReceiverSeat) (x : Hired) → x ≡ record { start = begun; reads = r; posts = p' }
-    → IsReady start n (new_poster taker.outbox w) begun stop desk r p' → IsHired start n taker w x
-hired_is start begun n w taker p' stop desk r x is k =
-    let P : Hired → Type 0 = λ y. IsHired start n taker w y in subst P (sym is) (record { begins = k.begins; hears = k.hears; tells = k.tells })
+    → taker.outbox.capacity ≡ start.place.limits.outbox → IsReady start n (new_poster taker.outbox w) begun stop desk r p' → IsHired start n taker w x
+hired_is start begun n w taker p' stop desk r x is holds k =
+    let P : Hired → Type 0 = λ y. IsHired start n taker w y in
+    subst P (sym is) (record { begins = k.begins; hears = k.hears; tells = k.tells; inbox_holds = k.holds; outbox_holds = holds })
 
 pub same_maps : {A B C : Type 0} (f : A → C) (g : B → C) (xs : List A) (ys : List B) → length xs ≡ length ys → ((k : ℕ) (x : A) (y : B) → k < length xs → f (get_or xs k x) ≡ g (get_or ys k y)) → map f xs ≡ map g ys
 same_maps f g [] [] len h = refl

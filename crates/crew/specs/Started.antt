@@ -23,11 +23,14 @@ pub record IsFit (start : Start) (stop : Bool) (desk : Option Standing) (reads :
   pub untaken : reads.taken ≡ []
   pub unposted : posts.posted ≡ []
 
--- the worker of this number, of n ports, of which nothing was taken and posted
+-- the worker of this number, of n ports, of which nothing was taken and posted. Its inbox and the outbox hold as many items as
+-- its limits say
 pub record IsHired (start : Start) (n : ℕ) (taker : TakerSeat) (w : ℕ) (h : Hired) : Type 0 where
   pub begins : h.start ≡ start
   pub hears : h.reads ≡ new_receiver h.reads.inbox n
   pub tells : h.posts ≡ record { outbox = taker.outbox; number = w; posted = [] }
+  pub inbox_holds : h.reads.inbox.capacity ≡ start.place.limits.inbox
+  pub outbox_holds : taker.outbox.capacity ≡ start.place.limits.outbox
 
 -- the workers have these starts, each of the n ports is open and has a seat of each worker's inbox, and all lists are empty
 pub record IsStarted (start : ℕ → Start) (workers n : ℕ) (crew : List Hired) (ports : List PortSeats) (taker : TakerSeat) : Type 0 where

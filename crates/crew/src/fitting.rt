@@ -71,6 +71,7 @@ pub(crate) fn fit_out<P: Package, G: Drop>(
     ensures reports { IfOk result (λ f. (vec_len boxes ≤ vec_capacity f.reports) × (f.reports.items ≡ [])) }
     ensures len { IfOk result (λ f. (vec_len f.seats ≡ vec_len boxes) × (vec_len f.gates ≡ vec_len boxes)) }
     ensures taker { IfOk result (λ f. f.taker ≡ new_taker f.taker.outbox (vec_len boxes)) }
+    ensures holds { IfOk result (λ f. f.taker.outbox.capacity ≡ setup.now.limits.outbox) }
     ensures ready { IfOk result (λ f. (k : ℕ) (s : _) (b : _) → k < vec_len boxes →
         IsReady (start_of P.seen setup.now k (get_or boxes.items k b).items) ports
         (record { outbox = f.taker.outbox; number = k; posted = [] }) (get_or f.seats.items k s).token.start (get_or f.seats.items k s).stop

@@ -26,8 +26,9 @@ pub type Taken = many_to_one::Taken<Event>;
 /// An inbox of this many ports, numbered from 0, which holds `capacity` items at most. Nothing was sent.
 pub fn make(alloc: Global, capacity: u32, ports: u32) -> Result<(Vec<Sender>, Receiver), NoMemory>
     requires { 0 < capacity }
-    ensures { IfOk result
+    ensures new { IfOk result
         (λ ends. (ends.0.items ≡ new_senders ends.1.inbox ports) × (ends.1 ≡ new_receiver ends.1.inbox ports)) }
+    ensures holds { IfOk result (λ ends. ends.1.inbox.capacity ≡ capacity) }
 {
     many_to_one::make::<Event>(alloc, capacity, ports)
 }

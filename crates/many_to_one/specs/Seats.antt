@@ -6,10 +6,11 @@ use Rattle.crossbeam_channel.specs.declared.flavors.array.Key.{Key}
 use Rattle.crossbeam_channel.specs.declared.flavors.array.Rows.{Rows}
 use Rattle.queue_rule.specs.declared.items.Item.{Item}
 
--- which inbox it is
+-- which inbox it is, and how many items it holds at most
 pub record Inbox (T : Type 0) : Type 0 where
   pub table : TableId
   pub key : Badge (Key (Item T))
+  pub capacity : ℕ
 
 -- a port's seat: its inbox, the port's number, and what it has sent
 pub record SenderSeat (T : Type 0) : Type 0 where
@@ -26,7 +27,7 @@ pub record ReceiverSeat (T : Type 0) : Type 0 where
 module _ {T : Type 0} where
   -- the inbox of a channel's end
   abbrev pub inbox_of : {D Q M L A : Type 0} → Rows (Badge (Key (Item T))) D Q M (Key (Item T)) L A → Inbox T
-  inbox_of c = record { table = c.stamps.shared.table_id; key = c.stamps.shared.key }
+  inbox_of c = record { table = c.stamps.shared.table_id; key = c.stamps.shared.key; capacity = c.cap }
 
   -- the seat after one item more
   abbrev pub with_sent : SenderSeat T → Item T → SenderSeat T

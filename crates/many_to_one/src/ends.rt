@@ -117,8 +117,9 @@ pub fn make<T: Drop>(
     ports: u32,
 ) -> Result<(Vec<Sender<T>>, Receiver<T>), NoMemory>
     requires { 0 < capacity }
-    ensures { IfOk result
+    ensures new { IfOk result
         (λ ends. (ends.0.items ≡ new_senders ends.1.inbox ports) × (ends.1 ≡ new_receiver ends.1.inbox ports)) }
+    ensures holds { IfOk result (λ ends. ends.1.inbox.capacity ≡ capacity) }
 {
     let (end, receiver, mut seat) = bounded_with::<Item<T>, View<T>, InOrder, Global>(
         alloc,

@@ -104,8 +104,9 @@ impl Model for Taker {
 /// An outbox of this many workers, numbered from 0, which holds `capacity` items at most. Nothing was posted.
 pub fn make(alloc: Global, capacity: u32, workers: u32) -> Result<(Vec<Poster>, Taker), NoMemory>
     requires { 0 < capacity }
-    ensures { IfOk result
+    ensures new { IfOk result
         (λ ends. (ends.0.items ≡ new_posters ends.1.outbox workers) × (ends.1 ≡ new_taker ends.1.outbox workers)) }
+    ensures holds { IfOk result (λ ends. ends.1.outbox.capacity ≡ capacity) }
 {
     let (queue, mut seat) = Queue::ruled(alloc, capacity as usize)?;
     let Ok(queue) = Arc::new(alloc, queue) else {

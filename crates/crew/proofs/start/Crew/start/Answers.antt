@@ -42,6 +42,6 @@ returns-clause-started g c b =
           let s = element fitted.seats.items w (let e = fitted.seats.ok.0 in let e' = fit.len.0 in omega arith) in
           hired_is _ _ _ w fitted.taker _ _ _ _ (get_or (map f ws.items) w h)
           (get_or-map f ws.items w at h fits ∙ launched.launched w at s (let e = ws.ok.0 in omega arith))
-          (fit.ready w s b low);
+          fit.holds (fit.ready w s b low);
       dealt = subst D (sym inboxes) fit.dealt;
     }
