@@ -54,10 +54,13 @@ running {P = P} seen setup boxes held crew ports taker n is started =
         takes = started.takes ∙ ap (λ (m : ℕ). new_taker taker.outbox m) (sym len);
         len = started.len ∙ sym len;
         each = λ w h low.
-            let is_hired = started.each w h (omega arith) in record {
-              begins = is_hired.begins ∙ sym (starts_of-at seen setup boxes w any held (omega arith));
+            let is_hired = started.each w h (omega arith) in
+            let same = sym (starts_of-at seen setup boxes w any held (omega arith)) in record {
+              begins = is_hired.begins ∙ same;
               hears = is_hired.hears;
               tells = is_hired.tells;
+              inbox_holds = is_hired.inbox_holds ∙ ap (λ (s : Start). s.place.limits.inbox) same;
+              outbox_holds = is_hired.outbox_holds ∙ ap (λ (s : Start). s.place.limits.outbox) same;
             };
         dealt = started.dealt;
       };
