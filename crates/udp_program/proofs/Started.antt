@@ -47,7 +47,13 @@ module _ {start : ℕ → Start} {workers n : ℕ} {crew : List Hired} {ports : 
     len = is.len ∙ same;
     each = λ w h low.
         let there : w < workers = omega (arith, same, low) in
-        let hired = is.each w h there in record { begins = hired.begins ∙ each w there; hears = hired.hears; tells = hired.tells };
+        let hired = is.each w h there in record {
+          begins = hired.begins ∙ each w there;
+          hears = hired.hears;
+          tells = hired.tells;
+          inbox_holds = hired.inbox_holds ∙ ap (λ (s : Start). s.place.limits.inbox) (each w there);
+          outbox_holds = hired.outbox_holds ∙ ap (λ (s : Start). s.place.limits.outbox) (each w there);
+        };
     dealt = is.dealt;
   }
 
