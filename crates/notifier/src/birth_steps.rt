@@ -1,7 +1,7 @@
 //! A request that makes a dialog, as a step of a ledger.
 #![tactic(auto, unfolding(crate::specs::Book::keeping, crate::specs::Book::born, crate::specs::Book::born_with, crate::specs::Book::served, crate::specs::Book::first_gone, crate::specs::Book::first_word, crate::specs::Rows::forgetting, crate::specs::Out::out_of))]
 
-ghost use Rattle.std.specs.Prelude.{◌≡◌, ◌≤◌, ◌++◌, ◌∷◌, [], ◌&&◌, map, if◌then◌else◌, IfOk, OnOk, None};
+ghost use Rattle.std.specs.Prelude.{◌≡◌, ◌≤◌, ◌<◌, ◌++◌, ◌∷◌, [], ◌&&◌, map, if◌then◌else◌, All, IfOk, IfSome, OnOk, None, is_none, option_to_list};
 ghost use Rattle.notifier.specs.Book as spec;
 ghost use Rattle.notifier.specs.Fields as fields;
 ghost use Rattle.notifier.specs.Incoming.{IsNamed, Serves, first_told_of};
@@ -10,6 +10,7 @@ ghost use Rattle.notifier.specs.Out.{Starts, out_of};
 ghost use Rattle.notifier.specs.Requests as requests;
 ghost use Rattle.notifier.specs.Rows as rows;
 ghost use Rattle.notifier.specs.Start.{tag_of};
+ghost use Rattle.notifier.specs.Stored.{rows_of, IsIndexed};
 
 use crate::answer::birth_answer;
 use crate::birth::{Newborn, begin, first_told, value_or_empty};
@@ -19,7 +20,9 @@ use crate::incoming::Incoming;
 use crate::ledger::Ledger;
 use crate::place::Place;
 use crate::request::{Birth, is_refer};
+use crate::rows::Rows;
 use crate::rule::push_some;
+use crate::rules::After;
 use crate::tag::local_tag;
 use crate::telling::answer;
 use package::{Change, Package};
@@ -64,6 +67,30 @@ fn start(alloc: Global, tag: Text, request: &Request, outs: &mut Vec<Out>) -> Re
     Ok(())
 }
 
+/// The row of a new subscription goes to the others, if it stays, and its first NOTIFY behind the outs that are there.
+fn settle<P: Package>(
+    alloc: Global,
+    live: &mut Rows,
+    boxes: &mut Vec<P>,
+    newborn: &Newborn,
+    after: After,
+    outs: &mut Vec<Out>,
+) -> Result<(), NoMemory>
+    requires indexed { IsIndexed live.old }
+    requires last { IfSome after.row (λ row. All (λ r. r.serial < row.serial) (rows_of live.old)) }
+    ensures rows { OnOk result (rows_of live.new ≡ rows_of live.old ++ option_to_list after.row) }
+    ensures indexed { OnOk result (IsIndexed live.new) }
+    ensures boxes { OnOk result (map P.seen boxes.new.items ≡ rows.forgetting
+        (spec.first_gone newborn.now.tag newborn.now.kind (is_none after.row)) (map P.seen boxes.old.items)) }
+    ensures outs { OnOk result (outs.new.items ≡ outs.old.items ++ option_to_list after.out) }
+{
+    let After { row, out, .. } = after;
+    let ends = row.is_none();
+    live.push_some(alloc, row)?;
+    push_some(outs, out)?;
+    forget_ended(alloc, boxes, &newborn.tag, newborn.kind, ends)
+}
+
 impl<P: Package> Ledger<P> {
     /// A request that makes this subscription.
     fn bear_with(
@@ -94,11 +121,15 @@ impl<P: Package> Ledger<P> {
         begin(alloc, &mut self.boxes, &newborn.tag, newborn.kind)?;
         let after = first_told(alloc, place, self, &incoming, &newborn)?;
         let mut outs = answer(alloc, &place.limits, &mut self.ring, incoming, bytes)?;
-        let ends = after.row.is_none();
-        self.rows.push_some(alloc, after.row)?;
-        push_some(&mut outs, after.out)?;
+        settle(
+            alloc,
+            &mut self.rows,
+            &mut self.boxes,
+            &newborn,
+            after,
+            &mut outs,
+        )?;
         self.next += 1;
-        forget_ended(alloc, &mut self.boxes, &newborn.tag, newborn.kind, ends)?;
         start(alloc, newborn.tag, request, &mut outs)?;
         Ok(outs)
     }

@@ -18,7 +18,7 @@ use sip_text::NoMemory;
 use std::alloc::Global;
 
 /// What a change is news of.
-#[derive(Clone, Copy, Debug)]
+#[derive(Clone, Copy)]
 pub struct News<'a> {
     /// The name of the package.
     pub package: &'a str,

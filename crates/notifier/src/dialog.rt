@@ -65,7 +65,7 @@ fn find_dialog<'a>(place: &Place, live: &'a Rows, request: &Request, tag: &Text)
 }
 
 /// A refusal in the dialog of the row with this serial.
-#[derive(Clone, Copy, Debug)]
+#[derive(Clone, Copy)]
 pub struct Denial {
     pub serial: u32,
     pub cause: Refusal,

@@ -18,7 +18,7 @@ use sip_text::{Field, NoMemory, Text};
 use std::alloc::Global;
 
 /// What a request makes outside a dialog.
-#[derive(Clone, Copy, Debug)]
+#[derive(Clone, Copy)]
 pub enum Birth {
     /// A subscription that watches a mailbox.
     Watch,

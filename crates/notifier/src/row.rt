@@ -4,7 +4,7 @@ use sip_text::{Octets, Text, Values};
 use subscription::Sub;
 
 /// A NOTIFY that no final answer came to yet.
-#[derive(Clone, Copy, Debug)]
+#[derive(Clone, Copy)]
 pub struct Unanswered {
     pub number: u32,
     /// The second in which it was made.
@@ -12,7 +12,7 @@ pub struct Unanswered {
 }
 
 /// A live subscription.
-#[derive(Debug, Drop)]
+#[derive(Drop)]
 pub struct Row {
     /// Its number among those of its worker, from 1.
     pub serial: u32,
@@ -24,7 +24,7 @@ pub struct Row {
 }
 
 /// What names a transaction (RFC 3261 section 17.2.3).
-#[derive(Debug, Drop)]
+#[derive(Drop)]
 pub struct Key {
     pub branch: Text,
     pub sent_by: Text,
@@ -32,7 +32,7 @@ pub struct Key {
 }
 
 /// An answer that is kept for retransmissions of its request.
-#[derive(Debug, Drop)]
+#[derive(Drop)]
 pub struct Kept {
     pub key: Key,
     pub bytes: Octets,

@@ -8,7 +8,7 @@ use sip_text::{NoMemory, Text};
 use std::alloc::Global;
 
 /// The texts of a key.
-#[derive(PartialEq, Eq, Hash, Debug, Drop)]
+#[derive(PartialEq, Eq, Hash, Drop)]
 pub struct Transaction {
     branch: String,
     sent_by: String,
