@@ -157,6 +157,25 @@ impl<P: Package> Teller<'_, P> {
             Birth::Transfer => Some(self.first_accepted(usage, want, request)),
         }
     }
+
+    /// The same of the dialog that a request makes.
+    fn begun(
+        &self,
+        alloc: Global,
+        request: &Request,
+        want: &Want,
+        newborn: &Newborn,
+    ) -> Result<Option<Step>, NoMemory>
+        requires number { 1 ≤ want.now.max_cseq }
+        requires clock { self.now.clock < 2 ^ 63 }
+        requires kind { newborn.now.kind ≡ requests.birth_of self.now.place.now.limits request.now }
+        ensures { IfOk result (λ next. next ≡ spec.first_step self.now.place.now.limits self.now.clock
+            (spec.new_usage newborn.now.tag request.now) want.now request.now newborn.now.kind) }
+    {
+        let usage = new_usage(alloc, &newborn.tag, request)?;
+        let want = copy_want(alloc, want)?;
+        Ok(self.first_step(usage, want, request, newborn.kind))
+    }
 }
 
 /// A transfer that is watched begins.
@@ -210,21 +229,22 @@ pub fn first_told<P: Package>(
         incoming.now newborn.now).notifies) }
 {
     let request = incoming.request;
-    let usage = new_usage(alloc, &newborn.tag, request)?;
     let want = new_want(alloc, place, &newborn.tag, incoming.source, request)?;
-    let told = copy_want(alloc, &want)?;
-    let stub = Stub {
-        serial: newborn.serial,
-        last_cseq: request.head.cseq,
-        unanswered: Values::new(Vec::new(alloc)),
-    };
     let teller = Teller {
         place,
         boxes: &ledger.boxes,
         clock: ledger.clock,
     };
-    match teller.first_step(usage, want, request, newborn.kind) {
+    let begun = teller.begun(alloc, request, &want, newborn)?;
+    match begun {
         None => Ok(untold()),
-        Some(next) => teller.turned(alloc, incoming.source, &told, stub, next),
+        Some(next) => {
+            let stub = Stub {
+                serial: newborn.serial,
+                last_cseq: request.head.cseq,
+                unanswered: Values::new(Vec::new(alloc)),
+            };
+            teller.turned(alloc, incoming.source, &want, stub, next)
+        }
     }
 }

@@ -9,21 +9,19 @@ returns-clause-row g c =
     let place = c.args.place.now in
     let r = c.args.incoming.now.request.now in
     let begun : first_step place.limits c.args.ledger.now.clock (new_usage c.args.newborn.now.tag r) (new_want place c.args.newborn.now.tag c.args.incoming.now.source r) r c.args.newborn.now.kind ≡ Some c.in-Some.next =
-    ap (λ u. first_step place.limits c.args.ledger.now.clock u (new_want place c.args.newborn.now.tag c.args.incoming.now.source r) r c.args.newborn.now.kind) (sym c.in_ok-usage.ensures)
-    ∙ ap (λ w. first_step place.limits c.args.ledger.now.clock c.in_ok-usage.usage w r c.args.newborn.now.kind) (sym c.in_ok-want.ensures.want)
-    ∙ sym c.first_step.ensures ∙ c.in-Some.is in
-    first_turned place (map g.P.Package.seen c.args.ledger.now.boxes.items) c.args.ledger.now.clock c.args.newborn.now.tag c.args.incoming.now.source r c.args.newborn.now.serial c.in_ok-told.told _ c.in-Some.next _ c.turned.result
+    ap (λ w. first_step place.limits c.args.ledger.now.clock (new_usage c.args.newborn.now.tag r) w r c.args.newborn.now.kind) (sym c.in_ok-want.ensures.want)
+    ∙ sym c.in_ok-begun.ensures ∙ c.in-Some.is in
+    first_turned place (map g.P.Package.seen c.args.ledger.now.boxes.items) c.args.ledger.now.clock c.args.newborn.now.tag c.args.incoming.now.source r c.args.newborn.now.serial c.in_ok-want.want _ c.in-Some.next _ c.turned.result
     (λ after. after.row) (λ told. told.row)
-    (c.in_ok-told.ensures ∙ c.in_ok-want.ensures.want) (first_row c.args.newborn.now.serial r _ (c.new-2.ensures ∙ c.new.ensures.items)) begun c.turned.ensures.row
+    c.in_ok-want.ensures.want (first_row c.args.newborn.now.serial r _ (c.new-in-Some.ensures ∙ c.new.ensures.items)) begun c.turned.ensures.row
 
 pub returns-clause-out : goal.returns-clause-out
 returns-clause-out g c =
     let place = c.args.place.now in
     let r = c.args.incoming.now.request.now in
     let begun : first_step place.limits c.args.ledger.now.clock (new_usage c.args.newborn.now.tag r) (new_want place c.args.newborn.now.tag c.args.incoming.now.source r) r c.args.newborn.now.kind ≡ Some c.in-Some.next =
-    ap (λ u. first_step place.limits c.args.ledger.now.clock u (new_want place c.args.newborn.now.tag c.args.incoming.now.source r) r c.args.newborn.now.kind) (sym c.in_ok-usage.ensures)
-    ∙ ap (λ w. first_step place.limits c.args.ledger.now.clock c.in_ok-usage.usage w r c.args.newborn.now.kind) (sym c.in_ok-want.ensures.want)
-    ∙ sym c.first_step.ensures ∙ c.in-Some.is in
-    first_turned place (map g.P.Package.seen c.args.ledger.now.boxes.items) c.args.ledger.now.clock c.args.newborn.now.tag c.args.incoming.now.source r c.args.newborn.now.serial c.in_ok-told.told _ c.in-Some.next _ c.turned.result
+    ap (λ w. first_step place.limits c.args.ledger.now.clock (new_usage c.args.newborn.now.tag r) w r c.args.newborn.now.kind) (sym c.in_ok-want.ensures.want)
+    ∙ sym c.in_ok-begun.ensures ∙ c.in-Some.is in
+    first_turned place (map g.P.Package.seen c.args.ledger.now.boxes.items) c.args.ledger.now.clock c.args.newborn.now.tag c.args.incoming.now.source r c.args.newborn.now.serial c.in_ok-want.want _ c.in-Some.next _ c.turned.result
     (λ after. option_to_list after.out) (λ told. map out_of told.notifies)
-    (c.in_ok-told.ensures ∙ c.in_ok-want.ensures.want) (first_row c.args.newborn.now.serial r _ (c.new-2.ensures ∙ c.new.ensures.items)) begun c.turned.ensures.out
+    c.in_ok-want.ensures.want (first_row c.args.newborn.now.serial r _ (c.new-in-Some.ensures ∙ c.new.ensures.items)) begun c.turned.ensures.out
