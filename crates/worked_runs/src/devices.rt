@@ -27,28 +27,49 @@ impl<'a> Read for Drip<'a> {
     }
 }
 
-/// A writer that takes seven bytes a write, so often, and then fails or takes none.
+/// What is wrong with a writer.
+#[derive(Clone, Copy, PartialEq)]
+pub(crate) enum Fault {
+    Fails,
+    TakesNone,
+    FlushFails,
+}
+
+impl Fault {
+    pub(crate) fn name(self) -> &'static str {
+        match self {
+            Fault::Fails => "a write fails",
+            Fault::TakesNone => "a write takes nothing",
+            Fault::FlushFails => "a flush fails",
+        }
+    }
+}
+
+/// A writer that takes at most so many bytes a write, so often, and then has a fault.
 #[derive(Drop)]
 pub(crate) struct Drain {
     pub(crate) taken: Vec<u8>,
+    pub(crate) most: usize,
     pub(crate) left: u32,
-    pub(crate) takes_none: bool,
+    pub(crate) fault: Fault,
 }
 
 impl Write for Drain {
     fn write(&mut self, buf: &[u8]) -> io::Result<usize> {
-        if self.left == 0 {
-            return if self.takes_none {
-                Ok(0)
-            } else {
-                Err(io::Error::from(ErrorKind::BrokenPipe))
-            };
+        if self.left == 0 && self.fault == Fault::Fails {
+            return Err(io::Error::from(ErrorKind::BrokenPipe));
         }
-        self.left -= 1;
-        self.taken.write(buf.split_at(buf.len().min(7)).0)
+        if self.left == 0 && self.fault == Fault::TakesNone {
+            return Ok(0);
+        }
+        self.left = self.left.saturating_sub(1);
+        self.taken.write(buf.split_at(buf.len().min(self.most)).0)
     }
 
     fn flush(&mut self) -> io::Result<()> {
+        if self.fault == Fault::FlushFails {
+            return Err(io::Error::from(ErrorKind::BrokenPipe));
+        }
         Ok(())
     }
 }

@@ -5,6 +5,7 @@
 //! ended in which way, and whether each wrote what it may: the page, a front of it, or nothing. The counts were worked out by
 //! hand: the script has 308 bytes, and its page 791, or 811 with the line of a second worker.
 
+use crate::devices::Fault;
 use crate::trials::{Trial, cut_scripts, endless_reader, failed_reads, failed_writes, page_of};
 use crate::words::words_of;
 use std::rt::Files;
@@ -20,8 +21,11 @@ where
     println!(rt; "scripts cut at each byte: {}", cut_scripts(trial))?;
     println!(rt; "reads that fail: {}", failed_reads(trial))?;
     println!(rt; "a reader that never ends: {}", endless_reader(trial))?;
-    println!(rt; "writes that fail: {}", failed_writes(trial, false))?;
-    println!(rt; "writes that take nothing: {}", failed_writes(trial, true))
+    println!(rt; "writes that fail: {}", failed_writes(trial, Fault::Fails))?;
+    println!(rt;
+        "writes that take nothing: {}",
+        failed_writes(trial, Fault::TakesNone)
+    )
 }
 
 /// Tries a call with these words on this script.

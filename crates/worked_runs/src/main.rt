@@ -1,20 +1,41 @@
-//! The worked runs of the whole program: scripts with the pages that they are to have, and one of them over devices that fail.
+//! The worked runs of the whole program: scripts with the pages that they are to have, and one of them over devices that fail;
+//! and examples of what it reads and writes.
 //!
 //! There is nothing here that others build on. Begin with `pages`, then `devices`, the readers and writers, `trials` and
-//! `failures`.
+//! `failures`. `examples` and `calls` have tables of scripts, control lines, arguments and calls, `streams` readers and writers
+//! that end, fail or never end, and `memory` is for runs in which a growth is refused.
 #![tactic(auto)]
 
+mod briefs;
+mod calls;
+mod desks;
 mod devices;
+mod examples;
 mod failures;
+mod memory;
 mod pages;
+mod presence;
+mod streams;
+mod table;
 mod trials;
 mod words;
 
+use crate::calls::{tell_calls, tell_statuses};
+use crate::desks::tell_desks;
+use crate::examples::tell_examples;
 use crate::failures::tell_failures;
+use crate::memory::tell_memory;
 use crate::pages::tell_pages;
+use crate::streams::tell_streams;
 use std::io;
 
 fn main(rt: HostRuntime) -> io::Result<()> {
+    tell_desks(&rt)?;
+    tell_memory(rt)?;
+    tell_examples(&rt)?;
+    tell_calls(rt)?;
+    tell_statuses(&rt)?;
+    tell_streams(&rt)?;
     tell_pages(rt)?;
     tell_failures(rt)
 }

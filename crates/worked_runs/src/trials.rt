@@ -1,6 +1,6 @@
 //! Runs of one call over failing devices, counted by how they ended.
 
-use crate::devices::{Drain, Drip};
+use crate::devices::{Drain, Drip, Fault};
 use scripts::{Sink, Source};
 use server::{Status, run};
 use sip_text::Text;
@@ -190,7 +190,7 @@ fn is_front(page: &[u8], taken: &[u8], writes: u32) -> bool {
 
 /// Seven bytes a write, and each write that fails or takes nothing, up to the one behind the last. What went out is a front of
 /// the page, of all writes before.
-pub(crate) fn failed_writes<H>(trial: &Trial<'_, H>, takes_none: bool) -> Ends
+pub(crate) fn failed_writes<H>(trial: &Trial<'_, H>, fault: Fault) -> Ends
 where
     H: Threads + Wait + Copy + Send + 'static,
 {
@@ -204,8 +204,9 @@ where
     for left in 0..117 {
         let drain = Drain {
             taken: Vec::new(alloc),
+            most: 7,
             left,
-            takes_none,
+            fault,
         };
         let Ended {
             status,
