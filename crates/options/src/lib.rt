@@ -14,8 +14,6 @@ pub mod flag;
 pub mod mailbox_file;
 pub mod setting;
 pub mod tell;
-#[cfg(test)]
-mod tests;
 
 pub use choices::{Choices, Numbers};
 pub use error::OptionsError;

@@ -10,8 +10,6 @@
 mod answer;
 mod asking;
 mod line;
-#[cfg(test)]
-mod tests;
 mod udp;
 
 pub use answer::Answer;
