@@ -2,7 +2,7 @@
 ghost use Rattle.std.specs.Prelude.{◌≡◌, ◌≤◌, ◌<◌, length, option_map, IfOk};
 ghost use Rattle.sip_read.specs.MessageComputed.{doubled, top_required, head_of, body_of, accept_field, request_of, finished, message_of};
 ghost use Rattle.sip_read.specs.Message.{Answers};
-ghost use Rattle.sip_read.specs.OnceComputed.{required, field_of};
+ghost use Rattle.sip_read.specs.OnceComputed.{required, field_of as field_view};
 ghost use Rattle.sip_read.specs.Views.{first as first_view, fields_seen, gathered_seen};
 
 use crate::call::Sequence;
@@ -94,8 +94,8 @@ fn body_of(content_length: Once<u64>, rest: &[u8]) -> Result<&[u8], ReadError>
     }
 }
 
-fn accept_field(alloc: Global, lines: Option<Vec<u8>>) -> Result<Field<Values<Range>>, NoMemory>
-    ensures { IfOk result (λ f. f ≡ accept_field (option_map (λ v. v.items) lines)) }
+fn accept_field(alloc: Global, lines: &Option<Vec<u8>>) -> Result<Field<Values<Range>>, NoMemory>
+    ensures { IfOk result (λ f. f ≡ accept_field (option_map (λ v. v.items) lines.now)) }
 {
     match lines {
         None => Ok(Field::Absent),
@@ -103,6 +103,74 @@ fn accept_field(alloc: Global, lines: Option<Vec<u8>>) -> Result<Field<Values<Ra
             Some(ranges) => Ok(Field::Value(ranges)),
             None => Ok(Field::Bad),
         },
+    }
+}
+
+/// What a request says that takes memory of its own.
+#[derive(Drop)]
+struct Copies {
+    method: Text,
+    uri: Text,
+    accept: Field<Values<Range>>,
+    body: Octets,
+}
+
+fn copies_of(
+    alloc: Global,
+    method: &str,
+    uri: &str,
+    accept: &Option<Vec<u8>>,
+    body: &[u8],
+) -> Result<Copies, NoMemory>
+    ensures { IfOk result (λ c. c ≡ record {
+      method = method.now;
+      uri = uri.now;
+      accept = accept_field (option_map (λ v. v.items) accept.now);
+      body = body.now;
+    }) }
+{
+    let method = Text::of(alloc, method)?;
+    let uri = Text::of(alloc, uri)?;
+    let accept = accept_field(alloc, accept)?;
+    let body = Octets::new(Vec::from_slice(alloc, body)?);
+    Ok(Copies {
+        method,
+        uri,
+        accept,
+        body,
+    })
+}
+
+/// The request of these parts. Nothing can fail here, where what was read is taken apart.
+fn request_with(copies: Copies, head: Head, fields: Fields) -> Request
+    ensures { result ≡ record {
+      method = copies.method;
+      uri = copies.uri;
+      head = head;
+      event = field_view fields.event;
+      expires = field_view fields.expires;
+      accept = copies.accept;
+      contact = field_view fields.contact;
+      refer_to = field_view fields.refer_to;
+      refer_sub = field_view fields.refer_sub;
+      require = fields.require.items;
+      record_routes = fields.record_routes.items;
+      body = copies.body;
+    } }
+{
+    Request {
+        method: copies.method,
+        uri: copies.uri,
+        head,
+        event: field_of(fields.event),
+        expires: field_of(fields.expires),
+        accept: copies.accept,
+        contact: field_of(fields.contact),
+        refer_to: field_of(fields.refer_to),
+        refer_sub: field_of(fields.refer_sub),
+        require: Values::new(fields.require),
+        record_routes: Values::new(fields.record_routes),
+        body: copies.body,
     }
 }
 
@@ -116,24 +184,8 @@ fn request_of(
 ) -> Result<Request, NoMemory>
     ensures { IfOk result (λ r. r ≡ request_of method.now uri.now head (fields_seen fields) body.now) }
 {
-    let method = Text::of(alloc, method)?;
-    let uri = Text::of(alloc, uri)?;
-    let accept = accept_field(alloc, fields.accept)?;
-    let body = Octets::new(Vec::from_slice(alloc, body)?);
-    Ok(Request {
-        method,
-        uri,
-        head,
-        event: field_of(fields.event),
-        expires: field_of(fields.expires),
-        accept,
-        contact: field_of(fields.contact),
-        refer_to: field_of(fields.refer_to),
-        refer_sub: field_of(fields.refer_sub),
-        require: Values::new(fields.require),
-        record_routes: Values::new(fields.record_routes),
-        body,
-    })
+    let copies = copies_of(alloc, method, uri, &fields.accept, body)?;
+    Ok(request_with(copies, head, fields))
 }
 
 fn finished(
