@@ -1,7 +1,10 @@
 //! A request that makes a dialog, as a step of a ledger.
 #![tactic(auto, unfolding(crate::specs::Book::keeping, crate::specs::Book::born, crate::specs::Book::born_with, crate::specs::Book::served, crate::specs::Book::first_gone, crate::specs::Book::first_word, crate::specs::Rows::forgetting, crate::specs::Out::out_of))]
 
-ghost use Rattle.std.specs.Prelude.{◌≡◌, ◌≤◌, ◌<◌, ◌++◌, ◌∷◌, [], ◌&&◌, map, if◌then◌else◌, All, IfOk, IfSome, OnOk, None, is_none, option_to_list};
+ghost use Rattle.std.specs.Prelude.{◌≡◌, ◌≤◌, ◌<◌, ◌++◌, ◌∷◌, [], ◌&&◌, map, if◌then◌else◌, All, IfOk, IfSome, OnOk, None, is_none, option_map, option_to_list};
+ghost use Rattle.circular_buffer.specs.Buffer.{buffer};
+ghost use Rattle.sip_write.specs.Answer.{answer_text};
+ghost use Rattle.notifier.specs.Answers.{birth_answer as birth_text, ring_with};
 ghost use Rattle.notifier.specs.Book as spec;
 ghost use Rattle.notifier.specs.Fields as fields;
 ghost use Rattle.notifier.specs.Incoming.{IsNamed, Serves, first_told_of};
@@ -11,12 +14,14 @@ ghost use Rattle.notifier.specs.Requests as requests;
 ghost use Rattle.notifier.specs.Rows as rows;
 ghost use Rattle.notifier.specs.Start.{tag_of};
 ghost use Rattle.notifier.specs.Stored.{rows_of, IsIndexed};
+ghost use Rattle.notifier.specs.Transactions.{key_of};
 
 use crate::answer::birth_answer;
 use crate::birth::{Newborn, begin, first_told, value_or_empty};
 use crate::boxes::change_first;
 use crate::event::Out;
 use crate::incoming::Incoming;
+use crate::kept::KeptAnswers;
 use crate::ledger::Ledger;
 use crate::place::Place;
 use crate::request::{Birth, is_refer};
@@ -65,6 +70,26 @@ fn start(alloc: Global, tag: Text, request: &Request, outs: &mut Vec<Out>) -> Re
     let refer_to = Text::of(alloc, value_or_empty(&request.refer_to))?;
     outs.push(Out::Start { tag, refer_to })?;
     Ok(())
+}
+
+/// Answers a request that makes a dialog with this local tag, and keeps the answer.
+fn answer_birth(
+    alloc: Global,
+    place: &Place,
+    ring: &mut KeptAnswers,
+    incoming: Incoming<'_>,
+    tag: &Text,
+) -> Result<Vec<Out>, NoMemory>
+    requires { ring.old.capacity ≡ place.now.limits.kept }
+    ensures ring { OnOk result (ring.new ≡ buffer (ring_with place.now.limits ring.old.items
+        (option_map key_of incoming.entry.transaction)
+        (answer_text (birth_text place.now incoming.entry.source incoming.entry.request.now tag.now)))
+        ring.old.capacity) }
+    ensures outs { IfOk result (λ outs. outs.items ≡ Out.Answer incoming.entry.source
+        (answer_text (birth_text place.now incoming.entry.source incoming.entry.request.now tag.now)) ∷ []) }
+{
+    let bytes = birth_answer(alloc, place, &incoming, tag)?;
+    answer(alloc, &place.limits, ring, incoming, bytes)
 }
 
 /// The row of a new subscription goes to the others, if it stays, and its first NOTIFY behind the outs that are there.
@@ -117,10 +142,9 @@ impl<P: Package> Ledger<P> {
     {
         place.limits.are_in_range();
         let request = incoming.request;
-        let bytes = birth_answer(alloc, place, &incoming, &newborn.tag)?;
         begin(alloc, &mut self.boxes, &newborn.tag, newborn.kind)?;
         let after = first_told(alloc, place, self, &incoming, &newborn)?;
-        let mut outs = answer(alloc, &place.limits, &mut self.ring, incoming, bytes)?;
+        let mut outs = answer_birth(alloc, place, &mut self.ring, incoming, &newborn.tag)?;
         settle(
             alloc,
             &mut self.rows,
