@@ -1,4 +1,5 @@
-//! Worked examples of both packages, of changes and of closings: a program that says of each whether it goes as it should.
+//! Worked examples of both packages, of changes, of closings and of one subscription: a program that says of each whether it
+//! goes as it should.
 //!
 //! `data/mailboxes` and `data/transfers` have scenes of a package, written by RFC 3842, RFC 3515 and RFC 3420 and not by the
 //! program: a title, the package with the closing that it leaves (its name, the resources that it held, its changes), and then
@@ -15,6 +16,7 @@ mod closings;
 mod making;
 mod memory;
 mod scenes;
+mod subscriptions;
 
 use crate::scenes::tell_scenes;
 use std::io;
@@ -24,5 +26,6 @@ fn main(rt: HostRuntime) -> io::Result<()> {
     tell_scenes(&rt, "mailboxes")?;
     tell_scenes(&rt, "transfers")?;
     changes::tell_all(&rt)?;
-    closings::tell_all(&rt)
+    closings::tell_all(&rt)?;
+    subscriptions::tell_all(&rt)
 }

@@ -13,14 +13,14 @@ const BAR: &str = " | ";
 
 /// A line of a scene: a word, what stands behind it, and what must come of it.
 #[derive(Clone, Copy)]
-struct Line<'a> {
-    word: &'a str,
-    text: &'a str,
-    wanted: &'a str,
+pub(crate) struct Line<'a> {
+    pub(crate) word: &'a str,
+    pub(crate) text: &'a str,
+    pub(crate) wanted: &'a str,
 }
 
 /// None where a line lacks a word, a text or what is wanted.
-fn line_of(line: &str) -> Option<Line<'_>> {
+pub(crate) fn line_of(line: &str) -> Option<Line<'_>> {
     let (done, wanted) = line.split_once(BAR)?;
     let (word, text) = done.split_once(' ')?;
     Some(Line { word, text, wanted })

@@ -61,7 +61,7 @@ fn event_of(alloc: Global, block: Block) -> Event {
     }
 }
 
-/// The events of a script. None where it is none.
+/// The events of a script. No script here is bad, so what is not read is want of memory.
 fn events_of(alloc: Global, script: &[u8]) -> Result<Vec<Event>, NoMemory> {
     let Ok(blocks) = parse_script(alloc, script) else {
         return Err(NoMemory);
