@@ -225,13 +225,15 @@ fn respond(alloc: Global, life: &mut Option<Sub>, line: Line<'_>) -> Result<bool
     let read = read(alloc, datagram.as_bytes());
     let is_so = match &read {
         Ok(Message::Response(response)) if line.word == "answer" => {
-            refuses(life, response, line.wanted)
+            Ok(refuses(life, response, line.wanted))
         }
-        Ok(Message::Response(response)) => answers(life, response, line.wanted),
-        _ => false,
+        Ok(Message::Response(response)) => Ok(answers(life, response, line.wanted)),
+        Ok(Message::Request(_)) => Ok(false),
+        // Each response here is one that can be read.
+        Err(_) => Err(NoMemory),
     };
     drop(read);
-    Ok(is_so)
+    is_so
 }
 
 /// A NOTIFY stays unanswered.
