@@ -43,21 +43,21 @@ fn transfers(alloc: Global) -> Result<Transfers, NoMemory> {
     Transfers::new(alloc, ClosingCell::new(alloc)?)
 }
 
-/// The event of a datagram. A shut where it is no request, which no script here has.
-fn event_at(alloc: Global, addr: Addr, octets: &[u8]) -> Event {
+/// The event of a datagram. Each datagram here is a request, so what is not read is want of memory.
+fn event_at(alloc: Global, addr: Addr, octets: &[u8]) -> Result<Event, NoMemory> {
     match read(alloc, octets) {
-        Ok(Message::Request(request)) => Event::Request(addr, request),
-        _ => Event::Shut,
+        Ok(Message::Request(request)) => Ok(Event::Request(addr, request)),
+        _ => Err(NoMemory),
     }
 }
 
 /// The event of a block.
-fn event_of(alloc: Global, block: Block) -> Event {
+fn event_of(alloc: Global, block: Block) -> Result<Event, NoMemory> {
     match block {
         Block::Sip(addr, octets) => event_at(alloc, addr, octets.as_slice()),
-        Block::Mail(change) => Event::Mail(change),
-        Block::Progress(progress) => Event::Progress(progress),
-        Block::Tick(time) => Event::Tick(time),
+        Block::Mail(change) => Ok(Event::Mail(change)),
+        Block::Progress(progress) => Ok(Event::Progress(progress)),
+        Block::Tick(time) => Ok(Event::Tick(time)),
     }
 }
 
@@ -68,7 +68,7 @@ fn events_of(alloc: Global, script: &[u8]) -> Result<Vec<Event>, NoMemory> {
     };
     let mut events = Vec::new(alloc);
     for block in blocks {
-        events.push(event_of(alloc, block))?;
+        events.push(event_of(alloc, block)?)?;
     }
     Ok(events)
 }
