@@ -5,12 +5,13 @@
 //! gives two outs, and the change one or none. Two desks have a lock each: a change of the one may wait for a change of the
 //! other.
 
-use crate::boxes::{Boxes, Manner, box_of, one_name};
+use crate::boxes::{CrewPackage, Manner, new_boxes, one_name};
 use crate::error::RunError;
 use crate::events::{News, event_of};
-use crate::gates::Meeting;
-use crate::running::setup_with;
-use crate::scenarios::told_with;
+use crate::gates::Stage;
+use crate::page::Page;
+use crate::running::{Plan, setup_of};
+use crate::scenarios::tell_meeting;
 use notifier::Desk;
 use package::{ClosingCell, Package};
 use replays::{Replay, SharedDesk};
@@ -19,13 +20,31 @@ use std::sync::{Arc, Wait};
 use std::thread;
 use std::thread::Threads;
 
+/// Queues of 64 places.
+const PLACES: Plan = Plan {
+    places: 64,
+    stop: false,
+};
+
 /// A shared desk with alice's mailbox.
-fn shared_desk(alloc: Global, manner: Manner) -> Result<SharedDesk<Boxes>, RunError> {
-    let setup = setup_with(64, 64, false)?;
+fn shared_desk(
+    alloc: Global,
+    manner: Manner,
+    stage: Arc<Stage, Global>,
+) -> Result<SharedDesk<CrewPackage>, RunError> {
+    let setup = setup_of(PLACES)?;
     let cell = ClosingCell::new(alloc)?;
-    let boxes = box_of(alloc, one_name(alloc, "alice")?, manner, cell)?;
-    let desk = Desk::new(alloc, &setup, 0, boxes)?;
+    let boxes = new_boxes(alloc, one_name(alloc, "alice")?, manner, stage, cell)?;
+    let mut held = Vec::new(alloc);
+    held.push(boxes)?;
+    let desk = Desk::new(alloc, &setup, 0, held)?;
     Ok(SharedDesk::new(Replay::new(alloc, desk)))
+}
+
+/// A shared desk with alice's mailbox, and nothing besides.
+fn plain_desk(alloc: Global) -> Result<SharedDesk<CrewPackage>, RunError> {
+    let stage = Arc::new(alloc, Stage::new(false))?;
+    shared_desk(alloc, Manner::Plain, stage)
 }
 
 /// How many outs the desk gives for the news.
@@ -49,7 +68,7 @@ fn hear_in_turn<R: Wait>(
     first: News,
     second: News,
 ) -> Result<(usize, usize), RunError> {
-    let desk = shared_desk(alloc, Manner::Plain)?;
+    let desk = plain_desk(alloc)?;
     let first_outs = hear(rt, alloc, &desk, first)?;
     let second_outs = hear(rt, alloc, &desk, second)?;
     Ok((first_outs, second_outs))
@@ -87,7 +106,7 @@ fn two_at_a_desk<R>(rt: R, alloc: Global) -> Result<(usize, usize), RunError>
 where
     R: Threads + Wait + Copy + Send + 'static,
 {
-    let desk = Arc::new(alloc, shared_desk(alloc, Manner::Plain)?)?;
+    let desk = Arc::new(alloc, plain_desk(alloc)?)?;
     let there = Call {
         desk: Arc::try_clone(&desk)?,
         news: News::Voice,
@@ -99,69 +118,65 @@ where
     hear_both(rt, alloc, here, there)
 }
 
-/// A change at a desk whose box comes to the one place at each change, and waits at the other.
+/// A change at a desk whose box comes to one of the places of the stage at each change, and waits at the other.
 fn meeting_call(
     alloc: Global,
-    mine: &Arc<Meeting, Global>,
-    other: &Arc<Meeting, Global>,
-) -> Result<Call<Boxes>, RunError> {
-    let manner = Manner::Meets {
-        mine: Arc::try_clone(mine)?,
-        other: Arc::try_clone(other)?,
-    };
+    manner: Manner,
+    stage: &Arc<Stage, Global>,
+) -> Result<Call<CrewPackage>, RunError> {
+    let desk = shared_desk(alloc, manner, Arc::try_clone(stage)?)?;
     Ok(Call {
-        desk: Arc::new(alloc, shared_desk(alloc, manner)?)?,
+        desk: Arc::new(alloc, desk)?,
         news: News::Voice,
     })
 }
 
-/// Two threads at two desks: the box of each holds its change until the other's has one. Whether they met.
-fn desks_meet<R>(rt: R, alloc: Global) -> Result<bool, RunError>
+/// Two threads at two desks: the box of each holds its change until the other's has one. How many outs each gives.
+fn desks_meet<R>(
+    rt: R,
+    alloc: Global,
+    stage: &Arc<Stage, Global>,
+) -> Result<(usize, usize), RunError>
 where
     R: Threads + Wait + Copy + Send + 'static,
 {
-    let first = Arc::new(alloc, Meeting::new())?;
-    let second = Arc::new(alloc, Meeting::new())?;
-    let here = meeting_call(alloc, &first, &second)?;
-    let there = meeting_call(alloc, &second, &first)?;
-    let outs = hear_both(rt, alloc, here, there)?;
-    Ok(outs == (0, 0) && first.was_kept() && second.was_kept())
+    let here = meeting_call(alloc, Manner::MeetsFirst, stage)?;
+    let there = meeting_call(alloc, Manner::MeetsSecond, stage)?;
+    hear_both(rt, alloc, here, there)
 }
 
 /// What a desk gave, in a line.
-fn order_text(
-    alloc: Global,
-    order: &str,
-    asked: usize,
-    changed: usize,
-) -> Result<String, RunError> {
-    let line = format!(in alloc;
-        "{order}: {asked} outs of the SUBSCRIBE, {changed} of the change\n"
-    )?;
-    Ok(line)
+fn show_order(alloc: Global, order: &str, asked: usize, changed: usize, page: &mut Page) {
+    page.say(order);
+    page.tell(alloc, ": ", asked as u64);
+    page.tell(alloc, " outs of the SUBSCRIBE, ", changed as u64);
+    page.say(" of the change\n");
 }
 
 /// What two threads got of one desk, told alike for both orders.
-fn both_text(alloc: Global, asked: usize, changed: usize) -> Result<String, RunError> {
+fn show_both(alloc: Global, asked: usize, changed: usize, page: &mut Page) {
     if asked == 2 && changed <= 1 {
-        let line = "two at a desk: 2 outs of the SUBSCRIBE, none or 1 of the change\n";
-        return Ok(String::from_str(alloc, line)?);
+        page.say("two at a desk: 2 outs of the SUBSCRIBE, none or 1 of the change\n");
+    } else {
+        show_order(alloc, "two at a desk", asked, changed, page);
     }
-    order_text(alloc, "two at a desk", asked, changed)
 }
 
 /// Alice subscribes and her mailbox changes: in either order, at one desk from two threads at once, and the change alone at two
 /// desks that wait for one another.
-pub(crate) fn shared_desks<R>(rt: R, alloc: Global) -> Result<String, RunError>
+pub(crate) fn shared_desks<R>(rt: R, alloc: Global, page: &mut Page) -> Result<(), RunError>
 where
     R: Threads + Wait + Copy + Send + 'static,
 {
     let (asked, changed) = hear_in_turn(&rt, alloc, News::Subscription, News::Voice)?;
-    let mut text = order_text(alloc, "the SUBSCRIBE first", asked, changed)?;
+    show_order(alloc, "the SUBSCRIBE first", asked, changed, page);
     let (changed, asked) = hear_in_turn(&rt, alloc, News::Voice, News::Subscription)?;
-    text.push_str(order_text(alloc, "the change first", asked, changed)?.as_str())?;
+    show_order(alloc, "the change first", asked, changed, page);
     let (asked, changed) = two_at_a_desk(rt, alloc)?;
-    text.push_str(both_text(alloc, asked, changed)?.as_str())?;
-    text.push_str("desks meet: ")?;
-    told_with(alloc, text, desks_meet(rt, alloc)?)
+    show_both(alloc, asked, changed, page);
+    let stage = Arc::new(alloc, Stage::new(false))?;
+    let outs = desks_meet(rt, alloc, &stage)?;
+    page.say("desks meet: ");
+    tell_meeting(outs == (0, 0) && stage.was_kept(), page);
+    Ok(())
 }

@@ -17,10 +17,10 @@ pub(crate) enum RunError {
     NoThread,
     #[error("not an event")]
     NoEvent,
-    #[error("no such scenario")]
-    NoScenario,
-    #[error("nothing could be written")]
-    NoWriting,
+    #[error("no such run")]
+    NoRun,
+    #[error("nothing could be written, or there is no clock")]
+    Device,
 }
 
 impl From<AllocError> for RunError {
@@ -49,6 +49,6 @@ impl From<StartError> for RunError {
 
 impl From<io::Error> for RunError {
     fn from(_error: io::Error) -> RunError {
-        RunError::NoWriting
+        RunError::Device
     }
 }

@@ -4,31 +4,46 @@ ghost use Rattle.crew.specs.Kept.{SameSeats};
 ghost use Rattle.crew.specs.Ports.{PortSeats};
 
 use crate::error::RunError;
-use crate::events::voice;
+use crate::events::{mail, own};
+use crate::names::{Names, names_of};
 use crew::Port;
 use homes::is_for_all;
 use notifier::Event;
+use package::Class;
 use std::alloc::{AllocError, Global};
 use std::snapshot::Snapshot;
 use std::sync::Wait;
 use std::thread;
 use std::thread::{Promise, PromisedHandle, Threads};
 
-/// What is sent through one port: these events, then so many mail changes for each of these mailboxes in turns, each with one
-/// new message more, and last the time.
-#[derive(Drop)]
+/// What is sent through one port: a SUBSCRIBE of each of these users, with this Call-ID, and of each of the mailboxes if it is
+/// watched, with its name; then so many mail changes for each of the mailboxes in turns, each with one new message more, and last
+/// the time.
+#[derive(Clone, Copy)]
 pub(crate) struct Feed {
-    pub(crate) events: Vec<Event>,
-    pub(crate) mailboxes: Vec<String>,
+    pub(crate) users: &'static [(&'static str, &'static str)],
+    pub(crate) mailboxes: Names,
+    pub(crate) are_watched: bool,
     pub(crate) voices: u32,
     pub(crate) second: Option<u64>,
+}
+
+impl Feed {
+    /// Nothing.
+    pub(crate) const NOTHING: Feed = Feed {
+        users: &[],
+        mailboxes: Names::Listed(&[]),
+        are_watched: false,
+        voices: 0,
+        second: None,
+    };
 }
 
 /// A port that was fed and closed.
 #[derive(Drop)]
 pub(crate) struct Fed {
     pub(crate) port: Port,
-    /// How many events were made and not sent.
+    /// How many events were not made or not sent.
     pub(crate) refused: u32,
 }
 
@@ -46,7 +61,7 @@ impl Promise<Fed> for Lent {
 }
 
 /// Sends one event that has a home, and tells whether it was sent.
-fn send_one<R: Wait>(rt: &R, port: &mut Port, event: Event) -> bool
+pub(crate) fn send_one<R: Wait>(rt: &R, port: &mut Port, event: Event) -> bool
     ensures { SameSeats port.old port.new }
 {
     if is_for_all(&event) {
@@ -59,6 +74,21 @@ fn send_one<R: Wait>(rt: &R, port: &mut Port, event: Event) -> bool
     is_sent
 }
 
+/// How many were missed of one.
+fn missed(is_done: bool) -> u32 {
+    if is_done { 0 } else { 1 }
+}
+
+/// Sends an event if it could be made, and tells how many were not sent.
+pub(crate) fn send_made<R: Wait>(rt: &R, port: &mut Port, made: Result<Event, RunError>) -> u32
+    ensures { SameSeats port.old port.new }
+{
+    match made {
+        Ok(event) => if send_one(rt, port, event) { 0 } else { 1 },
+        Err(_) => 1,
+    }
+}
+
 /// Tells the time, if this is one, and whether all were told.
 fn tell_time<R: Wait>(rt: &R, port: &mut Port, second: Option<u64>) -> bool
     ensures { SameSeats port.old port.new }
@@ -69,33 +99,28 @@ fn tell_time<R: Wait>(rt: &R, port: &mut Port, second: Option<u64>) -> bool
     }
 }
 
-/// Sends these events, and tells how many were not sent.
-fn send_all<R: Wait>(rt: &R, port: &mut Port, events: Vec<Event>) -> u32
+/// Makes and sends the SUBSCRIBE of each of these users, and tells how many were not sent.
+fn send_users<R: Wait>(rt: &R, alloc: Global, port: &mut Port, users: &[(&str, &str)]) -> u32
     ensures { SameSeats port.old port.new }
 {
     let mut refused = 0u32;
-    for event in events {
-        if !send_one(rt, port, event) {
-            refused = refused.saturating_add(1);
-        }
+    for asking in users {
+        let made = own(alloc, asking.0, asking.1);
+        refused = refused.saturating_add(send_made(rt, port, made));
     }
     refused
 }
 
-/// Makes and sends one mail change, and tells whether it was sent.
-fn send_voice<R: Wait>(
-    rt: &R,
-    alloc: Global,
-    port: &mut Port,
-    mailbox: &str,
-    new_count: u32,
-) -> bool
+/// Makes and sends the SUBSCRIBE of each of these mailboxes' users, and tells how many were not sent.
+fn send_watchers<R: Wait>(rt: &R, alloc: Global, port: &mut Port, mailboxes: &[String]) -> u32
     ensures { SameSeats port.old port.new }
 {
-    match voice(alloc, mailbox, new_count) {
-        Ok(event) => send_one(rt, port, event),
-        Err(_) => false,
+    let mut refused = 0u32;
+    for mailbox in mailboxes {
+        let made = own(alloc, mailbox.as_str(), mailbox.as_str());
+        refused = refused.saturating_add(send_made(rt, port, made));
     }
+    refused
 }
 
 /// Makes and sends a mail change for each mailbox, and tells how many were not sent.
@@ -110,9 +135,8 @@ fn send_round<R: Wait>(
 {
     let mut refused = 0u32;
     for mailbox in mailboxes {
-        if !send_voice(rt, alloc, port, mailbox.as_str(), new_count) {
-            refused = refused.saturating_add(1);
-        }
+        let made = mail(alloc, mailbox.as_str(), Class::Voice, new_count);
+        refused = refused.saturating_add(send_made(rt, port, made));
     }
     refused
 }
@@ -135,26 +159,50 @@ pub(crate) fn send_voices<R: Wait>(
     refused
 }
 
-/// Sends all of a feed and closes the port.
-fn send_feed<R: Wait>(rt: &R, alloc: Global, mut port: Port, feed: Feed) -> Fed
+/// Those of these mailboxes that are watched.
+fn watched_of(mailboxes: &[String], are_watched: bool) -> &[String] {
+    if are_watched { mailboxes } else { &[] }
+}
+
+/// Sends all of a feed for these mailboxes, and tells how many events were not sent.
+fn send_all<R: Wait>(
+    rt: &R,
+    alloc: Global,
+    port: &mut Port,
+    mailboxes: &[String],
+    feed: Feed,
+) -> u32
+    ensures { SameSeats port.old port.new }
+{
+    let users = send_users(rt, alloc, port, feed.users);
+    let watched = watched_of(mailboxes, feed.are_watched);
+    let watchers = send_watchers(rt, alloc, port, watched);
+    let voices = send_voices(rt, alloc, port, mailboxes, feed.voices);
+    let is_told = tell_time(rt, port, feed.second);
+    users
+        .saturating_add(watchers)
+        .saturating_add(voices)
+        .saturating_add(missed(is_told))
+}
+
+/// Sends all of a feed for these mailboxes and closes the port.
+fn feed_port<R: Wait>(
+    rt: &R,
+    alloc: Global,
+    mut port: Port,
+    mailboxes: Vec<String>,
+    feed: Feed,
+) -> Fed
     ensures closed { result.port.still_open ≡ 0 }
     ensures seats { SameSeats port result.port }
 {
-    let Feed {
-        events,
-        mailboxes,
-        voices,
-        second,
-    } = feed;
-    let early = send_all(rt, &mut port, events);
-    let late = send_voices(rt, alloc, &mut port, mailboxes.as_slice(), voices);
-    let is_told = tell_time(rt, &mut port, second);
+    let sent = send_all(rt, alloc, &mut port, mailboxes.as_slice(), feed);
     let told = port.close(rt);
-    let mut refused = early.saturating_add(late);
-    if !is_told || told.is_err() {
-        refused = refused.saturating_add(1);
+    let unclosed = if told.is_ok() { 0 } else { 1 };
+    Fed {
+        port,
+        refused: sent.saturating_add(unclosed),
     }
-    Fed { port, refused }
 }
 
 /// Starts the thread that feeds this port.
@@ -162,6 +210,7 @@ fn start_feed<R: Threads + Wait + Copy + Send + 'static>(
     rt: R,
     alloc: Global,
     port: Port,
+    mailboxes: Vec<String>,
     next: Feed,
 ) -> Result<PromisedHandle<Fed, Lent>, AllocError>
     ensures { IfOk result (λ h. h.promise.port.value ≡ port) }
@@ -169,28 +218,29 @@ fn start_feed<R: Threads + Wait + Copy + Send + 'static>(
     let lent = Lent {
         port: Snapshot::of(&port),
     };
-    Ok(thread::spawn_with(&rt, lent, move || send_feed(&rt, alloc, port, next))?)
+    Ok(thread::spawn_with(
+        &rt,
+        lent,
+        move || feed_port(&rt, alloc, port, mailboxes, next),
+    )?)
 }
 
-/// Starts a thread for each port, which feeds it.
+/// Starts a thread for each port, which feeds it, once the mailboxes of the feed have their names.
 pub(crate) fn start_feeds<R: Threads + Wait + Copy + Send + 'static>(
     rt: R,
     alloc: Global,
     ports: Vec<Port>,
-    feeds: Vec<Feed>,
+    feeds: &[Feed],
 ) -> Result<Vec<PromisedHandle<Fed, Lent>>, RunError>
-    requires feeds { vec_len feeds ≡ vec_len ports }
     ensures len { IfOk result (λ lent. vec_len lent ≡ vec_len ports) }
     ensures each { IfOk result (λ lent. (k : ℕ) (h : _) (q : PortSeats) → k < vec_len ports
         → (get_or lent.items k h).promise.port.value ≡ get_or ports.items k q) }
 {
     let mut lent = Vec::with_capacity(alloc, ports.len())?;
-    let mut rest = feeds.into_iter();
     for port in ports {
-        let Some(next) = rest.next() else {
-            unreachable!()
-        };
-        lent.push(start_feed(rt, alloc, port, next)?)?;
+        let next = feeds.get(lent.len()).copied().unwrap_or(Feed::NOTHING);
+        let mailboxes = names_of(alloc, next.mailboxes)?;
+        lent.push(start_feed(rt, alloc, port, mailboxes, next)?)?;
     }
     Ok(lent)
 }

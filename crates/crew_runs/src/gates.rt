@@ -1,4 +1,4 @@
-//! Gates by which workers wait for one another.
+//! Places where threads wait for one another, and the gate of all crews here.
 
 use std::sync::atomic::{AtomicBool, Ordering};
 use std::thread;
@@ -15,7 +15,7 @@ pub(crate) struct Meeting {
 }
 
 impl Meeting {
-    pub(crate) fn new() -> Meeting {
+    fn new() -> Meeting {
         Meeting {
             came: AtomicBool::new(false),
             was_missed: AtomicBool::new(false),
@@ -39,24 +39,46 @@ impl Meeting {
     }
 
     /// Whether each wait found the other side.
-    pub(crate) fn was_kept(&self) -> bool {
+    fn was_kept(&self) -> bool {
         !self.was_missed.load(Ordering::SeqCst)
     }
 }
 
-/// A gate that holds worker 0 before its event 0 until worker 1 passes before its event 1.
+/// Two places to meet at. It is also the gate of a crew, which is open, or holds worker 0 before its event 0 until worker 1
+/// passes before its event 1.
 #[derive(Drop)]
-pub(crate) struct MeetingGate {
-    pub(crate) meeting: Meeting,
+pub(crate) struct Stage {
+    holds_worker: bool,
+    pub(crate) first: Meeting,
+    pub(crate) second: Meeting,
 }
 
-impl Gate for MeetingGate {
+impl Stage {
+    /// A stage whose gate is open, or holds worker 0.
+    pub(crate) fn new(holds_worker: bool) -> Stage {
+        Stage {
+            holds_worker,
+            first: Meeting::new(),
+            second: Meeting::new(),
+        }
+    }
+
+    /// Whether each wait found the other side.
+    pub(crate) fn was_kept(&self) -> bool {
+        self.first.was_kept() && self.second.was_kept()
+    }
+}
+
+impl Gate for Stage {
     fn pass(&self, worker: u32, index: u64) {
+        if !self.holds_worker {
+            return;
+        }
         if worker == 1 && index == 1 {
-            self.meeting.come();
+            self.first.come();
         }
         if worker == 0 && index == 0 {
-            self.meeting.wait();
+            self.first.wait();
         }
     }
 }

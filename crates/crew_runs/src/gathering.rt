@@ -1,17 +1,73 @@
 //! What the taker gets.
-ghost use Rattle.std.specs.Prelude.{◌≡◌, []};
-ghost use Rattle.queue_rule.specs.Ended.{AllEnded};
 
 use crate::error::RunError;
+use crate::page::Page;
+use crate::running::Taking;
+use crew::{End, Report, WorkerReport};
 use notifier::Out;
-use outbox::{Posted, Taker};
-use sip_text::Octets;
 use std::alloc::Global;
 use std::sync::Wait;
-use std::thread;
 
 /// How many subscriptions a worker may have.
 const WATCHERS: usize = 100;
+
+/// What an out is.
+#[derive(Clone, Copy)]
+enum Kind {
+    Answer,
+    Start,
+    Notify(Heard),
+}
+
+/// What a NOTIFY is for a subscription.
+#[derive(Clone, Copy)]
+struct Heard {
+    /// The place of the subscription; none where its tag names none.
+    place: usize,
+    number: u32,
+    is_last: bool,
+}
+
+/// The serial in the local tag of a subscription, `w<worker>-<serial>-` and digits.
+fn serial_in(tag: &str) -> Option<usize> {
+    let (_, rest) = tag.split_once('-')?;
+    let (serial, _) = rest.split_once('-')?;
+    serial.parse::<usize>().ok()?.checked_sub(1)
+}
+
+fn kind_of(out: &Out) -> Kind {
+    match out {
+        Out::Answer { .. } => Kind::Answer,
+        Out::Start { .. } => Kind::Start,
+        Out::Notify {
+            tag,
+            number,
+            terminated,
+            ..
+        } => Kind::Notify(Heard {
+            place: serial_in(tag.as_str()).unwrap_or(WATCHERS),
+            number: *number,
+            is_last: *terminated,
+        }),
+    }
+}
+
+/// How many new voice messages a NOTIFY shows.
+fn voices_in(out: &Out) -> u32 {
+    let Out::Notify { bytes, .. } = out else {
+        return 0;
+    };
+    let text = str::from_utf8(bytes.as_slice()).unwrap_or("");
+    for line in text.lines() {
+        if let Some(counts) = line.strip_prefix("Voice-Message: ") {
+            return match counts.split_once('/') {
+                Some((new_count, _)) => new_count.parse::<u32>().unwrap_or(0),
+                None => 0,
+            };
+        }
+    }
+    0
+}
 
 /// What was got of one subscription.
 #[derive(Drop)]
@@ -20,149 +76,162 @@ struct Watcher {
     number: u32,
     /// Whether that one was terminated.
     is_over: bool,
-    /// Its bytes.
-    last: Octets,
+    last: Option<Out>,
 }
 
 impl Watcher {
     /// It gets a NOTIFY, and tells whether that is the next one.
-    fn hear(&mut self, number: u32, terminated: bool, bytes: Octets) -> bool {
-        let is_next = !self.is_over && number == self.number.saturating_add(1);
-        self.number = number;
-        self.is_over = terminated;
-        self.last = bytes;
+    fn hear(&mut self, heard: Heard, out: Out) -> bool {
+        let is_next = !self.is_over && heard.number == self.number.saturating_add(1);
+        self.number = heard.number;
+        self.is_over = heard.is_last;
+        self.last = Some(out);
         is_next
     }
 
     /// How many new voice messages its last NOTIFY shows.
     fn voices(&self) -> u32 {
-        let text = str::from_utf8(self.last.as_slice()).unwrap_or("");
-        for line in text.lines() {
-            if let Some(counts) = line.strip_prefix("Voice-Message: ") {
-                return match counts.split_once('/') {
-                    Some((new_count, _)) => new_count.parse::<u32>().unwrap_or(0),
-                    None => 0,
-                };
-            }
+        match &self.last {
+            Some(out) => voices_in(out),
+            None => 0,
         }
-        0
     }
-}
-
-/// The serial in the local tag of a subscription, `w<worker>-<serial>-` and digits.
-fn serial_in(tag: &str) -> Option<u32> {
-    let (_, rest) = tag.split_once('-')?;
-    let (serial, _) = rest.split_once('-')?;
-    serial.parse::<u32>().ok()
 }
 
 /// What was got of one worker.
 #[derive(Drop)]
 pub(crate) struct Told {
-    pub(crate) answers: u32,
-    pub(crate) notifies: u32,
-    pub(crate) starts: u32,
+    answers: u32,
+    notifies: u32,
+    starts: u32,
     /// Whether the NOTIFYs of each subscription were numbered 1, 2, .. and none came after a terminated one.
-    pub(crate) is_in_order: bool,
+    is_in_order: bool,
     /// The subscriptions, by serial from 1.
     watchers: Vec<Watcher>,
+}
+
+/// Subscriptions of which nothing was got.
+fn no_news(alloc: Global) -> Result<Vec<Watcher>, RunError> {
+    let mut watchers = Vec::new(alloc);
+    for _ in 0..WATCHERS {
+        watchers.push(Watcher {
+            number: 0,
+            is_over: false,
+            last: None,
+        })?;
+    }
+    Ok(watchers)
 }
 
 impl Told {
     /// Nothing was got yet.
     fn nothing(alloc: Global) -> Result<Told, RunError> {
-        let mut watchers = Vec::new(alloc);
-        for _ in 0..WATCHERS {
-            watchers.push(Watcher {
-                number: 0,
-                is_over: false,
-                last: Octets::new(Vec::new(alloc)),
-            })?;
-        }
         Ok(Told {
             answers: 0,
             notifies: 0,
             starts: 0,
             is_in_order: true,
-            watchers,
+            watchers: no_news(alloc)?,
         })
     }
 
-    /// The subscription with this tag.
-    fn watcher_of(&mut self, tag: &str) -> Option<&mut Watcher> {
-        let at = serial_in(tag)?.checked_sub(1)?;
-        self.watchers.get_mut(at as usize)
+    fn hear_notify(&mut self, heard: Heard, out: Out) {
+        let is_next = match self.watchers.get_mut(heard.place) {
+            Some(watcher) => watcher.hear(heard, out),
+            None => false,
+        };
+        self.is_in_order = self.is_in_order && is_next;
+        self.notifies = self.notifies.saturating_add(1);
     }
 
     fn hear(&mut self, out: Out) {
-        match out {
-            Out::Answer { .. } => self.answers = self.answers.saturating_add(1),
-            Out::Start { .. } => self.starts = self.starts.saturating_add(1),
-            Out::Notify {
-                tag,
-                number,
-                terminated,
-                bytes,
-                ..
-            } => {
-                let is_next = match self.watcher_of(tag.as_str()) {
-                    Some(watcher) => watcher.hear(number, terminated, bytes),
-                    None => false,
-                };
-                self.is_in_order = self.is_in_order && is_next;
-                self.notifies = self.notifies.saturating_add(1);
-            }
+        match kind_of(&out) {
+            Kind::Answer => self.answers = self.answers.saturating_add(1),
+            Kind::Start => self.starts = self.starts.saturating_add(1),
+            Kind::Notify(heard) => self.hear_notify(heard, out),
         }
     }
 
     /// Whether a subscription is over.
-    pub(crate) fn is_over(&self) -> bool {
+    fn is_over(&self) -> bool {
         self.watchers.iter().any(|watcher| watcher.is_over)
     }
 
     /// How many new voice messages the last NOTIFYs show, all together.
-    pub(crate) fn voices(&self) -> u32 {
+    fn voices(&self) -> u32 {
         let mut voices = 0u32;
         for watcher in self.watchers.iter() {
             voices = voices.saturating_add(watcher.voices());
         }
         voices
     }
-}
 
-/// So many workers of which nothing was got.
-pub(crate) fn nothing_of(alloc: Global, workers: usize) -> Result<Vec<Told>, RunError> {
-    let mut told = Vec::new(alloc);
-    for _ in 0..workers {
-        told.push(Told::nothing(alloc)?)?;
+    /// What was got of the worker, in words.
+    fn show(&self, alloc: Global, page: &mut Page) {
+        page.count(alloc, u64::from(self.answers));
+        page.tell(alloc, " answers, ", u64::from(self.notifies));
+        page.say(if self.is_in_order {
+            " NOTIFYs in order"
+        } else {
+            " NOTIFYs out of order"
+        });
+        page.say(if self.is_over() { ", over" } else { "" });
+        page.tell(alloc, ", ", u64::from(self.starts));
+        page.tell(alloc, " starts, ", u64::from(self.voices()));
+        page.say(" messages shown\n");
     }
-    Ok(told)
 }
 
-fn hear(told: &mut [Told], worker: u32, out: Out) {
-    match told.get_mut(worker as usize) {
-        Some(told) => told.hear(out),
-        None => drop(out),
+/// How a worker ended, in words.
+fn show_end(alloc: Global, end: End, page: &mut Page) {
+    match end {
+        End::Closed => page.say("closed"),
+        End::NoMemory(events) => page.tell(alloc, "out of memory after ", events),
+        End::Abandoned(false) => page.say("abandoned"),
+        End::Abandoned(true) => page.say("abandoned, out of memory"),
     }
 }
 
-/// Takes what the workers post until each has ended. Where the outbox is empty the thread yields.
-pub(crate) fn gather<R: Wait>(rt: &R, taker: &mut Taker, workers: usize, told: &mut [Told])
-    requires none { taker.old.got ≡ [] }
-    requires workers { workers ≡ taker.old.workers }
-    ensures outbox { taker.new.outbox ≡ taker.old.outbox }
-    ensures ended { AllEnded taker.old.workers taker.new.got }
-{
-    let mut left = workers;
-    for _ in rt.forever() {
-        if left == 0 {
-            return;
+/// What a worker did, in words.
+fn show_worker(alloc: Global, number: usize, worker: &WorkerReport, page: &mut Page) {
+    page.tell(alloc, "worker ", number as u64);
+    page.tell(alloc, ": handled ", worker.handled);
+    page.tell(alloc, ", made ", worker.made);
+    page.say(", ");
+    show_end(alloc, worker.end, page);
+    page.say("; ");
+}
+
+/// What was got of the workers of a crew.
+#[derive(Drop)]
+pub(crate) struct Gathered {
+    told: Vec<Told>,
+}
+
+impl Gathered {
+    /// So many workers of which nothing was got.
+    pub(crate) fn nothing(alloc: Global, workers: usize) -> Result<Gathered, RunError> {
+        let mut told = Vec::new(alloc);
+        for _ in 0..workers {
+            told.push(Told::nothing(alloc)?)?;
         }
-        match taker.take(rt) {
-            Some(Posted::Ended(_)) => left -= 1,
-            Some(Posted::Out(worker, out)) => hear(told, worker, out),
-            None => thread::yield_now(),
+        Ok(Gathered { told })
+    }
+
+    /// What each worker did, in a line each.
+    pub(crate) fn show(&self, alloc: Global, report: &Report, page: &mut Page) {
+        for (number, (worker, told)) in report.workers.iter().zip(self.told.iter()).enumerate() {
+            show_worker(alloc, number, worker, page);
+            told.show(alloc, page);
         }
     }
-    unreachable!()
+}
+
+impl Taking for Gathered {
+    fn take<R: Wait>(&mut self, _rt: &R, worker: u32, out: Out) {
+        match self.told.get_mut(worker as usize) {
+            Some(told) => told.hear(out),
+            None => drop(out),
+        }
+    }
 }

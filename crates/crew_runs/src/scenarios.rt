@@ -1,197 +1,384 @@
-//! The scenarios.
-ghost use Rattle.std.specs.Prelude.{◌≡◌, vec_len, IfOk};
+//! Crews whose ports are fed from threads of their own.
 
-use crate::boxes::{Boxes, Manner, box_of, one_name};
+use crate::boxes::{Crowd, Manner, add_package, add_worker, few, plain_box};
 use crate::error::RunError;
-use crate::events::{subscribe, voice};
 use crate::feeding::Feed;
-use crate::gates::{Meeting, MeetingGate};
-use crate::running::{run_crew, setup_with};
-use crew::Open;
-use notifier::Event;
-use package::ClosingCell;
+use crate::gates::Stage;
+use crate::gathering::Gathered;
+use crate::names::{MAILBOXES, Names, names_of};
+use crate::page::Page;
+use crate::running::{Plan, run_fed, setup_of};
+use package::{Closing, ClosingCell};
 use std::alloc::Global;
 use std::sync::{Arc, Wait};
 use std::thread::Threads;
 
-/// The boxes of one worker, with a mailbox.
-fn one_of(alloc: Global, mailbox: &str, manner: Manner) -> Result<Vec<Vec<Boxes>>, RunError>
-    ensures { IfOk result (λ boxes. vec_len boxes ≡ 1) }
-{
-    let cell = ClosingCell::new(alloc)?;
-    let mut boxes = Vec::new(alloc);
-    boxes.push(box_of(alloc, one_name(alloc, mailbox)?, manner, cell)?)?;
-    Ok(boxes)
+/// A crew, and what it is fed.
+#[derive(Clone, Copy)]
+pub(crate) struct Scene {
+    pub(crate) name: &'static str,
+    plan: Plan,
+    /// Whether the gate holds worker 0 until worker 1 has come.
+    holds_worker: bool,
+    /// The mailboxes of each worker, and what its package does besides.
+    workers: &'static [(Names, Manner)],
+    feeds: &'static [Feed],
+    /// Whether it is told that the two sides met.
+    tells_meeting: bool,
 }
 
-/// The boxes of two workers, with alice's mailbox and with bob's.
-fn two_of(alloc: Global, first: Manner, second: Manner) -> Result<Vec<Vec<Boxes>>, RunError>
-    ensures { IfOk result (λ boxes. vec_len boxes ≡ 2) }
-{
-    let mut boxes = one_of(alloc, "alice", first)?;
-    let cell = ClosingCell::new(alloc)?;
-    boxes.push(box_of(alloc, one_name(alloc, "bob")?, second, cell)?)?;
-    Ok(boxes)
-}
+/// Queues of one place.
+const ONE_PLACE: Plan = Plan {
+    places: 1,
+    stop: false,
+};
 
-/// A feed of these events alone.
-fn feed_of(alloc: Global, events: Vec<Event>) -> Feed {
+/// Queues of one place, and a planned stop.
+const STOP: Plan = Plan {
+    places: 1,
+    stop: true,
+};
+
+/// How often each of many mailboxes is changed.
+const CHANGES: u32 = 1_250;
+
+/// Queues of so many places that few waits are left where others keep the processors busy.
+const MANY_PLACES: Plan = Plan {
+    places: 4096,
+    stop: false,
+};
+
+const ALICE: Names = Names::Listed(&["alice"]);
+
+const BOB: Names = Names::Listed(&["bob"]);
+
+/// Two workers, with alice's mailbox and with bob's.
+const TWO: &[(Names, Manner)] = &[(ALICE, Manner::Plain), (BOB, Manner::Plain)];
+
+/// A SUBSCRIBE for alice.
+const ALICE_ALONE: Feed = Feed {
+    users: &[("alice", "c1")],
+    mailboxes: ALICE,
+    are_watched: false,
+    voices: 0,
+    second: None,
+};
+
+/// A SUBSCRIBE for alice, and a mail change for her.
+const ALICE_AND_ONE: Feed = Feed {
+    users: &[("alice", "c1")],
+    mailboxes: ALICE,
+    are_watched: false,
+    voices: 1,
+    second: None,
+};
+
+/// A SUBSCRIBE for alice, and five mail changes for her.
+const ALICE_AND_FIVE: Feed = Feed {
+    users: &[("alice", "c1")],
+    mailboxes: ALICE,
+    are_watched: false,
+    voices: 5,
+    second: None,
+};
+
+/// A SUBSCRIBE for alice, and a thousand mail changes for her.
+const ALICE_AND_THOUSAND: Feed = Feed {
+    users: &[("alice", "c1")],
+    mailboxes: ALICE,
+    are_watched: false,
+    voices: 1000,
+    second: None,
+};
+
+/// A SUBSCRIBE for bob.
+const BOB_ALONE: Feed = Feed {
+    users: &[("bob", "c3")],
+    mailboxes: BOB,
+    are_watched: false,
+    voices: 0,
+    second: None,
+};
+
+/// A SUBSCRIBE for bob, and a mail change for him.
+const BOB_AND_ONE: Feed = Feed {
+    users: &[("bob", "c3")],
+    mailboxes: BOB,
+    are_watched: false,
+    voices: 1,
+    second: None,
+};
+
+/// A mail change for alice.
+const MAIL_FOR_ALICE: Feed = Feed {
+    users: &[],
+    mailboxes: ALICE,
+    are_watched: false,
+    voices: 1,
+    second: None,
+};
+
+/// A mail change for bob.
+const MAIL_FOR_BOB: Feed = Feed {
+    users: &[],
+    mailboxes: BOB,
+    are_watched: false,
+    voices: 1,
+    second: None,
+};
+
+/// Two mail changes for alice.
+const TWO_FOR_ALICE: Feed = Feed {
+    users: &[],
+    mailboxes: ALICE,
+    are_watched: false,
+    voices: 2,
+    second: None,
+};
+
+/// A SUBSCRIBE for alice, one for bob, and the time.
+const BOTH_AND_TIME: Feed = Feed {
+    users: &[("alice", "c1"), ("bob", "c3")],
+    mailboxes: Names::Listed(&[]),
+    are_watched: false,
+    voices: 0,
+    second: Some(31),
+};
+
+/// A SUBSCRIBE for each of a hundred mailboxes, and then their changes: for each of the four hundred in four feeds.
+const MANY: &[Feed] = &[
     Feed {
-        events,
-        mailboxes: Vec::new(alloc),
-        voices: 0,
+        users: &[],
+        mailboxes: Names::From(0),
+        are_watched: true,
+        voices: CHANGES,
         second: None,
-    }
-}
-
-/// The feeds of one port.
-fn one_feed(alloc: Global, feed: Feed) -> Result<Vec<Feed>, RunError>
-    ensures { IfOk result (λ feeds. vec_len feeds ≡ 1) }
-{
-    let mut feeds = Vec::new(alloc);
-    feeds.push(feed)?;
-    Ok(feeds)
-}
-
-/// The feeds of two ports.
-fn two_feeds(alloc: Global, first: Feed, second: Feed) -> Result<Vec<Feed>, RunError>
-    ensures { IfOk result (λ feeds. vec_len feeds ≡ 2) }
-{
-    let mut feeds = one_feed(alloc, first)?;
-    feeds.push(second)?;
-    Ok(feeds)
-}
-
-/// One event.
-fn one_event(alloc: Global, event: Event) -> Result<Vec<Event>, RunError> {
-    let mut events = Vec::new(alloc);
-    events.push(event)?;
-    Ok(events)
-}
-
-/// A SUBSCRIBE for alice, and so many mail changes for her.
-fn alice_and_mail(alloc: Global, voices: u32) -> Result<Feed, RunError> {
-    Ok(Feed {
-        events: one_event(alloc, subscribe(alloc, "alice", "c1")?)?,
-        mailboxes: one_name(alloc, "alice")?,
-        voices,
+    },
+    Feed {
+        users: &[],
+        mailboxes: Names::From(MAILBOXES),
+        are_watched: true,
+        voices: CHANGES,
         second: None,
-    })
-}
+    },
+    Feed {
+        users: &[],
+        mailboxes: Names::From(2 * MAILBOXES),
+        are_watched: true,
+        voices: CHANGES,
+        second: None,
+    },
+    Feed {
+        users: &[],
+        mailboxes: Names::From(3 * MAILBOXES),
+        are_watched: true,
+        voices: CHANGES,
+        second: None,
+    },
+];
 
-/// Two ports and two workers, with queues of one place: alice subscribes and gets one mail change, bob subscribes.
-pub(crate) fn two_workers<R>(rt: R, alloc: Global) -> Result<String, RunError>
-where
-    R: Threads + Wait + Copy + Send + 'static,
-{
-    let setup = setup_with(1, 1, false)?;
-    let boxes = two_of(alloc, Manner::Plain, Manner::Plain)?;
-    let bob = feed_of(alloc, one_event(alloc, subscribe(alloc, "bob", "c3")?)?);
-    let feeds = two_feeds(alloc, alice_and_mail(alloc, 1)?, bob)?;
-    run_crew(rt, alloc, &setup, boxes, Arc::new(alloc, Open)?, feeds)
-}
+/// The scenes.
+pub(crate) const SCENES: [Scene; 8] = [
+    // two ports: alice subscribes and gets one mail change, bob subscribes
+    Scene {
+        name: "two_workers",
+        plan: ONE_PLACE,
+        holds_worker: false,
+        workers: TWO,
+        feeds: &[ALICE_AND_ONE, BOB_ALONE],
+        tells_meeting: false,
+    },
+    Scene {
+        name: "mail_through_one_place",
+        plan: ONE_PLACE,
+        holds_worker: false,
+        workers: TWO,
+        feeds: &[ALICE_AND_THOUSAND],
+        tells_meeting: false,
+    },
+    // four ports, four workers and four hundred watchers, each of whom is told of each change of a mailbox
+    Scene {
+        name: "many_mails",
+        plan: MANY_PLACES,
+        holds_worker: false,
+        workers: &[
+            (Names::At(0), Manner::Plain),
+            (Names::At(1), Manner::Plain),
+            (Names::At(2), Manner::Plain),
+            (Names::At(3), Manner::Plain),
+        ],
+        feeds: MANY,
+        tells_meeting: false,
+    },
+    // alice and bob subscribe through one port, and then the time comes to both workers
+    Scene {
+        name: "time_for_all",
+        plan: ONE_PLACE,
+        holds_worker: false,
+        workers: TWO,
+        feeds: &[BOTH_AND_TIME],
+        tells_meeting: false,
+    },
+    // alice subscribes, and her last NOTIFY ends the subscription; bob's worker gets the stop alone
+    Scene {
+        name: "planned_stop",
+        plan: STOP,
+        holds_worker: false,
+        workers: TWO,
+        feeds: &[ALICE_ALONE],
+        tells_meeting: false,
+    },
+    // the box says at its third change that memory ran out; a stop is planned, and is not handled
+    Scene {
+        name: "refused_change",
+        plan: STOP,
+        holds_worker: false,
+        workers: &[(ALICE, Manner::Refuses(2))],
+        feeds: &[ALICE_AND_FIVE],
+        tells_meeting: false,
+    },
+    // worker 0 is held before its first event until worker 1 passes the gate before its second
+    Scene {
+        name: "workers_meet",
+        plan: ONE_PLACE,
+        holds_worker: true,
+        workers: TWO,
+        feeds: &[ALICE_ALONE, BOB_AND_ONE],
+        tells_meeting: true,
+    },
+    // the box of worker 0 holds its change until the box of worker 1 has one
+    Scene {
+        name: "boxes_meet",
+        plan: ONE_PLACE,
+        holds_worker: false,
+        workers: &[(ALICE, Manner::Waits), (BOB, Manner::Comes)],
+        feeds: &[MAIL_FOR_ALICE, MAIL_FOR_BOB],
+        tells_meeting: true,
+    },
+];
 
-/// Queues of one place: alice subscribes, and then gets so many mail changes.
-pub(crate) fn mail_through_one_place<R>(rt: R, alloc: Global) -> Result<String, RunError>
-where
-    R: Threads + Wait + Copy + Send + 'static,
-{
-    let setup = setup_with(1, 1, false)?;
-    let boxes = two_of(alloc, Manner::Plain, Manner::Plain)?;
-    let feeds = one_feed(alloc, alice_and_mail(alloc, 1000)?)?;
-    run_crew(rt, alloc, &setup, boxes, Arc::new(alloc, Open)?, feeds)
-}
-
-/// A stop is planned: alice subscribes, and her last NOTIFY ends the subscription. Bob's worker gets the stop alone.
-pub(crate) fn planned_stop<R>(rt: R, alloc: Global) -> Result<String, RunError>
-where
-    R: Threads + Wait + Copy + Send + 'static,
-{
-    let setup = setup_with(1, 1, true)?;
-    let boxes = two_of(alloc, Manner::Plain, Manner::Plain)?;
-    let feeds = one_feed(alloc, alice_and_mail(alloc, 0)?)?;
-    run_crew(rt, alloc, &setup, boxes, Arc::new(alloc, Open)?, feeds)
-}
-
-/// Alice and bob subscribe through one port, and then the time comes to both workers.
-pub(crate) fn time_for_all<R>(rt: R, alloc: Global) -> Result<String, RunError>
-where
-    R: Threads + Wait + Copy + Send + 'static,
-{
-    let setup = setup_with(1, 1, false)?;
-    let boxes = two_of(alloc, Manner::Plain, Manner::Plain)?;
-    let mut events = one_event(alloc, subscribe(alloc, "alice", "c1")?)?;
-    events.push(subscribe(alloc, "bob", "c3")?)?;
-    let feed = Feed {
-        events,
-        mailboxes: Vec::new(alloc),
-        voices: 0,
-        second: Some(31),
-    };
-    let feeds = one_feed(alloc, feed)?;
-    run_crew(rt, alloc, &setup, boxes, Arc::new(alloc, Open)?, feeds)
-}
-
-/// The box says at its third change that memory ran out; a stop is planned, and is not handled.
-pub(crate) fn refused_change<R>(rt: R, alloc: Global) -> Result<String, RunError>
-where
-    R: Threads + Wait + Copy + Send + 'static,
-{
-    let setup = setup_with(1, 1, true)?;
-    let boxes = one_of(alloc, "alice", Manner::Refuses(2))?;
-    let feeds = one_feed(alloc, alice_and_mail(alloc, 5)?)?;
-    run_crew(rt, alloc, &setup, boxes, Arc::new(alloc, Open)?, feeds)
-}
-
-/// Worker 0 is held before its first event until worker 1 passes the gate before its second.
-pub(crate) fn workers_meet<R>(rt: R, alloc: Global) -> Result<String, RunError>
-where
-    R: Threads + Wait + Copy + Send + 'static,
-{
-    let setup = setup_with(1, 1, false)?;
-    let boxes = two_of(alloc, Manner::Plain, Manner::Plain)?;
-    let mut bob = one_event(alloc, subscribe(alloc, "bob", "c3")?)?;
-    bob.push(voice(alloc, "bob", 1)?)?;
-    let feeds = two_feeds(alloc, alice_and_mail(alloc, 0)?, feed_of(alloc, bob))?;
-    let gate = Arc::new(
-        alloc,
-        MeetingGate {
-            meeting: Meeting::new(),
-        },
-    )?;
-    let kept = Arc::try_clone(&gate)?;
-    let text = run_crew(rt, alloc, &setup, boxes, gate, feeds)?;
-    told_with(alloc, text, kept.meeting.was_kept())
-}
-
-/// The box of worker 0 holds its change until the box of worker 1 has one.
-pub(crate) fn boxes_meet<R>(rt: R, alloc: Global) -> Result<String, RunError>
-where
-    R: Threads + Wait + Copy + Send + 'static,
-{
-    let setup = setup_with(1, 1, false)?;
-    let meeting = Arc::new(alloc, Meeting::new())?;
-    let waits = Manner::Waits(Arc::try_clone(&meeting)?);
-    let comes = Manner::Comes(Arc::try_clone(&meeting)?);
-    let boxes = two_of(alloc, waits, comes)?;
-    let alice = one_event(alloc, voice(alloc, "alice", 1)?)?;
-    let bob = one_event(alloc, voice(alloc, "bob", 1)?)?;
-    let feeds = two_feeds(alloc, feed_of(alloc, alice), feed_of(alloc, bob))?;
-    let text = run_crew(rt, alloc, &setup, boxes, Arc::new(alloc, Open)?, feeds)?;
-    told_with(alloc, text, meeting.was_kept())
-}
-
-/// The text, with a line that says whether the two sides met.
-pub(crate) fn told_with(
+/// The workers of a scene.
+fn crowd_of(
     alloc: Global,
-    mut text: String,
-    has_met: bool,
-) -> Result<String, RunError> {
-    let line = if has_met {
+    workers: &[(Names, Manner)],
+    stage: &Arc<Stage, Global>,
+) -> Result<Crowd, RunError> {
+    let mut crowd = Vec::new(alloc);
+    for (names, manner) in workers {
+        add_worker(alloc, &mut crowd, names_of(alloc, *names)?, *manner, stage)?;
+    }
+    Ok(crowd)
+}
+
+/// Runs a crew of these workers, feeds it, and tells what each worker did.
+fn play<R>(
+    rt: R,
+    alloc: Global,
+    scene: &Scene,
+    crowd: Crowd,
+    stage: &Arc<Stage, Global>,
+    page: &mut Page,
+) -> Result<(), RunError>
+where
+    R: Threads + Wait + Copy + Send + 'static,
+{
+    let setup = setup_of(scene.plan)?;
+    let mut gathered = Gathered::nothing(alloc, crowd.len())?;
+    let gate = Arc::try_clone(stage)?;
+    let (report, refused) = run_fed(
+        rt,
+        alloc,
+        &setup,
+        few(crowd)?,
+        gate,
+        scene.feeds,
+        &mut gathered,
+    )?;
+    gathered.show(alloc, &report, page);
+    if refused > 0 {
+        page.count(alloc, u64::from(refused));
+        page.say(" not sent\n");
+    }
+    Ok(())
+}
+
+/// Plays a scene.
+pub(crate) fn play_scene<R>(
+    rt: R,
+    alloc: Global,
+    scene: &Scene,
+    page: &mut Page,
+) -> Result<(), RunError>
+where
+    R: Threads + Wait + Copy + Send + 'static,
+{
+    let stage = Arc::new(alloc, Stage::new(scene.holds_worker))?;
+    let crowd = crowd_of(alloc, scene.workers, &stage)?;
+    play(rt, alloc, scene, crowd, &stage, page)?;
+    if scene.tells_meeting {
+        tell_meeting(stage.was_kept(), page);
+    }
+    Ok(())
+}
+
+/// Whether the two sides met.
+pub(crate) fn tell_meeting(has_met: bool, page: &mut Page) {
+    page.say(if has_met {
         "they met\n"
     } else {
         "they missed one another\n"
-    };
-    text.push_str(line)?;
-    Ok(text)
+    });
+}
+
+/// What a package left, in words.
+fn show_closing(alloc: Global, closing: Option<&Closing>, page: &mut Page) {
+    match closing {
+        Some(
+            Closing {
+                event,
+                resources,
+                changes,
+            },
+        ) => {
+            page.say(event.as_str());
+            page.tell(alloc, ": ", *resources);
+            page.tell(alloc, " resources, ", *changes);
+            page.say(" changes\n");
+        }
+        None => page.say("nothing left\n"),
+    }
+}
+
+/// Two mail changes for alice.
+const TWO_CHANGES: Scene = Scene {
+    name: "closings",
+    plan: Plan {
+        places: 64,
+        stop: false,
+    },
+    holds_worker: false,
+    workers: &[],
+    feeds: &[TWO_FOR_ALICE],
+    tells_meeting: false,
+};
+
+/// One worker, with alice's mailbox, which leaves its closing in this cell.
+pub(crate) fn alices_worker(alloc: Global, cell: &Arc<ClosingCell>) -> Result<Crowd, RunError> {
+    let package = plain_box(alloc, "alice", Arc::try_clone(cell)?)?;
+    let mut crowd = Vec::new(alloc);
+    add_package(alloc, &mut crowd, package)?;
+    Ok(crowd)
+}
+
+/// What the packages of a worker leave that handled two changes.
+pub(crate) fn closings<R>(rt: R, alloc: Global, page: &mut Page) -> Result<(), RunError>
+where
+    R: Threads + Wait + Copy + Send + 'static,
+{
+    let cell = ClosingCell::new(alloc)?;
+    let stage = Arc::new(alloc, Stage::new(false))?;
+    let crowd = alices_worker(alloc, &cell)?;
+    play(rt, alloc, &TWO_CHANGES, crowd, &stage, page)?;
+    show_closing(alloc, cell.get(), page);
+    Ok(())
 }
