@@ -5,6 +5,7 @@ use service::RunError as ServiceError;
 use sip_text::NoMemory;
 use std::alloc::{AllocError, AllocFailed};
 use std::io;
+use std::thread::SpawnError;
 use thiserror::Error;
 use wires::WireFault;
 
@@ -21,8 +22,10 @@ pub(crate) enum RunError {
     NoThread,
     #[error("no socket")]
     NoSocket,
-    #[error("nothing could be written, or there is no clock")]
+    #[error("a socket failed, nothing could be written, or there is no clock")]
     Device,
+    #[error("something else came than was to come")]
+    Unexpected,
 }
 
 impl From<AllocError> for RunError {
@@ -34,6 +37,12 @@ impl From<AllocError> for RunError {
 impl<T: Drop> From<AllocFailed<T>> for RunError {
     fn from(_refused: AllocFailed<T>) -> RunError {
         RunError::Memory
+    }
+}
+
+impl<F: Drop> From<SpawnError<F>> for RunError {
+    fn from(_refused: SpawnError<F>) -> RunError {
+        RunError::NoThread
     }
 }
 

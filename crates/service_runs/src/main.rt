@@ -1,8 +1,8 @@
 //! Worked runs over wires and sockets: feeding and emitting over wires in memory, whose calls fail where it is asked, and over
-//! sockets of this machine; and a service from its first datagram to its farewell.
+//! sockets of this machine; a service from its first datagram to its farewell; and the program `notifyd udp` with phones at it.
 //!
 //! Each scenario runs once, and what came of it is printed. The stored output was worked out by hand from the rules. There is
-//! nothing here that others build on. Begin with `in_memory` and `loopback`, then `service_run`.
+//! nothing here that others build on. Begin with `in_memory` and `loopback`, then `service_run` and `udp`.
 #![tactic(auto)]
 
 mod error;
@@ -12,12 +12,14 @@ mod phone;
 mod reports;
 mod running;
 mod service_run;
+mod udp;
 mod vectors;
 
 use crate::error::RunError;
 use crate::in_memory::{feed_two, second_send_fails, transfers_start, writer_fails};
 use crate::loopback::loopback;
 use crate::service_run::run_service;
+use crate::udp::show_udp;
 
 fn main(rt: HostRuntime) -> Result<(), RunError> {
     let alloc = rt.alloc();
@@ -35,5 +37,5 @@ fn main(rt: HostRuntime) -> Result<(), RunError> {
     print!(rt; "loopback\n{text}")?;
     let text = run_service(rt, alloc)?;
     print!(rt; "a service\n{text}")?;
-    Ok(())
+    show_udp(rt, alloc)
 }

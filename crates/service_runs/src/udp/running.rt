@@ -1,7 +1,7 @@
 //! The program on the caller's thread.
 
 use crate::error::RunError;
-use crate::phone::{Ear, Ports, loopback};
+use crate::udp::phone::{Ear, Ports, loopback};
 use scripts::Sink;
 use sip_text::Text;
 use std::alloc::Global;

@@ -1,8 +1,8 @@
 //! One phone at the program.
 
 use crate::error::RunError;
-use crate::phone::{Phone, Ports};
-use crate::running::Watching;
+use crate::udp::phone::{Phone, Ports};
+use crate::udp::running::Watching;
 use std::alloc::Global;
 use std::net::Net;
 use std::thread;

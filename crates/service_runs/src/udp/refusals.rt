@@ -1,8 +1,8 @@
 //! Runs that are refused at once.
 
 use crate::error::RunError;
-use crate::phone::{Ear, Ports};
-use crate::running::{arguments, free_ports, run_to_end, words_of};
+use crate::udp::phone::{Ear, Ports};
+use crate::udp::running::{arguments, free_ports, run_to_end, words_of};
 use std::alloc::Global;
 use std::net::Net;
 use std::rt::Clock;

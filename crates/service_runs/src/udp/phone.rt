@@ -187,7 +187,7 @@ Contact: <sip:{user}@127.0.0.1:{port}>\r\n\
             Ok(_) if answer.starts_with(b"SIP/2.0 405 ") => Ok(true),
             Ok(_) => Err(RunError::Unexpected),
             Err(fault) if fault.kind() == ErrorKind::ConnectionRefused => Ok(false),
-            Err(_) => Err(RunError::Socket),
+            Err(_) => Err(RunError::Device),
         }
     }
 

@@ -1,8 +1,8 @@
 //! Three phones at the program.
 
 use crate::error::RunError;
-use crate::phone::{Ear, Phone, Ports, loopback};
-use crate::running::Watching;
+use crate::udp::phone::{Ear, Phone, Ports, loopback};
+use crate::udp::running::Watching;
 use std::alloc::Global;
 use std::net::{Net, SocketAddr};
 use std::thread;

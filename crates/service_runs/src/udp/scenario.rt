@@ -1,10 +1,10 @@
 //! Runs with phones at them.
 
-use crate::errand::start_errand;
 use crate::error::RunError;
-use crate::party::{DATAGRAMS, start_party};
-use crate::phone::Ports;
-use crate::running::{Ended, Watching, are_free, arguments, free_ports, join_all, run_to_end};
+use crate::udp::errand::start_errand;
+use crate::udp::party::{DATAGRAMS, start_party};
+use crate::udp::phone::Ports;
+use crate::udp::running::{Ended, Watching, are_free, arguments, free_ports, join_all, run_to_end};
 use std::alloc::Global;
 use std::net::Net;
 use std::rt::Clock;
