@@ -93,7 +93,7 @@ fn answer_birth(
 }
 
 /// The row of a new subscription goes to the others, if it stays, and its first NOTIFY behind the outs that are there.
-fn settle<P: Package>(
+fn take_in<P: Package>(
     alloc: Global,
     live: &mut Rows,
     boxes: &mut Vec<P>,
@@ -145,7 +145,7 @@ impl<P: Package> Ledger<P> {
         begin(alloc, &mut self.boxes, &newborn.tag, newborn.kind)?;
         let after = first_told(alloc, place, self, &incoming, &newborn)?;
         let mut outs = answer_birth(alloc, place, &mut self.ring, incoming, &newborn.tag)?;
-        settle(
+        take_in(
             alloc,
             &mut self.rows,
             &mut self.boxes,

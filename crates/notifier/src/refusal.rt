@@ -5,7 +5,7 @@ ghost use Rattle.notifier.specs.Refusals.{status_of};
 use sip_write::Status;
 
 /// Why a request is refused, in the order in which the causes are looked for.
-#[derive(Clone, Copy)]
+#[derive(Clone, Copy, Debug, PartialEq, Eq)]
 pub enum Refusal {
     /// 405: neither SUBSCRIBE nor REFER.
     OtherMethod,

@@ -8,7 +8,7 @@ use crate::setting::Setting;
 use sip_text::Addr;
 
 /// The numbers of the options; times are seconds. Which of them go together, `Limits::new` of the crate `notifier` decides.
-#[derive(Clone, Copy)]
+#[derive(Clone, Copy, Debug)]
 pub struct Numbers {
     /// None: one a processor.
     pub workers: Option<u32>,
@@ -25,7 +25,7 @@ pub struct Numbers {
 }
 
 /// What the service does, but for its mailboxes.
-#[derive(Clone, Copy)]
+#[derive(Clone, Copy, Debug)]
 pub struct Choices {
     /// Where datagrams come in.
     pub listen: Addr,

@@ -15,7 +15,7 @@ use sip_text::{Addr, Text, plain_number};
 use std::alloc::Global;
 
 /// One thing that the words say.
-#[derive(Drop)]
+#[derive(Debug, Drop)]
 pub enum Setting {
     /// `--listen`, `--contact` or `--control` with an address.
     Address(Place, Addr),

@@ -11,7 +11,7 @@ use std::alloc::{AllocError, Global};
 use thiserror::Error;
 
 /// What `notifyd tell` is to say.
-#[derive(Drop)]
+#[derive(Debug, Drop)]
 pub struct TellCall {
     /// Where the server's control lines come in, unless at its default.
     pub control: Option<Addr>,

@@ -7,8 +7,8 @@ use Rattle.notifier.proofs.Lives.{all_more, born_lives}
 use Rattle.notifier.proofs.Owned.{IsStill, some_weaker, all_below, born_keeps, own_more, rising_more}
 use Rattle.notifier.proofs.ledger.Ledger.bear_with.Goals as goal
 
-pub settle-requires-clause-last : goal.settle-requires-clause-last
-settle-requires-clause-last g c = λ κs lives.
+pub take_in-requires-clause-last : goal.take_in-requires-clause-last
+take_in-requires-clause-last g c = λ κs lives.
     let next = c.args.self.now.next in
     let rows = rows_of c.args.self.now.rows in
     let keeps = born_keeps c.args.place.now (map g.P.Package.seen c.begin.new.boxes.items) c.args.self.now.clock c.args.newborn.serial c.args.newborn.tag c.args.incoming.source c.args.incoming.request.now c.args.newborn.kind in
@@ -31,9 +31,9 @@ returns-clause-sound g c =
       clock_fits = c.requires.sound.clock_fits;
       next_begins = omega arith;
       next_fits = let room = c.requires.room in let serials = limits.serials in omega arith;
-      rows_indexed = c.in_ok-settle.ensures.indexed;
-      rows_live = subst (All (IsLive c.args.self.now.clock)) (sym c.in_ok-settle.ensures.rows) (all_more (IsLive c.args.self.now.clock) (rows_of c.args.self.now.rows) c.in_ok-after.after.row c.requires.sound.rows_live live);
-      rows_own = subst (All (IsOwn c.args.place.now (next + 1))) (sym c.in_ok-settle.ensures.rows) (own_more c.args.place.now next (rows_of c.args.self.now.rows) c.in_ok-after.after.row c.requires.sound.rows_own own);
-      rows_rise = subst AreRising (sym c.in_ok-settle.ensures.rows) (rising_more c.args.place.now next (tag_of c.args.place.now next) (rows_of c.args.self.now.rows) c.in_ok-after.after.row c.requires.sound.rows_rise c.requires.sound.rows_own own);
+      rows_indexed = c.in_ok-take_in.ensures.indexed;
+      rows_live = subst (All (IsLive c.args.self.now.clock)) (sym c.in_ok-take_in.ensures.rows) (all_more (IsLive c.args.self.now.clock) (rows_of c.args.self.now.rows) c.in_ok-after.after.row c.requires.sound.rows_live live);
+      rows_own = subst (All (IsOwn c.args.place.now (next + 1))) (sym c.in_ok-take_in.ensures.rows) (own_more c.args.place.now next (rows_of c.args.self.now.rows) c.in_ok-after.after.row c.requires.sound.rows_own own);
+      rows_rise = subst AreRising (sym c.in_ok-take_in.ensures.rows) (rising_more c.args.place.now next (tag_of c.args.place.now next) (rows_of c.args.self.now.rows) c.in_ok-after.after.row c.requires.sound.rows_rise c.requires.sound.rows_own own);
       ring_fits = ap (λ r. r.capacity) c.in_ok-outs.ensures.ring ∙ c.requires.sound.ring_fits;
     }
