@@ -5,7 +5,7 @@ use Rattle.sip_read.specs.declared.call.CSeq.{CSeq}
 use Rattle.sip_read.specs.declared.call.Sequence.{Sequence}
 use Rattle.sip_read.specs.declared.first_line.First.{First as FirstText}
 use Rattle.sip_read.specs.declared.first_line.First.TheVariants as firsts
-use Rattle.sip_read.specs.declared.gathered.Fields.{Fields as FieldsHeld}
+use Rattle.sip_read.specs.declared.fields.Fields.{Fields as FieldsHeld}
 use Rattle.sip_read.specs.declared.gathered.Gathered.{Gathered as GatheredHeld}
 use Rattle.sip_read.specs.declared.header.Header.TheVariants as headers
 use Rattle.sip_read.specs.declared.item.Item.{Item as ItemText}
@@ -54,7 +54,7 @@ abbrev pub fields_seen : FieldsHeld → Fields
 fields_seen f = record { event = f.event; expires = f.expires; accept = option_map (λ v. v.items) f.accept; contact = f.contact; refer_to = f.refer_to; refer_sub = f.refer_sub; require = f.require.items; record_routes = f.record_routes.items }
 
 abbrev pub gathered_seen : GatheredHeld → Gathered
-gathered_seen g = record { vias = g.vias.items; top = g.top; from = g.from; to = g.to; call_id = g.call_id; cseq = g.cseq; content_length = g.content_length; fields = fields_seen g.fields }
+gathered_seen g = record { vias = g.head.vias.items; top = g.head.top; from = g.head.from; to = g.head.to; call_id = g.head.call_id; cseq = g.head.cseq; content_length = g.content_length; fields = fields_seen g.fields }
 
 abbrev pub gathered_pair : (GatheredHeld × Bor (List ℕ)) → Gathered × List ℕ
 gathered_pair x = (gathered_seen x.0, x.1.now)

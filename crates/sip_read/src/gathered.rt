@@ -9,42 +9,23 @@ ghost use Rattle.sip_text.specs.Reading.{elements_of};
 ghost use Rattle.sip_read.specs.Views.{item as item_view, party as party_view, fields_seen, gathered_seen, gathered_pair};
 
 use crate::call::{CSeq, Sequence};
+use crate::fields::Fields;
 use crate::folding::unfolded_of;
+use crate::head::HeadLines;
 use crate::header::{Header, header_named};
 use crate::item::{Item, Listed, element_at, single_of};
 use crate::line::{header_of, line_at};
 use crate::message::{Party, Via};
 use crate::once::Once;
-use crate::party::{PartyText, contact_of};
-use crate::value::{event_of, expires_of, refer_sub_of};
+use crate::party::PartyText;
 use crate::via::Hop;
-use event_headers::EventValue;
 use sip_text::{NoMemory, Text, after_comma, capped_number, is_text, some_copy};
 use std::alloc::Global;
-
-/// What the lines say that only a request's reader asks for.
-#[derive(Drop)]
-pub struct Fields {
-    pub event: Once<Option<EventValue>>,
-    pub expires: Once<Option<u32>>,
-    /// All Accept lines, joined with commas.
-    pub accept: Option<Vec<u8>>,
-    pub contact: Once<Option<Text>>,
-    pub refer_to: Once<Option<Text>>,
-    pub refer_sub: Once<Option<bool>>,
-    pub require: Vec<Text>,
-    pub record_routes: Vec<Text>,
-}
 
 /// What the lines say, as far as they were read. Each value is a text of its own.
 #[derive(Drop)]
 pub struct Gathered {
-    pub vias: Vec<Text>,
-    pub top: Option<Via>,
-    pub from: Once<Party>,
-    pub to: Once<Party>,
-    pub call_id: Once<Text>,
-    pub cseq: Once<Sequence>,
+    pub head: HeadLines,
     /// The number, or 2^32 where it is greater.
     pub content_length: Once<u64>,
     pub fields: Fields,
@@ -58,74 +39,19 @@ fn owned_party(alloc: Global, from: PartyText<'_>) -> Result<Party, NoMemory>
     Ok(Party { text, tag })
 }
 
-/// The address of a Contact or a Refer-To, if the value is one.
-fn contact_value(alloc: Global, value: &[u8]) -> Result<Option<Text>, NoMemory>
-    ensures { IfOk result (λ o. o ≡ contact_text value.now) }
-{
-    some_copy(alloc, contact_of(alloc, value)?)
-}
-
-/// A further Accept line, behind a comma where it isn't the first.
-fn accept_more(alloc: Global, lines: &mut Option<Vec<u8>>, value: &[u8]) -> Result<(), NoMemory>
-    ensures { OnOk result
-        (option_map (λ v. v.items) lines.new ≡ accept_more (option_map (λ v. v.items) lines.old) value.now) }
-{
-    match lines {
-        Some(joined) => {
-            joined.push(b',')?;
-            joined.extend_from_slice(value)?;
-        }
-        None => *lines = Some(Vec::from_slice(alloc, value)?),
-    }
-    Ok(())
-}
-
-impl Fields {
-    fn new(alloc: Global) -> Fields
-        ensures { fields_seen result ≡ fields_nothing }
-    {
-        Fields {
-            event: Once::Absent,
-            expires: Once::Absent,
-            accept: None,
-            contact: Once::Absent,
-            refer_to: Once::Absent,
-            refer_sub: Once::Absent,
-            require: Vec::new(alloc),
-            record_routes: Vec::new(alloc),
-        }
-    }
-
-    /// Takes in a value of a header that only requests are asked for.
-    fn add(&mut self, alloc: Global, item: Item<'_>) -> Result<(), NoMemory>
-        ensures { OnOk result (fields_seen self.new ≡ with_field (fields_seen self.old) (item_view item.entry)) }
-    {
-        match item {
-            Item::Event(value) => self.event.add(event_of(alloc, value)?),
-            Item::Expires(value) => self.expires.add(expires_of(value)?),
-            Item::Accept(value) => accept_more(alloc, &mut self.accept, value)?,
-            Item::Contact(value) => self.contact.add(contact_value(alloc, value)?),
-            Item::ReferTo(value) => self.refer_to.add(contact_value(alloc, value)?),
-            Item::ReferSub(value) => self.refer_sub.add(refer_sub_of(alloc, value)?),
-            Item::Require(token) => self.require.push(Text::of(alloc, token)?)?,
-            Item::RecordRoute(route) => self.record_routes.push(Text::of(alloc, route)?)?,
-            _ => {}
-        }
-        Ok(())
-    }
-}
-
 impl Gathered {
     pub fn new(alloc: Global) -> Gathered
         ensures { gathered_seen result ≡ nothing }
     {
         Gathered {
-            vias: Vec::new(alloc),
-            top: None,
-            from: Once::Absent,
-            to: Once::Absent,
-            call_id: Once::Absent,
-            cseq: Once::Absent,
+            head: HeadLines {
+                vias: Vec::new(alloc),
+                top: None,
+                from: Once::Absent,
+                to: Once::Absent,
+                call_id: Once::Absent,
+                cseq: Once::Absent,
+            },
             content_length: Once::Absent,
             fields: Fields::new(alloc),
         }
@@ -136,11 +62,11 @@ impl Gathered {
         ensures { OnOk result (gathered_seen self.new
             ≡ with_item (gathered_seen self.old) (item_view (Item.Via hop.entry))) }
     {
-        self.vias.push(Text::of(alloc, hop.text)?)?;
-        if self.top.is_none() {
+        self.head.vias.push(Text::of(alloc, hop.text)?)?;
+        if self.head.top.is_none() {
             let sent_by = Text::of(alloc, hop.sent_by)?;
             let branch = some_copy(alloc, hop.branch)?;
-            self.top = Some(Via {
+            self.head.top = Some(Via {
                 sent_by,
                 branch,
                 bare_rport: hop.bare_rport,
@@ -155,12 +81,12 @@ impl Gathered {
     {
         match item {
             Item::Via(hop) => self.add_hop(alloc, hop)?,
-            Item::From(party) => self.from.add(owned_party(alloc, party)?),
-            Item::To(party) => self.to.add(owned_party(alloc, party)?),
-            Item::CallId(text) => self.call_id.add(Text::of(alloc, text)?),
+            Item::From(party) => self.head.from.add(owned_party(alloc, party)?),
+            Item::To(party) => self.head.to.add(owned_party(alloc, party)?),
+            Item::CallId(text) => self.head.call_id.add(Text::of(alloc, text)?),
             Item::CSeq(CSeq { number, method }) => {
                 let method = Text::of(alloc, method)?;
-                self.cseq.add(Sequence { number, method });
+                self.head.cseq.add(Sequence { number, method });
             }
             Item::ContentLength(digits) => self.content_length.add(capped_number(digits)),
             field => self.fields.add(alloc, field)?,
