@@ -47,14 +47,20 @@ abbrev pub top_required : Option Via → Result Via ReadError
 top_required None = Err (errors.Missing names.Via)
 top_required (Some top) = Ok top
 
+abbrev pub parties_of : Once Party → Once Party → Result (Party × Party) ReadError
+parties_of from to = required names.From from then λ f. required names.To to then λ t. Ok (f, t)
+
+abbrev pub numbers_of : Once (List ℕ) → Once Sequence → Result (List ℕ × Sequence) ReadError
+numbers_of call_id cseq = required names.CallId call_id then λ i. required names.CSeq cseq then λ c. Ok (i, c)
+
+abbrev pub call_of : Once Party → Once Party → Once (List ℕ) → Once Sequence → Result ((Party × Party) × (List ℕ × Sequence)) ReadError
+call_of from to call_id cseq = parties_of from to then λ p. numbers_of call_id cseq then λ n. Ok (p, n)
+
 unfoldable pub head_of : List (List ℕ) → Option Via → Once Party → Once Party → Once (List ℕ) → Once Sequence → Result Head ReadError
 head_of vias top from to call_id cseq =
     top_required top then λ v.
-    required names.From from then λ f.
-    required names.To to then λ t.
-    required names.CallId call_id then λ i.
-    required names.CSeq cseq then λ c.
-    Ok (record { vias = vias; top = v; from = f; to = t; call_id = i; cseq = c.number; cseq_method = c.method })
+    call_of from to call_id cseq then λ c.
+    Ok (record { vias = vias; top = v; from = c.0.0; to = c.0.1; call_id = c.1.0; cseq = c.1.1.number; cseq_method = c.1.1.method })
 
 abbrev pub body_of : Once ℕ → List ℕ → Result (List ℕ) ReadError
 body_of once.Absent rest = Ok rest

@@ -54,7 +54,7 @@ abbrev pub fields_seen : FieldsHeld → Fields
 fields_seen f = record { event = f.event; expires = f.expires; accept = option_map (λ v. v.items) f.accept; contact = f.contact; refer_to = f.refer_to; refer_sub = f.refer_sub; require = f.require.items; record_routes = f.record_routes.items }
 
 abbrev pub gathered_seen : GatheredHeld → Gathered
-gathered_seen g = record { vias = g.head.vias.items; top = g.head.top; from = g.head.from; to = g.head.to; call_id = g.head.call_id; cseq = g.head.cseq; content_length = g.content_length; fields = fields_seen g.fields }
+gathered_seen g = record { vias = g.vias.items; top = g.top; from = g.call.from; to = g.call.to; call_id = g.call.call_id; cseq = g.call.cseq; content_length = g.content_length; fields = fields_seen g.fields }
 
 abbrev pub gathered_pair : (GatheredHeld × Bor (List ℕ)) → Gathered × List ℕ
 gathered_pair x = (gathered_seen x.0, x.1.now)

@@ -1,14 +1,15 @@
 //! A message of what was read.
 ghost use Rattle.std.specs.Prelude.{◌≡◌, ◌≤◌, ◌<◌, length, option_map, IfOk};
-ghost use Rattle.sip_read.specs.MessageComputed.{doubled, body_of, accept_field, request_of, finished, message_of};
+ghost use Rattle.sip_read.specs.MessageComputed.{doubled, top_required, head_of, body_of, accept_field, request_of, finished, message_of};
 ghost use Rattle.sip_read.specs.Message.{Answers};
 ghost use Rattle.sip_read.specs.Views.{first as first_view, fields_seen, gathered_seen};
 
+use crate::call_lines::CallLines;
 use crate::error::{HeaderName, ReadError};
 use crate::fields::Fields;
 use crate::first_line::First;
 use crate::gathered::Gathered;
-use crate::message::{Head, Message, Request, Response};
+use crate::message::{Head, Message, Request, Response, Via};
 use crate::once::Once;
 use crate::value::accept_of;
 use event_headers::Range;
@@ -20,13 +21,13 @@ impl Gathered {
     fn doubled(&self) -> Option<HeaderName>
         ensures { result ≡ doubled (gathered_seen self.now) }
     {
-        if self.head.from.is_several() {
+        if self.call.from.is_several() {
             Some(HeaderName::From)
-        } else if self.head.to.is_several() {
+        } else if self.call.to.is_several() {
             Some(HeaderName::To)
-        } else if self.head.call_id.is_several() {
+        } else if self.call.call_id.is_several() {
             Some(HeaderName::CallId)
-        } else if self.head.cseq.is_several() {
+        } else if self.call.cseq.is_several() {
             Some(HeaderName::CSeq)
         } else if self.content_length.is_several() {
             Some(HeaderName::ContentLength)
@@ -34,6 +35,33 @@ impl Gathered {
             None
         }
     }
+}
+
+fn top_required(top: Option<Via>) -> Result<Via, ReadError>
+    ensures { result ≡ top_required top }
+{
+    match top {
+        Some(top) => Ok(top),
+        None => Err(ReadError::Missing(HeaderName::Via)),
+    }
+}
+
+/// The head, of what each message has.
+#[tactic(auto, unfolding(crate::specs::MessageComputed::head_of))]
+fn head_of(vias: Vec<Text>, top: Option<Via>, call: CallLines) -> Result<Head, ReadError>
+    ensures { result ≡ head_of vias.items top call.from call.to call.call_id call.cseq }
+{
+    let top = top_required(top)?;
+    let ((from, to), (call_id, cseq)) = call.required()?;
+    Ok(Head {
+        vias: Values::new(vias),
+        top,
+        from,
+        to,
+        call_id,
+        cseq: cseq.number,
+        cseq_method: cseq.method,
+    })
 }
 
 /// What the Content-Length leaves of what follows the empty line.
@@ -159,11 +187,13 @@ pub fn message_of(
         return Err(ReadError::Twice(name));
     }
     let Gathered {
-        head,
+        vias,
+        top,
+        call,
         content_length,
         fields,
     } = gathered;
-    let head = head.required()?;
+    let head = head_of(vias, top, call)?;
     let body = body_of(content_length, rest)?;
     Ok(finished(alloc, first, head, fields, body)?)
 }

@@ -20,14 +20,15 @@ pub enum HeaderName {
 
 impl fmt::Display for HeaderName {
     fn fmt<W: fmt::Write>(&self, f: &mut fmt::Formatter<W>) -> fmt::Result {
-        match self {
-            HeaderName::Via => write!(f, "Via"),
-            HeaderName::From => write!(f, "From"),
-            HeaderName::To => write!(f, "To"),
-            HeaderName::CallId => write!(f, "Call-ID"),
-            HeaderName::CSeq => write!(f, "CSeq"),
-            HeaderName::ContentLength => write!(f, "Content-Length"),
-        }
+        let name = match self {
+            HeaderName::Via => "Via",
+            HeaderName::From => "From",
+            HeaderName::To => "To",
+            HeaderName::CallId => "Call-ID",
+            HeaderName::CSeq => "CSeq",
+            HeaderName::ContentLength => "Content-Length",
+        };
+        write!(f, "{name}")
     }
 }
 

@@ -9,9 +9,9 @@ ghost use Rattle.sip_text.specs.Reading.{elements_of};
 ghost use Rattle.sip_read.specs.Views.{item as item_view, party as party_view, fields_seen, gathered_seen, gathered_pair};
 
 use crate::call::{CSeq, Sequence};
+use crate::call_lines::CallLines;
 use crate::fields::Fields;
 use crate::folding::unfolded_of;
-use crate::head::HeadLines;
 use crate::header::{Header, header_named};
 use crate::item::{Item, Listed, element_at, single_of};
 use crate::line::{header_of, line_at};
@@ -25,7 +25,9 @@ use std::alloc::Global;
 /// What the lines say, as far as they were read. Each value is a text of its own.
 #[derive(Drop)]
 pub struct Gathered {
-    pub head: HeadLines,
+    pub vias: Vec<Text>,
+    pub top: Option<Via>,
+    pub call: CallLines,
     /// The number, or 2^32 where it is greater.
     pub content_length: Once<u64>,
     pub fields: Fields,
@@ -44,9 +46,9 @@ impl Gathered {
         ensures { gathered_seen result ≡ nothing }
     {
         Gathered {
-            head: HeadLines {
-                vias: Vec::new(alloc),
-                top: None,
+            vias: Vec::new(alloc),
+            top: None,
+            call: CallLines {
                 from: Once::Absent,
                 to: Once::Absent,
                 call_id: Once::Absent,
@@ -62,11 +64,11 @@ impl Gathered {
         ensures { OnOk result (gathered_seen self.new
             ≡ with_item (gathered_seen self.old) (item_view (Item.Via hop.entry))) }
     {
-        self.head.vias.push(Text::of(alloc, hop.text)?)?;
-        if self.head.top.is_none() {
+        self.vias.push(Text::of(alloc, hop.text)?)?;
+        if self.top.is_none() {
             let sent_by = Text::of(alloc, hop.sent_by)?;
             let branch = some_copy(alloc, hop.branch)?;
-            self.head.top = Some(Via {
+            self.top = Some(Via {
                 sent_by,
                 branch,
                 bare_rport: hop.bare_rport,
@@ -81,12 +83,12 @@ impl Gathered {
     {
         match item {
             Item::Via(hop) => self.add_hop(alloc, hop)?,
-            Item::From(party) => self.head.from.add(owned_party(alloc, party)?),
-            Item::To(party) => self.head.to.add(owned_party(alloc, party)?),
-            Item::CallId(text) => self.head.call_id.add(Text::of(alloc, text)?),
+            Item::From(party) => self.call.from.add(owned_party(alloc, party)?),
+            Item::To(party) => self.call.to.add(owned_party(alloc, party)?),
+            Item::CallId(text) => self.call.call_id.add(Text::of(alloc, text)?),
             Item::CSeq(CSeq { number, method }) => {
                 let method = Text::of(alloc, method)?;
-                self.head.cseq.add(Sequence { number, method });
+                self.call.cseq.add(Sequence { number, method });
             }
             Item::ContentLength(digits) => self.content_length.add(capped_number(digits)),
             field => self.fields.add(alloc, field)?,

@@ -3,7 +3,7 @@ ghost use Rattle.std.specs.Prelude.{◌≡◌};
 ghost use Rattle.sip_read.specs.Headers.{is_name, header_named};
 
 /// Which header a line is of, as far as the reader keeps its value.
-#[derive(Clone, Copy, Debug, PartialEq, Eq)]
+#[derive(Clone, Copy)]
 pub enum Header {
     Via,
     From,

@@ -13,13 +13,13 @@
 mod address;
 mod assemble;
 mod call;
+mod call_lines;
 mod datagram;
 pub mod error;
 mod fields;
 mod first_line;
 mod folding;
 mod gathered;
-mod head;
 mod header;
 mod item;
 pub mod laws;
