@@ -94,24 +94,19 @@ pub fn element_at(
 pub fn single_of(alloc: Global, header: Header, value: &[u8]) -> Result<Option<Item<'_>>, NoMemory>
     ensures { Gives item result (single_of header value.now) }
 {
-    match header {
-        Header::From => match party_of(alloc, value)? {
-            Some(party) => Ok(Some(Item::From(party))),
-            None => Ok(None),
-        },
-        Header::To => match party_of(alloc, value)? {
-            Some(party) => Ok(Some(Item::To(party))),
-            None => Ok(None),
-        },
-        Header::CallId => Ok(call_id_of(value).map(Item::CallId)),
-        Header::CSeq => Ok(sequence_of(value).map(Item::CSeq)),
-        Header::ContentLength => Ok(all_of(Class::Digit, value).map(Item::ContentLength)),
-        Header::Contact => Ok(Some(Item::Contact(value))),
-        Header::Event => Ok(Some(Item::Event(value))),
-        Header::Expires => Ok(Some(Item::Expires(value))),
-        Header::Accept => Ok(Some(Item::Accept(value))),
-        Header::ReferTo => Ok(Some(Item::ReferTo(value))),
-        Header::ReferSub => Ok(Some(Item::ReferSub(value))),
-        Header::Via | Header::Require | Header::RecordRoute | Header::Other => Ok(None),
-    }
+    let item = match header {
+        Header::From => party_of(alloc, value)?.map(Item::From),
+        Header::To => party_of(alloc, value)?.map(Item::To),
+        Header::CallId => call_id_of(value).map(Item::CallId),
+        Header::CSeq => sequence_of(value).map(Item::CSeq),
+        Header::ContentLength => all_of(Class::Digit, value).map(Item::ContentLength),
+        Header::Contact => Some(Item::Contact(value)),
+        Header::Event => Some(Item::Event(value)),
+        Header::Expires => Some(Item::Expires(value)),
+        Header::Accept => Some(Item::Accept(value)),
+        Header::ReferTo => Some(Item::ReferTo(value)),
+        Header::ReferSub => Some(Item::ReferSub(value)),
+        Header::Via | Header::Require | Header::RecordRoute | Header::Other => None,
+    };
+    Ok(item)
 }
