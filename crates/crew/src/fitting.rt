@@ -44,6 +44,45 @@ fn gates_for<G: Drop>(
     Ok(gates)
 }
 
+/// Room for so many handles, and for what is told of so many workers.
+fn make_room(
+    alloc: Global,
+    count: usize,
+) -> Result<(Vec<PromisedHandle<Done, Began>>, Vec<WorkerReport>), NoMemory>
+    ensures workers { IfOk result (λ r. (count ≤ vec_capacity r.0) × (r.0.items ≡ [])) }
+    ensures reports { IfOk result (λ r. (count ≤ vec_capacity r.1) × (r.1.items ≡ [])) }
+{
+    let workers = Vec::with_capacity(alloc, count)?;
+    let reports = Vec::with_capacity(alloc, count)?;
+    Ok((workers, reports))
+}
+
+/// The seats of the workers, this many ports with a seat in each inbox, and the taker of what the workers post.
+fn seat_crew<P: Package>(
+    alloc: Global,
+    setup: &Setup,
+    ports: u32,
+    boxes: Vec<Vec<P>>,
+) -> Result<(Vec<Seat<P>>, Vec<Port>, Taker), NoMemory>
+    requires few_ports { ports ≤ 256 }
+    requires few_workers { vec_len boxes ≤ 256 }
+    ensures len { IfOk result (λ r. vec_len r.0 ≡ vec_len boxes) }
+    ensures taker { IfOk result (λ r. r.2 ≡ new_taker r.2.outbox (vec_len boxes)) }
+    ensures holds { IfOk result (λ r. r.2.outbox.capacity ≡ setup.now.limits.outbox) }
+    ensures ready { IfOk result (λ r. (k : ℕ) (s : _) (b : _) → k < vec_len boxes →
+        IsReady (start_of P.seen setup.now k (get_or boxes.items k b).items) ports
+        (record { outbox = r.2.outbox; number = k; posted = [] }) (get_or r.0.items k s).token.start (get_or r.0.items k s).stop
+        (get_or r.0.items k s).desk (get_or r.0.items k s).receiver (get_or r.0.items k s).poster) }
+    ensures dealt { IfOk result (λ r. AreDealt r.1.items (map (λ s. s.receiver.inbox) r.0.items) ports) }
+{
+    let count = boxes.len();
+    let capacity = setup.limits.outbox();
+    let (posters, taker) = outbox::make(alloc, capacity, count as u32)?;
+    let mut dealt = open_ports(alloc, ports)?;
+    let seats = make_seats(alloc, setup, boxes, posters, dealt.as_mut_slice())?;
+    Ok((seats, dealt, taker))
+}
+
 /// All that a crew is launched with, and room for all that it keeps.
 #[derive(Drop)]
 pub(crate) struct Fitted<P: Package, G> {
@@ -79,17 +118,13 @@ pub(crate) fn fit_out<P: Package, G: Drop>(
     ensures dealt { IfOk result (λ f. AreDealt f.ports.items (map (λ s. s.receiver.inbox) f.seats.items) ports) }
 {
     let count = boxes.len();
-    let workers = Vec::with_capacity(alloc, count)?;
-    let reports = Vec::with_capacity(alloc, count)?;
     let gates = gates_for(alloc, gate, count)?;
-    let mut dealt = open_ports(alloc, ports)?;
-    let capacity = setup.limits.outbox();
-    let (posters, taker) = outbox::make(alloc, capacity, count as u32)?;
-    let seats = make_seats(alloc, setup, boxes, posters, dealt.as_mut_slice())?;
+    let (workers, reports) = make_room(alloc, count)?;
+    let (seats, ports, taker) = seat_crew(alloc, setup, ports, boxes)?;
     Ok(Fitted {
         seats,
         gates,
-        ports: dealt,
+        ports,
         taker,
         workers,
         reports,

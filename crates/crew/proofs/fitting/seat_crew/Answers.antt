@@ -2,7 +2,7 @@ use Rattle.std.proofs.Common.{◌≡◌, ◌<◌, ℕ, length, get_or, arith, ap
 use Rattle.outbox.specs.Seats.{PosterSeat}
 use Rattle.crew.specs.Ready.{start_of, IsReady}
 use Rattle.crew.proofs.Starting.{new_poster, new_posters-length, new_posters-at}
-use Rattle.crew.proofs.fitting.fit_out.Goals as goal
+use Rattle.crew.proofs.fitting.seat_crew.Goals as goal
 
 pub make_seats-requires-clause-posters : goal.make_seats-requires-clause-posters
 make_seats-requires-clause-posters g c κs within = c.in_ok-posters.posters.ok.0 ∙ ap length c.in_ok-posters.ensures.new.0 ∙ new_posters-length _ _ ∙ c.len-count.ensures
