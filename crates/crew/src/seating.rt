@@ -1,17 +1,55 @@
 //! What the workers of a crew are launched with.
-ghost use Rattle.std.specs.Prelude.{◌≡◌, ◌<◌, ◌≤◌, ℕ, [], length, map, get_or, vec_len, IfOk};
+ghost use Rattle.std.specs.Prelude.{◌≡◌, ◌<◌, ◌≤◌, ℕ, [], length, map, get_or, vec_len, Some, IfOk};
 ghost use Rattle.outbox.specs.Seats.{PosterSeat};
 ghost use Rattle.crew.specs.Ports.{PortSeats, AreDealt, AllOpen, HaveRoom, TakeSeats};
-ghost use Rattle.inbox.specs.Seats.{new_senders};
+ghost use Rattle.inbox.specs.Seats.{new_senders, new_receiver};
+ghost use Rattle.notifier.specs.Standing.{first_standing};
 ghost use Rattle.crew.specs.Ready.{start_of, IsReady};
 
 use crate::port::{Port, deal_out};
+use inbox::Receiver;
 use notifier::{Desk, Setup};
 use outbox::Poster;
 use package::Package;
 use sip_text::NoMemory;
 use std::alloc::Global;
 use worker::{Opening, Seat, StartToken};
+
+/// An inbox in which each of these ports takes a seat.
+fn open_inbox(alloc: Global, setup: &Setup, ports: &mut [Port]) -> Result<Receiver, NoMemory>
+    requires few { length ports.old ≤ 256 }
+    requires still_open { AllOpen ports.old }
+    requires room { HaveRoom ports.old }
+    ensures new { IfOk result (λ r. r ≡ new_receiver r.inbox (length ports.old)) }
+    ensures holds { IfOk result (λ r. r.inbox.capacity ≡ setup.now.limits.inbox) }
+    ensures dealt { IfOk result (λ r. TakeSeats ports.old ports.new
+        (new_senders r.inbox (length ports.old)) (length ports.old)) }
+{
+    let capacity = setup.limits.inbox();
+    let (senders, receiver) = inbox::make(alloc, capacity, ports.len() as u32)?;
+    deal_out(ports, senders)?;
+    Ok(receiver)
+}
+
+/// A new desk with these boxes, and the token of its start.
+fn open_desk<P: Package>(
+    alloc: Global,
+    setup: &Setup,
+    worker: u32,
+    boxes: Vec<P>,
+) -> Result<(StartToken, Desk<P>), NoMemory>
+    ensures begins { IfOk result (λ r. r.0.start ≡ start_of P.seen setup.now worker boxes.items) }
+    ensures stands { IfOk result (λ r. r.1 ≡ Some (first_standing (start_of P.seen setup.now worker boxes.items))) }
+{
+    let opening = Opening {
+        setup: *setup,
+        worker,
+        boxes,
+    };
+    let token = StartToken::of(&opening);
+    let desk = Desk::new(alloc, setup, worker, opening.boxes)?;
+    Ok((token, desk))
+}
 
 /// What one worker is launched with: a new desk with these boxes, an inbox of these ports, and this poster.
 fn make_seat<P: Package>(
@@ -30,17 +68,8 @@ fn make_seat<P: Package>(
     ensures dealt { IfOk result (λ s. TakeSeats ports.old ports.new
         (new_senders s.receiver.inbox (length ports.old)) (length ports.old)) }
 {
-    let capacity = setup.limits.inbox();
-    let (senders, receiver) = inbox::make(alloc, capacity, ports.len() as u32)?;
-    deal_out(ports, senders)?;
-    let opening = Opening {
-        setup: *setup,
-        worker,
-        boxes,
-    };
-    let token = StartToken::of(&opening);
-    let Opening { boxes, .. } = opening;
-    let desk = Desk::new(alloc, setup, worker, boxes)?;
+    let receiver = open_inbox(alloc, setup, ports)?;
+    let (token, desk) = open_desk(alloc, setup, worker, boxes)?;
     Ok(Seat {
         token,
         worker,
@@ -78,7 +107,7 @@ pub(crate) fn make_seats<P: Package>(
         let Some(poster) = rest.next() else {
             unreachable!()
         };
-        seats.push(make_seat(alloc, setup, worker, held, poster, ports)?)?;
+        seats.push_reserved(make_seat(alloc, setup, worker, held, poster, ports)?);
         worker += 1;
     }
     Ok(seats)

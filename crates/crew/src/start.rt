@@ -80,14 +80,9 @@ where
     (workers, true)
 }
 
-/// Joins workers whose ports are gone. Their end marks are taken first: an outbox that holds one item is full with the first
-/// worker's, and the others could not end.
-fn stop_all<R: Threads + Wait>(
-    rt: &R,
-    workers: Vec<PromisedHandle<Done, Began>>,
-    taker: &mut Taker,
-) {
-    let mut left = workers.len();
+/// Takes and drops what workers post until so many have ended.
+fn take_ends<R: Wait>(rt: &R, taker: &mut Taker, workers: usize) {
+    let mut left = workers;
     for _ in rt.forever() {
         if left == 0 {
             break;
@@ -98,6 +93,16 @@ fn stop_all<R: Threads + Wait>(
             None => thread::yield_now(),
         }
     }
+}
+
+/// Joins workers whose ports are gone. Their end marks are taken first: an outbox that holds one item is full with the first
+/// worker's, and the others could not end.
+fn stop_all<R: Threads + Wait>(
+    rt: &R,
+    workers: Vec<PromisedHandle<Done, Began>>,
+    taker: &mut Taker,
+) {
+    take_ends(rt, taker, workers.len());
     for worker in workers {
         let done = worker.join(rt);
         drop(done);

@@ -1,4 +1,4 @@
-use Rattle.std.proofs.Common.{◌≡◌, ◌++◌, ◌∷◌, [], ℕ, List, Vec, Global, length, map, get_or, vec_len, vec_items, arith, sym, ap, subst, ◌∙◌}
+use Rattle.std.proofs.Common.{◌≡◌, ◌++◌, ◌∷◌, [], ℕ, ◌≤◌, List, Vec, Global, length, map, get_or, vec_len, vec_items, arith, sym, ap, subst, ◌∙◌}
 use Rattle.std.proofs.lemmas.List.{map-append}
 use Rattle.inbox.specs.Seats.{Inbox, new_senders}
 use Rattle.outbox.specs.Seats.{PosterSeat}
@@ -11,7 +11,7 @@ use Rattle.crew.proofs.seating.make_seats.Goals as goal
 
 pub loop-held-preserved : goal.loop-held-preserved
 loop-held-preserved g c =
-    let was = c.loop-held.invariant in let step = c.in-Some.ensures.steps in let told = c.in-Some-next.ensures.cases in let push = c.in_ok-push.ensures in
+    let was = c.loop-held.invariant in let step = c.in-Some.ensures.steps in let told = c.in-Some-next.ensures.cases in let push = c.push_reserved.ensures in
     let done : ℕ = vec_len c.loop-held.seats in let seat = c.in_ok-make_seat.field-0 in let made = c.in_ok-make_seat.ensures in
     let ports : ℕ = length c.args.ports.now in let same : length c.loop-held.ports ≡ ports = c.loop-held.auto.ports in
     let S : Type 0 = Seat g.row.P.Denot in let B : Type 0 = Vec g.row.P.Denot Global in
@@ -31,8 +31,9 @@ loop-held-preserved g c =
       held = left_is _ _ _ _ _ _ _ _ was.held step.0 step.1 push.len;
       posters_count = (let s = told.1 in let w = was.posters_count in let p = push.len in omega arith);
       posters = left_is _ _ _ _ _ _ _ _ was.posters told.0 told.1 push.len;
+      room = subst (λ (n : ℕ). vec_len c.args.boxes ≤ n) (sym push.capacity) was.room;
       worker = (let w = was.worker in let p = push.len in omega arith);
-      ready = λ k s b p low. each_more R (vec_items c.loop-held.seats) (vec_items c.push.new.self) seat done (vec_len c.push.new.self) c.loop-held.seats.ok.0 push.len push.items
+      ready = λ k s b p low. each_more R (vec_items c.loop-held.seats) (vec_items c.push_reserved.new.self) seat done (vec_len c.push_reserved.new.self) c.loop-held.seats.ok.0 push.len push.items
           (λ j e less b' p'. was.ready j e b' p' less) here k s low b p;
       dealt = subst D (sym (map-append (λ (s : S). s.receiver.inbox) (vec_items c.loop-held.seats) (seat ∷ [])) ∙ ap inboxes (sym push.items)) dealt;
     }
