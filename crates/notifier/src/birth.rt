@@ -9,11 +9,11 @@ ghost use Rattle.notifier.specs.Incoming.{first_told_of};
 ghost use Rattle.notifier.specs.Out.{out_of};
 ghost use Rattle.notifier.specs.Requests as requests;
 ghost use Rattle.notifier.specs.Rows as rows;
+ghost use Rattle.notifier.specs.Tellers.{boxes_of};
 
 use crate::boxes::change_first;
 use crate::dialog::tag_or_empty;
 use crate::incoming::Incoming;
-use crate::ledger::Ledger;
 use crate::notice::copy_want;
 use crate::place::Place;
 use crate::request::{Birth, granted, is_refer};
@@ -176,10 +176,42 @@ impl<P: Package> Teller<'_, P> {
         let want = copy_want(alloc, want)?;
         Ok(self.first_step(usage, want, request, newborn.kind))
     }
+
+    /// The new row, if one stays, and its first NOTIFY, if there is one.
+    fn first_told(
+        &self,
+        alloc: Global,
+        incoming: &Incoming<'_>,
+        newborn: &Newborn,
+    ) -> Result<After, NoMemory>
+        requires clock { self.now.clock < 2 ^ 63 }
+        requires fits { requests.misfit incoming.now.request.now ≡ None }
+        requires kind { newborn.now.kind
+            ≡ requests.birth_of self.now.place.now.limits incoming.now.request.now }
+        ensures row { IfOk result (λ after. after.row ≡ (first_told_of self.now.place.now
+            (boxes_of P.seen self.now) self.now.clock incoming.now newborn.now).row) }
+        ensures out { IfOk result (λ after. option_to_list after.out ≡ map out_of (first_told_of self.now.place.now
+            (boxes_of P.seen self.now) self.now.clock incoming.now newborn.now).notifies) }
+    {
+        let (source, request) = (incoming.source, incoming.request);
+        let want = new_want(alloc, self.place, &newborn.tag, source, request)?;
+        let begun = self.begun(alloc, request, &want, newborn)?;
+        match begun {
+            None => Ok(untold()),
+            Some(next) => {
+                let stub = Stub {
+                    serial: newborn.serial,
+                    last_cseq: request.head.cseq,
+                    unanswered: Values::new(Vec::new(alloc)),
+                };
+                self.turned(alloc, source, &want, stub, next)
+            }
+        }
+    }
 }
 
 /// A transfer that is watched begins.
-pub fn begin<P: Package>(
+fn begin<P: Package>(
     alloc: Global,
     boxes: &mut Vec<P>,
     tag: &Text,
@@ -211,40 +243,32 @@ fn untold() -> After
     }
 }
 
-/// The new row, if one stays, and its first NOTIFY, if there is one.
-pub fn first_told<P: Package>(
+/// A transfer that is watched begins. Then the new row, if one stays, and its first NOTIFY, if there is one.
+pub fn establish<P: Package>(
     alloc: Global,
     place: &Place,
-    ledger: &Ledger<P>,
+    boxes: &mut Vec<P>,
+    clock: u64,
     incoming: &Incoming<'_>,
     newborn: &Newborn,
 ) -> Result<After, NoMemory>
-    requires clock { ledger.now.clock < 2 ^ 63 }
+    requires clock { clock < 2 ^ 63 }
     requires fits { requests.misfit incoming.now.request.now ≡ None }
     requires kind { newborn.now.kind ≡ requests.birth_of place.now.limits incoming.now.request.now }
-    ensures row { IfOk result (λ after. after.row
-        ≡ (first_told_of place.now (map P.seen ledger.now.boxes.items) ledger.now.clock incoming.now newborn.now).row) }
-    ensures out { IfOk result (λ after. option_to_list after.out ≡ map out_of
-        (first_told_of place.now (map P.seen ledger.now.boxes.items) ledger.now.clock
+    ensures boxes { OnOk result (map P.seen boxes.new.items
+        ≡ spec.first_boxes (map P.seen boxes.old.items) newborn.now.tag newborn.now.kind) }
+    ensures row { IfOk result (λ after. after.row ≡ (first_told_of place.now
+        (spec.first_boxes (map P.seen boxes.old.items) newborn.now.tag newborn.now.kind) clock
+        incoming.now newborn.now).row) }
+    ensures out { IfOk result (λ after. option_to_list after.out ≡ map out_of (first_told_of place.now
+        (spec.first_boxes (map P.seen boxes.old.items) newborn.now.tag newborn.now.kind) clock
         incoming.now newborn.now).notifies) }
 {
-    let request = incoming.request;
-    let want = new_want(alloc, place, &newborn.tag, incoming.source, request)?;
+    begin(alloc, boxes, &newborn.tag, newborn.kind)?;
     let teller = Teller {
         place,
-        boxes: &ledger.boxes,
-        clock: ledger.clock,
+        boxes,
+        clock,
     };
-    let begun = teller.begun(alloc, request, &want, newborn)?;
-    match begun {
-        None => Ok(untold()),
-        Some(next) => {
-            let stub = Stub {
-                serial: newborn.serial,
-                last_cseq: request.head.cseq,
-                unanswered: Values::new(Vec::new(alloc)),
-            };
-            teller.turned(alloc, incoming.source, &want, stub, next)
-        }
-    }
+    teller.first_told(alloc, incoming, newborn)
 }

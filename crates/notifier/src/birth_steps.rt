@@ -9,7 +9,7 @@ ghost use Rattle.notifier.specs.Book as spec;
 ghost use Rattle.notifier.specs.Fields as fields;
 ghost use Rattle.notifier.specs.Incoming.{IsNamed, Serves, first_told_of};
 ghost use Rattle.notifier.specs.Ledger.{book_of, IsStep, IsSound};
-ghost use Rattle.notifier.specs.Out.{Starts, out_of};
+ghost use Rattle.notifier.specs.Out.{Answers, Starts, out_of};
 ghost use Rattle.notifier.specs.Requests as requests;
 ghost use Rattle.notifier.specs.Rows as rows;
 ghost use Rattle.notifier.specs.Start.{tag_of};
@@ -17,7 +17,7 @@ ghost use Rattle.notifier.specs.Stored.{rows_of, IsIndexed};
 ghost use Rattle.notifier.specs.Transactions.{key_of};
 
 use crate::answer::birth_answer;
-use crate::birth::{Newborn, begin, first_told, value_or_empty};
+use crate::birth::{Newborn, establish, value_or_empty};
 use crate::boxes::change_first;
 use crate::event::Out;
 use crate::incoming::Incoming;
@@ -117,44 +117,52 @@ fn take_in<P: Package>(
 }
 
 impl<P: Package> Ledger<P> {
-    /// A request that makes this subscription.
+    /// A request that makes this subscription, but for the word that its transfer may start.
     fn bear_with(
         &mut self,
         alloc: Global,
         place: &Place,
         incoming: Incoming<'_>,
-        newborn: Newborn,
+        newborn: &Newborn,
     ) -> Result<Vec<Out>, NoMemory>
         requires named { IsNamed incoming }
         requires fits { requests.misfit incoming.request.now ≡ None }
-        requires kind { newborn.kind ≡ requests.birth_of place.now.limits incoming.request.now }
+        requires kind { newborn.now.kind ≡ requests.birth_of place.now.limits incoming.request.now }
         requires sound { IsSound place.now self.old }
-        requires serial { newborn.serial ≡ self.old.next }
-        requires tag { newborn.tag ≡ tag_of place.now self.old.next }
+        requires serial { newborn.now.serial ≡ self.old.next }
+        requires tag { newborn.now.tag ≡ tag_of place.now self.old.next }
         requires room { self.old.next ≤ place.now.limits.serials }
-        ensures step { IfOk result (λ outs. IsStep
-            (spec.born_with place.now (book_of P.seen self.old) incoming.entry.source
-            incoming.entry.request.now newborn.kind newborn.tag
-            (first_told_of place.now (spec.first_boxes (map P.seen self.old.boxes.items) newborn.tag newborn.kind)
-            self.old.clock incoming.entry newborn))
-            (book_of P.seen self.new) outs.items) }
+        ensures book { OnOk result (book_of P.seen self.new ≡ (spec.born_with place.now (book_of P.seen self.old)
+            incoming.entry.source incoming.entry.request.now newborn.now.kind newborn.now.tag
+            (first_told_of place.now
+            (spec.first_boxes (map P.seen self.old.boxes.items) newborn.now.tag newborn.now.kind)
+            self.old.clock incoming.entry newborn.now)).book) }
+        ensures outs { IfOk result (λ outs. outs.items ≡ map out_of (Answers incoming.entry.source
+            (answer_text (birth_text place.now incoming.entry.source incoming.entry.request.now newborn.now.tag))
+            ∷ (first_told_of place.now
+            (spec.first_boxes (map P.seen self.old.boxes.items) newborn.now.tag newborn.now.kind)
+            self.old.clock incoming.entry newborn.now).notifies)) }
         ensures sound { OnOk result (IsSound place.now self.new) }
     {
         place.limits.are_in_range();
-        let request = incoming.request;
-        begin(alloc, &mut self.boxes, &newborn.tag, newborn.kind)?;
-        let after = first_told(alloc, place, self, &incoming, &newborn)?;
+        let after = establish(
+            alloc,
+            place,
+            &mut self.boxes,
+            self.clock,
+            &incoming,
+            newborn,
+        )?;
         let mut outs = answer_birth(alloc, place, &mut self.ring, incoming, &newborn.tag)?;
         take_in(
             alloc,
             &mut self.rows,
             &mut self.boxes,
-            &newborn,
+            newborn,
             after,
             &mut outs,
         )?;
         self.next += 1;
-        start(alloc, newborn.tag, request, &mut outs)?;
         Ok(outs)
     }
 
@@ -176,9 +184,12 @@ impl<P: Package> Ledger<P> {
         ensures sound { OnOk result (IsSound place.now self.new) }
     {
         place.limits.are_in_range();
+        let request = incoming.request;
         let serial = self.next as u32;
         let tag = local_tag(alloc, place, serial)?;
         let newborn = Newborn { kind, serial, tag };
-        self.bear_with(alloc, place, incoming, newborn)
+        let mut outs = self.bear_with(alloc, place, incoming, &newborn)?;
+        start(alloc, newborn.tag, request, &mut outs)?;
+        Ok(outs)
     }
 }

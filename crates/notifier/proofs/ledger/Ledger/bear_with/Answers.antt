@@ -1,5 +1,6 @@
 use Rattle.std.proofs.Common.{◌+◌, ◌<◌, ap, sym, subst, ◌∙◌, map, arith, All}
 use Rattle.std.specs.Prelude.{IfSome}
+use Rattle.notifier.specs.Book.{first_boxes}
 use Rattle.notifier.specs.Sound.{IsLive, IsOwn, AreRising}
 use Rattle.notifier.specs.Start.{tag_of}
 use Rattle.notifier.specs.Stored.{rows_of}
@@ -11,22 +12,22 @@ pub take_in-requires-clause-last : goal.take_in-requires-clause-last
 take_in-requires-clause-last g c = λ κs lives.
     let next = c.args.self.now.next in
     let rows = rows_of c.args.self.now.rows in
-    let keeps = born_keeps c.args.place.now (map g.P.Package.seen c.begin.new.boxes.items) c.args.self.now.clock c.args.newborn.serial c.args.newborn.tag c.args.incoming.source c.args.incoming.request.now c.args.newborn.kind in
-    let still : IfSome c.in_ok-after.after.row (IsStill c.args.newborn.serial c.args.newborn.tag) = subst (λ o. IfSome o (IsStill c.args.newborn.serial c.args.newborn.tag)) (sym c.in_ok-after.ensures.row) keeps in
-    some_weaker (IsStill c.args.newborn.serial c.args.newborn.tag) (λ row. All (λ r. r.serial < row.serial) rows) c.in_ok-after.after.row still
+    let keeps = born_keeps c.args.place.now (first_boxes (map g.P.Package.seen c.args.self.now.boxes.items) c.args.newborn.now.tag c.args.newborn.now.kind) c.args.self.now.clock c.args.newborn.now.serial c.args.newborn.now.tag c.args.incoming.source c.args.incoming.request.now c.args.newborn.now.kind in
+    let still : IfSome c.in_ok-after.after.row (IsStill c.args.newborn.now.serial c.args.newborn.now.tag) = subst (λ o. IfSome o (IsStill c.args.newborn.now.serial c.args.newborn.now.tag)) (sym c.in_ok-after.ensures.row) keeps in
+    some_weaker (IsStill c.args.newborn.now.serial c.args.newborn.now.tag) (λ row. All (λ r. r.serial < row.serial) rows) c.in_ok-after.after.row still
     (λ row is. all_below c.args.place.now next row (is.0 ∙ c.requires.serial) rows c.requires.sound.rows_own)
 
 pub returns-clause-sound : goal.returns-clause-sound
 returns-clause-sound g c =
     let limits = c.are_in_range.ensures in
     let fits = c.requires.sound.next_fits in
-    let lives = born_lives c.args.place.now (map g.P.Package.seen c.begin.new.boxes.items) c.args.self.now.clock c.args.newborn.serial c.args.newborn.tag c.args.incoming.source c.args.incoming.request.now c.args.newborn.kind limits c.requires.kind in
+    let lives = born_lives c.args.place.now (first_boxes (map g.P.Package.seen c.args.self.now.boxes.items) c.args.newborn.now.tag c.args.newborn.now.kind) c.args.self.now.clock c.args.newborn.now.serial c.args.newborn.now.tag c.args.incoming.source c.args.incoming.request.now c.args.newborn.now.kind limits c.requires.kind in
     let live : IfSome c.in_ok-after.after.row (IsLive c.args.self.now.clock) = subst (λ o. IfSome o (IsLive c.args.self.now.clock)) (sym c.in_ok-after.ensures.row) lives in
-    let keeps = born_keeps c.args.place.now (map g.P.Package.seen c.begin.new.boxes.items) c.args.self.now.clock c.args.newborn.serial c.args.newborn.tag c.args.incoming.source c.args.incoming.request.now c.args.newborn.kind in
+    let keeps = born_keeps c.args.place.now (first_boxes (map g.P.Package.seen c.args.self.now.boxes.items) c.args.newborn.now.tag c.args.newborn.now.kind) c.args.self.now.clock c.args.newborn.now.serial c.args.newborn.now.tag c.args.incoming.source c.args.incoming.request.now c.args.newborn.now.kind in
     let next = c.args.self.now.next in
-    let still : IfSome c.in_ok-after.after.row (IsStill c.args.newborn.serial c.args.newborn.tag) = subst (λ o. IfSome o (IsStill c.args.newborn.serial c.args.newborn.tag)) (sym c.in_ok-after.ensures.row) keeps in
+    let still : IfSome c.in_ok-after.after.row (IsStill c.args.newborn.now.serial c.args.newborn.now.tag) = subst (λ o. IfSome o (IsStill c.args.newborn.now.serial c.args.newborn.now.tag)) (sym c.in_ok-after.ensures.row) keeps in
     let own : IfSome c.in_ok-after.after.row (IsStill next (tag_of c.args.place.now next)) =
-    subst (λ n. IfSome c.in_ok-after.after.row (IsStill n (tag_of c.args.place.now next))) c.requires.serial (subst (λ t. IfSome c.in_ok-after.after.row (IsStill c.args.newborn.serial t)) c.requires.tag still) in
+    subst (λ n. IfSome c.in_ok-after.after.row (IsStill n (tag_of c.args.place.now next))) c.requires.serial (subst (λ t. IfSome c.in_ok-after.after.row (IsStill c.args.newborn.now.serial t)) c.requires.tag still) in
     record {
       clock_fits = c.requires.sound.clock_fits;
       next_begins = omega arith;
