@@ -23,7 +23,7 @@ pub struct Party {
 }
 
 /// What requests and responses both have.
-#[derive(Debug, Drop)]
+#[derive(Debug)]
 pub struct Head {
     /// All Via values as written, the top one first.
     pub vias: Values<Text>,
@@ -36,7 +36,22 @@ pub struct Head {
     pub cseq_method: Text,
 }
 
-#[derive(Debug, Drop)]
+/// By hand, so that all that lets go of one calls this one function, and none proves the ways through each field.
+impl Drop for Head {
+    fn drop(self) {
+        let Head {
+            vias: _,
+            top: _,
+            from: _,
+            to: _,
+            call_id: _,
+            cseq: _,
+            cseq_method: _,
+        } = self;
+    }
+}
+
+#[derive(Debug)]
 pub struct Request {
     pub method: Text,
     pub uri: Text,
@@ -57,12 +72,43 @@ pub struct Request {
     pub body: Octets,
 }
 
-#[derive(Debug, Drop)]
+/// By hand, so that all that lets go of one calls this one function, and none proves the ways through each field.
+impl Drop for Request {
+    fn drop(self) {
+        let Request {
+            method: _,
+            uri: _,
+            head: _,
+            event: _,
+            expires: _,
+            accept: _,
+            contact: _,
+            refer_to: _,
+            refer_sub: _,
+            require: _,
+            record_routes: _,
+            body: _,
+        } = self;
+    }
+}
+
+#[derive(Debug)]
 pub struct Response {
     /// 100 to 699.
     pub status: u16,
     pub reason: Text,
     pub head: Head,
+}
+
+/// By hand, so that all that lets go of one calls this one function, and none proves the ways through each field.
+impl Drop for Response {
+    fn drop(self) {
+        let Response {
+            status: _,
+            reason: _,
+            head: _,
+        } = self;
+    }
 }
 
 #[derive(Debug, Drop)]
