@@ -4,7 +4,6 @@ use inbox::Receiver;
 use worker::End;
 
 /// What one worker did.
-#[derive(Drop)]
 pub struct WorkerReport {
     /// The seat that it received with, by which contracts know what it took.
     pub(crate) receiver: Receiver,
@@ -15,8 +14,26 @@ pub struct WorkerReport {
     pub end: End,
 }
 
+/// By hand, so that all that lets go of one calls this one function, and none proves the ways through each field.
+impl Drop for WorkerReport {
+    fn drop(self) {
+        let WorkerReport {
+            receiver: _,
+            handled: _,
+            made: _,
+            end: _,
+        } = self;
+    }
+}
+
 /// What each worker did, in their order.
-#[derive(Drop)]
 pub struct Report {
     pub workers: Vec<WorkerReport>,
+}
+
+/// By hand, as a [`WorkerReport`]'s.
+impl Drop for Report {
+    fn drop(self) {
+        let Report { workers: _ } = self;
+    }
 }

@@ -19,10 +19,19 @@ use worker::{Began, Done, Gate, Seat, launch};
 
 /// Workers that run. Contracts see what each began with. Where it is dropped the workers go on, each in its own thread, until
 /// their ports have ended.
-#[derive(Drop)]
 pub struct Crew {
     workers: Vec<PromisedHandle<Done, Began>>,
     reports: Vec<WorkerReport>,
+}
+
+/// By hand, so that all that lets go of one calls this one function, and none proves the ways through each field.
+impl Drop for Crew {
+    fn drop(self) {
+        let Crew {
+            workers: _,
+            reports: _,
+        } = self;
+    }
 }
 
 impl Model for Crew {

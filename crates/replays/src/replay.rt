@@ -10,12 +10,23 @@ use std::marker::Model;
 use std::snapshot::Snapshot;
 
 /// A desk with the list of the events that it handled, and the desk as it was new, which contracts alone see.
-#[derive(Drop)]
 pub struct Replay<P: Package> {
     spent: bool,
     desk: Desk<P>,
     start: Snapshot<Desk<P>>,
     events: Vec<Event>,
+}
+
+/// By hand, so that all that lets go of one calls this one function, and none proves the ways through each field.
+impl<P: Package> Drop for Replay<P> {
+    fn drop(self) {
+        let Replay {
+            spent: _,
+            desk: _,
+            start: _,
+            events: _,
+        } = self;
+    }
 }
 
 impl<P: Package> Model for Replay<P> {

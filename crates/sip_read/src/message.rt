@@ -1,4 +1,5 @@
 //! SIP messages as values (RFC 3261 section 7).
+ghost use Rattle.std.specs.Prelude.{◌≡◌};
 
 use event_headers::{EventValue, Range};
 use sip_text::{Field, Octets, Text, Values};
@@ -72,7 +73,30 @@ pub struct Request {
     pub body: Octets,
 }
 
-/// By hand, so that all that lets go of one calls this one function, and none proves the ways through each field.
+impl Request {
+    /// Its head, of which a response to it says the same (RFC 3261 section 8.2.6.2).
+    pub fn into_head(self) -> Head
+        ensures { result ≡ self.head }
+    {
+        let Request {
+            method: _,
+            uri: _,
+            head,
+            event: _,
+            expires: _,
+            accept: _,
+            contact: _,
+            refer_to: _,
+            refer_sub: _,
+            require: _,
+            record_routes: _,
+            body: _,
+        } = self;
+        head
+    }
+}
+
+/// By hand, as a [`Head`]'s.
 impl Drop for Request {
     fn drop(self) {
         let Request {
@@ -100,7 +124,7 @@ pub struct Response {
     pub head: Head,
 }
 
-/// By hand, so that all that lets go of one calls this one function, and none proves the ways through each field.
+/// By hand, as a [`Head`]'s.
 impl Drop for Response {
     fn drop(self) {
         let Response {

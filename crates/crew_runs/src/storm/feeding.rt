@@ -248,7 +248,7 @@ impl Feeder {
         if !is_heard {
             self.fail();
         }
-        let made = accepted(alloc, request.head);
+        let made = accepted(alloc, request.into_head());
         self.send(rt, made);
     }
 
