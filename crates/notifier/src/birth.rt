@@ -11,7 +11,7 @@ ghost use Rattle.notifier.specs.Requests as requests;
 ghost use Rattle.notifier.specs.Rows as rows;
 ghost use Rattle.notifier.specs.Tellers.{boxes_of};
 
-use crate::boxes::change_first;
+use crate::boxes::tell_first;
 use crate::dialog::tag_or_empty;
 use crate::incoming::Incoming;
 use crate::notice::copy_want;
@@ -220,11 +220,7 @@ fn begin<P: Package>(
     ensures { OnOk result (map P.seen boxes.new.items ≡ spec.first_boxes (map P.seen boxes.old.items) tag.now kind) }
 {
     match kind {
-        Birth::Transfer => {
-            let change = Change::Begin(tag.copy(alloc)?);
-            change_first(alloc, boxes, &change)?;
-            Ok(())
-        }
+        Birth::Transfer => tell_first(alloc, boxes, Change::Begin(tag.copy(alloc)?)),
         Birth::Watch => Ok(()),
         Birth::Fetch => Ok(()),
         Birth::Unwatched => Ok(()),

@@ -18,7 +18,7 @@ ghost use Rattle.notifier.specs.Transactions.{key_of};
 
 use crate::answer::birth_answer;
 use crate::birth::{Newborn, establish, value_or_empty};
-use crate::boxes::change_first;
+use crate::boxes::tell_first;
 use crate::event::Out;
 use crate::incoming::Incoming;
 use crate::kept::KeptAnswers;
@@ -49,8 +49,7 @@ fn forget_ended<P: Package>(
     match kind {
         Birth::Transfer => {
             if ends {
-                let change = Change::Forget(tag.copy(alloc)?);
-                change_first(alloc, boxes, &change)?;
+                tell_first(alloc, boxes, Change::Forget(tag.copy(alloc)?))?;
             }
             Ok(())
         }

@@ -1,5 +1,5 @@
 //! The boxes of a desk, of which the first of a name counts.
-ghost use Rattle.std.specs.Prelude.{◌≡◌, ◌<◌, ℕ, List, map, option_map, OnErr, IfOk, IfSome, IsOk, IsTrue, vec_len, bytes_eq};
+ghost use Rattle.std.specs.Prelude.{◌≡◌, ◌<◌, ℕ, List, map, option_map, OnErr, OnOk, IfOk, IfSome, IsOk, IsTrue, vec_len, bytes_eq};
 ghost use Rattle.std.specs.List.{position_from};
 ghost use Rattle.package.specs.Content.{Seen};
 ghost use Rattle.package.specs.Changes.{is_forget};
@@ -42,6 +42,19 @@ pub fn change_first<P: Package>(
         None => Ok(Outcome::Unknown),
         Some(at) => boxes[at].change(alloc, change),
     }
+}
+
+/// The same, whatever the box answers.
+pub fn tell_first<P: Package>(
+    alloc: Global,
+    boxes: &mut Vec<P>,
+    change: Change,
+) -> Result<(), NoMemory>
+    ensures { OnOk result (map P.seen boxes.new.items
+        ≡ (spec.change_first (map P.seen boxes.old.items) change).1) }
+{
+    change_first(alloc, boxes, &change)?;
+    Ok(())
 }
 
 /// The body that shows what the first box of the name holds of the resource.

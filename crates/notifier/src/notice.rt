@@ -6,7 +6,7 @@ ghost use Rattle.event_headers.specs.Values.{StateValue as State};
 ghost use Rattle.subscription.specs.Written.{state_of};
 ghost use Rattle.sip_write.specs.Notify as layout;
 ghost use Rattle.sip_write.specs.Views.{notify_view};
-ghost use Rattle.notifier.specs.Out.{Notifies, out_of};
+ghost use Rattle.notifier.specs.Out.{Notifies, out_of, is_last as is_last_state};
 ghost use Rattle.notifier.specs.Rows as spec;
 ghost use Rattle.notifier.specs.Tellers.{boxes_of};
 
@@ -55,19 +55,27 @@ fn notify_bytes(alloc: Global, text: &NotifyText<'_>) -> Result<Octets, NoMemory
     Ok(Octets::new(bytes))
 }
 
+/// Whether a NOTIFY of this phase is the last.
+fn is_last(phase: Phase) -> bool
+    ensures { result ≡ is_last_state (state_of phase) }
+{
+    match phase {
+        Phase::Active(_) => false,
+        Phase::Terminated(_) => true,
+    }
+}
+
 impl<P: Package> Teller<'_, P> {
-    /// The NOTIFY that tells of a subscription.
-    pub fn notice_out(
+    /// The bytes of the NOTIFY that tells of a subscription.
+    fn notice_bytes(
         &self,
         alloc: Global,
-        to: Addr,
         usage: &Usage,
         want: &Want,
         notice: Notice,
-    ) -> Result<Out, NoMemory>
-        ensures { IfOk result (λ out. out
-            ≡ out_of (Notifies to
-            (spec.notify self.now.place.now (boxes_of P.seen self.now) usage.now want.now notice))) }
+    ) -> Result<Octets, NoMemory>
+        ensures { IfOk result (λ bytes. bytes ≡ layout.notify_text
+            (spec.notify self.now.place.now (boxes_of P.seen self.now) usage.now want.now notice)) }
     {
         let package = want.event.package();
         let body = body_of(alloc, self.boxes, package, want.resource.as_str())?;
@@ -86,13 +94,28 @@ impl<P: Package> Teller<'_, P> {
             content_type: type_of(self.boxes, package),
             body: body.as_slice(),
         };
-        let bytes = notify_bytes(alloc, &text)?;
-        let terminated = state.word() == "terminated";
+        notify_bytes(alloc, &text)
+    }
+
+    /// The NOTIFY that tells of a subscription.
+    pub fn notice_out(
+        &self,
+        alloc: Global,
+        to: Addr,
+        usage: &Usage,
+        want: &Want,
+        notice: Notice,
+    ) -> Result<Out, NoMemory>
+        ensures { IfOk result (λ out. out
+            ≡ out_of (Notifies to
+            (spec.notify self.now.place.now (boxes_of P.seen self.now) usage.now want.now notice))) }
+    {
+        let bytes = self.notice_bytes(alloc, usage, want, notice)?;
         let tag = usage.local_tag.copy(alloc)?;
         Ok(Out::Notify {
             tag,
             number: notice.number,
-            terminated,
+            terminated: is_last(notice.phase),
             to,
             bytes,
         })

@@ -1,16 +1,20 @@
 //! The live subscriptions under keys, with what leads to them: serials, timers, and what they watch.
 
-ghost use Rattle.std.specs.Prelude.{◌≡◌, ◌<◌, ◌++◌, ◌∷◌, [], ◌↔◌, ◌^◌, ℕ, length, All, IfOk, IfSome, OnOk, IsTrue, is_some, option_to_list};
+ghost use Rattle.std.specs.Prelude.{◌≡◌, ◌<◌, ◌==◌, ◌&&◌, ◌++◌, ◌∷◌, [], ◌↔◌, ◌^◌, ℕ, List, length, false, bytes_eq, if◌then◌else◌, All, IfOk, IfSome, OnOk, IsTrue, is_some, option_to_list, Some, None};
+ghost use Rattle.std.specs.BTreeMap as tree;
+ghost use Rattle.std.specs.BTreeSet as sorted;
 ghost use Rattle.std.specs.Option.{option_copied};
+ghost use Rattle.std.specs.Ordering.{nat_cmp};
+ghost use Rattle.slab.specs.Slab.{HasRoomFor, Updates};
 ghost use Rattle.notifier.specs.Among.{has, RiseFrom};
-ghost use Rattle.notifier.specs.Stored.{rows_of, row_at, IsIndexed, IsTimed};
+ghost use Rattle.notifier.specs.Stored.{rows_of, row_at, alarm_of, by_time, IsIndexed, IsTimed};
 ghost use Rattle.notifier.specs.Watchers.{watched};
 
 use crate::row::Row;
-use crate::timers::{alarm, timed_out};
-use crate::watchers::watch;
+use crate::timers::{alarm, move_timer, stop_timer, timed_out};
+use crate::watchers::{unwatch_text, watch};
 use indexmap::IndexMap;
-use sip_text::NoMemory;
+use sip_text::{NoMemory, Text};
 use slab::Slab;
 use std::alloc::Global;
 use std::collections::{BTreeMap, BTreeSet};
@@ -92,6 +96,38 @@ impl Rows {
             None => Ok(()),
             Some(row) => self.push(alloc, row),
         }
+    }
+
+    /// A row that was told stands under its serial again, and its timer moves from this second.
+    pub fn put_back(&mut self, serial: u32, before: u64, row: Row) -> Result<(), NoMemory>
+        requires room { HasRoomFor self.old.slab 1 }
+        requires timer { (d : ℕ) → sorted.contains by_time self.old.timers (d, serial) ≡ (before == d) }
+        ensures slab { OnOk result (Updates self.old.slab self.new.slab self.old.slab.vacant_key (Some row)) }
+        ensures timers { OnOk result ((d s : ℕ) → sorted.contains by_time self.new.timers (d, s)
+            ≡ (if serial == s then alarm_of row == d else sorted.contains by_time self.old.timers (d, s))) }
+        ensures order { OnOk result (self.new.order ≡ self.old.order) }
+        ensures watchers { OnOk result (self.new.watchers ≡ self.old.watchers) }
+    {
+        let after = alarm(&row);
+        self.slab.insert_reserved(row);
+        move_timer(&mut self.timers, serial, before, after)
+    }
+
+    /// Nothing leads any more to this serial, whose row is gone. Its timer stood at this second.
+    pub fn let_go(&mut self, serial: u32, before: u64, resource: Text)
+        requires timer { (d : ℕ) → sorted.contains by_time self.old.timers (d, serial) ≡ (before == d) }
+        ensures slab { self.new.slab ≡ self.old.slab }
+        ensures ordered { tree.IsOrdered nat_cmp self.new.order }
+        ensures order { (s : ℕ) → tree.get nat_cmp self.new.order s
+            ≡ (if tree.is_at (nat_cmp serial) s then None else tree.get nat_cmp self.old.order s) }
+        ensures timers { (d s : ℕ) → sorted.contains by_time self.new.timers (d, s)
+            ≡ (if serial == s then false else sorted.contains by_time self.old.timers (d, s)) }
+        ensures watchers { (q : List ℕ) (s : ℕ) → watched self.new.watchers q s
+            ≡ (if bytes_eq resource q && (serial == s) then false else watched self.old.watchers q s) }
+    {
+        self.order.remove(&serial);
+        stop_timer(&mut self.timers, serial, before);
+        unwatch_text(&mut self.watchers, resource, serial);
     }
 
     /// The serials of all rows, rising.

@@ -14,8 +14,7 @@ use crate::row::Row;
 use crate::rows::Rows;
 use crate::rules::{After, count, take_answer};
 use crate::teller::Teller;
-use crate::timers::{alarm, move_timer, stop_timer};
-use crate::watchers::unwatch_text;
+use crate::timers::alarm;
 use package::Package;
 use sip_read::{Addr, Request, Response};
 use sip_text::{NoMemory, Text};
@@ -126,15 +125,11 @@ impl<P: Package> Teller<'_, P> {
         match after {
             Some(row) => {
                 drop(resource);
-                let after = alarm(&row);
-                rows.slab.insert_reserved(row);
-                move_timer(&mut rows.timers, serial, before, after)?;
+                rows.put_back(serial, before, row)?;
                 Ok(word)
             }
             None => {
-                rows.order.remove(&serial);
-                stop_timer(&mut rows.timers, serial, before);
-                unwatch_text(&mut rows.watchers, resource, serial);
+                rows.let_go(serial, before, resource);
                 Ok(word)
             }
         }

@@ -40,6 +40,27 @@ pub struct Stub {
     pub unanswered: Values<Unanswered>,
 }
 
+/// The subscription of a row, and the row without it.
+fn parted(row: Row) -> (Sub, Stub)
+    ensures sub { result.0 ≡ row.sub }
+    ensures serial { result.1.serial ≡ row.serial }
+    ensures last_cseq { result.1.last_cseq ≡ row.last_cseq }
+    ensures unanswered { result.1.unanswered ≡ row.unanswered }
+{
+    let Row {
+        serial,
+        sub,
+        last_cseq,
+        unanswered,
+    } = row;
+    let stub = Stub {
+        serial,
+        last_cseq,
+        unanswered,
+    };
+    (sub, stub)
+}
+
 /// Whether this is the want of a transfer.
 fn is_of_refer(want: &Want) -> bool
     ensures { result ≡ is_of_refer_event want.now.event }
@@ -241,17 +262,7 @@ impl<P: Package> Teller<'_, P> {
             (spec.ends self.now.place.now (boxes_of P.seen self.now) self.now.clock reason) row after) }
     {
         let want = copy_want(alloc, row.sub.want())?;
-        let Row {
-            serial,
-            sub,
-            last_cseq,
-            unanswered,
-        } = row;
-        let stub = Stub {
-            serial,
-            last_cseq,
-            unanswered,
-        };
+        let (sub, stub) = parted(row);
         let (usage, notice) = sub.end(reason);
         let next = Step::Over(usage, notice);
         self.turned(alloc, want.to, &want, stub, next)
@@ -297,17 +308,7 @@ impl<P: Package> Teller<'_, P> {
             return Ok(stays(row));
         }
         let want = copy_want(alloc, row.sub.want())?;
-        let Row {
-            serial,
-            sub,
-            last_cseq,
-            unanswered,
-        } = row;
-        let stub = Stub {
-            serial,
-            last_cseq,
-            unanswered,
-        };
+        let (sub, stub) = parted(row);
         let next = sub.changed(self.clock, is_over);
         self.turned(alloc, want.to, &want, stub, next)
     }

@@ -14,7 +14,7 @@ ghost use Rattle.notifier.specs.Tellers.{rule_by};
 ghost use Rattle.notifier.specs.Transactions.{key_of};
 ghost use Rattle.circular_buffer.specs.Buffer.{buffer};
 
-use crate::boxes::change_first;
+use crate::boxes::tell_first;
 use crate::event::Out;
 use crate::incoming::Incoming;
 use crate::kept::KeptAnswers;
@@ -38,7 +38,7 @@ fn forget_all<P: Package>(
     ensures { OnOk result (map P.seen boxes.new.items ≡ spec.forgetting tags.items (map P.seen boxes.old.items)) }
 {
     for tag in tags {
-        change_first(alloc, boxes, &Change::Forget(tag))?;
+        tell_first(alloc, boxes, Change::Forget(tag))?;
     }
     Ok(())
 }

@@ -6,6 +6,6 @@ use Rattle.notifier.proofs.telling.forget_all.Goals as goal
 
 pub loop-tag-preserved : goal.loop-tag-preserved
 loop-tag-preserved g c =
-    ap (λ p. p.1) c.in_ok-change_first.ensures.ok
+    c.in_ok-tell_first.ensures
     ∙ ap (λ boxes. (change_first boxes (Forget c.in-Some.tag)).1) c.loop-tag.invariant
     ∙ sym (forgetting-push c.loop-tag.yielded c.in-Some.tag (map g.P.Package.seen c.args.boxes.now.items))
