@@ -187,6 +187,34 @@ fn opened(stub: Stub, sub: Sub, clock: u64, notice: Notice) -> Result<Row, NoMem
     })
 }
 
+/// What a subscription that goes on makes of its row, with this NOTIFY.
+fn goes_on(stub: Stub, sub: Sub, clock: u64, notice: Notice, out: Out) -> Result<After, NoMemory>
+    ensures row { IfOk result (λ after. after.row ≡ Some (spec.opened clock notice (row_with stub sub))) }
+    ensures out { IfOk result (λ after. option_to_list after.out ≡ out ∷ []) }
+    ensures gone { IfOk result (λ after. option_to_list after.gone ≡ []) }
+{
+    let row = opened(stub, sub, clock, notice)?;
+    Ok(After {
+        row: Some(row),
+        out: Some(out),
+        gone: None,
+    })
+}
+
+/// What a subscription that is over makes of its row, with this last NOTIFY.
+fn over(want: &Want, usage: Usage, out: Out) -> After
+    ensures row { result.row ≡ None }
+    ensures out { option_to_list result.out ≡ out ∷ [] }
+    ensures gone { option_to_list result.gone
+        ≡ (if is_of_refer_event want.now.event then usage.local_tag ∷ [] else []) }
+{
+    After {
+        row: None,
+        out: Some(out),
+        gone: gone_tag(is_of_refer(want), usage),
+    }
+}
+
 /// Whether a NOTIFY of it was unanswered for too long.
 fn is_overdue(clock: u64, row: &Row) -> bool
     ensures { result ≡ spec.is_overdue clock row.now }
@@ -238,20 +266,11 @@ impl<P: Package> Teller<'_, P> {
         match next {
             Step::Live(sub, notice) => {
                 let out = self.notice_out(alloc, to, sub.usage(), want, notice)?;
-                let row = opened(stub, sub, self.clock, notice)?;
-                Ok(After {
-                    row: Some(row),
-                    out: Some(out),
-                    gone: None,
-                })
+                goes_on(stub, sub, self.clock, notice, out)
             }
             Step::Over(usage, notice) => {
                 let out = self.notice_out(alloc, to, &usage, want, notice)?;
-                Ok(After {
-                    row: None,
-                    out: Some(out),
-                    gone: gone_tag(is_of_refer(want), usage),
-                })
+                Ok(over(want, usage, out))
             }
         }
     }
