@@ -9,7 +9,7 @@ ghost use Rattle.service.specs.Served.{Gave, AreServed};
 use crate::shared::{Counter, Shared};
 use crew::Port;
 use network::{FeedEnd, Told, hear_sip, tell};
-use sip_read::read;
+use sip_read::{ReadError, read};
 use std::alloc::Global;
 use std::sync::Wait;
 use wires::Wire;
@@ -17,13 +17,18 @@ use wires::Wire;
 /// The room for a datagram: none is longer.
 const ROOM: usize = 65536;
 
+/// Why octets can't be read, if they can't.
+fn fault_of(alloc: Global, octets: &[u8]) -> Option<ReadError> {
+    read(alloc, octets).err()
+}
+
 /// Counts a datagram by what came of it.
 fn count(alloc: Global, shared: &Shared, told: Told, octets: &[u8]) {
     shared.count(Counter::Datagram);
     match told {
         Told::Sent => shared.count(Counter::Event),
         Told::Unread => {
-            if let Err(error) = read(alloc, octets) {
+            if let Some(error) = fault_of(alloc, octets) {
                 shared.count_unread(&error);
             }
         }

@@ -279,16 +279,16 @@ where
         (record { contents = F.contents exit.old.sink.writer; failures = exit.old.sink.failures })
         (record { contents = F.contents exit.new.sink.writer; failures = exit.new.sink.failures })) }
 {
+    let workers = boxes.len() as u32;
+    let gate = Arc::new(alloc, Open)?;
+    let (crew, ports, taker) = Crew::start(rt, alloc, &work.setup, 3, boxes, gate)?;
     let Work {
-        setup,
         sip,
         desk,
         bell,
         shared,
+        ..
     } = work;
-    let workers = boxes.len() as u32;
-    let gate = Arc::new(alloc, Open)?;
-    let (crew, ports, taker) = Crew::start(rt, alloc, &setup, 3, boxes, gate)?;
     let running = Running {
         crew,
         taker,

@@ -40,6 +40,27 @@ pub enum Counter {
     Failed,
 }
 
+/// Appends what was counted by this name, on a line of its own.
+fn add_line(
+    alloc: Global,
+    text: &mut String,
+    name: &str,
+    counted: &AtomicU64,
+) -> Result<(), NoMemory> {
+    let count = counted.load(Ordering::SeqCst);
+    let line = format!(in alloc; "{name} {count}\n")?;
+    text.push_str(line.as_str())?;
+    Ok(())
+}
+
+/// Appends what was counted, behind a space.
+fn add_word(alloc: Global, text: &mut String, counted: &AtomicU64) -> Result<(), NoMemory> {
+    let count = counted.load(Ordering::SeqCst);
+    let word = format!(in alloc; " {count}")?;
+    text.push_str(word.as_str())?;
+    Ok(())
+}
+
 impl Shared {
     /// Of a service that begins now.
     pub fn new(began: Instant) -> Shared {
@@ -132,10 +153,8 @@ impl Shared {
         sum
     }
 
-    /// The counters, each on a line of its own, behind the seconds that the service is up. The datagrams that couldn't be
-    /// read are counted by the number of the error, from 1.
-    pub fn lines(&self, alloc: Global, seconds: u64) -> Result<String, NoMemory> {
-        let mut text = format!(in alloc; "up {seconds}\n")?;
+    /// Appends what is counted by a name.
+    fn add_named(&self, alloc: Global, text: &mut String) -> Result<(), NoMemory> {
         let named = [
             ("datagrams", &self.datagrams),
             ("events", &self.events),
@@ -147,17 +166,27 @@ impl Shared {
             ("over", &self.over),
         ];
         for (name, counted) in named {
-            let count = counted.load(Ordering::SeqCst);
-            let line = format!(in alloc; "{name} {count}\n")?;
-            text.push_str(line.as_str())?;
+            add_line(alloc, text, name, counted)?;
         }
+        Ok(())
+    }
+
+    /// Appends the datagrams that couldn't be read, by the number of the error, from 1.
+    fn add_unread(&self, alloc: Global, text: &mut String) -> Result<(), NoMemory> {
         text.push_str("unread")?;
         for counted in &self.unread {
-            let count = counted.load(Ordering::SeqCst);
-            let word = format!(in alloc; " {count}")?;
-            text.push_str(word.as_str())?;
+            add_word(alloc, text, counted)?;
         }
         text.push_str("\n")?;
+        Ok(())
+    }
+
+    /// The counters, each on a line of its own, behind the seconds that the service is up. The datagrams that couldn't be
+    /// read are counted by the number of the error, from 1.
+    pub fn lines(&self, alloc: Global, seconds: u64) -> Result<String, NoMemory> {
+        let mut text = format!(in alloc; "up {seconds}\n")?;
+        self.add_named(alloc, &mut text)?;
+        self.add_unread(alloc, &mut text)?;
         Ok(text)
     }
 }
