@@ -27,7 +27,7 @@ fn seconds_since<R: Clock>(rt: &R, began: Instant) -> Option<u64> {
 }
 
 /// What couldn't be read, as it was told once a minute.
-#[derive(Drop)]
+#[derive(Clone, Copy)]
 struct Complaint {
     /// The second of the last look.
     looked: u64,

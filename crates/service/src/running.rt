@@ -3,6 +3,7 @@ ghost use Rattle.std.specs.Prelude.{◌≡◌, ◌<◌, ◌≤◌, ◌⊎◌, �
 ghost use Rattle.notifier.specs.Start.{Start};
 ghost use Rattle.crew.specs.Ports.{PortSeats};
 ghost use Rattle.crew.specs.Ready.{start_of};
+ghost use Rattle.crew.specs.Started.{IsStarted};
 ghost use Rattle.service.specs.Handing.{IsNew, NoneClosed, AreLent, AreErrands};
 ghost use Rattle.service.specs.Running as spec;
 ghost use Rattle.service.specs.declared.error.RunError.TheVariants as error;
@@ -249,6 +250,26 @@ where
     }
 }
 
+/// Starts a crew with these packages and three ports.
+fn start_crew<R, P>(
+    rt: R,
+    alloc: Global,
+    setup: &Setup,
+    boxes: Vec<Vec<P>>,
+) -> Result<(Crew, Vec<Port>, Taker), RunError>
+where
+    R: Threads + Wait + Copy + Send + 'static,
+    P: Package + 'static,
+    requires few_workers { vec_len boxes ≤ 256 }
+    ensures started { IfOk result (λ r. (b : _) → IsStarted
+        (λ w. start_of P.seen setup.now w (get_or boxes.items w b).items) (vec_len boxes) 3 r.0 r.1.items r.2) }
+    ensures some { IfOk result (λ _. 0 < vec_len boxes) }
+{
+    let gate = Arc::new(alloc, Open)?;
+    let started = Crew::start(rt, alloc, setup, 3, boxes, gate)?;
+    Ok(started)
+}
+
 /// Runs a crew with these packages as a service: a thread for each of three ports feeds it, with what SIP datagrams say, with
 /// what control lines tell, and with the time, while this one sends out what the workers post; then all are joined.
 pub fn run_crew<R, P, W, F>(
@@ -280,8 +301,7 @@ where
         (record { contents = F.contents exit.new.sink.writer; failures = exit.new.sink.failures })) }
 {
     let workers = boxes.len() as u32;
-    let gate = Arc::new(alloc, Open)?;
-    let (crew, ports, taker) = Crew::start(rt, alloc, &work.setup, 3, boxes, gate)?;
+    let (crew, ports, taker) = start_crew(rt, alloc, &work.setup, boxes)?;
     let Work {
         sip,
         desk,
