@@ -1,6 +1,6 @@
 //! Datagrams that end too early, or are too long.
 
-use crate::look::{Look, look_at, no_memory};
+use crate::look::{Look, is_told, no_memory};
 use sip_text::NoMemory;
 use std::alloc::Global;
 use std::rt::Files;
@@ -29,8 +29,8 @@ fn wanted_of(lengths: Lengths, length: usize) -> &'static str {
 /// Whether each front, shorter than the message, is read as wanted.
 fn are_refused(alloc: Global, lengths: Lengths, message: &[u8]) -> Result<bool, NoMemory> {
     for length in 0..message.len() {
-        let told = look_at(alloc, message.split_at(length).0, Look::Fields)?;
-        if told.as_str() != wanted_of(lengths, length) {
+        let (front, _) = message.split_at(length);
+        if !is_told(alloc, front, Look::Fields, wanted_of(lengths, length))? {
             return Ok(false);
         }
     }
@@ -49,10 +49,11 @@ fn tell(rt: &(impl Files + Print + AllocGlobal), name: &str, lengths: Lengths) -
 fn is_bounded(alloc: Global, message: &[u8], text: &str) -> Result<bool, NoMemory> {
     let mut bytes = Vec::from_slice(alloc, message)?;
     bytes.resize(65535, b'x')?;
-    let longest = look_at(alloc, bytes.as_slice(), Look::Fields)?;
+    if !is_told(alloc, bytes.as_slice(), Look::Fields, text)? {
+        return Ok(false);
+    }
     bytes.push(b'x')?;
-    let longer = look_at(alloc, bytes.as_slice(), Look::Fields)?;
-    Ok(longest.as_str() == text && longer.as_str() == "error 6: too long\n")
+    is_told(alloc, bytes.as_slice(), Look::Fields, "error 6: too long\n")
 }
 
 /// Tells whether a datagram has at most 65,535 bytes.
@@ -63,25 +64,38 @@ fn tell_longest(rt: &(impl Files + Print + AllocGlobal)) -> io::Result<()> {
     println!(rt; "65535 bytes are read, 65536 are not: {is_so}")
 }
 
+/// Messages that are cut off.
+const CUT: [(&str, Lengths); 3] = [
+    (
+        "subscribe.dat",
+        Lengths {
+            whole: 284,
+            no_first_line: 38,
+            no_empty_line: 283,
+        },
+    ),
+    (
+        "answer.dat",
+        Lengths {
+            whole: 254,
+            no_first_line: 15,
+            no_empty_line: 253,
+        },
+    ),
+    (
+        "notify.dat",
+        Lengths {
+            whole: 439,
+            no_first_line: 40,
+            no_empty_line: 416,
+        },
+    ),
+];
+
 /// Tells of three messages cut off, and of one too long.
 pub(crate) fn tell_all(rt: &(impl Files + Print + AllocGlobal)) -> io::Result<()> {
-    let subscribe = Lengths {
-        whole: 284,
-        no_first_line: 38,
-        no_empty_line: 283,
-    };
-    tell(rt, "subscribe.dat", subscribe)?;
-    let answer = Lengths {
-        whole: 254,
-        no_first_line: 15,
-        no_empty_line: 253,
-    };
-    tell(rt, "answer.dat", answer)?;
-    let notify = Lengths {
-        whole: 439,
-        no_first_line: 40,
-        no_empty_line: 416,
-    };
-    tell(rt, "notify.dat", notify)?;
+    for (name, lengths) in CUT {
+        tell(rt, name, lengths)?;
+    }
     tell_longest(rt)
 }

@@ -1,6 +1,6 @@
 //! What a datagram is read as, field by field: a message line by line, or the number of its error and what the error says.
 use event_headers::{EventValue, Range};
-use sip_read::{Head, Message, ReadError, Request, Response};
+use sip_read::{Head, Message, ReadError, Request, Response, Via};
 use sip_text::{Field, Text, Values};
 use std::alloc::{AllocError, Global};
 use std::fmt;
@@ -41,29 +41,31 @@ fn write_texts<W: Write>(f: &mut Formatter<W>, name: &str, texts: &Values<Text>)
     Ok(())
 }
 
-fn write_lines<W: Write>(f: &mut Formatter<W>, lines: &[(&str, &str)]) -> fmt::Result {
-    for (name, value) in lines {
-        writeln!(f, "{name} {value}")?;
-    }
-    Ok(())
+fn write_parties<W: Write>(f: &mut Formatter<W>, head: &Head) -> fmt::Result {
+    let from = head.from.text.as_str();
+    let from_tag = some_text(&head.from.tag);
+    let to = head.to.text.as_str();
+    let to_tag = some_text(&head.to.tag);
+    writeln!(
+        f,
+        "from {from}\nfrom tag {from_tag}\nto {to}\nto tag {to_tag}"
+    )
+}
+
+fn write_top<W: Write>(f: &mut Formatter<W>, top: &Via) -> fmt::Result {
+    let sent_by = top.sent_by.as_str();
+    let branch = some_text(&top.branch);
+    let rport = if top.bare_rport { "bare" } else { "none" };
+    writeln!(f, "sent by {sent_by}\nbranch {branch}\nrport {rport}")
 }
 
 fn write_head<W: Write>(f: &mut Formatter<W>, head: &Head) -> fmt::Result {
     write_texts(f, "via", &head.vias)?;
-    write_lines(
-        f,
-        &[
-            ("sent by", head.top.sent_by.as_str()),
-            ("branch", some_text(&head.top.branch)),
-            ("rport", if head.top.bare_rport { "bare" } else { "none" }),
-            ("from", head.from.text.as_str()),
-            ("from tag", some_text(&head.from.tag)),
-            ("to", head.to.text.as_str()),
-            ("to tag", some_text(&head.to.tag)),
-            ("call-id", head.call_id.as_str()),
-        ],
-    )?;
-    writeln!(f, "cseq {} {}", head.cseq, head.cseq_method.as_str())
+    write_top(f, &head.top)?;
+    write_parties(f, head)?;
+    let call_id = head.call_id.as_str();
+    let method = head.cseq_method.as_str();
+    writeln!(f, "call-id {call_id}\ncseq {} {method}", head.cseq)
 }
 
 fn write_event<W: Write>(f: &mut Formatter<W>, event: &Field<EventValue>) -> fmt::Result {
@@ -120,25 +122,22 @@ fn write_body<W: Write>(f: &mut Formatter<W>, body: &[u8]) -> fmt::Result {
     }
 }
 
-fn write_request<W: Write>(f: &mut Formatter<W>, request: &Request) -> fmt::Result {
-    writeln!(
-        f,
-        "request {} {}",
-        request.method.as_str(),
-        request.uri.as_str()
-    )?;
-    write_head(f, &request.head)?;
+/// What stands in the lines of a request between those of its head and its routes.
+fn write_fields<W: Write>(f: &mut Formatter<W>, request: &Request) -> fmt::Result {
     write_event(f, &request.event)?;
     write_expires(f, &request.expires)?;
     write_accept(f, &request.accept)?;
-    write_lines(
-        f,
-        &[
-            ("contact", field_text(&request.contact)),
-            ("refer-to", field_text(&request.refer_to)),
-        ],
-    )?;
-    write_refer_sub(f, &request.refer_sub)?;
+    let contact = field_text(&request.contact);
+    let refer_to = field_text(&request.refer_to);
+    writeln!(f, "contact {contact}\nrefer-to {refer_to}")?;
+    write_refer_sub(f, &request.refer_sub)
+}
+
+fn write_request<W: Write>(f: &mut Formatter<W>, request: &Request) -> fmt::Result {
+    let method = request.method.as_str();
+    writeln!(f, "request {method} {}", request.uri.as_str())?;
+    write_head(f, &request.head)?;
+    write_fields(f, request)?;
     write_texts(f, "require", &request.require)?;
     write_texts(f, "record-route", &request.record_routes)?;
     write_body(f, request.body.as_slice())

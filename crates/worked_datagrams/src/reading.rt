@@ -43,3 +43,14 @@ pub(crate) fn summary_of(
         Err(error) => format!(in alloc; "refused: {error}"),
     }
 }
+
+/// That a datagram is read, or why not.
+pub(crate) fn outcome_of(
+    alloc: Global,
+    read: &Result<Message, ReadError>,
+) -> Result<String, AllocError> {
+    match read {
+        Ok(_) => String::from_str(alloc, "read"),
+        Err(error) => format!(in alloc; "{error}"),
+    }
+}

@@ -79,67 +79,83 @@ fn is_written(alloc: Global, example: Example) -> bool {
     }
 }
 
-/// Whether an event is read, written, copied and made, or the bytes before it stay.
-fn keeps_event(alloc: Global) -> bool {
-    let Ok(mut out) = Vec::from_slice(alloc, b"kept") else {
-        return true;
-    };
-    let event = match read_event(alloc, b"refer;x=1;id=93") {
-        Ok(event) => event,
-        Err(error) => return error == HeaderError::NoMemory,
-    };
-    let is_written = write_event(alloc, &event, &mut out).is_ok();
+/// What is read and written behind bytes that stay.
+#[derive(Clone, Copy)]
+enum Value {
+    Event,
+    State,
+    Expires,
+    Accept,
+}
+
+/// Reads, writes, copies and makes an event.
+fn append_event(alloc: Global, out: &mut Vec<u8>) -> Result<(), HeaderError> {
+    let event = read_event(alloc, b"refer;x=1;id=93")?;
+    let written = write_event(alloc, &event, out);
     drop(event.copy(alloc));
     drop(EventValue::numbered(alloc, "refer", 93));
-    is_written || out.as_slice() == b"kept".as_slice()
+    Ok(written?)
 }
 
-/// Whether a state is read, written and made, or the bytes before it stay.
-fn keeps_state(alloc: Global) -> bool {
-    let Ok(mut out) = Vec::from_slice(alloc, b"kept") else {
-        return true;
-    };
-    let state = match read_state(alloc, b"terminated;reason=timeout;retry-after=5") {
-        Ok(state) => state,
-        Err(error) => return error == HeaderError::NoMemory,
-    };
-    let is_written = write_state(alloc, &state, &mut out).is_ok();
+/// Reads, writes and makes a state.
+fn append_state(alloc: Global, out: &mut Vec<u8>) -> Result<(), HeaderError> {
+    let state = read_state(alloc, b"terminated;reason=timeout;retry-after=5")?;
+    let written = write_state(alloc, &state, out);
     drop(StateValue::worded(alloc, "terminated", None, Some("timeout"), Some(5)));
-    is_written || out.as_slice() == b"kept".as_slice()
+    Ok(written?)
 }
 
-/// Whether an expiry is written, or the bytes before it stay.
-fn keeps_expires(alloc: Global) -> bool {
+/// Reads and writes ranges.
+fn append_accept(alloc: Global, out: &mut Vec<u8>) -> Result<(), HeaderError> {
+    let ranges = read_accept(alloc, b"*/*, text/plain;q=1")?;
+    Ok(write_accept(alloc, ranges.as_slice(), out)?)
+}
+
+fn append(alloc: Global, value: Value, out: &mut Vec<u8>) -> Result<(), HeaderError> {
+    match value {
+        Value::Event => append_event(alloc, out),
+        Value::State => append_state(alloc, out),
+        Value::Expires => Ok(write_expires(alloc, 3600, out)?),
+        Value::Accept => append_accept(alloc, out),
+    }
+}
+
+/// Whether a value is appended, or memory was short and the bytes before it stay.
+fn keeps(alloc: Global, value: Value) -> bool {
     let Ok(mut out) = Vec::from_slice(alloc, b"kept") else {
         return true;
     };
-    write_expires(alloc, 3600, &mut out).is_ok() || out.as_slice() == b"kept".as_slice()
-}
-
-/// Whether ranges are read and written, or the bytes before them stay.
-fn keeps_accept(alloc: Global) -> bool {
-    let Ok(mut out) = Vec::from_slice(alloc, b"kept") else {
-        return true;
-    };
-    let ranges = match read_accept(alloc, b"*/*, text/plain;q=1") {
-        Ok(ranges) => ranges,
-        Err(error) => return error == HeaderError::NoMemory,
-    };
-    write_accept(alloc, ranges.as_slice(), &mut out).is_ok() || out.as_slice() == b"kept".as_slice()
+    match append(alloc, value, &mut out) {
+        Ok(()) => true,
+        Err(error) => error == HeaderError::NoMemory && out.as_slice() == b"kept".as_slice(),
+    }
 }
 
 /// Tells whether each was done, or changed nothing.
-pub(crate) fn tell_all(rt: &impl Print, alloc: Global) -> io::Result<()> {
-    println!(rt; "read, or memory was short: {}", is_read(alloc))?;
-    let answered = is_written(alloc, Example::TaggedOptions);
-    println!(rt; "answered, or the bytes stay: {answered}")?;
-    let notified = is_written(alloc, Example::OfOpenTransfer);
-    println!(rt; "notified, or the bytes stay: {notified}")?;
-    println!(rt; "an Event, or the bytes stay: {}", keeps_event(alloc))?;
-    println!(rt;
-        "a Subscription-State, or the bytes stay: {}",
-        keeps_state(alloc)
-    )?;
-    println!(rt; "an Expires, or the bytes stay: {}", keeps_expires(alloc))?;
-    println!(rt; "an Accept, or the bytes stay: {}", keeps_accept(alloc))
+pub(crate) fn tell_all(rt: &(impl Print + AllocGlobal)) -> io::Result<()> {
+    let alloc = rt.alloc();
+    for (done, is_so) in [
+        ("read, or memory was short", is_read(alloc)),
+        (
+            "answered, or the bytes stay",
+            is_written(alloc, Example::TaggedOptions),
+        ),
+        (
+            "notified, or the bytes stay",
+            is_written(alloc, Example::OfOpenTransfer),
+        ),
+        ("an Event, or the bytes stay", keeps(alloc, Value::Event)),
+        (
+            "a Subscription-State, or the bytes stay",
+            keeps(alloc, Value::State),
+        ),
+        (
+            "an Expires, or the bytes stay",
+            keeps(alloc, Value::Expires),
+        ),
+        ("an Accept, or the bytes stay", keeps(alloc, Value::Accept)),
+    ] {
+        println!(rt; "{done}: {is_so}")?;
+    }
+    Ok(())
 }

@@ -29,55 +29,71 @@ fn is_state(alloc: Global, expires: Option<u32>, reason: Option<&str>) -> Result
     Ok(StateValue::new(word, expires, reason, None).is_some())
 }
 
-/// How an event with a number is written.
-fn numbered(alloc: Global) -> Result<String, NoMemory> {
-    let mut out = Vec::new(alloc);
-    write_event(alloc, &EventValue::numbered(alloc, "refer", 93)?, &mut out)?;
-    Ok(String::from_str(alloc, as_text(out.as_slice()))?)
-}
-
-/// How a state is written.
-fn written(alloc: Global, state: &StateValue) -> Result<String, NoMemory> {
-    let mut out = Vec::new(alloc);
-    write_state(alloc, state, &mut out)?;
-    Ok(String::from_str(alloc, as_text(out.as_slice()))?)
-}
-
-/// How a state with an expiry is written.
-fn active(alloc: Global) -> Result<String, NoMemory> {
-    let state = StateValue::worded(alloc, "active", Some(5), None, None)?;
-    written(alloc, &state)
-}
-
-/// How a state with a reason, and a time to try again, is written.
-fn ended(alloc: Global) -> Result<String, NoMemory> {
-    let state = StateValue::worded(alloc, "terminated", None, Some("noresource"), Some(7))?;
-    written(alloc, &state)
+/// Whether the words of an example make a value.
+fn is_made(alloc: Global, example: &str) -> Result<bool, NoMemory> {
+    match example {
+        "Text/plain" => Ok(a_range(alloc, "Text", "plain")?.is_some()),
+        "an empty id" => is_event(alloc, "refer", Some("")),
+        "active" => is_state(alloc, Some(5), None),
+        "Timeout" => is_state(alloc, None, Some("Timeout")),
+        _ => is_event(alloc, example, None),
+    }
 }
 
 /// Tells which words make values: tokens, in small letters.
-fn tell_tokens(rt: &impl Print, alloc: Global) -> Result<io::Result<()>, NoMemory> {
-    let range = a_range(alloc, "Text", "plain")?.is_some();
-    let capital = is_event(alloc, "Refer", None)?;
-    let blank = is_event(alloc, "a b", None)?;
-    let empty = is_event(alloc, "refer", Some(""))?;
-    let state = is_state(alloc, Some(5), None)?;
-    let reason = is_state(alloc, None, Some("Timeout"))?;
-    Ok(println!(rt;
-        "Text/plain {range}, Refer {capital}, a b {blank}, an empty id {empty}, active {state}, Timeout {reason}"
-    ))
+fn tell_tokens(rt: &impl Print, alloc: Global) -> io::Result<()> {
+    for example in ["Text/plain", "Refer", "a b", "an empty id", "active"] {
+        let is_made = is_made(alloc, example).map_err(no_memory)?;
+        print!(rt; "{example} {is_made}, ")?;
+    }
+    let is_made = is_made(alloc, "Timeout").map_err(no_memory)?;
+    println!(rt; "Timeout {is_made}")
+}
+
+/// Appends an event with a number.
+fn append_numbered(alloc: Global, out: &mut Vec<u8>) -> Result<(), NoMemory> {
+    let event = EventValue::numbered(alloc, "refer", 93)?;
+    write_event(alloc, &event, out)
+}
+
+/// Appends a state with an expiry.
+fn append_active(alloc: Global, out: &mut Vec<u8>) -> Result<(), NoMemory> {
+    let state = StateValue::worded(alloc, "active", Some(5), None, None)?;
+    write_state(alloc, &state, out)
+}
+
+/// Appends a state with a reason, and a time to try again.
+fn append_ended(alloc: Global, out: &mut Vec<u8>) -> Result<(), NoMemory> {
+    let state = StateValue::worded(alloc, "terminated", None, Some("noresource"), Some(7))?;
+    write_state(alloc, &state, out)
+}
+
+/// How each is written, on a line of its own.
+fn append_all(alloc: Global, out: &mut Vec<u8>) -> Result<(), NoMemory> {
+    append_numbered(alloc, out)?;
+    out.push(b'\n')?;
+    append_active(alloc, out)?;
+    out.push(b'\n')?;
+    append_ended(alloc, out)
+}
+
+/// Tells how values with numbers are written.
+fn tell_written(rt: &impl Print, alloc: Global) -> io::Result<()> {
+    let mut out = Vec::new(alloc);
+    append_all(alloc, &mut out).map_err(no_memory)?;
+    println!(rt; "{}", as_text(out.as_slice()))
 }
 
 /// Tells the numbers of errors.
 fn tell_errors(rt: &impl Print) -> io::Result<()> {
-    println!(rt;
-        "grammar {}, too large {}, no memory {}",
-        HeaderError::Grammar.number(),
-        HeaderError::TooLarge.number(),
-        HeaderError::NoMemory.number()
-    )?;
+    let grammar = HeaderError::Grammar.number();
+    let too_large = HeaderError::TooLarge.number();
+    let no_memory = HeaderError::NoMemory.number();
     let error = ReadError::NoMemory;
-    println!(rt; "error {}: {error}", error.number())
+    println!(rt;
+        "grammar {grammar}, too large {too_large}, no memory {no_memory}\nerror {}: {error}",
+        error.number()
+    )
 }
 
 /// Tells the number and the words of each status.
@@ -104,11 +120,9 @@ fn tell_statuses(rt: &impl Print) -> io::Result<()> {
 }
 
 /// Tells of all these values.
-pub(crate) fn tell_all(rt: &impl Print, alloc: Global) -> io::Result<()> {
-    tell_tokens(rt, alloc).map_err(no_memory)??;
-    println!(rt; "{}", numbered(alloc).map_err(no_memory)?)?;
-    println!(rt; "{}", active(alloc).map_err(no_memory)?)?;
-    println!(rt; "{}", ended(alloc).map_err(no_memory)?)?;
+pub(crate) fn tell_all(rt: &(impl Print + AllocGlobal)) -> io::Result<()> {
+    tell_tokens(rt, rt.alloc())?;
+    tell_written(rt, rt.alloc())?;
     tell_errors(rt)?;
     tell_statuses(rt)
 }

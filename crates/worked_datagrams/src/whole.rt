@@ -5,6 +5,69 @@ use crate::written::Example;
 use std::rt::Files;
 use std::{fs, io};
 
+/// A datagram, how it is looked at, and the file that says what is then told. The same answers and NOTIFY are read and written.
+const MESSAGES: [(&str, Look, &str); 16] = [
+    ("subscribe.dat", Look::Fields, "subscribe.read"),
+    ("answer.dat", Look::Fields, "answer.read"),
+    ("notify.dat", Look::Fields, "notify.read"),
+    ("too_brief.dat", Look::Fields, "too_brief.read"),
+    ("refer.dat", Look::Fields, "refer.read"),
+    // compact names, a folded Event, a name in small letters and no length say what long names say, each line in one piece
+    ("compact.dat", Look::Fields, "compact.read"),
+    ("plain.dat", Look::Fields, "compact.read"),
+    (
+        "subscribe.dat",
+        Look::Written(Example::Accepted),
+        "answer.dat",
+    ),
+    (
+        "subscribe.dat",
+        Look::Written(Example::WithoutSubscription),
+        "without_subscription.dat",
+    ),
+    (
+        "subscribe.dat",
+        Look::Written(Example::TooBrief),
+        "too_brief.dat",
+    ),
+    (
+        "subscribe.dat",
+        Look::Written(Example::Methods),
+        "methods.dat",
+    ),
+    (
+        "subscribe.dat",
+        Look::Written(Example::Packages),
+        "packages.dat",
+    ),
+    (
+        "subscribe.dat",
+        Look::Written(Example::Options),
+        "options.dat",
+    ),
+    (
+        "subscribe.dat",
+        Look::Written(Example::OfMailbox),
+        "notify.dat",
+    ),
+    (
+        "routed.dat",
+        Look::Written(Example::Routed),
+        "routed_answer.dat",
+    ),
+    (
+        "transfer.dat",
+        Look::Written(Example::OfTransfer),
+        "transfer_notify.dat",
+    ),
+];
+
+/// What is told of the datagram in a file.
+fn told_of(rt: &(impl Files + AllocGlobal), datagram: &str, look: Look) -> io::Result<String> {
+    let bytes = fs::read(rt, datagram)?;
+    look_at(rt.alloc(), bytes.as_slice(), look).map_err(no_memory)
+}
+
 /// Tells of a datagram whether what is told is what the file says, and of how many bytes that file is.
 fn tell(
     rt: &(impl Files + Print + AllocGlobal),
@@ -12,9 +75,8 @@ fn tell(
     look: Look,
     wanted: &str,
 ) -> io::Result<()> {
-    let bytes = fs::read(rt, datagram)?;
+    let told = told_of(rt, datagram, look)?;
     let text = fs::read_to_string(rt, wanted)?;
-    let told = look_at(rt.alloc(), bytes.as_slice(), look).map_err(no_memory)?;
     if told.as_str() == text.as_str() {
         println!(rt; "{datagram}: as {wanted} says, {} bytes", text.len())
     } else {
@@ -22,79 +84,10 @@ fn tell(
     }
 }
 
-/// Tells of what is read.
-fn tell_read(rt: &(impl Files + Print + AllocGlobal)) -> io::Result<()> {
-    tell(rt, "subscribe.dat", Look::Fields, "subscribe.read")?;
-    tell(rt, "answer.dat", Look::Fields, "answer.read")?;
-    tell(rt, "notify.dat", Look::Fields, "notify.read")?;
-    tell(rt, "too_brief.dat", Look::Fields, "too_brief.read")?;
-    tell(rt, "refer.dat", Look::Fields, "refer.read")?;
-    // compact names, a folded Event, a name in small letters and no length say what long names say, each line in one piece
-    tell(rt, "compact.dat", Look::Fields, "compact.read")?;
-    tell(rt, "plain.dat", Look::Fields, "compact.read")
-}
-
-/// Tells of what is written. The same answers and NOTIFY are read above.
-fn tell_written(rt: &(impl Files + Print + AllocGlobal)) -> io::Result<()> {
-    let subscribe = "subscribe.dat";
-    tell(
-        rt,
-        subscribe,
-        Look::Written(Example::Accepted),
-        "answer.dat",
-    )?;
-    tell(
-        rt,
-        subscribe,
-        Look::Written(Example::WithoutSubscription),
-        "without_subscription.dat",
-    )?;
-    tell(
-        rt,
-        subscribe,
-        Look::Written(Example::TooBrief),
-        "too_brief.dat",
-    )?;
-    tell(
-        rt,
-        subscribe,
-        Look::Written(Example::Methods),
-        "methods.dat",
-    )?;
-    tell(
-        rt,
-        subscribe,
-        Look::Written(Example::Packages),
-        "packages.dat",
-    )?;
-    tell(
-        rt,
-        subscribe,
-        Look::Written(Example::Options),
-        "options.dat",
-    )?;
-    tell(
-        rt,
-        subscribe,
-        Look::Written(Example::OfMailbox),
-        "notify.dat",
-    )?;
-    tell(
-        rt,
-        "routed.dat",
-        Look::Written(Example::Routed),
-        "routed_answer.dat",
-    )?;
-    tell(
-        rt,
-        "transfer.dat",
-        Look::Written(Example::OfTransfer),
-        "transfer_notify.dat",
-    )
-}
-
 /// Tells of all of them.
 pub(crate) fn tell_all(rt: &(impl Files + Print + AllocGlobal)) -> io::Result<()> {
-    tell_read(rt)?;
-    tell_written(rt)
+    for (datagram, look, wanted) in MESSAGES {
+        tell(rt, datagram, look, wanted)?;
+    }
+    Ok(())
 }

@@ -227,3 +227,11 @@ pub(crate) fn written_for(
         _ => Ok(String::from_str(alloc, LEFT)?),
     }
 }
+
+/// That the 200 to a request with this head is written, or that memory did not serve.
+pub(crate) fn answered(alloc: Global, head: &Head) -> Result<String, NoMemory> {
+    let mut out = Vec::new(alloc);
+    let is_written = write_response(alloc, &bare(head, 5070, Status::Ok), &mut out).is_ok();
+    drop(out);
+    Ok(String::from_str(alloc, if is_written { "answered" } else { "no answer" })?)
+}

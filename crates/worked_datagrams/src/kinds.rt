@@ -62,7 +62,7 @@ pub(crate) fn frame(place: Place) -> (&'static [&'static str], &'static [&'stati
 }
 
 /// All kinds of texts.
-pub(crate) const KINDS: [Kind; 69] = [
+const KINDS: [Kind; 69] = [
     Kind {
         name: "Via values",
         place: Place::Line,
@@ -547,3 +547,8 @@ pub(crate) const KINDS: [Kind; 69] = [
         back: "",
     },
 ];
+
+/// All kinds of texts.
+pub(crate) fn kinds() -> &'static [Kind] {
+    &KINDS
+}
