@@ -1,6 +1,6 @@
 //! Examples of changes: which are taken, and what they give of what was handed in.
 use crate::making::{change_of, mail, progress, tell};
-use package::{Class, Counts};
+use package::{Class, Counts, MailChange, Progress};
 use sip_text::NoMemory;
 use std::alloc::Global;
 use std::io;
@@ -73,34 +73,41 @@ fn is_progress(alloc: Global, tag: &str, code: u16, reason: &str) -> Result<bool
     Ok(progress(alloc, tag, code, reason)?.is_some())
 }
 
-/// Whether a mail change gives what was handed in, and so does its copy.
-fn mail_gives(alloc: Global) -> Result<bool, NoMemory> {
-    let counts = Counts {
-        new_count: 9,
-        old_count: 8,
-        urgent_new: 7,
-        urgent_old: 6,
-    };
-    let Some(change) = mail(alloc, "alice", Class::Voice, counts)? else {
-        return Ok(false);
-    };
-    let change = change.copy(alloc)?;
-    Ok(
-        change.mailbox() == "alice"
-            && change.class() == Class::Voice
-            && [change.new_count(), change.old_count()] == [9, 8]
-            && [change.urgent_new(), change.urgent_old()] == [7, 6]
-            && change.counts() == counts,
-    )
+const HANDED_IN: Counts = Counts {
+    new_count: 9,
+    old_count: 8,
+    urgent_new: 7,
+    urgent_old: 6,
+};
+
+/// Whether a mail change gives what was handed in.
+fn mail_gives(change: &MailChange) -> bool {
+    change.mailbox() == "alice"
+        && change.class() == Class::Voice
+        && [change.new_count(), change.old_count()] == [9, 8]
+        && [change.urgent_new(), change.urgent_old()] == [7, 6]
+        && change.counts() == HANDED_IN
 }
 
-/// Whether a progress gives what was handed in, and so does its copy.
-fn progress_gives(alloc: Global) -> Result<bool, NoMemory> {
-    let Some(busy) = progress(alloc, "x", 486, "Busy Here")? else {
-        return Ok(false);
-    };
-    let busy = busy.copy(alloc)?;
-    Ok(busy.tag() == "x" && busy.code() == 486 && busy.reason() == "Busy Here")
+/// Whether a progress gives what was handed in.
+fn progress_gives(busy: &Progress) -> bool {
+    busy.tag() == "x" && busy.code() == 486 && busy.reason() == "Busy Here"
+}
+
+/// Whether the copy of a mail change gives what was handed in.
+fn mail_copy_gives(alloc: Global) -> Result<bool, NoMemory> {
+    match &mail(alloc, "alice", Class::Voice, HANDED_IN)? {
+        Some(change) => Ok(mail_gives(&change.copy(alloc)?)),
+        None => Ok(false),
+    }
+}
+
+/// Whether the copy of a progress gives what was handed in.
+fn progress_copy_gives(alloc: Global) -> Result<bool, NoMemory> {
+    match &progress(alloc, "x", 486, "Busy Here")? {
+        Some(busy) => Ok(progress_gives(&busy.copy(alloc)?)),
+        None => Ok(false),
+    }
 }
 
 /// Whether a change is for the package of this name.
@@ -145,10 +152,10 @@ pub(crate) fn tell_all(rt: &(impl Print + AllocGlobal)) -> io::Result<()> {
     let alloc = rt.alloc();
     println!(rt; "- mail changes")?;
     tell_mails(rt, alloc)?;
-    tell(rt, "what was handed in", mail_gives(alloc))?;
+    tell(rt, "what was handed in", mail_copy_gives(alloc))?;
     println!(rt; "- progresses")?;
     tell_steps(rt, alloc)?;
-    tell(rt, "what was handed in", progress_gives(alloc))?;
+    tell(rt, "what was handed in", progress_copy_gives(alloc))?;
     println!(rt; "- the package that a change is for")?;
     tell_events(rt, alloc)
 }

@@ -18,14 +18,19 @@ fn class_of(name: &str) -> Option<Class> {
     }
 }
 
+/// The number of a word that is one.
+pub(crate) fn number_of(word: Option<&str>) -> Option<u32> {
+    word?.parse::<u32>().ok()
+}
+
 /// A class and its new, old, urgent new and urgent old messages.
 fn counts_of(text: &str) -> Option<(Class, Counts)> {
     let mut words = text.split(' ');
     let class = class_of(words.next()?)?;
-    let new_count = words.next()?.parse::<u32>().ok()?;
-    let old_count = words.next()?.parse::<u32>().ok()?;
-    let urgent_new = words.next()?.parse::<u32>().ok()?;
-    let urgent_old = words.next()?.parse::<u32>().ok()?;
+    let new_count = number_of(words.next())?;
+    let old_count = number_of(words.next())?;
+    let urgent_new = number_of(words.next())?;
+    let urgent_old = number_of(words.next())?;
     let counts = Counts {
         new_count,
         old_count,

@@ -208,33 +208,46 @@ fn play_boxed(
     }
 }
 
+/// Plays a scene. A second package then finds the cell full.
+fn play_scene(
+    rt: &impl Print,
+    alloc: Global,
+    scene: Scene<'_>,
+    is_boxed: bool,
+    cell: &Arc<ClosingCell>,
+) -> io::Result<()> {
+    if is_boxed {
+        play_boxed(rt, alloc, scene, cell, cell.clone()?)?;
+    } else {
+        play_bare(rt, alloc, scene, cell, cell.clone()?)?;
+    }
+    drop(Transfers::new(alloc, cell.clone()?).map_err(error_of)?);
+    Ok(())
+}
+
 /// Plays a scene and looks at the closing that its package leaves.
 fn tell_scene(rt: &impl Print, alloc: Global, scene: Scene<'_>, is_boxed: bool) -> io::Result<()> {
     let how = if is_boxed { ", in a box" } else { "" };
     println!(rt; "- {}{how}", scene.title)?;
     let cell = ClosingCell::new(alloc).map_err(error_of)?;
-    let shared = cell.clone()?;
-    if is_boxed {
-        play_boxed(rt, alloc, scene, &cell, shared)?;
-    } else {
-        play_bare(rt, alloc, scene, &cell, shared)?;
-    }
-    // A second package finds the cell full.
-    drop(Transfers::new(alloc, cell.clone()?).map_err(error_of)?);
+    play_scene(rt, alloc, scene, is_boxed, &cell)?;
     tell(rt, scene.left, has_closing(alloc, &cell, scene.left))
 }
 
-/// Plays each scene of a file twice, with the package as it is and in a box. A blank line stands between two scenes.
+/// Plays a scene twice, with the package as it is and in a box.
+fn tell_twice(rt: &(impl Print + AllocGlobal), text: &str) -> io::Result<()> {
+    let Some(scene) = scene_of(text) else {
+        return println!(rt; "NO SCENE: {text}");
+    };
+    tell_scene(rt, rt.alloc(), scene, false)?;
+    tell_scene(rt, rt.alloc(), scene, true)
+}
+
+/// Plays each scene of a file. A blank line stands between two scenes.
 pub(crate) fn tell_scenes(rt: &(impl Files + Print + AllocGlobal), name: &str) -> io::Result<()> {
     let table = fs::read_to_string(rt, name)?;
     for text in table.split("\n\n") {
-        match scene_of(text) {
-            Some(scene) => {
-                tell_scene(rt, rt.alloc(), scene, false)?;
-                tell_scene(rt, rt.alloc(), scene, true)?;
-            }
-            None => println!(rt; "NO SCENE: {text}")?,
-        }
+        tell_twice(rt, text)?;
     }
     Ok(())
 }

@@ -1,8 +1,8 @@
 //! Scenes of one subscription (RFC 6665): what happens to it, line by line, and the NOTIFY that tells of it, or what it then has.
 
-use crate::making::tell;
+use crate::making::{number_of, tell};
 use crate::scenes::{Line, line_of};
-use event_headers::EventValue;
+use event_headers::{HeaderError, read_event};
 use sip_read::{Addr, Message, Response, read};
 use sip_text::{NoMemory, Text, Values};
 use std::alloc::Global;
@@ -33,19 +33,20 @@ fn source(port: u16) -> Addr {
     }
 }
 
-/// What is asked for in each scene. None where the event is none.
-fn want(alloc: Global) -> Result<Option<Want>, NoMemory> {
+/// The event of each scene can be read, so what is not is want of memory.
+fn short_of(_error: HeaderError) -> NoMemory {
+    NoMemory
+}
+
+/// What is asked for in each scene.
+fn want(alloc: Global) -> Result<Want, NoMemory> {
     let resource = Text::of(alloc, "alice")?;
-    let package = String::from_str(alloc, "message-summary")?;
-    match EventValue::new(package, None) {
-        Some(event) => Ok(Some(Want {
-            event,
-            resource,
-            to: source(5070),
-            max_cseq: 1,
-        })),
-        None => Ok(None),
-    }
+    Ok(Want {
+        event: read_event(alloc, b"message-summary").map_err(short_of)?,
+        resource,
+        to: source(5070),
+        max_cseq: 1,
+    })
 }
 
 /// Whether a NOTIFY is the one that is wanted: its word, its number, and the seconds left or the reason.
@@ -53,10 +54,10 @@ fn is_notice(notice: Notice, wanted: &str) -> bool {
     let Notice { number, phase } = notice;
     let mut words = wanted.split(' ');
     let is_word = words.next() == Some(phase.word());
-    let is_number = words.next().and_then(|word| word.parse::<u32>().ok()) == Some(number);
+    let is_number = number_of(words.next()) == Some(number);
     let last = words.next();
     let is_last = match phase.expires() {
-        Some(left) => last.and_then(|word| word.parse::<u32>().ok()) == Some(left),
+        Some(left) => number_of(last) == Some(left),
         None => last == phase.reason(),
     };
     is_word && is_number && is_last
@@ -87,9 +88,7 @@ fn accept(alloc: Global, life: &mut Option<Sub>, line: Line<'_>) -> Result<bool,
         return Ok(false);
     }
     let usage = usage(alloc)?;
-    let Some(mut want) = want(alloc)? else {
-        return Ok(false);
-    };
+    let mut want = want(alloc)?;
     want.max_cseq = max_cseq;
     Ok(follow(life, Sub::accept(usage, want, 0, 3600), line.wanted))
 }
@@ -97,19 +96,19 @@ fn accept(alloc: Global, life: &mut Option<Sub>, line: Line<'_>) -> Result<bool,
 /// A subscription of no time.
 fn fetch(alloc: Global, wanted: &str) -> Result<bool, NoMemory> {
     let usage = usage(alloc)?;
-    let Some(want) = want(alloc)? else {
-        return Ok(false);
-    };
-    let (usage, notice) = Sub::fetch(usage, want);
+    let (usage, notice) = Sub::fetch(usage, want(alloc)?);
     Ok(is_over(&usage, notice, wanted))
+}
+
+/// The second of a change, and whether it is the end of what is watched.
+fn change_in(text: &str) -> Option<(u64, bool)> {
+    let (now, how) = text.split_once(' ')?;
+    Some((now.parse::<u64>().ok()?, how == "over"))
 }
 
 /// What it watches changes in a second, or is over.
 fn change(life: &mut Option<Sub>, line: Line<'_>) -> bool {
-    let Some((now, how)) = line.text.split_once(' ') else {
-        return false;
-    };
-    let Ok(now) = now.parse::<u64>() else {
+    let Some((now, is_over)) = change_in(line.text) else {
         return false;
     };
     let Some(sub) = life.take() else {
@@ -119,7 +118,7 @@ fn change(life: &mut Option<Sub>, line: Line<'_>) -> bool {
     if now >= due || due - now > 4294967295 {
         return false;
     }
-    follow(life, sub.changed(now, how == "over"), line.wanted)
+    follow(life, sub.changed(now, is_over), line.wanted)
 }
 
 /// What a refresh brings.
@@ -135,11 +134,11 @@ struct Renewal<'a> {
 /// None where the text lacks one of them, or no time is granted.
 fn renewal_of(text: &str) -> Option<Renewal<'_>> {
     let mut words = text.split(' ');
-    let cseq = words.next()?.parse::<u32>().ok()?;
+    let cseq = number_of(words.next())?;
     let target = words.next()?;
     let port = words.next()?.parse::<u16>().ok()?;
     let now = words.next()?.parse::<u64>().ok()?;
-    let granted = words.next()?.parse::<u32>().ok()?;
+    let granted = number_of(words.next())?;
     Some(Renewal {
         cseq,
         target,
@@ -194,13 +193,8 @@ fn refuses(life: &mut Option<Sub>, response: &Response, wanted: &str) -> bool {
     let Some(sub) = life.take() else {
         return false;
     };
-    match sub.refused_by(response) {
-        Ok(_usage) => wanted == "refused",
-        Err(sub) => {
-            *life = Some(sub);
-            wanted == "stays"
-        }
-    }
+    *life = sub.refused_by(response).err();
+    wanted == if life.is_some() { "stays" } else { "refused" }
 }
 
 /// Whether a response answers one of its NOTIFYs or not, as is wanted.
@@ -276,17 +270,34 @@ fn goes(alloc: Global, life: &mut Option<Sub>, line: Line<'_>) -> Result<bool, N
     }
 }
 
+/// Whether a line of the table goes as it should.
+fn line_goes(alloc: Global, life: &mut Option<Sub>, text: &str) -> Result<bool, NoMemory> {
+    match line_of(text) {
+        Some(line) => goes(alloc, life, line),
+        None => Ok(false),
+    }
+}
+
 /// Plays the lines of a scene.
-fn play(rt: &impl Print, alloc: Global, lines: &str) -> io::Result<()> {
-    let mut life = None;
+fn play_lines(
+    rt: &impl Print,
+    alloc: Global,
+    life: &mut Option<Sub>,
+    lines: &str,
+) -> io::Result<()> {
     for text in lines.lines() {
-        let is_so = match line_of(text) {
-            Some(line) => goes(alloc, &mut life, line),
-            None => Ok(false),
-        };
+        let is_so = line_goes(alloc, life, text);
         tell(rt, text, is_so)?;
     }
     Ok(())
+}
+
+/// Plays a scene. What is left of its subscription is let go in one place.
+fn play(rt: &impl Print, alloc: Global, lines: &str) -> io::Result<()> {
+    let mut life = None;
+    let told = play_lines(rt, alloc, &mut life, lines);
+    drop(life);
+    told
 }
 
 /// Tells the words of each state.
