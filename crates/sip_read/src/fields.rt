@@ -1,6 +1,7 @@
 //! What the header lines say that only a request's reader asks for.
 ghost use Rattle.std.specs.Prelude.{◌≡◌, option_map, IfOk, OnOk};
 ghost use Rattle.sip_read.specs.OnceComputed.{once_more, field_of as field_view};
+ghost use Rattle.sip_read.specs.MessageComputed.{request_of};
 ghost use Rattle.sip_read.specs.GatheredComputed.{fields_nothing, with_field, accept_more};
 ghost use Rattle.sip_read.specs.AddressesComputed.{contact_of as contact_text};
 ghost use Rattle.sip_read.specs.Views.{item as item_view, fields_seen};
@@ -102,19 +103,8 @@ impl Fields {
 
     /// The request of these and its other parts. Nothing can fail here, where what was read is taken apart.
     pub fn request(self, copies: Copies, head: Head) -> Request
-        ensures { result ≡ record {
-          method = copies.method;
-          uri = copies.uri;
-          head = head;
-          event = field_view self.event;
-          expires = field_view self.expires;
+        ensures { result ≡ record (request_of copies.method copies.uri head (fields_seen self) copies.body) {
           accept = copies.accept;
-          contact = field_view self.contact;
-          refer_to = field_view self.refer_to;
-          refer_sub = field_view self.refer_sub;
-          require = self.require.items;
-          record_routes = self.record_routes.items;
-          body = copies.body;
         } }
     {
         let Fields {
