@@ -1,5 +1,5 @@
 //! The mailboxes that the settings of a service name, by themselves or by files.
-ghost use Rattle.std.specs.Prelude.{IfOk, IfErr};
+ghost use Rattle.std.specs.Prelude.{IfOk, IfErr, OnOk};
 ghost use Rattle.std.specs.List.{All};
 ghost use Rattle.options.specs.Settings.{IsMailbox};
 ghost use Rattle.serving.specs.Plans.{Names, AreNamed};
@@ -12,6 +12,36 @@ use std::alloc::Global;
 use std::fs;
 use std::io::{BufRead, BufReader};
 use std::rt::Files;
+
+/// Why the file at this path can't be read, where there is memory to say so.
+fn unread(alloc: Global, path: &Text) -> ServeError
+    ensures { IsOther result }
+{
+    match path.copy(alloc) {
+        Ok(path) => ServeError::File(path),
+        Err(_) => ServeError::NoMemory,
+    }
+}
+
+/// Adds the mailbox that a line of a file names, if it names one. The line has this number in the file at this path.
+fn add_named(
+    alloc: Global,
+    names: &mut Vec<Text>,
+    path: &Text,
+    number: u64,
+    line: &str,
+) -> Result<(), ServeError>
+    requires { All IsMailbox names.old.items }
+    ensures names { OnOk result (All IsMailbox names.new.items) }
+    ensures refused { IfErr result IsOther }
+{
+    match mailbox_in(alloc, line) {
+        Ok(Some(name)) => names.push(name)?,
+        Ok(None) => {}
+        Err(error) => return Err(ServeError::Line(path.copy(alloc)?, number, error)),
+    }
+    Ok(())
+}
 
 /// The mailboxes that the lines of a file name.
 fn read_names<B: BufRead + Drop>(
@@ -26,14 +56,10 @@ fn read_names<B: BufRead + Drop>(
     let mut number = 0u64;
     for line in reader.lines(alloc) {
         let Ok(line) = line else {
-            return Err(ServeError::File(path.copy(alloc)?));
+            return Err(unread(alloc, path));
         };
         number = number.saturating_add(1);
-        match mailbox_in(alloc, line.as_str()) {
-            Ok(Some(name)) => names.push(name)?,
-            Ok(None) => {}
-            Err(error) => return Err(ServeError::Line(path.copy(alloc)?, number, error)),
-        }
+        add_named(alloc, &mut names, path, number, line.as_str())?;
     }
     Ok(names)
 }
@@ -46,7 +72,7 @@ fn names_at<R: Files + AllocGlobal>(rt: &R, path: &Text) -> Result<Vec<Text>, Se
     let alloc = rt.alloc();
     match fs::open(rt, path.as_str()) {
         Ok(file) => read_names(alloc, BufReader::new(alloc, file)?, path),
-        Err(_) => Err(ServeError::File(path.copy(alloc)?)),
+        Err(_) => Err(unread(alloc, path)),
     }
 }
 

@@ -1,9 +1,10 @@
 //! `notifyd serve`.
-ghost use Rattle.std.specs.Prelude.{◌≡◌, ◌≤◌, get_or, vec_len, IfOk, IfErr};
+ghost use Rattle.std.specs.Prelude.{◌≡◌, ◌<◌, ◌≤◌, get_or, map, vec_len, IfOk, IfErr};
 ghost use Rattle.crew.specs.Ready.{start_of};
 ghost use Rattle.server.specs.Boxes.{box_seen};
+ghost use Rattle.server.specs.Call as call;
 ghost use Rattle.serving.specs.Refused.{IsOther, IsRefusal};
-ghost use Rattle.serving.specs.Serving.{IsWork, Ran, Serves, new_sink};
+ghost use Rattle.serving.specs.Serving.{IsAt, IsWork, Ran, Serves, new_sink};
 
 use crate::error::ServeError;
 use crate::help::text_for;
@@ -44,6 +45,49 @@ fn begin<R: Clock + AllocGlobal>(
     let shared = Arc::new(rt.alloc(), Shared::new(Instant::now(rt)?))?;
     let theirs = Arc::try_clone(&shared)?;
     Ok((shared, theirs))
+}
+
+/// Opens the sockets that a plan asks for, and says where they are.
+fn open_for<R: Wait + Net + Eprint + AllocGlobal>(
+    rt: &R,
+    plan: &Plan,
+) -> Result<Sockets, ServeError>
+    ensures at { IfOk result (λ s. IsAt plan.now.choices.listen s.bell.sip) }
+    ensures refused { IfErr result IsOther }
+{
+    let sockets = open(rt, &plan.choices)?;
+    say_hello(rt, &sockets.bell, plan.workers, plan.mailboxes.len())?;
+    Ok(sockets)
+}
+
+/// What a service is run with, beside its plan.
+#[derive(Drop)]
+struct Fitted {
+    boxes: Vec<Boxes>,
+    shared: Arc<Shared, Global>,
+    theirs: Arc<Shared, Global>,
+    sockets: Sockets,
+}
+
+/// Makes what a service that is planned so is run with, and says where it is.
+fn fit_out<R>(rt: &R, plan: &Plan) -> Result<Fitted, ServeError>
+where
+    R: Wait + Net + Clock + Eprint + AllocGlobal,
+    requires { 0 < plan.now.workers }
+    ensures boxes { IfOk result (λ f.
+        map (λ boxes. map box_seen boxes.items) f.boxes.items ≡ call.boxes_for plan.now.workers plan.now.mailboxes.items) }
+    ensures at { IfOk result (λ f. IsAt plan.now.choices.listen f.sockets.bell.sip) }
+    ensures refused { IfErr result IsOther }
+{
+    let (shared, theirs) = begin(rt)?;
+    let boxes = boxes_for(rt.alloc(), plan.mailboxes.as_slice(), plan.workers)?;
+    let sockets = open_for(rt, plan)?;
+    Ok(Fitted {
+        boxes,
+        shared,
+        theirs,
+        sockets,
+    })
 }
 
 /// What a service works with: the plan over these sockets, and the wire by which its outs go.
@@ -121,10 +165,12 @@ where
     ensures refused { IfErr result (IsRefusal words.now) }
 {
     let plan = plan_of(&rt, words)?;
-    let boxes = boxes_for(rt.alloc(), plan.mailboxes.as_slice(), plan.workers)?;
-    let sockets = open(&rt, &plan.choices)?;
-    let (shared, theirs) = begin(&rt)?;
-    say_hello(&rt, &sockets.bell, plan.workers, plan.mailboxes.len())?;
+    let Fitted {
+        boxes,
+        shared,
+        theirs,
+        sockets,
+    } = fit_out(&rt, &plan)?;
     let (work, wire) = work_of(plan, sockets, theirs);
     let sink = Sink::new(writer);
     run(rt, boxes, work, shared, Exit { wire, sink })
@@ -176,6 +222,20 @@ where
     close_off(&rt, &mut served)
 }
 
+/// Prints a text that the words asked for alone. Answers the exit status.
+fn print_text<R: Print>(rt: &R, text: &str) -> u8 {
+    match println!(rt; "{text}") {
+        Ok(()) => 0,
+        Err(_) => 3,
+    }
+}
+
+/// Tells on standard error why no service runs, or has ended. Answers the exit status.
+fn tell_why<R: Eprint>(rt: &R, error: &ServeError) -> u8 {
+    let _ = eprintln!(rt; "notifyd: {error}");
+    error.status()
+}
+
 /// `notifyd serve` with these words behind it. Answers the exit status: 0 at a CLOSE, 1 where the words ask for no service, 3
 /// where a socket, a file or a thread failed, 4 where memory was wanted. What went wrong is told in one line on standard error.
 pub fn serve<R>(rt: R, words: &[Text]) -> u8
@@ -194,16 +254,10 @@ where
         + 'static,
 {
     if let Some(text) = text_for(words) {
-        return match println!(rt; "{text}") {
-            Ok(()) => 0,
-            Err(_) => 3,
-        };
+        return print_text(&rt, text);
     }
     match attempt(rt, words) {
         Ok(()) => 0,
-        Err(error) => {
-            let _ = eprintln!(rt; "notifyd: {error}");
-            error.status()
-        }
+        Err(error) => tell_why(&rt, &error),
     }
 }

@@ -7,23 +7,23 @@ use Rattle.serving.proofs.program.serve_words.Goals as goal
 
 pub run-requires-clause-few_workers : goal.run-requires-clause-few_workers
 run-requires-clause-few_workers g c κs within =
-    let plan = c.in_ok-plan.plan in let boxes = c.in_ok-boxes.boxes in let size = boxes.ok.0 in
+    let plan = c.in_ok-plan.plan in let fitted = c.in_ok-boxes.field-0 in let boxes = fitted.boxes in let size = boxes.ok.0 in
     let few = count_is plan.choices.numbers.workers plan.workers c.in_ok-plan.ensures.plan.workers in
-    let len = workers_are box_seen c.work_of-work.result.0.setup boxes.items plan c.in_ok-sockets.sockets.bell.sip c.work_of-work.ensures.setup (rw c.as_slice.ensures.value at c.in_ok-boxes.ensures) in
+    let len = workers_are box_seen c.work_of-work.result.0.setup boxes.items plan fitted.sockets.bell.sip c.work_of-work.ensures.setup c.in_ok-boxes.ensures.boxes in
     omega (arith, few.1)
 
 pub returns-clause-served : goal.returns-clause-served
 returns-clause-served g c =
-    let plan = c.in_ok-plan.plan in let boxes = c.in_ok-boxes.boxes in let local = c.in_ok-sockets.sockets.bell.sip in
+    let plan = c.in_ok-plan.plan in let fitted = c.in_ok-boxes.field-0 in let boxes = fitted.boxes in let local = fitted.sockets.bell.sip in
     let few = count_is plan.choices.numbers.workers plan.workers c.in_ok-plan.ensures.plan.workers in
     if_ok c.run.result
     (λ served ran. record {
       plan = plan;
       is_plan = c.in_ok-plan.ensures.plan;
       local = local;
-      is_at = c.in_ok-sockets.ensures.at;
+      is_at = c.in_ok-boxes.ensures.at;
       ran =
-          ran_is box_seen c.work_of-work.result.0.setup boxes.items plan local c.work_of-work.ensures.setup (rw c.as_slice.ensures.value at c.in_ok-boxes.ensures)
+          ran_is box_seen c.work_of-work.result.0.setup boxes.items plan local c.work_of-work.ensures.setup c.in_ok-boxes.ensures.boxes
           g.F.Write.contents _ boxes.ok.0 (omega (arith, few.0)) c.work_of-work.ensures.mailboxes ran;
     })
     (rw c.new-sink.ensures at c.run.ensures.ran)
