@@ -70,7 +70,8 @@ impl Port {
         requires { self.still_open ≡ 0 }
         ensures { reverse result.items ≡ self.seats }
     {
-        self.sents
+        let Port { senders: _, sents } = self;
+        sents
     }
 
     /// Whether it was closed. It takes no memory and waits for nothing.
