@@ -31,25 +31,3 @@ loop-preserved-in-Some-Out g c =
           (took_as _ _ _ _ at.field-0-is at.ensures) put.fate put.given put.taken put.wire_failures put.failures put.writes;
       flushed = flushed_more (λ s. s.is_flushed) _ _ _ at.out c.put_out-fate.result _ put.fate c.loop.invariant.flushed put.flushed put.stays;
     })
-
-pub loop-preserved-in-Some-Out-2 : goal.loop-preserved-in-Some-Out-2
-loop-preserved-in-Some-Out-2 g c =
-    let at = c.in-Some-Out in let put = c.put_out-fate.ensures in
-    rw c.add.ensures (record {
-      running = running_out c.loop.invariant.running c.take.new.self _ at.out c.put_out-fate.result (g.W.Wire.given c.put_out-fate.new.wire)
-          (record { taken = g.W.Wire.taken c.put_out-fate.new.wire; failures = g.W.Wire.failures c.put_out-fate.new.wire })
-          (record { contents = g.F.Write.contents c.put_out-fate.new.sink.writer; failures = c.put_out-fate.new.sink.failures })
-          (took_as _ _ _ _ at.field-0-is at.ensures) put.fate put.given put.taken put.wire_failures put.failures put.writes;
-      flushed = flushed_more (λ s. s.is_flushed) _ _ _ at.out c.put_out-fate.result _ put.fate c.loop.invariant.flushed put.flushed put.stays;
-    })
-
-pub loop-preserved-in-Some-Out-3 : goal.loop-preserved-in-Some-Out-3
-loop-preserved-in-Some-Out-3 g c =
-    let at = c.in-Some-Out in let put = c.put_out-fate.ensures in
-    rw c.add.ensures (record {
-      running = running_out c.loop.invariant.running c.take.new.self _ at.out c.put_out-fate.result (g.W.Wire.given c.put_out-fate.new.wire)
-          (record { taken = g.W.Wire.taken c.put_out-fate.new.wire; failures = g.W.Wire.failures c.put_out-fate.new.wire })
-          (record { contents = g.F.Write.contents c.put_out-fate.new.sink.writer; failures = c.put_out-fate.new.sink.failures })
-          (took_as _ _ _ _ at.field-0-is at.ensures) put.fate put.given put.taken put.wire_failures put.failures put.writes;
-      flushed = flushed_more (λ s. s.is_flushed) _ _ _ at.out c.put_out-fate.result _ put.fate c.loop.invariant.flushed put.flushed put.stays;
-    })
