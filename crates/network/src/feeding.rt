@@ -84,7 +84,8 @@ pub fn send_event<R: Wait>(rt: &R, port: &mut Port, happened: Event) -> bool
     ensures seats { SameSeats port.old port.new }
 {
     match happened {
-        Event::Tick(now) => port.tick(rt, now).is_ok(),
+        // `..`: the event is looked at, and let go of as one
+        Event::Tick(now, ..) => port.tick(rt, now).is_ok(),
         other => send_home(rt, port, other),
     }
 }
