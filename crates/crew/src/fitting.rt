@@ -71,7 +71,8 @@ fn seat_crew<P: Package>(
     ensures holds { IfOk result (λ r. r.2.outbox.capacity ≡ setup.now.limits.outbox) }
     ensures ready { IfOk result (λ r. (k : ℕ) (s : _) (b : _) → k < vec_len boxes →
         IsReady (start_of P.seen setup.now k (get_or boxes.items k b).items) ports
-        (record { outbox = r.2.outbox; number = k; posted = [] }) (get_or r.0.items k s).token.start (get_or r.0.items k s).stop
+        (record { outbox = r.2.outbox; number = k; posted = [] })
+        (get_or r.0.items k s).token.start (get_or r.0.items k s).stop
         (get_or r.0.items k s).desk (get_or r.0.items k s).receiver (get_or r.0.items k s).poster) }
     ensures dealt { IfOk result (λ r. AreDealt r.1.items (map (λ s. s.receiver.inbox) r.0.items) ports) }
 {
@@ -113,7 +114,8 @@ pub(crate) fn fit_out<P: Package, G: Drop>(
     ensures holds { IfOk result (λ f. f.taker.outbox.capacity ≡ setup.now.limits.outbox) }
     ensures ready { IfOk result (λ f. (k : ℕ) (s : _) (b : _) → k < vec_len boxes →
         IsReady (start_of P.seen setup.now k (get_or boxes.items k b).items) ports
-        (record { outbox = f.taker.outbox; number = k; posted = [] }) (get_or f.seats.items k s).token.start (get_or f.seats.items k s).stop
+        (record { outbox = f.taker.outbox; number = k; posted = [] })
+        (get_or f.seats.items k s).token.start (get_or f.seats.items k s).stop
         (get_or f.seats.items k s).desk (get_or f.seats.items k s).receiver (get_or f.seats.items k s).poster) }
     ensures dealt { IfOk result (λ f. AreDealt f.ports.items (map (λ s. s.receiver.inbox) f.seats.items) ports) }
 {

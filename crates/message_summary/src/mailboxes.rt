@@ -82,7 +82,8 @@ fn replace(mailboxes: &mut IndexMap<String, MailCounts>, name: &str, counts: Mai
 /// Sets the counts of one class in one mailbox.
 fn set_counts(mailboxes: &mut IndexMap<String, MailCounts>, mail: &MailChange) -> Outcome
     ensures { let before = contents_of OfMail mailboxes.old.entries in
-        (result, contents_of OfMail mailboxes.new.entries) ≡ mail_at finite_maps before mail.now (held before mail.now.mailbox) }
+        (result, contents_of OfMail mailboxes.new.entries)
+        ≡ mail_at finite_maps before mail.now (held before mail.now.mailbox) }
 {
     let name = mail.mailbox();
     let Some(found) = mailboxes.get(name).copied() else {

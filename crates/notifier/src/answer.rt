@@ -169,7 +169,7 @@ struct Words<'a> {
     strange: &'a [&'a str],
 }
 
-/// The same, where the words of the answer are at hand.
+/// The answer to a refused request, where the words that it may say are at hand.
 fn refusal_bytes(
     alloc: Global,
     place: &Place,

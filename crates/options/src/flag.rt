@@ -207,7 +207,7 @@ fn other_of(word: &str) -> Option<Flag>
 
 /// The option that the word is.
 #[tactic(auto, unfolding(crate::specs::Reading::flag_of))]
-pub fn flag_of(word: &str) -> Option<Flag>
+pub(crate) fn flag_of(word: &str) -> Option<Flag>
     ensures { Finds (λ x. x) result (flag_of word.now) }
 {
     match place_of(word) {

@@ -74,6 +74,7 @@ impl MailChange {
         self.mailbox.as_str()
     }
 
+    /// The class of messages whose counts these are.
     pub fn class(&self) -> Class
         ensures { result ≡ self.now.class }
     {
@@ -87,24 +88,28 @@ impl MailChange {
         self.counts
     }
 
+    /// How many messages are new.
     pub fn new_count(&self) -> u32
         ensures { result ≡ self.now.counts.new_count }
     {
         self.counts.new_count
     }
 
+    /// How many messages are old.
     pub fn old_count(&self) -> u32
         ensures { result ≡ self.now.counts.old_count }
     {
         self.counts.old_count
     }
 
+    /// How many of the new ones are urgent.
     pub fn urgent_new(&self) -> u32
         ensures { result ≡ self.now.counts.urgent_new }
     {
         self.counts.urgent_new
     }
 
+    /// How many of the old ones are urgent.
     pub fn urgent_old(&self) -> u32
         ensures { result ≡ self.now.counts.urgent_old }
     {

@@ -60,6 +60,7 @@ impl Progress {
         self.code
     }
 
+    /// The reason phrase that stands beside the code.
     pub fn reason(&self) -> &str
         ensures { result.now ≡ self.now.reason }
     {

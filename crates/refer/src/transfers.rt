@@ -61,7 +61,8 @@ fn begin(
 ) -> Result<Outcome, NoMemory>
     ensures ok { let before = contents_of content_of transfers.old.entries in
         IfOk result (λ outcome.
-        (outcome, contents_of content_of transfers.new.entries) ≡ begin_at finite_maps before tag.now (held before tag.now)) }
+        (outcome, contents_of content_of transfers.new.entries)
+        ≡ begin_at finite_maps before tag.now (held before tag.now)) }
     ensures err { OnErr result (contents_of content_of transfers.new.entries
         ≡ contents_of content_of transfers.old.entries) }
 {
@@ -114,7 +115,8 @@ fn step(
 /// Lets a transfer go.
 fn forget(transfers: &mut IndexMap<String, Status>, tag: &Text) -> Outcome
     ensures { let before = contents_of content_of transfers.old.entries in
-        (result, contents_of content_of transfers.new.entries) ≡ forget_at finite_maps before tag.now (held before tag.now) }
+        (result, contents_of content_of transfers.new.entries)
+        ≡ forget_at finite_maps before tag.now (held before tag.now) }
 {
     let Some(_gone) = transfers.swap_remove(tag.as_str()) else {
         return Outcome::Unknown;

@@ -112,7 +112,8 @@ pub fn script_one<R: Read, W: Write, P: Package>(
 
     // Only a read or a write that failed in this call is a device fault.
     ensures device { result ≡ Err ScriptError.Device →
-        MeetsFault R.remaining W.contents (start_of P.seen setup.now 0 boxes.items ∷ []) source.old source.new sink.old sink.new }
+        MeetsFault R.remaining W.contents (start_of P.seen setup.now 0 boxes.items ∷ [])
+        source.old source.new sink.old sink.new }
     ensures no_failure { result ≢ Err ScriptError.Device →
         (source.new.failures ≡ source.old.failures) × (sink.new.failures ≡ sink.old.failures) }
 {
@@ -152,7 +153,8 @@ where
 
     // Only a read or a write that failed in this call is a device fault, or that no thread could be started for a script.
     ensures device { result ≡ Err ScriptError.Device →
-        MeetsFault R.remaining W.contents (starts_of P.seen setup.now boxes.items) source.old source.new sink.old sink.new
+        MeetsFault R.remaining W.contents (starts_of P.seen setup.now boxes.items)
+        source.old source.new sink.old sink.new
         ⊎ StartsNoThread R.remaining source.old source.new sink.old sink.new }
     ensures no_failure { result ≢ Err ScriptError.Device →
         (source.new.failures ≡ source.old.failures) × (sink.new.failures ≡ sink.old.failures) }

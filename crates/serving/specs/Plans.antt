@@ -2,7 +2,7 @@
 use Rattle.std.specs.Prelude.{◌≡◌, ◌≢◌, ℕ, not, List, [], ◌∷◌, ◌++◌, Option, Some, None}
 use Rattle.std.specs.List.{All}
 use Rattle.sip_text.specs.declared.address.Addr.{Addr}
-use Rattle.notifier.specs.Limits.{Limits, IsWithin}
+use Rattle.notifier.specs.Limits.{Limits, AreLimits, IsWithin}
 use Rattle.notifier.specs.declared.place.Setup.{Setup}
 use Rattle.options.specs.declared.choices.Choices.{Choices}
 use Rattle.options.specs.declared.choices.Numbers.{Numbers}
@@ -73,6 +73,7 @@ pub record IsPlan (words : List (List ℕ)) (plan : Plan) : Type 0 where
   pub reached : IsReached plan.choices
   pub some : plan.mailboxes.items ≢ []
   pub limits : plan.limits ≡ limits_of plan.choices.numbers
+  pub within : AreLimits plan.limits
   pub seed : IsSeed plan.choices.seed plan.seed
   pub workers : IsCount plan.choices.numbers.workers plan.workers
 

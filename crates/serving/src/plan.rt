@@ -31,6 +31,7 @@ pub struct Plan {
 /// The limits that the numbers ask for. Their times may not go together.
 fn limits_of(numbers: &Numbers) -> Result<Limits, ServeError>
     ensures limits { IfOk result (λ limits. limits ≡ spec.limits_of numbers.now) }
+    ensures within { IfOk result AreLimits }
     ensures times { OnErr result (¬ (AreLimits (spec.limits_of numbers.now))) }
     ensures refused { IfErr result (λ e. e ≡ error.Times) }
 {

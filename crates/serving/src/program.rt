@@ -75,7 +75,8 @@ where
     R: Wait + Net + Clock + Eprint + AllocGlobal,
     requires { 0 < plan.now.workers }
     ensures boxes { IfOk result (λ f.
-        map (λ boxes. map box_seen boxes.items) f.boxes.items ≡ call.boxes_for plan.now.workers plan.now.mailboxes.items) }
+        map (λ boxes. map box_seen boxes.items) f.boxes.items
+        ≡ call.boxes_for plan.now.workers plan.now.mailboxes.items) }
     ensures at { IfOk result (λ f. IsAt plan.now.choices.listen f.sockets.bell.sip) }
     ensures refused { IfErr result IsOther }
 {

@@ -6,8 +6,8 @@
 //!
 //! Begin with `specs/Message`: it says which bytes are which message, as a relation that names some way to cut the text, above
 //! `FirstLine`, `Folding` (lines that are continued), `Items` (header lines), `Vias`, `Addresses` and `Calls`. The files named `..Computed` hold
-//! the function on lists that stands between that relation and the code. The levels below the lines, and the headers Event, Expires and
-//! Accept, are those of `event_headers`.
+//! the function on lists that stands between that relation and the code. The levels below the lines are those of `sip_text`,
+//! and the headers Event, Expires and Accept those of `event_headers`.
 #![tactic(auto)]
 
 mod address;

@@ -52,6 +52,7 @@ impl Drop for Head {
     }
 }
 
+/// A request (RFC 3261 section 7.1), with the headers that a notifier looks at.
 #[derive(Debug)]
 pub struct Request {
     pub method: Text,
@@ -116,6 +117,7 @@ impl Drop for Request {
     }
 }
 
+/// A response (RFC 3261 section 7.2).
 #[derive(Debug)]
 pub struct Response {
     /// 100 to 699.
@@ -135,6 +137,7 @@ impl Drop for Response {
     }
 }
 
+/// What a datagram is.
 #[derive(Debug, Drop)]
 pub enum Message {
     Request(Request),
