@@ -23,7 +23,7 @@ use Rattle.wires.specs.Wires.{Grows}
 use Rattle.emitting.specs.declared.sending.Fate.{Fate}
 use Rattle.emitting.specs.declared.sending.Fate.TheVariants.{Sent, Started, Failed}
 use Rattle.emitting.specs.declared.sending.EmitReport.{EmitReport}
-use Rattle.emitting.specs.Emitted.{Fates, MayMeet, Writes, line_of, counted, is_start, datagram_sent, sent_datagrams, lines, is_sent, is_started, is_failed, fails_to_start, fails_to_send, count, rises, AllMeet, IsCounted, WireSeen, WriterSeen, IsEmitted}
+use Rattle.emitting.specs.Emitted.{Fates, MayMeet, Writes, WritesAll, line_of, counted, is_start, datagram_sent, sent_datagrams, lines, is_sent, is_started, is_failed, fails_to_start, fails_to_send, count, rises, AllMeet, IsCounted, WireSeen, WriterSeen, IsEmitted}
 use Rattle.emitting.proofs.Telling.{grows_none, grows_more, grows_same}
 
 abbrev pub one : Out → Fate → Fates
@@ -93,26 +93,42 @@ wrote old new (out.Start tag refer_to) Sent w none = absurd w
 wrote old new (out.Start tag refer_to) Started w none = w
 wrote old new (out.Start tag refer_to) Failed w none = absurd (omega arith)
 
+-- and of each out before it what that is
+writes_more : (a b c : Option (List ℕ)) (log : Fates) (o : Out) (f : Fate) → WritesAll a log b → Writes b c o f → WritesAll a (log ++ one o f) c
+writes_more a b c [] o f was last = let P : Option (List ℕ) → Type 0 = λ k. Writes k c o f in (c, subst P was last, refl)
+writes_more a b c (x ∷ log) o f was last = (was.0, was.1, writes_more was.0 b c log o f was.2 last)
+
 lines_one : (log : Fates) (o : Out) (f : Fate) → lines (log ++ one o f) ≡ lines log ++ line_of o
 lines_one log o f =
     flat_map-append (λ (x : Out × Fate). line_of x.0) log (one o f) ∙ ap (λ l. lines log ++ l) (append-nil (line_of o))
 
 -- ---- what was flushed
 
+none_before : (log : Fates) (o : Out) (f : Fate) → count fails_to_start (log ++ one o f) ≡ 0 → count fails_to_start log ≡ 0
+none_before log o f none = let e = count_more fails_to_start log (one o f) in omega arith
+
 module _ {S : Type 0} (flushed : S → Bool) where
   kept : (first old new : S) → new ≡ old → (old ≡ first) ⊎ (flushed old ≡ true) → (new ≡ first) ⊎ (flushed new ≡ true)
   kept first old new same was = ⊎_elim (λ e. inl (same ∙ e)) (λ e. inr (ap flushed same ∙ e)) was
 
   -- nothing was written, or what was written is flushed: the same holds after one out more
-  pub flushed_more : (first old new : S) (o : Out) (f : Fate) (r : EmitReport) → MayMeet o f
-      → (r.failed ≡ 0 → (old ≡ first) ⊎ (flushed old ≡ true)) → (f ≡ Started → flushed new ≡ true) → (is_start o ≡ false → new ≡ old)
-      → (counted r f).failed ≡ 0 → (new ≡ first) ⊎ (flushed new ≡ true)
-  flushed_more first old new o Started r may was written stays none = inr (written refl)
-  flushed_more first old new o Failed r may was written stays none = absurd (omega arith)
-  flushed_more first old new (out.Answer to octets) Sent r may was written stays none = kept first old new (stays refl) (was none)
-  flushed_more first old new (out.Notify tag number terminated to octets) Sent r may was written stays none =
-      kept first old new (stays refl) (was none)
-  flushed_more first old new (out.Start tag refer_to) Sent r may was written stays none = absurd may
+  pub flushed_more : (first old new : S) (o : Out) (f : Fate) (log : Fates) → MayMeet o f
+      → (count fails_to_start log ≡ 0 → (old ≡ first) ⊎ (flushed old ≡ true)) → (f ≡ Started → flushed new ≡ true)
+      → (is_start o ≡ false → new ≡ old)
+      → count fails_to_start (log ++ one o f) ≡ 0 → (new ≡ first) ⊎ (flushed new ≡ true)
+  flushed_more first old new o Started log may was written stays none = inr (written refl)
+  flushed_more first old new (out.Answer to octets) Failed log may was written stays none =
+      kept first old new (stays refl) (was (none_before log (out.Answer to octets) Failed none))
+  flushed_more first old new (out.Notify tag number terminated to octets) Failed log may was written stays none =
+      kept first old new (stays refl) (was (none_before log (out.Notify tag number terminated to octets) Failed none))
+  flushed_more first old new (out.Start tag refer_to) Failed log may was written stays none =
+      let e : count fails_to_start (log ++ one (out.Start tag refer_to) Failed) ≡ count fails_to_start log + 1 =
+      count_more fails_to_start log (one (out.Start tag refer_to) Failed) in absurd (omega arith)
+  flushed_more first old new (out.Answer to octets) Sent log may was written stays none =
+      kept first old new (stays refl) (was (none_before log (out.Answer to octets) Sent none))
+  flushed_more first old new (out.Notify tag number terminated to octets) Sent log may was written stays none =
+      kept first old new (stays refl) (was (none_before log (out.Notify tag number terminated to octets) Sent none))
+  flushed_more first old new (out.Start tag refer_to) Sent log may was written stays none = absurd may
 
 -- ---- the loop
 
@@ -125,6 +141,7 @@ emitting_none got wire writer = record {
   taken = grows_none wire.taken;
   wire_failures = refl;
   writer_failures = refl;
+  wrote = refl;
   written = λ none. appends_none writer.contents;
 }
 
@@ -144,6 +161,7 @@ module _ {log : Fates} {got got' : List (Item Out)} {wire wire' : WireSeen} {wri
         taken = was.taken;
         wire_failures = was.wire_failures;
         writer_failures = was.writer_failures;
+        wrote = was.wrote;
         written = was.written;
       }
 
@@ -175,6 +193,7 @@ module _ {log : Fates} {got got' : List (Item Out)} {wire wire' : WireSeen} {wri
         writer_failures = failed' ∙ ap (rises starts) was.writer_failures
             ∙ sym (rises_more starts (count fails_to_start log) writer.failures)
             ∙ ap (λ n. rises n writer.failures) (omega arith);
+        wrote = writes_more writer.contents writer'.contents after'.contents log o f was.wrote wrote_it;
         written = λ none.
             subst Q (sym (lines_one log o f))
             (appends_more writer.contents writer'.contents after'.contents (lines log) (line_of o)
@@ -183,33 +202,31 @@ module _ {log : Fates} {got got' : List (Item Out)} {wire wire' : WireSeen} {wri
 
 -- ---- the taker
 
--- the taker's seat at the start and now, how many workers haven't ended, and what became of the outs so far
-pub record Running (t0 t : TakerSeat) (left : ℕ) (told told' : Option (List Datagram)) (wire wire' : WireSeen) (writer writer' : WriterSeen) (report : EmitReport) : Type 0 where
+-- what became of the outs so far, the taker's seat at the start and now, and how many workers haven't ended
+pub record Running (log : Fates) (t0 t : TakerSeat) (left : ℕ) (told told' : Option (List Datagram)) (wire wire' : WireSeen) (writer writer' : WriterSeen) (report : EmitReport) : Type 0 where
   pub outbox : t.outbox ≡ t0.outbox
   pub workers : t.workers ≡ t0.workers
   pub left_is : left + count_ended t0.workers t.got ≡ t0.workers
   pub given : Grows told told' []
-  pub log : Fates
   pub emitted : IsEmitted log t0.got t.got wire wire' writer writer' report
 
 pub running_first : (t : TakerSeat) (left : ℕ) (told : Option (List Datagram)) (wire : WireSeen) (writer : WriterSeen)
-    → left ≡ t.workers → count_ended t.workers t.got ≡ 0 → Running t t left told told wire wire writer writer (record { sent = 0; starts = 0; failed = 0 })
+    → left ≡ t.workers → count_ended t.workers t.got ≡ 0 → Running [] t t left told told wire wire writer writer (record { sent = 0; starts = 0; failed = 0 })
 running_first t left told wire writer all none = record {
   outbox = refl;
   workers = refl;
   left_is = omega arith;
   given = grows_none told;
-  log = [];
   emitted = emitting_none t.got wire writer;
 }
 
 pub took_as : (t u : TakerSeat) (x y : Posted) → x ≡ y → Took t x u → Took t y u
 took_as t u x y is took = let P : Posted → Type 0 = λ z. Took t z u in subst P is took
 
-module _ {t0 t : TakerSeat} {left : ℕ} {told told' : Option (List Datagram)} {wire wire' : WireSeen} {writer writer' : WriterSeen} {report : EmitReport}
-    (was : Running t0 t left told told' wire wire' writer writer' report) where
+module _ {log : Fates} {t0 t : TakerSeat} {left : ℕ} {told told' : Option (List Datagram)} {wire wire' : WireSeen} {writer writer' : WriterSeen} {report : EmitReport}
+    (was : Running log t0 t left told told' wire wire' writer writer' report) where
   pub running_end : (u : TakerSeat) (left' w : ℕ) → Took t (posted.Ended w) u → left' + 1 ≡ left
-      → Running t0 u left' told told' wire wire' writer writer' report
+      → Running log t0 u left' told told' wire wire' writer writer' report
   running_end u left' w took one =
       let low : w < t0.workers = subst (λ n. w < n) was.workers took.1.0 in
       let got : u.got ≡ t.got ++ end_item w ∷ [] = ap (λ (x : TakerSeat). x.got) took.0 in
@@ -219,7 +236,6 @@ module _ {t0 t : TakerSeat} {left : ℕ} {told told' : Option (List Datagram)} {
         workers = ap (λ (x : TakerSeat). x.workers) took.0 ∙ was.workers;
         left_is = (let l = was.left_is in omega arith);
         given = was.given;
-        log = was.log;
         emitted = emitting_end was.emitted u.got w got;
       }
 
@@ -229,7 +245,7 @@ module _ {t0 t : TakerSeat} {left : ℕ} {told told' : Option (List Datagram)} {
       → after.failures ≡ rises (count fails_to_send (one o f)) wire'.failures
       → after'.failures ≡ rises (count fails_to_start (one o f)) writer'.failures
       → Writes writer'.contents after'.contents o f
-      → Running t0 u left told told'' wire after writer after' (counted report f)
+      → Running (log ++ one o f) t0 u left told told'' wire after writer after' (counted report f)
   running_out u w o f told'' after after' took may none took_it failed failed' wrote_it =
       let got : u.got ≡ t.got ++ value_item w o ∷ [] = ap (λ (x : TakerSeat). x.got) took.0 in
       let same : count_ended t0.workers u.got ≡ count_ended t0.workers t.got =
@@ -238,7 +254,6 @@ module _ {t0 t : TakerSeat} {left : ℕ} {told told' : Option (List Datagram)} {
         workers = ap (λ (x : TakerSeat). x.workers) took.0 ∙ was.workers;
         left_is = (let l = was.left_is in omega arith);
         given = grows_same told told' told'' [] was.given none;
-        log = was.log ++ one o f;
         emitted = emitting_out was.emitted u.got w o f after after' got may took_it failed failed' wrote_it;
       }
 

@@ -1,5 +1,5 @@
 -- What becomes of the outs that a taker takes.
-use Rattle.std.specs.Prelude.{◌≡◌, ℕ, zero, suc, ◌+◌, Bool, true, false, not, List, [], ◌++◌, length, map, Option, Some, None}
+use Rattle.std.specs.Prelude.{◌≡◌, ℕ, zero, suc, ◌+◌, Bool, true, false, not, List, [], ◌∷◌, ◌++◌, length, map, Option, Some, None}
 use Rattle.std.specs.List.{filter, filter_map, flat_map, AllByRecursion}
 use Rattle.std.specs.Io.KnownBytes.{Appends}
 use Rattle.scripts.specs.Devices.{one_more, AppendsFront}
@@ -52,6 +52,11 @@ Writes old new (out.Notify tag number terminated to octets) fate = new ≡ old
 Writes old new (out.Start tag refer_to) Sent = ⊥
 Writes old new (out.Start tag refer_to) Started = Appends old new (start_text tag refer_to)
 Writes old new (out.Start tag refer_to) Failed = AppendsFront old new (start_text tag refer_to)
+
+-- what the writer took of each out, one after the other
+abbrev pub WritesAll : Option (List ℕ) → List (Out × Fate) → Option (List ℕ) → Type 0
+WritesAll old [] new = new ≡ old
+WritesAll old (x ∷ log) new = (next : Option (List ℕ)) × Writes old next x.0 x.1 × WritesAll next log new
 
 -- counted by what became of it
 abbrev pub counted : EmitReport → Fate → EmitReport
@@ -139,7 +144,8 @@ pub record WriterSeen : Type 0 where
   pub failures : ℕ
 
 -- the outs that were got met these fates. The wire took, in order, just the datagrams that were sent, and failed at the others;
--- the writer failed at each transfer that isn't written, and where that is none it took the lines of all, in order
+-- the writer failed at each transfer that isn't written; it took of each out, in order, what that is, and so, where it never failed,
+-- the lines of all
 pub record IsEmitted (log : Fates) (got got' : List (Item Out)) (wire wire' : WireSeen) (writer writer' : WriterSeen) (report : EmitReport) : Type 0 where
   pub outs : AreGot log got got'
   pub meet : AllMeet log
@@ -147,4 +153,5 @@ pub record IsEmitted (log : Fates) (got got' : List (Item Out)) (wire wire' : Wi
   pub taken : Grows wire.taken wire'.taken (sent_datagrams log)
   pub wire_failures : wire'.failures ≡ rises (count fails_to_send log) wire.failures
   pub writer_failures : writer'.failures ≡ rises (count fails_to_start log) writer.failures
+  pub wrote : WritesAll writer.contents log writer'.contents
   pub written : count fails_to_start log ≡ 0 → Appends writer.contents writer'.contents (lines log)

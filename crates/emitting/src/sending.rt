@@ -122,16 +122,17 @@ pub fn emit<R: Wait + Clock, W: Wire, F: Write>(
 ) -> EmitReport
     requires workers { workers ≡ taker.old.workers }
     requires none_ended { count_ended taker.old.workers taker.old.got ≡ 0 }
+    // Where the writer never failed, what it took is flushed.
     ensures emitted { (log : Fates) × IsEmitted log taker.old.got taker.new.got
         (record { taken = W.taken wire.old; failures = W.failures wire.old })
         (record { taken = W.taken wire.new; failures = W.failures wire.new })
         (record { contents = F.contents sink.old.writer; failures = sink.old.failures })
-        (record { contents = F.contents sink.new.writer; failures = sink.new.failures }) result }
+        (record { contents = F.contents sink.new.writer; failures = sink.new.failures }) result
+        × (count fails_to_start log ≡ 0 → (sink.new ≡ sink.old) ⊎ (sink.new.is_flushed ≡ true)) }
     ensures given { Grows (W.given wire.old) (W.given wire.new) [] }
     ensures outbox { taker.new.outbox ≡ taker.old.outbox }
     ensures workers { taker.new.workers ≡ taker.old.workers }
     ensures ended { AllEnded taker.old.workers taker.new.got }
-    ensures flushed { result.failed ≡ 0 → (sink.new ≡ sink.old) ⊎ (sink.new.is_flushed ≡ true) }
 {
     let mut report = EmitReport {
         sent: 0,

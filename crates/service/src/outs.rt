@@ -1,8 +1,9 @@
 //! What the workers post, sent out.
-ghost use Rattle.std.specs.Prelude.{◌≡◌, []};
+ghost use Rattle.std.specs.Prelude.{◌≡◌, ◌⊎◌, [], true};
 ghost use Rattle.queue_rule.specs.Ended.{AllEnded};
 ghost use Rattle.wires.specs.Wires.{Grows};
 ghost use Rattle.emitting.specs.declared.sending.EmitReport.{EmitReport};
+ghost use Rattle.emitting.specs.Emitted as spec;
 ghost use Rattle.emitting.specs.Emitted.{Fates, IsEmitted};
 ghost use Rattle.service.specs.Taken.{Offers};
 ghost use Rattle.service.specs.Rung.{Rings};
@@ -114,12 +115,14 @@ pub fn send_outs<R: Wait + Clock, W: Wire, F: Write>(
 )
     requires workers { workers ≡ taker.old.workers }
     requires none { taker.old.got ≡ [] }
-    // Each out that was taken is sent, written or failed, in order, and nothing else is sent or written.
+    // Each out that was taken is sent, written or failed, in order, and nothing else is sent or written. Where the writer
+    // never failed, what it took is flushed.
     ensures emitted { (log : Fates) × (report : EmitReport) × IsEmitted log taker.old.got taker.new.got
         (record { taken = W.taken exit.old.wire; failures = W.failures exit.old.wire })
         (record { taken = W.taken exit.new.wire; failures = W.failures exit.new.wire })
         (record { contents = F.contents exit.old.sink.writer; failures = exit.old.sink.failures })
-        (record { contents = F.contents exit.new.sink.writer; failures = exit.new.sink.failures }) report }
+        (record { contents = F.contents exit.new.sink.writer; failures = exit.new.sink.failures }) report
+        × (spec.count spec.fails_to_start log ≡ 0 → (exit.new.sink ≡ exit.old.sink) ⊎ (exit.new.sink.is_flushed ≡ true)) }
     ensures given { Grows (W.given exit.old.wire) (W.given exit.new.wire) [] }
     ensures outbox { taker.new.outbox ≡ taker.old.outbox }
     ensures ended { AllEnded taker.old.workers taker.new.got }
