@@ -1,6 +1,6 @@
 # `make gate` proves and tests everything from nothing. `make run` proves and builds the program `notifyd`, leaves it at
 # crates/notifyd/out/notifyd, and runs it on its stored example, one SUBSCRIBE. `make try` runs that example without a proof,
-# in about a minute. `make wrong` tries the wrong bodies that the gate leaves to releases (`make wrong CRATES="scripts refer"`).
+# in under a minute. `make wrong` tries the wrong bodies that the gate leaves to releases (`make wrong CRATES="scripts refer"`).
 # `make field` tries the built program with real peers on this machine, and `make bench` measures it beside an echo; field/run and
 # bench/service say what they need, and neither is part of the gate.
 .PHONY: gate run try wrong field bench

@@ -60,7 +60,8 @@ fn options_status(error: &OptionsError) -> u8
 }
 
 impl ServeError {
-    /// The exit status of the program: 1 where the words ask for no service, 4 where memory was wanted, and else 3.
+    /// The exit status of the program: 1 where the words ask for no service, 4 where memory was wanted, and else 3, also where
+    /// an address is in another form.
     pub fn status(&self) -> u8
         ensures { result ≡ status_of self.now }
     {
