@@ -238,7 +238,8 @@ fn tell_why<R: Eprint>(rt: &R, error: &ServeError) -> u8 {
 }
 
 /// `notifyd serve` with these words behind it. Answers the exit status: 0 at a CLOSE, 1 where the words ask for no service, 3
-/// where a socket, a file or a thread failed, 4 where memory was wanted. What went wrong is told in one line on standard error.
+/// where an address is of another form or a socket, a file or a thread failed, 4 where memory was wanted. What went wrong is
+/// told in one line on standard error.
 pub fn serve<R>(rt: R, words: &[Text]) -> u8
 where
     R: Threads
