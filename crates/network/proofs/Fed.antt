@@ -1,5 +1,5 @@
 -- What a port was fed with, datagram by datagram.
-use Rattle.std.proofs.Common.{◌≡◌, ⊎_elim, inl, inr, ℕ, ◌≤◌, ◌+◌, Bool, true, false, ◌||◌, List, [], ◌∷◌, ◌++◌, length, Option, refl, ap, sym, ◌∙◌, subst, arith, length-append}
+use Rattle.std.proofs.Common.{◌≡◌, ⊎_elim, inl, inr, ℕ, ◌<◌, ◌≤◌, ◌+◌, Bool, true, false, ◌||◌, List, [], ◌∷◌, ◌++◌, length, Option, refl, ap, sym, ◌∙◌, subst, arith, length-append}
 use Rattle.std.specs.List.{filter}
 use Rattle.std.proofs.lemmas.List.{map-append}
 use Rattle.std.proofs.lemmas.List.Elements.{filter-append, filter_map-append}
@@ -86,6 +86,9 @@ module _ {language : Language} {old now : PortSeats} {told told' : Option (List 
   seen_more : (d : Datagram) (h : Heard) → seen + 1 ≡ length (was.log ++ one d h)
   seen_more d h = let l : length (was.log ++ one d h) ≡ length was.log + 1 = length-append was.log (one d h) in let s = was.seen_are in omega arith
 
+  few_more : (count : ℕ) → seen < count → (d : Datagram) (h : Heard) → length (was.log ++ one d h) ≤ count
+  few_more count low d h = let s = seen_more d h in omega arith
+
   missed_more : (d : Datagram) (h : Heard) → missed + unread (one d h) ≡ unread (was.log ++ one d h)
   missed_more d h = let l = unread_more was.log (one d h) in let s = was.missed_are in omega arith
 
@@ -133,28 +136,30 @@ module _ {language : Language} {old now : PortSeats} {told told' : Option (List 
     record {
       say = was.say;
       seen = was.seen_are;
+      few = (let s = was.seen_are in omega arith);
       unread_are = was.missed_are;
       ends = (was.sends, inl (sym was.seen_are ∙ all, was.unclosed));
     },
   )
 
-  pub fed_fault : (count : ℕ) (after : Option (List Datagram)) → Grows told' after []
+  pub fed_fault : (count : ℕ) → seen < count → (after : Option (List Datagram)) → Grows told' after []
       → (log : Log) × Grows told after (datagrams log) × IsFed language count log old now (record { seen = seen; unread = missed; end = Fault })
-  fed_fault count after none = (
+  fed_fault count low after none = (
     was.log,
     grows_same told told' after (datagrams was.log) was.given none,
     record {
       say = was.say;
       seen = was.seen_are;
+      few = (let s = was.seen_are in omega arith);
       unread_are = was.missed_are;
       ends = (was.sends, was.unclosed);
     },
   )
 
-  pub fed_close : (count : ℕ) (next : PortSeats) (after : Option (List Datagram)) (d : Datagram) → Grows told' after (d ∷ [])
+  pub fed_close : (count : ℕ) → seen < count → (next : PortSeats) (after : Option (List Datagram)) (d : Datagram) → Grows told' after (d ∷ [])
       → Says language d heard.Close → next ≡ now
       → (log : Log) × Grows told after (datagrams log) × IsFed language count log old next (record { seen = seen + 1; unread = missed; end = Done })
-  fed_close count next after d more says same =
+  fed_close count low next after d more says same =
       let h : Heard = heard.Close in
       let P : PortSeats → Type 0 = λ p. Sends now [] p in (
         was.log ++ one d h,
@@ -162,21 +167,23 @@ module _ {language : Language} {old now : PortSeats} {told told' : Option (List 
         record {
           say = say_more d h says;
           seen = seen_more d h;
+          few = few_more count low d h;
           unread_are = (let m : missed + 0 ≡ unread (was.log ++ one d h) = missed_more d h in omega arith);
           ends = (sends_with next d h (subst P (sym same) (sends_none now)), inr (record { before = was.log; last = d; whole = refl; unclosed = was.unclosed }));
         },
       )
 
-  pub fed_gone : (count : ℕ) (next : PortSeats) (after : Option (List Datagram)) (d : Datagram) (e : Event) → Grows told' after (d ∷ [])
+  pub fed_gone : (count : ℕ) → seen < count → (next : PortSeats) (after : Option (List Datagram)) (d : Datagram) (e : Event) → Grows told' after (d ∷ [])
       → Says language d (heard.Event e) → Misses now e next
       → (log : Log) × Grows told after (datagrams log) × IsFed language count log old next (record { seen = seen + 1; unread = missed; end = Gone })
-  fed_gone count next after d e more says missing =
+  fed_gone count low next after d e more says missing =
       let h : Heard = heard.Event e in (
         was.log ++ one d h,
         given_more after d h more,
         record {
           say = say_more d h says;
           seen = seen_more d h;
+          few = few_more count low d h;
           unread_are = (let m : missed + 0 ≡ unread (was.log ++ one d h) = missed_more d h in omega arith);
           ends = record { before = was.log; last = d; event = e; mid = now; whole = refl; unclosed = was.unclosed; sent = was.sends; missed = missing };
         },
@@ -196,19 +203,19 @@ module _ {language : Language} {old now : PortSeats} {told told' : Option (List 
   step_unread next after d heard.Unread more says is = feeding_unread next after d more says is
   step_unread next after d heard.Close more says is = absurd is
 
-  pub step_close : (count : ℕ) (next : PortSeats) (after : Option (List Datagram)) (d : Datagram) (h : Heard) → Grows told' after (d ∷ [])
+  pub step_close : (count : ℕ) → seen < count → (next : PortSeats) (after : Option (List Datagram)) (d : Datagram) (h : Heard) → Grows told' after (d ∷ [])
       → Says language d h → IsTold h now next came.Close
       → (log : Log) × Grows told after (datagrams log) × IsFed language count log old next (record { seen = seen + 1; unread = missed; end = Done })
-  step_close count next after d (heard.Event e) more says is = absurd is
-  step_close count next after d heard.Unread more says is = absurd is
-  step_close count next after d heard.Close more says is = fed_close count next after d more says is
+  step_close count low next after d (heard.Event e) more says is = absurd is
+  step_close count low next after d heard.Unread more says is = absurd is
+  step_close count low next after d heard.Close more says is = fed_close count low next after d more says is
 
-  pub step_gone : (count : ℕ) (next : PortSeats) (after : Option (List Datagram)) (d : Datagram) (h : Heard) → Grows told' after (d ∷ [])
+  pub step_gone : (count : ℕ) → seen < count → (next : PortSeats) (after : Option (List Datagram)) (d : Datagram) (h : Heard) → Grows told' after (d ∷ [])
       → Says language d h → IsTold h now next came.Gone
       → (log : Log) × Grows told after (datagrams log) × IsFed language count log old next (record { seen = seen + 1; unread = missed; end = Gone })
-  step_gone count next after d (heard.Event e) more says is = fed_gone count next after d e more says is
-  step_gone count next after d heard.Unread more says is = absurd is
-  step_gone count next after d heard.Close more says is = absurd is
+  step_gone count low next after d (heard.Event e) more says is = fed_gone count low next after d e more says is
+  step_gone count low next after d heard.Unread more says is = absurd is
+  step_gone count low next after d heard.Close more says is = absurd is
 
 -- ---- SIP datagrams close nothing
 

@@ -1,5 +1,5 @@
 -- What a port sends of the datagrams that were heard.
-use Rattle.std.specs.Prelude.{◌≡◌, ◌⊎◌, ◌<◌, ℕ, Bool, true, false, List, [], ◌∷◌, ◌++◌, length, map, slice_get, Option, Some, None}
+use Rattle.std.specs.Prelude.{◌≡◌, ◌⊎◌, ◌<◌, ◌≤◌, ℕ, Bool, true, false, List, [], ◌∷◌, ◌++◌, length, map, slice_get, Option, Some, None}
 use Rattle.std.specs.List.{filter, filter_map, list_any, AllByRecursion}
 use Rattle.queue_rule.specs.Values.{values_by}
 use Rattle.notifier.specs.declared.event.Event.{Event}
@@ -119,10 +119,12 @@ Ends count log old new Done = Sends old (events log) new × (((length log ≡ co
 Ends count log old new Fault = Sends old (events log) new × (closes log ≡ false)
 Ends count log old new Gone = MissesLast log old new
 
--- a port was fed with what these datagrams say, and this is the report of it
+-- a port was fed with what these datagrams say, and this is the report of it. However it ended, it heard no more of them than
+-- it was asked for
 pub record IsFed (language : Language) (count : ℕ) (log : Log) (old new : PortSeats) (report : FeedReport) : Type 0 where
   pub say : AllSay language log
   pub seen : report.seen ≡ length log
+  pub few : length log ≤ count
   pub unread_are : report.unread ≡ unread log
   pub ends : Ends count log old new report.end
 

@@ -1,5 +1,5 @@
 -- The SIP datagrams that were heard so far.
-use Rattle.std.proofs.Common.{◌≡◌, inl, true, false, ℕ, List, [], ◌∷◌, Option, refl}
+use Rattle.std.proofs.Common.{◌≡◌, inl, true, false, ℕ, ◌+◌, List, [], ◌∷◌, Option, refl, arith}
 use Rattle.crew.specs.Ports.{PortSeats}
 use Rattle.wires.specs.declared.datagram.Datagram.{Datagram}
 use Rattle.wires.specs.Wires.{Grows}
@@ -62,7 +62,7 @@ module _ {old now : PortSeats} {given given' : Option (List Datagram)} (was : He
       → Says language.Sip d h → IsTold h now next told.Gone
       → (log : Log) × Gave given after (datagrams log) Gone × AreServed log old next Gone
   gone next after d h more says is =
-      let k = step_gone was.feeding 0 next after d h more says is in (k.0, k.1, record { say = k.2.say; ends = k.2.ends })
+      let k = step_gone was.feeding (was.seen + 1) (omega arith) next after d h more says is in (k.0, k.1, record { say = k.2.say; ends = k.2.ends })
 
   pub served_gone : (next : PortSeats) (after : Option (List Datagram)) (d : Datagram) (h : Heard) (t : Told) → Grows given' after (d ∷ [])
       → Says language.Sip d h → IsTold h now next t → is_gone t ≡ true

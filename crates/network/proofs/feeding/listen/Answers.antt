@@ -40,7 +40,7 @@ returns-in-Close-clause-fed g c =
     let came = datagram c.in-Ok.source (take c.in-Ok.length c.recv.new.octets) in
     let P : FeedReport → Type 0 = λ r. (log : Log) × Grows (g.W.Wire.given c.args.wire.now) after (datagrams log) × IsFed c.args.language c.args.count log c.args.port.now next r in
     subst P (sym c.new-in-Close.ensures)
-    (step_close c.loop-seen.invariant.fed c.args.count next after came c.hear-heard.result c.in-Ok.ensures.given c.hear-heard.ensures c.in-Close.ensures.told)
+    (step_close c.loop-seen.invariant.fed c.args.count c.loop-seen-test.true next after came c.hear-heard.result c.in-Ok.ensures.given c.hear-heard.ensures c.in-Close.ensures.told)
 
 pub returns-in-Gone-clause-fed : goal.returns-in-Gone-clause-fed
 returns-in-Gone-clause-fed g c =
@@ -49,4 +49,4 @@ returns-in-Gone-clause-fed g c =
     let came = datagram c.in-Ok.source (take c.in-Ok.length c.recv.new.octets) in
     let P : FeedReport → Type 0 = λ r. (log : Log) × Grows (g.W.Wire.given c.args.wire.now) after (datagrams log) × IsFed c.args.language c.args.count log c.args.port.now next r in
     subst P (sym c.new-in-Gone.ensures)
-    (step_gone c.loop-seen.invariant.fed c.args.count next after came c.hear-heard.result c.in-Ok.ensures.given c.hear-heard.ensures c.in-Gone.ensures.told)
+    (step_gone c.loop-seen.invariant.fed c.args.count c.loop-seen-test.true next after came c.hear-heard.result c.in-Ok.ensures.given c.hear-heard.ensures c.in-Gone.ensures.told)
