@@ -1,8 +1,12 @@
 -- A crew that handles a script. No public contract cites this.
 use Rattle.std.specs.Prelude.{◌≡◌, ℕ, ◌<◌, Bool, true, List, length, get_or}
+use Rattle.scripts.specs.declared.error.ScriptError.{ScriptError}
+use Rattle.scripts.specs.declared.error.ScriptError.TheVariants as error
 use Rattle.notifier.specs.Start.{Start}
 use Rattle.worker.specs.declared.end.End.TheVariants.{Closed}
 use Rattle.outbox.specs.Seats.{TakerSeat}
+use Rattle.crew.specs.declared.errors.StartError.{StartError}
+use Rattle.crew.specs.declared.errors.StartError.TheVariants as start
 use Rattle.crew.specs.Ports.{PortSeats}
 use Rattle.crew.specs.Started.{Hired, IsStarted}
 use Rattle.crew.specs.Joined.{IsJoined}
@@ -10,6 +14,13 @@ use Rattle.crew.specs.declared.report.WorkerReport.{WorkerReport}
 use Rattle.server.specs.declared.work.Work.{Work}
 use Rattle.server.specs.declared.gathering.Gathered.{Gathered}
 use Rattle.server.specs.Working.{AreNumbered}
+
+-- a script isn't handled where its crew isn't started for this cause. A refused thread is a fault of the device
+abbrev pub cause_of : StartError → ScriptError
+cause_of start.NoWorkers = error.NoMemory
+cause_of start.NoPorts = error.NoMemory
+cause_of start.NoMemory = error.NoMemory
+cause_of start.NoThread = error.Device
 
 -- a crew with one port that was just started, and has a worker for each of these starts
 pub record IsRunning (starts : List Start) (crew : List Hired) (ports : List PortSeats) (taker : TakerSeat) : Type 0 where

@@ -8,7 +8,7 @@ ghost use Rattle.server.specs.Page.{events_at};
 ghost use Rattle.server.specs.Runs.{starts_of};
 ghost use Rattle.server.specs.Gathering.{AreNew, IsGathered};
 ghost use Rattle.server.specs.Working.{AreWorks};
-ghost use Rattle.server.specs.Crew.{IsRunning, Counts, AreCounted, IsFinished};
+ghost use Rattle.server.specs.Crew.{cause_of, IsRunning, Counts, AreCounted, IsFinished};
 
 use crate::gathering::{Gathered, Lent, gather_all, new_works};
 use crate::sending::send_script;
@@ -26,7 +26,7 @@ use std::thread::Threads;
 
 /// Why no page is written where a crew isn't started.
 fn refusal_of(error: StartError) -> ScriptError
-    ensures { result ≢ ScriptError.BadScript }
+    ensures { result ≡ cause_of error }
 {
     match error {
         StartError::NoThread => ScriptError::Device,

@@ -4,3 +4,4 @@ pub mod Taken
 pub mod Rung
 pub mod Handing
 pub mod Running
+pub mod Refused

@@ -11,6 +11,8 @@ use Rattle.options.specs.declared.error.OptionsError.{OptionsError}
 use Rattle.options.specs.declared.error.OptionsError.TheVariants as wrong
 use Rattle.options.specs.declared.flag.Flag.TheVariants as flag
 use Rattle.options.specs.Settings.{AreWrong}
+use Rattle.service.specs.declared.error.RunError.{RunError}
+use Rattle.service.specs.declared.error.RunError.TheVariants as run
 use Rattle.serving.specs.declared.error.ServeError.{ServeError}
 use Rattle.serving.specs.declared.error.ServeError.TheVariants as error
 use Rattle.serving.specs.Plans.{limits_of, IsReached, AreRead}
@@ -44,6 +46,11 @@ status_of (error.Address place) = 3
 status_of error.System = 3
 status_of error.Device = 3
 status_of error.NoMemory = 4
+
+-- a service that was started doesn't run for this cause
+abbrev pub of_run : RunError → ServeError
+of_run run.NoThread = error.System
+of_run run.NoMemory = error.NoMemory
 
 -- a cause that isn't in the words
 abbrev pub IsOther : ServeError → Type 0

@@ -6,10 +6,14 @@ use Rattle.notifier.specs.Start.{Start, place_of}
 use Rattle.server.specs.Call.{boxes_with, names_for}
 use Rattle.emitting.specs.Emitted.{WireSeen}
 use Rattle.udp_program.specs.Serving.{writer_seen}
+use Rattle.service.specs.declared.outs.Bell.{Bell}
 use Rattle.service.specs.declared.running.Outcome.{Outcome}
 use Rattle.service.specs.declared.running.Work.{Work}
 use Rattle.service.specs.Running.{Runs}
+use Rattle.options.specs.declared.choices.Choices.{Choices}
+use Rattle.wires.specs.declared.udp.UdpWire.{UdpWire}
 use Rattle.serving.specs.declared.plan.Plan.{Plan}
+use Rattle.serving.specs.declared.sockets.Sockets.{Sockets}
 use Rattle.serving.specs.Plans.{IsPlan, setup_of}
 
 -- a socket is here, where port 0 stands for a port of the machine's choice
@@ -24,10 +28,24 @@ start_at plan local worker = record {
   boxes = boxes_with (names_for plan.workers worker plan.mailboxes.items);
 }
 
--- what the plan asks for, with a socket here
-pub record IsWork (plan : Plan) (local : Addr) (work : Work) : Type 0 where
-  pub setup : work.setup ≡ setup_of plan local
+-- the sockets that were chosen: each of the two addresses has a wire that receives and one that sends, and the bell wakes what
+-- receives there
+pub record AreOpen (choices : Choices) (s : Sockets) : Type 0 where
+  pub at : IsAt choices.listen s.bell.sip
+  pub control : IsAt choices.control s.bell.control
+  pub sip : s.sip.local ≡ s.bell.sip
+  pub outgoing : s.outgoing.local ≡ s.bell.sip
+  pub lines : s.lines.local ≡ s.bell.control
+  pub replies : s.replies.local ≡ s.bell.control
+
+-- what the plan asks for, where this bell wakes it
+pub record IsWork (plan : Plan) (bell : Bell UdpWire) (work : Work) : Type 0 where
+  pub setup : work.setup ≡ setup_of plan bell.sip
   pub mailboxes : work.desk.mailboxes.items ≡ plan.mailboxes.items
+  pub sip : work.sip.local ≡ bell.sip
+  pub lines : work.desk.coming.local ≡ bell.control
+  pub replies : work.desk.going.local ≡ bell.control
+  pub woken_by : work.bell ≡ bell
 
 -- a writer that was not written to
 abbrev pub new_sink : {W : Type 0} → W → Sink W

@@ -1,7 +1,7 @@
 //! Why a service doesn't run.
 ghost use Rattle.std.specs.Prelude.{◌≡◌};
 ghost use Rattle.serving.specs.declared.error.ServeError.TheVariants as error;
-ghost use Rattle.serving.specs.Refused.{status_of, status_of_words};
+ghost use Rattle.serving.specs.Refused.{of_run, status_of, status_of_words};
 
 use options::{Flag, OptionsError, Place};
 use service::RunError;
@@ -111,9 +111,7 @@ impl<T: Drop> From<AllocFailed<T>> for ServeError {
 }
 
 impl From<RunError> for ServeError {
-    ghost use Rattle.serving.specs.Refused.{IsOther};
-
-    ghost from_gives = { λ _ e. IsOther e };
+    ghost from_gives = { λ run e. e ≡ of_run run };
 
     fn from(error: RunError) -> ServeError {
         match error {

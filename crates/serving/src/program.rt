@@ -4,7 +4,7 @@ ghost use Rattle.crew.specs.Ready.{start_of};
 ghost use Rattle.server.specs.Boxes.{box_seen};
 ghost use Rattle.server.specs.Call as call;
 ghost use Rattle.serving.specs.Refused.{IsOther, IsRefusal};
-ghost use Rattle.serving.specs.Serving.{IsAt, IsWork, Ran, Serves, new_sink};
+ghost use Rattle.serving.specs.Serving.{AreOpen, IsWork, Ran, Serves, new_sink};
 
 use crate::error::ServeError;
 use crate::help::text_for;
@@ -52,7 +52,7 @@ fn open_for<R: Wait + Net + Eprint + AllocGlobal>(
     rt: &R,
     plan: &Plan,
 ) -> Result<Sockets, ServeError>
-    ensures at { IfOk result (λ s. IsAt plan.now.choices.listen s.bell.sip) }
+    ensures opened { IfOk result (AreOpen plan.now.choices) }
     ensures refused { IfErr result IsOther }
 {
     let sockets = open(rt, &plan.choices)?;
@@ -77,7 +77,7 @@ where
     ensures boxes { IfOk result (λ f.
         map (λ boxes. map box_seen boxes.items) f.boxes.items
         ≡ call.boxes_for plan.now.workers plan.now.mailboxes.items) }
-    ensures at { IfOk result (λ f. IsAt plan.now.choices.listen f.sockets.bell.sip) }
+    ensures opened { IfOk result (λ f. AreOpen plan.now.choices f.sockets) }
     ensures refused { IfErr result IsOther }
 {
     let (shared, theirs) = begin(rt)?;
@@ -93,7 +93,9 @@ where
 
 /// What a service works with: the plan over these sockets, and the wire by which its outs go.
 fn work_of(plan: Plan, sockets: Sockets, shared: Arc<Shared, Global>) -> (Work, UdpWire)
-    ensures { IsWork plan sockets.bell.sip result.0 }
+    requires { AreOpen plan.choices sockets }
+    ensures work { IsWork plan sockets.bell result.0 }
+    ensures wire { result.1.local ≡ sockets.bell.sip }
 {
     let Sockets {
         sip,

@@ -1,7 +1,7 @@
 //! The sockets of a service.
 ghost use Rattle.std.specs.Prelude.{◌≡◌, IfOk, IfErr};
 ghost use Rattle.serving.specs.Refused.{IsOther};
-ghost use Rattle.serving.specs.Serving.{IsAt};
+ghost use Rattle.serving.specs.Serving.{IsAt, AreOpen};
 
 use crate::error::ServeError;
 use options::{Choices, Place};
@@ -24,6 +24,7 @@ pub(crate) struct Sockets {
 /// Two wires over a socket at this address, which an option named.
 fn bind<R: Wait + Net>(rt: &R, place: Place, addr: Addr) -> Result<(UdpWire, UdpWire), ServeError>
     ensures at { IfOk result (λ r. IsAt addr r.0.local) }
+    ensures same { IfOk result (λ r. r.1.local ≡ r.0.local) }
     ensures refused { IfErr result IsOther }
 {
     match UdpWire::bind_at(rt, addr) {
@@ -50,11 +51,7 @@ fn bell_for<R: Wait + Net>(rt: &R, sip: Addr, control: Addr) -> Result<Bell<UdpW
 
 /// Opens the sockets.
 pub(crate) fn open<R: Wait + Net>(rt: &R, choices: &Choices) -> Result<Sockets, ServeError>
-    ensures at { IfOk result (λ s. IsAt choices.now.listen s.bell.sip) }
-    ensures control { IfOk result (λ s. IsAt choices.now.control s.bell.control) }
-    // It wakes what listens there.
-    ensures sip { IfOk result (λ s. s.sip.local ≡ s.bell.sip) }
-    ensures lines { IfOk result (λ s. s.lines.local ≡ s.bell.control) }
+    ensures opened { IfOk result (AreOpen choices.now) }
     ensures refused { IfErr result IsOther }
 {
     let (sip, outgoing) = bind(rt, Place::Listen, choices.listen)?;

@@ -1,13 +1,32 @@
 -- A run as its functions hand it on. No public contract cites this.
 use Rattle.std.specs.Prelude.{◌≡◌, ℕ, List}
 use Rattle.notifier.specs.Start.{Start}
+use Rattle.crew.specs.declared.errors.StartError.{StartError}
+use Rattle.crew.specs.declared.errors.StartError.TheVariants as start
 use Rattle.crew.specs.Ports.{PortSeats}
 use Rattle.crew.specs.Started.{IsStarted}
+use Rattle.wires.specs.Sockets.{loopback}
 use Rattle.network.specs.declared.hearing.Language.TheVariants.{Sip, Control}
+use Rattle.server.specs.declared.program.Status.{Status}
+use Rattle.server.specs.declared.program.Status.TheVariants as status
 use Rattle.udp_program.specs.declared.listening.Errand.{Errand}
+use Rattle.udp_program.specs.declared.program.Sockets.{Sockets}
 use Rattle.udp_program.specs.declared.serving.Running.{Running}
 use Rattle.udp_program.specs.declared.serving.Served.{Served}
 use Rattle.udp_program.specs.Serving.{Outcome, most_lines}
+
+-- the status where no crew is started for this cause. Only a refused thread is a fault of the device
+abbrev pub status_of : StartError → Status
+status_of start.NoWorkers = status.OutOfMemory
+status_of start.NoPorts = status.OutOfMemory
+status_of start.NoMemory = status.OutOfMemory
+status_of start.NoThread = status.DeviceFault
+
+-- the wires of a run: SIP goes out from the port where it comes in
+pub record AreBound (port control_port : ℕ) (s : Sockets) : Type 0 where
+  pub sip : s.sip.local ≡ loopback port
+  pub outgoing : s.outgoing.local ≡ loopback port
+  pub control : s.control.local ≡ loopback control_port
 
 -- it was just started with these ports, and workers with these starts
 abbrev pub IsNew : (ℕ → Start) → List PortSeats → Running → Type 0

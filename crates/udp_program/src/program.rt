@@ -5,7 +5,7 @@ ghost use Rattle.crew.specs.Started.{IsStarted};
 ghost use Rattle.udp_program.specs.Call.{start_at, AsksFor, AsksForNone};
 ghost use Rattle.udp_program.specs.Ends as ends;
 ghost use Rattle.udp_program.specs.Ends.{EndsAs, Runs};
-ghost use Rattle.udp_program.specs.Running.{outcome_of};
+ghost use Rattle.udp_program.specs.Running.{status_of, AreBound, outcome_of};
 ghost use Rattle.udp_program.specs.Serving.{Serves};
 
 use crate::printing::worker_lines;
@@ -35,7 +35,10 @@ struct Sockets {
 }
 
 /// Binds the two ports of 127.0.0.1.
-fn bind<H: Wait + Net>(rt: &H, port: u16, control_port: u16) -> Result<Sockets, WireFault> {
+fn bind<H: Wait + Net>(rt: &H, port: u16, control_port: u16) -> Result<Sockets, WireFault>
+    requires chosen { (port ≢ 0) × (control_port ≢ 0) }
+    ensures bound { IfOk result (AreBound port control_port) }
+{
     let (sip, outgoing) = UdpWire::bind(rt, port)?;
     let (control, _) = UdpWire::bind(rt, control_port)?;
     Ok(Sockets {
@@ -105,6 +108,16 @@ fn close_off<F: Write>(alloc: Global, served: &Served, sink: &mut Sink<F>) -> St
     }
 }
 
+/// The status where a crew isn't started.
+fn status_of(error: StartError) -> Status
+    ensures { result ≡ status_of error }
+{
+    match error {
+        StartError::NoThread => Status::DeviceFault,
+        StartError::NoMemory | StartError::NoWorkers | StartError::NoPorts => Status::OutOfMemory,
+    }
+}
+
 /// Starts the crew that a call asks for: its workers have the mailboxes, and two ports are open.
 fn start_crew<H>(
     rt: H,
@@ -127,8 +140,7 @@ where
     };
     match Crew::start(rt, alloc, &setup, 2, boxes, gate) {
         Ok(started) => Ok(started),
-        Err(StartError::NoThread) => Err(Status::DeviceFault),
-        Err(_) => Err(Status::OutOfMemory),
+        Err(error) => Err(status_of(error)),
     }
 }
 
@@ -145,6 +157,7 @@ where
     F: Write,
     requires some { 0 < call.now.workers }
     requires few { call.now.workers ≤ 256 }
+    requires bound { AreBound call.now.port call.now.control_port sockets }
     ensures served { IfOk result (λ served.
         Serves F.contents (start_at call.now) call.now.workers call.now.count sink.old sink.new (outcome_of served)) }
     ensures refused { IfErr result (λ s. (s ≡ status.DeviceFault) ⊎ (s ≡ status.OutOfMemory)) }

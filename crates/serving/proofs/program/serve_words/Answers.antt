@@ -9,7 +9,7 @@ pub run-requires-clause-few_workers : goal.run-requires-clause-few_workers
 run-requires-clause-few_workers g c κs within =
     let plan = c.in_ok-plan.plan in let fitted = c.in_ok-boxes.field-0 in let boxes = fitted.boxes in let size = boxes.ok.0 in
     let few = count_is plan.choices.numbers.workers plan.workers c.in_ok-plan.ensures.plan.workers in
-    let len = workers_are box_seen c.work_of-work.result.0.setup boxes.items plan fitted.sockets.bell.sip c.work_of-work.ensures.setup c.in_ok-boxes.ensures.boxes in
+    let len = workers_are box_seen c.work_of-work.result.0.setup boxes.items plan fitted.sockets.bell.sip c.work_of-work.ensures.work.setup c.in_ok-boxes.ensures.boxes in
     omega (arith, few.1)
 
 pub returns-clause-served : goal.returns-clause-served
@@ -21,10 +21,10 @@ returns-clause-served g c =
       plan = plan;
       is_plan = c.in_ok-plan.ensures.plan;
       local = local;
-      is_at = c.in_ok-boxes.ensures.at;
+      is_at = c.in_ok-boxes.ensures.opened.at;
       ran =
-          ran_is box_seen c.work_of-work.result.0.setup boxes.items plan local c.work_of-work.ensures.setup c.in_ok-boxes.ensures.boxes
-          g.F.Write.contents _ boxes.ok.0 (omega (arith, few.0)) c.work_of-work.ensures.mailboxes ran;
+          ran_is box_seen c.work_of-work.result.0.setup boxes.items plan local c.work_of-work.ensures.work.setup c.in_ok-boxes.ensures.boxes
+          g.F.Write.contents _ boxes.ok.0 (omega (arith, few.0)) c.work_of-work.ensures.work.mailboxes ran;
     })
     (rw c.new-sink.ensures at c.run.ensures.ran)
 
