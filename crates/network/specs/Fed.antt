@@ -119,8 +119,8 @@ Ends count log old new Done = Sends old (events log) new × (((length log ≡ co
 Ends count log old new Fault = Sends old (events log) new × (closes log ≡ false)
 Ends count log old new Gone = MissesLast log old new
 
--- a port was fed with what these datagrams say, and this is the report of it. However it ended, it heard no more of them than
--- it was asked for
+-- a port was fed with what these datagrams say, and this is the report of it. However it ended, there are no more of them
+-- than were asked for
 pub record IsFed (language : Language) (count : ℕ) (log : Log) (old new : PortSeats) (report : FeedReport) : Type 0 where
   pub say : AllSay language log
   pub seen : report.seen ≡ length log
