@@ -47,7 +47,7 @@ status_of error.System = 3
 status_of error.Device = 3
 status_of error.NoMemory = 4
 
--- a service that was started doesn't run for this cause
+-- the crew of a service doesn't run for this cause
 abbrev pub of_run : RunError → ServeError
 of_run run.NoThread = error.System
 of_run run.NoMemory = error.NoMemory

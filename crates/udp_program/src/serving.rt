@@ -133,6 +133,8 @@ where
     F: Write,
     requires some { 0 < running.workers }
     requires new { (start : ℕ → Start) × IsNew start ports.items running }
+    // What the workers send leaves by the port where SIP comes in.
+    requires one_port { running.outgoing.local ≡ ears.sip.local }
     ensures served { IfOk result (λ served. (start : ℕ → Start) → IsNew start ports.items running
         → Serves F.contents start running.workers ears.count sink.old sink.new (outcome_of served)) }
     ensures unwritten { OnErr result (sink.new ≡ sink.old) }
