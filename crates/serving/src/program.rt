@@ -132,6 +132,8 @@ where
     R: Threads + Wait + Clock + Eprint + AllocGlobal + Copy + Send + 'static,
     F: Write + Drop,
     requires few_workers { vec_len boxes ≤ 256 }
+    // What the workers send leaves from where SIP comes in.
+    requires one_place { exit.wire.local ≡ work.sip.local }
     ensures refused { IfErr result IsOther }
     ensures ran { IfOk result (λ s. (b : _)
         → Ran F.contents (λ w. start_of box_seen work.setup w (get_or boxes.items w b).items) (vec_len boxes)
