@@ -1,6 +1,5 @@
 -- The laws of lives and of isolation, of what was got.
-use Rattle.std.proofs.Common.{◌≡◌, ℕ, List, length, take, sym, subst, arith}
-use Rattle.std.proofs.lemmas.Grind.{common_steps}
+use Rattle.std.proofs.Common.{List, sym, subst}
 use Rattle.notifier.specs.declared.event.Out.{Out}
 use Rattle.notifier.specs.Start.{tag_of}
 use Rattle.inbox.specs.Events.{events_of}
@@ -12,10 +11,8 @@ use Rattle.lives.proofs.Outs.{life_law}
 use Rattle.isolation.specs.Own.{own}
 use Rattle.isolation.specs.Renaming.{renamed}
 use Rattle.isolation.proofs.SentOut.{outs_law}
+use Rattle.worlds.proofs.Numbering.{take_all}
 use Rattle.crew_laws.specs.Laws.{events_handled, its_tag, AllLaw, LifeLaw, AloneLaw}
-
-take_all : {A : Type 0} (n : ℕ) (xs : List A) → n ≡ length xs → take n xs ≡ xs
-take_all n xs e = grind (arith, common_steps)
 
 pub all_law : AllLaw
 all_law h got report r closed =

@@ -1,16 +1,18 @@
 //! Laws of a crew: what its taker got, by `Crew::join`'s report alone, is what the lives of subscriptions tell.
 //!
 //! `crew` says of the end of a crew that the outs that the taker got of a worker are those of a one-thread notifier for the
-//! events that the worker handled. [`life`] says so of each subscription in its own words, and [`alone`] that neither the
-//! number of workers nor any other event shows in it; [`nowhere_else`] says that no other worker took any of its own events.
+//! events that the worker handled. [`life`] says so of each subscription in its own words, [`whole`] that nothing else with its
+//! tag came from any worker, and [`alone`] that neither the number of workers nor any other event shows in it; [`nowhere_else`]
+//! says that no other worker took any of its own events.
 //! What the taker may rely on at any moment before, `worlds::world` says.
 //! No function here does anything: each is a theorem over the definitions of `crew`, `lives` and `isolation`.
 //!
-//! Begin with `specs/Laws`, then `specs/Elsewhere`.
+//! Begin with `specs/Laws`, then `specs/Whole` and `specs/Elsewhere`.
 #![tactic(auto)]
 
 ghost use Rattle.crew_laws.specs.Elsewhere.{EveryPortLaw, NowhereElseLaw};
 ghost use Rattle.crew_laws.specs.Laws.{AllLaw, AloneLaw, LifeLaw};
+ghost use Rattle.crew_laws.specs.Whole.{RisingLaw, WholeLaw};
 
 /// A worker that ended as Closed handled all events that it took, and the planned stop.
 pub fn all()
@@ -21,6 +23,17 @@ pub fn all()
 /// handled, one for one and in order.
 pub fn life()
     ensures { LifeLaw }
+{}
+
+/// They are all that the taker got with the subscription's tag since the crew's start, from whichever worker: no other worker's
+/// outs have that tag.
+pub fn whole()
+    ensures { WholeLaw }
+{}
+
+/// They are numbered 1, 2, 3 and so on, and none follows a terminated one.
+pub fn rising()
+    ensures { RisingLaw }
 {}
 
 /// They are what the subscription would be told of its own events alone, by one worker, as its first.

@@ -4,15 +4,17 @@ use Rattle.std.proofs.lemmas.List.{take-append-le, map-append, length-map}
 use Rattle.std.proofs.Math.Seq.{take-append_seam}
 use Rattle.std.proofs.Math.Nat.{eq-or-lt_of_le}
 use Rattle.std.proofs.lemmas.Grind.{common_steps}
+use Rattle.notifier.specs.declared.event.Event.{Event}
 use Rattle.notifier.specs.declared.event.Out.{Out}
 use Rattle.notifier.specs.Out.{Notification, is_last}
-use Rattle.lives.specs.Notices.{newest_first}
+use Rattle.notifier.specs.Start.{Start}
+use Rattle.lives.specs.Notices.{newest_first, notices}
 use Rattle.lives.specs.Laws.{notifies_with, AreNotifies, up_to, ends_once}
 use Rattle.lives.proofs.Numbers.{numbers_law}
 use Rattle.lives.proofs.Ends.{ends_law}
 use Rattle.queue_rule.specs.Values.{values}
 use Rattle.worlds.specs.World.{world, its_events}
-use Rattle.worlds.specs.Laws.{AreFirst, its_tag, its_notices, number_of, is_terminated, none_follows, RisingLaw}
+use Rattle.worlds.specs.Laws.{AreFirst, its_tag, its_notices, number_of, is_terminated, none_follows, Rise, RisingLaw}
 use Rattle.worlds.proofs.Cases.{and-left, and-right}
 use Rattle.worlds.proofs.Fronts.{first_of_all}
 use Rattle.worlds.proofs.Told.{cut, world_law}
@@ -23,7 +25,7 @@ length-up_to : (n : ℕ) → length (up_to n) ≡ n
 length-up_to zero = refl
 length-up_to (suc n) = length-append (up_to n) (suc n ∷ []) ∙ ap (λ k. k + 1) (length-up_to n) ∙ omega arith
 
-take_all : {A : Type 0} (m : ℕ) (xs : List A) → m ≡ length xs → take m xs ≡ xs
+pub take_all : {A : Type 0} (m : ℕ) (xs : List A) → m ≡ length xs → take m xs ≡ xs
 take_all m xs e = grind (arith, common_steps)
 
 take-up_to : (n m : ℕ) → m ≤ n → take m (up_to n) ≡ up_to m
@@ -68,21 +70,25 @@ ends-are tag (n ∷ []) (out ∷ next ∷ outs) h = absurd h.1
 ends-are tag (n ∷ m ∷ told) (out ∷ []) h = absurd h.1
 ends-are tag (n ∷ m ∷ told) (out ∷ next ∷ outs) h = rw (ap is_terminated h.0.out_is, ends-are tag (m ∷ told) (next ∷ outs) h.1) refl
 
+-- of NOTIFYs that are the first notices of a life
+pub first_rise : (start : Start) (serial : ℕ) (past : List Event) (tag : List ℕ) (front : List Notification) (got : List Out) → AreFirst front (notices start serial past) → AreNotifies tag front got → Rise got
+first_rise start serial past tag front got first are =
+    let all : List Notification = notices start serial past in
+    let numbered : map (λ (n : Notification). n.number) all ≡ up_to (length all) = numbers_law start serial past in
+    let numbers : map number_of got ≡ map (λ (n : Notification). n.number) front = numbers-are tag front got are in
+    let rising : AreFirst (map number_of got) (up_to (length all)) =
+    subst (λ (l : List ℕ). AreFirst (map number_of got) l) numbered (subst (λ (l : List ℕ). AreFirst l (map (λ (n : Notification). n.number) all)) (sym numbers) (map-first (λ (n : Notification). n.number) front all first)) in
+    record {
+      numbers = first-up_to (map number_of got) (length all) rising ∙ ap up_to (length-map got number_of);
+      ends = ends-are tag front got are ∙ ends-first front first.0 (ap ends_once (sym first.1) ∙ ends_law start serial past);
+    }
+
 pub rising_law : RisingLaw
 rising_law crew steps w serial ok lt small =
     let s = world crew steps in
     let tag = its_tag crew w serial in
-    let all : List Notification = its_notices crew s w serial in
     let got : List Out = notifies_with tag (values s.got) in
     let k = world_law crew steps w serial ok lt small in
     let c = cut tag k.told got k.got.0 (subst (AreNotifies tag k.told) k.got.1 k.posted) in
-    let first : AreFirst c.front all = first_of_all c.front k.told all c.first k.of_its_life in
-    let past = newest_first (its_events crew w (s.worker w)) in
-    let numbered : map (λ (n : Notification). n.number) all ≡ up_to (length all) = numbers_law (crew.start w) serial past in
-    let numbers : map number_of got ≡ map (λ (n : Notification). n.number) c.front = numbers-are tag c.front got c.are in
-    let rising : AreFirst (map number_of got) (up_to (length all)) =
-    subst (λ (l : List ℕ). AreFirst (map number_of got) l) numbered (subst (λ (l : List ℕ). AreFirst l (map (λ (n : Notification). n.number) all)) (sym numbers) (map-first (λ (n : Notification). n.number) c.front all first)) in
-    record {
-      numbers = first-up_to (map number_of got) (length all) rising ∙ ap up_to (length-map got number_of);
-      ends = ends-are tag c.front got c.are ∙ ends-first c.front first.0 (ap ends_once (sym first.1) ∙ ends_law (crew.start w) serial past);
-    }
+    first_rise (crew.start w) serial (newest_first (its_events crew w (s.worker w))) tag c.front got
+    (first_of_all c.front k.told (its_notices crew s w serial) c.first k.of_its_life) c.are

@@ -1,12 +1,7 @@
 -- No other worker's NOTIFYs carry the tag of a worker's subscription.
-use Rattle.std.proofs.Common.{◌≡◌, ℕ, ◌<◌, ◌^◌, Bool, true, false, List, [], ◌∷◌, ◌++◌, refl, ap, sym, ◌∙◌, subst, arith}
-use Rattle.std.specs.Prelude.{if◌then◌else◌, ◌==◌, bytes_eq, decimal, codes}
-use Rattle.std.specs.Char.{digit_value}
-use Rattle.std.specs.Str.Parse.{AllDigits}
-use Rattle.std.proofs.lemmas.Fmt.{decimal_is_IsNumeral, decimal_injective}
-use Rattle.std.proofs.lemmas.List.{append_cancel_left}
+use Rattle.std.proofs.Common.{◌≡◌, ℕ, ◌<◌, ◌^◌, Bool, true, false, List, [], ◌∷◌, ◌++◌, refl, ap, sym, ◌∙◌}
+use Rattle.std.specs.Prelude.{if◌then◌else◌, ◌==◌, bytes_eq}
 use Rattle.std.proofs.lemmas.Slice.Eq.{bytes_eq-Decides}
-use Rattle.hex.specs.Hex.{encode_lower}
 use Rattle.queue_rule.specs.declared.items.Item.{Item}
 use Rattle.queue_rule.specs.declared.items.Entry.{Entry}
 use Rattle.queue_rule.specs.declared.items.Entry.TheVariants.{Value, End}
@@ -18,49 +13,20 @@ use Rattle.notifier.specs.declared.event.Event.{Event}
 use Rattle.notifier.specs.declared.event.Out.{Out}
 use Rattle.notifier.specs.declared.event.Out.TheVariants.{Answer, Notify, Start as Begins}
 use Rattle.notifier.specs.Start.{Start, tag_of}
-use Rattle.notifier.specs.Tag.{local_tag, tag_bytes}
 use Rattle.lives.specs.Laws.{IsStart, notifies_with, IsOfALife, AreOfLives, outs}
 use Rattle.lives.proofs.Owners.{no_other_law}
+use Rattle.lives.proofs.Tags.{worker_of_tag}
 use Rattle.worlds.specs.Laws.{AreFirst}
 use Rattle.worlds.proofs.Cases.{if_is}
 
--- ---- tags of different workers differ
-
-no_dash : digit_value 45 < 10 → ⊥
-no_dash h = omega arith
-
--- digits before a dash
-cut_at_dash : (xs ys u v : List ℕ) → AllDigits 10 xs → AllDigits 10 ys → xs ++ 45 ∷ u ≡ ys ++ 45 ∷ v → xs ≡ ys
-cut_at_dash [] [] u v p q e = refl
-cut_at_dash [] (y ∷ ys) u v p q e = absurd (let same : 45 ≡ y = cc in no_dash (subst (λ (c : ℕ). digit_value c < 10) (sym same) q.0))
-cut_at_dash (x ∷ xs) [] u v p q e = absurd (let same : x ≡ 45 = cc in no_dash (subst (λ (c : ℕ). digit_value c < 10) same p.0))
-cut_at_dash (x ∷ xs) (y ∷ ys) u v p q e =
-    let head : x ≡ y = cc in
-    let rest : xs ++ 45 ∷ u ≡ ys ++ 45 ∷ v = cc in
-    let tail : xs ≡ ys = cut_at_dash xs ys u v p.1 q.1 rest in
-    cc
-
--- a tag behind its first dash
-rest_of : Place → ℕ → List ℕ
-rest_of place serial = decimal serial ++ (codes "-" ++ encode_lower (tag_bytes place.seed place.worker serial))
-
-tag_is : (place : Place) (serial : ℕ) → tag_of place serial ≡ codes "w" ++ (decimal place.worker ++ (codes "-" ++ rest_of place serial))
-unfolding local_tag rest_of
-tag_is place serial = refl
-
-workers_same : (a b : Place) (s t : ℕ) → a.worker < 2 ^ 64 → b.worker < 2 ^ 64 → tag_of a s ≡ tag_of b t → a.worker ≡ b.worker
-workers_same a b s t p q e =
-    let after_w = append_cancel_left (codes "w") (decimal a.worker ++ (codes "-" ++ rest_of a s)) (decimal b.worker ++ (codes "-" ++ rest_of b t)) (sym (tag_is a s) ∙ (e ∙ tag_is b t)) in
-    decimal_injective a.worker b.worker p q (cut_at_dash (decimal a.worker) (decimal b.worker) (rest_of a s) (rest_of b t) (decimal_is_IsNumeral a.worker p).0.1 (decimal_is_IsNumeral b.worker q).0.1 after_w)
-
--- ---- so what another worker makes has none with this tag
+-- ---- what another worker makes has none with this tag
 
 -- no subscription of this place has this tag
 abbrev pub IsStrange : Place → List ℕ → Type 0
 IsStrange place tag = (serial : ℕ) → tag_of place serial ≡ tag → ⊥
 
 pub others_strange : (a b : Place) (serial : ℕ) → a.worker < 2 ^ 64 → b.worker < 2 ^ 64 → (a.worker ≡ b.worker → ⊥) → IsStrange a (tag_of b serial)
-others_strange a b serial p q apart s e = apart (workers_same a b s serial p q e)
+others_strange a b serial p q apart s e = apart (worker_of_tag a b s serial p q e).0
 
 not_true : (d : Bool) → (d ≡ true → ⊥) → d ≡ false
 not_true true h = absurd (h refl)

@@ -11,7 +11,7 @@ use Rattle.notifier.specs.declared.event.Out.{Out}
 use Rattle.notifier.specs.Out.{out_of}
 use Rattle.notifier.specs.Run.{made}
 use Rattle.queue_rule.specs.Values.{values, value_item, end_item}
-use Rattle.inbox.specs.Events.{have_ended, events_of}
+use Rattle.inbox.specs.Events.{have_ended}
 use Rattle.worlds.specs.World.{Crew, Step, Send, Take, Post, Get, Quit, Worker, World, new_worker, new_world, sends, takes_first, takes, posts, quits, its_events, all_outs, lacking, first_or_end, next_post, at, posted_to, got_first, is_step_of, stepped, after, world}
 use Rattle.worlds.specs.Laws.{AreFirst, InboxKeeps, InboxLaw, OutboxLaw}
 use Rattle.worlds.proofs.Cases.{if_is, and-left, not_so, same_number, is_below}

@@ -23,7 +23,7 @@ not_same v w other same = never_both (v == w) (eq-eqb v w same) other
 within : (a v n : ℕ) → a ≡ v → v < n → n ≤ 2 ^ 32 → a < 2 ^ 64
 within a v n e lt le = omega arith
 
-none_at_all : (tag : List ℕ) → notifies_with tag [] ≡ []
+pub none_at_all : (tag : List ℕ) → notifies_with tag [] ≡ []
 unfolding notifies_with
 none_at_all tag = refl
 
