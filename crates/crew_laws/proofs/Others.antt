@@ -1,7 +1,6 @@
 -- What the taker got of the other workers has no NOTIFY of a worker's subscription.
 use Rattle.std.proofs.Common.{◌≡◌, ◌≢◌, ◌==◌, ◌<◌, ◌≤◌, ◌^◌, ℕ, Bool, true, false, List, [], ◌∷◌, length, get_or, refl, ap, sym, subst, ◌∙◌, eq-eqb, ne_eqb, arith}
 use Rattle.std.specs.Prelude.{nat_lt}
-use Rattle.std.specs.List.{All}
 use Rattle.std.proofs.lemmas.List.{append-nil}
 use Rattle.std.proofs.lemmas.List.Elements.{All-nil, All-head, All-tail, All-push}
 use Rattle.queue_rule.specs.declared.items.Item.{Item}
@@ -9,7 +8,7 @@ use Rattle.queue_rule.specs.Items.{items_of}
 use Rattle.queue_rule.specs.Values.{values}
 use Rattle.notifier.specs.declared.event.Out.{Out}
 use Rattle.notifier.specs.Start.{Start}
-use Rattle.outbox.specs.Seats.{TakerSeat, PosterSeat}
+use Rattle.outbox.specs.Seats.{TakerSeat, PosterSeat, new_taker}
 use Rattle.outbox.specs.Took.{posted_item}
 use Rattle.outbox.specs.declared.ends.Posted.{Posted}
 use Rattle.crew.specs.Joined.{Reported}
@@ -23,14 +22,10 @@ use Rattle.worlds.proofs.Numbering.{first_rise}
 use Rattle.worlds.proofs.Told.{none_at_all}
 use Rattle.worlds.proofs.Others.{IsStrange, others_strange, others_silent, with_tag, IsAlone, own_alone}
 use Rattle.crew_laws.specs.Laws.{events_handled, its_tag}
-use Rattle.crew_laws.specs.Whole.{TookAll, IsRun, WholeLaw, RisingLaw}
+use Rattle.crew_laws.specs.Whole.{AllBy, TookAll, TookLaw, IsCrewRun, WholeLaw, RisingLaw}
 use Rattle.crew_laws.proofs.Joined.{joined_life_law}
 
 -- ---- what was got is of the crew's workers
-
--- each item is of one of the first n workers
-abbrev AllBy : ℕ → List (Item Out) → Type 0
-AllBy n xs = All (λ (x : Item Out). x.from < n) xs
 
 took_by : (n : ℕ) (old : TakerSeat) (took : List Posted) (new : TakerSeat) → old.workers ≡ n → TookAll old took new → AllBy n old.got → AllBy n new.got
 took_by n old [] new all same by = subst (λ (t : TakerSeat). AllBy n t.got) (sym same) by
@@ -38,6 +33,10 @@ took_by n old (posted ∷ more) new all (mid, one, rest) by =
     let low : (posted_item posted).from < n = subst (λ k. (posted_item posted).from < k) all one.1.0 in
     took_by n mid more new (ap (λ (t : TakerSeat). t.workers) one.0 ∙ all) rest
     (subst (λ (t : TakerSeat). AllBy n t.got) (sym one.0) (All-push (λ (x : Item Out). x.from < n) old.got (posted_item posted) by low))
+
+pub took_law : TookLaw
+took_law outbox workers took taker all =
+    took_by workers (new_taker outbox workers) took taker refl all (All-nil (λ (x : Item Out). x.from < workers))
 
 none_above : (n v : ℕ) (xs : List (Item Out)) → n ≤ v → AllBy n xs → items_of v xs ≡ []
 none_above n v [] high by = refl
@@ -48,7 +47,7 @@ none_above n v (x ∷ xs) high by =
 
 -- ---- the workers of a run
 
-module _ (start : ℕ → Start) (crew : List Hired) (taker : TakerSeat) (reports : List WorkerReport) (h : Hired) (r : WorkerReport) (run : IsRun start crew taker reports) where
+module _ (start : ℕ → Start) (crew : List Hired) (got : List (Item Out)) (reports : List WorkerReport) (h : Hired) (r : WorkerReport) (run : IsCrewRun start crew got reports) where
   abbrev hired_at : ℕ → Hired
   hired_at v = get_or crew v h
 
@@ -58,7 +57,7 @@ module _ (start : ℕ → Start) (crew : List Hired) (taker : TakerSeat) (report
   posts_as : (v : ℕ) → v < length crew → (hired_at v).posts.number ≡ v
   posts_as v lt = let is = run.started.each v h lt in ap (λ (p : PosterSeat). p.number) is.tells
 
-  told : (v : ℕ) → v < length crew → Reported (hired_at v) taker.got (get_or reports v r)
+  told : (v : ℕ) → v < length crew → Reported (hired_at v) got (get_or reports v r)
   told v lt = run.joined.reported v h r lt
 
   starts_well : (v : ℕ) → v < length crew → IsStart (hired_at v).start
@@ -76,44 +75,38 @@ module _ (start : ℕ → Start) (crew : List Hired) (taker : TakerSeat) (report
       (λ same. never_both (v == w) (eq-eqb v w (sym (works_as v lv) ∙ (same ∙ works_as w lw))) other)
 
   -- what the taker got of worker v has no NOTIFY with the tag of a subscription of w
-  silent : (v w serial : ℕ) → v < length crew → w < length crew → (v == w) ≡ false → with_tag (its_tag (hired_at w) serial) (items_of v taker.got) ≡ []
+  silent : (v w serial : ℕ) → v < length crew → w < length crew → (v == w) ≡ false → with_tag (its_tag (hired_at w) serial) (items_of v got) ≡ []
   silent v w serial lv lw other =
       let tag : List ℕ = its_tag (hired_at w) serial in
       let reported = told v lv in
-      ap (λ k. with_tag tag (items_of k taker.got)) (sym (posts_as v lv))
+      ap (λ k. with_tag tag (items_of k got)) (sym (posts_as v lv))
       ∙ ap (notifies_with tag) reported.outs
       ∙ others_silent (hired_at v).start (events_handled (hired_at v) (get_or reports v r)) tag (starts_well v lv) (strange v w serial lv lw other)
 
-  by_crew : AllBy (length crew) taker.got
-  by_crew =
-      let new = run.started.takes in
-      took_by (length crew) run.taker run.took taker (ap (λ (t : TakerSeat). t.workers) new) run.taken
-      (subst (λ (t : TakerSeat). AllBy (length crew) t.got) (sym new) (All-nil (λ (x : Item Out). x.from < length crew)))
-
-  alone : (w serial : ℕ) → w < length crew → IsAlone (its_tag (hired_at w) serial) w taker.got
+  alone : (w serial : ℕ) → w < length crew → IsAlone (its_tag (hired_at w) serial) w got
   alone w serial lw v other = by_number (nat_lt v (length crew)) refl
     where
-      by_number : (d : Bool) → nat_lt v (length crew) ≡ d → with_tag (its_tag (hired_at w) serial) (items_of v taker.got) ≡ []
+      by_number : (d : Bool) → nat_lt v (length crew) ≡ d → with_tag (its_tag (hired_at w) serial) (items_of v got) ≡ []
       by_number true e = silent v w serial (is_below v (length crew) e) lw other
       by_number false e =
-          ap (with_tag (its_tag (hired_at w) serial)) (none_above (length crew) v taker.got (above v (length crew) e) by_crew)
+          ap (with_tag (its_tag (hired_at w) serial)) (none_above (length crew) v got (above v (length crew) e) run.by_crew)
           ∙ none_at_all (its_tag (hired_at w) serial)
 
 pub whole_law : WholeLaw
-whole_law start crew taker reports w serial h r run lt small =
+whole_law start crew got reports w serial h r run lt small =
     let hired : Hired = get_or crew w h in
     let report : WorkerReport = get_or reports w r in
     let tag : List ℕ = its_tag hired serial in
-    let of_worker = joined_life_law hired taker.got report serial (starts_well start crew taker reports h r run w lt) small (told start crew taker reports h r run w lt) in
-    let all : with_tag tag taker.got ≡ with_tag tag (items_of hired.posts.number taker.got) =
-    own_alone tag w taker.got (alone start crew taker reports h r run w serial lt)
-    ∙ ap (λ k. with_tag tag (items_of k taker.got)) (sym (posts_as start crew taker reports h r run w lt)) in
+    let of_worker = joined_life_law hired got report serial (starts_well start crew got reports h r run w lt) small (told start crew got reports h r run w lt) in
+    let all : with_tag tag got ≡ with_tag tag (items_of hired.posts.number got) =
+    own_alone tag w got (alone start crew got reports h r run w serial lt)
+    ∙ ap (λ k. with_tag tag (items_of k got)) (sym (posts_as start crew got reports h r run w lt)) in
     subst (AreNotifies tag (notices hired.start serial (newest_first (events_handled hired report)))) (sym all) of_worker
 
 pub rising_law : RisingLaw
-rising_law start crew taker reports w serial h r run lt small =
+rising_law start crew got reports w serial h r run lt small =
     let hired : Hired = get_or crew w h in
     let past = newest_first (events_handled hired (get_or reports w r)) in
     let all = notices hired.start serial past in
-    first_rise hired.start serial past (its_tag hired serial) all (notifies_with (its_tag hired serial) (values taker.got))
-    ([], sym (append-nil all)) (whole_law start crew taker reports w serial h r run lt small)
+    first_rise hired.start serial past (its_tag hired serial) all (notifies_with (its_tag hired serial) (values got))
+    ([], sym (append-nil all)) (whole_law start crew got reports w serial h r run lt small)

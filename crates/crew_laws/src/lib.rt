@@ -12,7 +12,7 @@
 
 ghost use Rattle.crew_laws.specs.Elsewhere.{EveryPortLaw, NowhereElseLaw};
 ghost use Rattle.crew_laws.specs.Laws.{AllLaw, AloneLaw, LifeLaw};
-ghost use Rattle.crew_laws.specs.Whole.{RisingLaw, WholeLaw};
+ghost use Rattle.crew_laws.specs.Whole.{RisingLaw, TookLaw, WholeLaw};
 
 /// A worker that ended as Closed handled all events that it took, and the planned stop.
 pub fn all()
@@ -23,6 +23,11 @@ pub fn all()
 /// handled, one for one and in order.
 pub fn life()
     ensures { LifeLaw }
+{}
+
+/// What a taker got since it was made is of its own workers.
+pub fn took()
+    ensures { TookLaw }
 {}
 
 /// They are all that the taker got with the subscription's tag since the crew's start, from whichever worker: no other worker's

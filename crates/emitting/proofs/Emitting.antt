@@ -2,7 +2,7 @@
 use Rattle.std.proofs.Common.{◌≡◌, ℕ, zero, suc, ◌+◌, ◌<◌, ◌⊎◌, Bool, true, false, List, [], ◌∷◌, ◌++◌, length, Option, refl, ap, sym, ◌∙◌, subst, append_assoc, arith, length-append, ⊎_elim, inl, inr}
 use Rattle.std.specs.List.{filter}
 use Rattle.std.proofs.lemmas.List.{append-nil, map-append}
-use Rattle.std.proofs.lemmas.List.Elements.{filter-append, filter_map-append}
+use Rattle.std.proofs.lemmas.List.Elements.{All-nil, All-push, filter-append, filter_map-append}
 use Rattle.std.proofs.lemmas.List.Concat.{flat_map-append}
 use Rattle.std.specs.Io.KnownBytes.{Appends}
 use Rattle.scripts.specs.Devices.{one_more}
@@ -132,10 +132,10 @@ module _ {S : Type 0} (flushed : S → Bool) where
 
 -- ---- the loop
 
-pub emitting_none : (got : List (Item Out)) (wire : WireSeen) (writer : WriterSeen)
-    → IsEmitted [] got got wire wire writer writer (record { sent = 0; starts = 0; failed = 0 })
-emitting_none got wire writer = record {
-  outs = ([], sym (append-nil got), refl);
+pub emitting_none : (workers : ℕ) (got : List (Item Out)) (wire : WireSeen) (writer : WriterSeen)
+    → IsEmitted workers [] got got wire wire writer writer (record { sent = 0; starts = 0; failed = 0 })
+emitting_none workers got wire writer = record {
+  outs = ([], sym (append-nil got), refl, All-nil (λ (x : Item Out). x.from < workers));
   meet = tt;
   counts = record { total = refl; sent = refl; starts = refl; failed = refl };
   taken = grows_none wire.taken;
@@ -145,16 +145,17 @@ emitting_none got wire writer = record {
   written = λ none. appends_none writer.contents;
 }
 
-module _ {log : Fates} {got got' : List (Item Out)} {wire wire' : WireSeen} {writer writer' : WriterSeen} {report : EmitReport}
-    (was : IsEmitted log got got' wire wire' writer writer' report) where
-  pub emitting_end : (next : List (Item Out)) (w : ℕ) → next ≡ got' ++ end_item w ∷ []
-      → IsEmitted log got next wire wire' writer writer' report
-  emitting_end next w more =
+module _ {workers : ℕ} {log : Fates} {got got' : List (Item Out)} {wire wire' : WireSeen} {writer writer' : WriterSeen} {report : EmitReport}
+    (was : IsEmitted workers log got got' wire wire' writer writer' report) where
+  pub emitting_end : (next : List (Item Out)) (w : ℕ) → w < workers → next ≡ got' ++ end_item w ∷ []
+      → IsEmitted workers log got next wire wire' writer writer' report
+  emitting_end next w low more =
       let items : List (Item Out) = was.outs.0 in record {
         outs = (
           items ++ end_item w ∷ [],
           more ∙ ap (λ l. l ++ end_item w ∷ []) was.outs.1 ∙ append_assoc got items (end_item w ∷ []),
           values_end items w ∙ was.outs.2,
+          All-push (λ (x : Item Out). x.from < workers) items (end_item w) was.outs.3 low,
         );
         meet = was.meet;
         counts = was.counts;
@@ -166,13 +167,13 @@ module _ {log : Fates} {got got' : List (Item Out)} {wire wire' : WireSeen} {wri
       }
 
   pub emitting_out : (next : List (Item Out)) (w : ℕ) (o : Out) (f : Fate) (after : WireSeen) (after' : WriterSeen)
-      → next ≡ got' ++ value_item w o ∷ [] → MayMeet o f
+      → w < workers → next ≡ got' ++ value_item w o ∷ [] → MayMeet o f
       → Grows wire'.taken after.taken (sent_datagrams (one o f))
       → after.failures ≡ rises (count fails_to_send (one o f)) wire'.failures
       → after'.failures ≡ rises (count fails_to_start (one o f)) writer'.failures
       → Writes writer'.contents after'.contents o f
-      → IsEmitted (log ++ one o f) got next wire after writer after' (counted report f)
-  emitting_out next w o f after after' more may took failed failed' wrote_it =
+      → IsEmitted workers (log ++ one o f) got next wire after writer after' (counted report f)
+  emitting_out next w o f after after' low more may took failed failed' wrote_it =
       let items : List (Item Out) = was.outs.0 in
       let P : List Datagram → Type 0 = λ l. Grows wire.taken after.taken l in
       let Q : List ℕ → Type 0 = λ l. Appends writer.contents after'.contents l in
@@ -182,6 +183,7 @@ module _ {log : Fates} {got got' : List (Item Out)} {wire wire' : WireSeen} {wri
           items ++ value_item w o ∷ [],
           more ∙ ap (λ l. l ++ value_item w o ∷ []) was.outs.1 ∙ append_assoc got items (value_item w o ∷ []),
           values_value items w o ∙ ap (λ l. l ++ o ∷ []) was.outs.2 ∙ sym (map-append (λ (x : Out × Fate). x.0) log (one o f)),
+          All-push (λ (x : Item Out). x.from < workers) items (value_item w o) was.outs.3 low,
         );
         meet = meet_more log (one o f) was.meet (may, tt);
         counts = counted_more log o f report was.counts;
@@ -208,7 +210,7 @@ pub record Running (log : Fates) (t0 t : TakerSeat) (left : ℕ) (told told' : O
   pub workers : t.workers ≡ t0.workers
   pub left_is : left + count_ended t0.workers t.got ≡ t0.workers
   pub given : Grows told told' []
-  pub emitted : IsEmitted log t0.got t.got wire wire' writer writer' report
+  pub emitted : IsEmitted t0.workers log t0.got t.got wire wire' writer writer' report
 
 pub running_first : (t : TakerSeat) (left : ℕ) (told : Option (List Datagram)) (wire : WireSeen) (writer : WriterSeen)
     → left ≡ t.workers → count_ended t.workers t.got ≡ 0 → Running [] t t left told told wire wire writer writer (record { sent = 0; starts = 0; failed = 0 })
@@ -217,7 +219,7 @@ running_first t left told wire writer all none = record {
   workers = refl;
   left_is = omega arith;
   given = grows_none told;
-  emitted = emitting_none t.got wire writer;
+  emitted = emitting_none t.workers t.got wire writer;
 }
 
 pub took_as : (t u : TakerSeat) (x y : Posted) → x ≡ y → Took t x u → Took t y u
@@ -236,7 +238,7 @@ module _ {log : Fates} {t0 t : TakerSeat} {left : ℕ} {told told' : Option (Lis
         workers = ap (λ (x : TakerSeat). x.workers) took.0 ∙ was.workers;
         left_is = (let l = was.left_is in omega arith);
         given = was.given;
-        emitted = emitting_end was.emitted u.got w got;
+        emitted = emitting_end was.emitted u.got w low got;
       }
 
   pub running_out : (u : TakerSeat) (w : ℕ) (o : Out) (f : Fate) (told'' : Option (List Datagram)) (after : WireSeen) (after' : WriterSeen)
@@ -254,7 +256,7 @@ module _ {log : Fates} {t0 t : TakerSeat} {left : ℕ} {told told' : Option (Lis
         workers = ap (λ (x : TakerSeat). x.workers) took.0 ∙ was.workers;
         left_is = (let l = was.left_is in omega arith);
         given = grows_same told told' told'' [] was.given none;
-        emitted = emitting_out was.emitted u.got w o f after after' got may took_it failed failed' wrote_it;
+        emitted = emitting_out was.emitted u.got w o f after after' (subst (λ n. w < n) was.workers took.1.0) got may took_it failed failed' wrote_it;
       }
 
   pub running_done : left ≡ 0 → AllEnded t0.workers t.got

@@ -1,6 +1,6 @@
 -- What becomes of the outs that a taker takes.
-use Rattle.std.specs.Prelude.{◌≡◌, ℕ, zero, suc, ◌+◌, Bool, true, false, not, List, [], ◌∷◌, ◌++◌, length, map, Option, Some, None}
-use Rattle.std.specs.List.{filter, filter_map, flat_map, AllByRecursion}
+use Rattle.std.specs.Prelude.{◌≡◌, ◌<◌, ℕ, zero, suc, ◌+◌, Bool, true, false, not, List, [], ◌∷◌, ◌++◌, length, map, Option, Some, None}
+use Rattle.std.specs.List.{All, filter, filter_map, flat_map, AllByRecursion}
 use Rattle.std.specs.Io.KnownBytes.{Appends}
 use Rattle.scripts.specs.Devices.{one_more, AppendsFront}
 use Rattle.scripts.specs.Page.{start_text}
@@ -120,9 +120,14 @@ rises (suc n) k = one_more (rises n k)
 abbrev pub AllMeet : Fates → Type 0
 AllMeet log = AllByRecursion (λ (x : Out × Fate). MayMeet x.0 x.1) log
 
--- these outs are the ones that were got after those before
-abbrev pub AreGot : Fates → List (Item Out) → List (Item Out) → Type 0
-AreGot log old new = (more : List (Item Out)) × (new ≡ old ++ more) × (values more ≡ map (λ (x : Out × Fate). x.0) log)
+-- each item is of one of the first n workers
+abbrev pub AllBy : ℕ → List (Item Out) → Type 0
+AllBy n items = All (λ (x : Item Out). x.from < n) items
+
+-- these outs are the ones that were got after those before, all of these workers
+abbrev pub AreGot : ℕ → Fates → List (Item Out) → List (Item Out) → Type 0
+AreGot workers log old new =
+    (more : List (Item Out)) × (new ≡ old ++ more) × (values more ≡ map (λ (x : Out × Fate). x.0) log) × AllBy workers more
 
 -- each out is counted once, by what became of it
 pub record IsCounted (log : Fates) (report : EmitReport) : Type 0 where
@@ -143,11 +148,11 @@ pub record WriterSeen : Type 0 where
   pub contents : Option (List ℕ)
   pub failures : ℕ
 
--- the outs that were got met these fates. The wire took, in order, just the datagrams that were sent, and failed at the others;
+-- the outs that were got of the workers met these fates. The wire took, in order, just the datagrams that were sent, and failed at the others;
 -- the writer failed at each transfer that isn't written; it took of each out, in order, what that is, and so, where it never failed,
 -- the lines of all
-pub record IsEmitted (log : Fates) (got got' : List (Item Out)) (wire wire' : WireSeen) (writer writer' : WriterSeen) (report : EmitReport) : Type 0 where
-  pub outs : AreGot log got got'
+pub record IsEmitted (workers : ℕ) (log : Fates) (got got' : List (Item Out)) (wire wire' : WireSeen) (writer writer' : WriterSeen) (report : EmitReport) : Type 0 where
+  pub outs : AreGot workers log got got'
   pub meet : AllMeet log
   pub counts : IsCounted log report
   pub taken : Grows wire.taken wire'.taken (sent_datagrams log)

@@ -123,7 +123,7 @@ pub fn emit<R: Wait + Clock, W: Wire, F: Write>(
     requires workers { workers ≡ taker.old.workers }
     requires none_ended { count_ended taker.old.workers taker.old.got ≡ 0 }
     // Where the writer never failed, what it took is flushed.
-    ensures emitted { (log : Fates) × IsEmitted log taker.old.got taker.new.got
+    ensures emitted { (log : Fates) × IsEmitted taker.old.workers log taker.old.got taker.new.got
         (record { taken = W.taken wire.old; failures = W.failures wire.old })
         (record { taken = W.taken wire.new; failures = W.failures wire.new })
         (record { contents = F.contents sink.old.writer; failures = sink.old.failures })

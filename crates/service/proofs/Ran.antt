@@ -16,7 +16,7 @@ use Rattle.service.specs.declared.running.Feeders.{Feeders}
 use Rattle.service.specs.declared.running.Outcome.{Outcome}
 use Rattle.service.specs.Handing.{AreErrands}
 use Rattle.service.specs.Running.{SendsDatagrams, SendsLines, SendsTicks, SendsFor, ThenCloses, Runs, Leaves}
-use Rattle.service.proofs.Closed.{taker_new}
+use Rattle.service.proofs.Closed.{taker_new, taker_workers}
 
 pub on_ok : {T E : Type 0} {P Q : T → Type 0} (r : Result T E) → IfOk r P → ((x : T) → P x → Q x) → IfOk r Q
 on_ok (Ok x) p f = f x p
@@ -32,10 +32,10 @@ pub on_err : {T E P Q : Type 0} (r : Result T E) → OnErr r P → (P → Q) →
 on_err (Ok x) p f = p
 on_err (Err e) p f = f p
 
-pub leaves : {got got' : List (Item Out)} {wire wire' : WireSeen} {writer writer' : WriterSeen} (fates : Fates) (report : EmitReport)
-    → got ≡ [] → IsEmitted fates got got' wire wire' writer writer' report → Leaves wire wire' writer writer'
-leaves {got' = got'} {wire = wire} {wire' = wire'} {writer = writer} {writer' = writer'} fates report none is =
-    let P : List (Item Out) → Type 0 = λ l. IsEmitted fates l got' wire wire' writer writer' report in (fates, got', report, subst P none is)
+pub leaves : {workers : ℕ} {got got' : List (Item Out)} {wire wire' : WireSeen} {writer writer' : WriterSeen} (fates : Fates) (report : EmitReport)
+    → got ≡ [] → IsEmitted workers fates got got' wire wire' writer writer' report → Leaves wire wire' writer writer'
+leaves {workers = workers} {got' = got'} {wire = wire} {wire' = wire'} {writer = writer} {writer' = writer'} fates report none is =
+    let P : List (Item Out) → Type 0 = λ l. IsEmitted workers fates l got' wire wire' writer writer' report in (workers, fates, got', report, subst P none is)
 
 -- what each thread sent, once its errand is known
 module _ {mailboxes : List (List ℕ)} {f : Feeders} (are : AreErrands mailboxes f) (end : FeedEnd) (old new : PortSeats) where
@@ -55,10 +55,11 @@ pub runs_are : {start : ℕ → Start} {workers : ℕ} {crew : List Hired} {a b 
     (got : List (Item Out)) (fates : Fates) (report : EmitReport)
     → ThenCloses (SendsDatagrams o.sip) a a' → ThenCloses (SendsLines mailboxes o.lines) b b' → ThenCloses (SendsTicks o.time) c c'
     → ports ≡ a' ∷ b' ∷ c' ∷ [] → IsJoined crew ports got o.report.workers.items
-    → IsEmitted fates taker.got got wire wire' writer writer' report → Runs start workers mailboxes wire wire' writer writer' o
+    → IsEmitted taker.workers fates taker.got got wire wire' writer writer' report → Runs start workers mailboxes wire wire' writer writer' o
 runs_are {crew = crew} {a = a} {b = b} {c = c} {taker = taker} is mailboxes wire wire' writer writer' o a' b' c' ports got fates report datagrams lines ticks are joined emitted =
     let P : List PortSeats → Type 0 = λ l. IsJoined crew l got o.report.workers.items in
-    let Q : List (Item Out) → Type 0 = λ l. IsEmitted fates l got wire wire' writer writer' report in record {
+    let Q : List (Item Out) → Type 0 = λ l. IsEmitted taker.workers fates l got wire wire' writer writer' report in
+    let N : ℕ → Type 0 = λ n. IsEmitted n fates [] got wire wire' writer writer' report in record {
       crew = crew;
       sip = a;
       lines = b;
@@ -75,7 +76,7 @@ runs_are {crew = crew} {a = a} {b = b} {c = c} {taker = taker} is mailboxes wire
       joined = subst P are joined;
       fates = fates;
       emitted_as = report;
-      emitted = subst Q (taker_new is) emitted;
+      emitted = subst N (taker_workers is) (subst Q (taker_new is) emitted);
     }
 
 -- the same, where the number of workers has another name

@@ -84,11 +84,11 @@ pub record Runs (start : ℕ → Start) (workers : ℕ) (mailboxes : List (List 
   -- what became of these
   pub fates : Fates
   pub emitted_as : EmitReport
-  pub emitted : IsEmitted fates [] got wire wire' writer writer' emitted_as
+  pub emitted : IsEmitted workers fates [] got wire wire' writer writer' emitted_as
 
 -- ---- a service that doesn't run
 
 -- what left by a wire and a writer were outs that were got: each was sent, written or failed, in order
 abbrev pub Leaves : WireSeen → WireSeen → WriterSeen → WriterSeen → Type 0
 Leaves wire wire' writer writer' =
-    (fates : Fates) × (got : List (Item Out)) × (report : EmitReport) × IsEmitted fates [] got wire wire' writer writer' report
+    (workers : ℕ) × (fates : Fates) × (got : List (Item Out)) × (report : EmitReport) × IsEmitted workers fates [] got wire wire' writer writer' report

@@ -46,7 +46,7 @@ runs_as {start' = start'} {workers' = workers'} same each r = record {
   joined = r.joined;
   fates = r.fates;
   emitted_as = r.emitted_as;
-  emitted = r.emitted;
+  emitted = rw (← same) r.emitted;
 }
 
 module _ {P : Type 0} (seen : P → Seen) (setup : Setup) (boxes : List (Vec P Global)) (plan : Plan) (local : Addr) (is_setup : setup ≡ setup_of plan local)

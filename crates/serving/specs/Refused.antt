@@ -1,10 +1,11 @@
 -- Why no service runs, and the exit status of the program then.
 --
 --   status   cause
+--   0        none: it came to its end
 --   1        the words ask for no service
 --   3        an address, a file, a thread or a socket can't be had, or one failed
 --   4        memory was wanting
-use Rattle.std.specs.Prelude.{ℕ, List, []}
+use Rattle.std.specs.Prelude.{◌≡◌, ◌⊎◌, ℕ, List, [], ◌∷◌, codes}
 use Rattle.notifier.specs.Limits.{AreLimits}
 use Rattle.options.specs.declared.choices.Choices.{Choices}
 use Rattle.options.specs.declared.error.OptionsError.{OptionsError}
@@ -15,7 +16,8 @@ use Rattle.service.specs.declared.error.RunError.{RunError}
 use Rattle.service.specs.declared.error.RunError.TheVariants as run
 use Rattle.serving.specs.declared.error.ServeError.{ServeError}
 use Rattle.serving.specs.declared.error.ServeError.TheVariants as error
-use Rattle.serving.specs.Plans.{limits_of, IsReached, AreRead}
+use Rattle.serving.specs.declared.plan.Plan.{Plan}
+use Rattle.serving.specs.Plans.{limits_of, IsReached, AreRead, IsPlan}
 
 -- an address in another form may be a host that can't be found
 abbrev pub status_of_words : OptionsError → ℕ
@@ -78,3 +80,18 @@ IsRefusal words (error.Address place) = Unit {0}
 IsRefusal words error.System = Unit {0}
 IsRefusal words error.Device = Unit {0}
 IsRefusal words error.NoMemory = Unit {0}
+
+-- ---- the exit status of `notifyd serve`
+
+-- the words ask for a text alone
+abbrev pub AskForText : List (List ℕ) → Type 0
+AskForText words = (words ≡ codes "--help" ∷ []) ⊎ (words ≡ codes "--version" ∷ [])
+
+-- the words ask for a service
+abbrev pub AskForService : List (List ℕ) → Type 0
+AskForService words = (plan : Plan) × IsPlan words plan
+
+-- 0 only where the words ask for a text, or for a service; any other is that of a cause
+abbrev pub IsStatus : List (List ℕ) → ℕ → Type 0
+IsStatus words status =
+    ((status ≡ 0) × (AskForText words ⊎ AskForService words)) ⊎ ((e : ServeError) × IsRefusal words e × (status ≡ status_of e))

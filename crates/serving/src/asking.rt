@@ -1,4 +1,7 @@
 //! `notifyd tell`.
+ghost use Rattle.std.specs.Prelude.{◌≡◌, ◌⊎◌};
+ghost use Rattle.options.specs.declared.tell.TellCall.{TellCall};
+ghost use Rattle.options.specs.Tell.{IsTellCall};
 
 use options::{TellCall, TellError, parse_tell};
 use sip_text::{Addr, Text};
@@ -52,7 +55,9 @@ fn ask<R: Wait + Net + Print + Eprint>(rt: &R, call: &TellCall) -> u8 {
 
 /// `notifyd tell` with these words behind it. Answers the exit status: 0 where the answer is `ok`, 1 where it is another one or
 /// the words are no call, 3 where nobody answered or a socket failed, 4 where memory was wanted.
-pub fn tell<R: Wait + Net + Print + Eprint + AllocGlobal>(rt: &R, words: &[Text]) -> u8 {
+pub fn tell<R: Wait + Net + Print + Eprint + AllocGlobal>(rt: &R, words: &[Text]) -> u8
+    ensures no_call { ((call : TellCall) → ¬ IsTellCall words.now call) → (result ≡ 1) ⊎ (result ≡ 4) }
+{
     match parse_tell(rt.alloc(), words) {
         Ok(call) => ask(rt, &call),
         Err(error) => {

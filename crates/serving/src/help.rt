@@ -1,5 +1,8 @@
 //! What `notifyd serve --help` and `--version` print.
 
+ghost use Rattle.std.specs.Prelude.{IfSome};
+ghost use Rattle.serving.specs.Refused.{AskForText};
+
 use sip_text::Text;
 
 const VERSION: &str = "notifyd 1.0";
@@ -29,7 +32,9 @@ usage: notifyd serve [options] [<mailbox>...]
 Lines for tell: MAIL, PROGRESS, STATUS, CLOSE; see notifyd(8).";
 
 /// The text that the words ask for, where they ask for that alone.
-pub(crate) fn text_for(words: &[Text]) -> Option<&'static str> {
+pub(crate) fn text_for(words: &[Text]) -> Option<&'static str>
+    ensures asked { IfSome result (λ _. AskForText words.now) }
+{
     match words {
         [word] if word.is("--help") => Some(HELP),
         [word] if word.is("--version") => Some(VERSION),

@@ -1,9 +1,10 @@
 //! `notifyd serve`.
-ghost use Rattle.std.specs.Prelude.{◌≡◌, ◌<◌, ◌≤◌, get_or, map, vec_len, IfOk, IfErr};
+ghost use Rattle.std.specs.Prelude.{◌≡◌, ◌<◌, ◌≤◌, ◌⊎◌, get_or, map, vec_len, IfOk, IfErr};
 ghost use Rattle.crew.specs.Ready.{start_of};
 ghost use Rattle.server.specs.Boxes.{box_seen};
 ghost use Rattle.server.specs.Call as call;
-ghost use Rattle.serving.specs.Refused.{IsOther, IsRefusal};
+ghost use Rattle.serving.specs.Refused.{AskForService, IsOther, IsRefusal, IsStatus, status_of};
+ghost use Rattle.serving.specs.declared.error.ServeError.TheVariants as error;
 ghost use Rattle.serving.specs.Serving.{AreOpen, IsWork, Ran, Serves, new_sink};
 
 use crate::error::ServeError;
@@ -191,6 +192,7 @@ fn close_off<R, F>(rt: &R, served: &mut Served<F>) -> Result<(), ServeError>
 where
     R: Clock + Eprint + AllocGlobal,
     F: Write,
+    ensures refused { IfErr result IsOther }
 {
     let reports = served.outcome.report.workers.as_slice();
     let lines = worker_lines(rt.alloc(), reports)?;
@@ -208,6 +210,7 @@ where
 }
 
 /// Runs the service that the words ask for, to its end.
+#[tactic(auto, using(crate::proofs::Refused::other_is))]
 fn attempt<R>(rt: R, words: &[Text]) -> Result<(), ServeError>
 where
     R: Threads
@@ -222,13 +225,17 @@ where
         + Copy
         + Send
         + 'static,
+    ensures asked { IfOk result (λ _. AskForService words.now) }
+    ensures refused { IfErr result (IsRefusal words.now) }
 {
     let mut served = serve_words(rt, words, io::writer(&rt))?;
     close_off(&rt, &mut served)
 }
 
 /// Prints a text that the words asked for alone. Answers the exit status.
-fn print_text<R: Print>(rt: &R, text: &str) -> u8 {
+fn print_text<R: Print>(rt: &R, text: &str) -> u8
+    ensures status { (result ≡ 0) ⊎ (result ≡ status_of error.Device) }
+{
     match println!(rt; "{text}") {
         Ok(()) => 0,
         Err(_) => 3,
@@ -236,7 +243,9 @@ fn print_text<R: Print>(rt: &R, text: &str) -> u8 {
 }
 
 /// Tells on standard error why no service runs, or has ended. Answers the exit status.
-fn tell_why<R: Eprint>(rt: &R, error: &ServeError) -> u8 {
+fn tell_why<R: Eprint>(rt: &R, error: &ServeError) -> u8
+    ensures status { result ≡ status_of error.now }
+{
     let _ = eprintln!(rt; "notifyd: {error}");
     error.status()
 }
@@ -258,6 +267,7 @@ where
         + Copy
         + Send
         + 'static,
+    ensures status { IsStatus words.now result }
 {
     if let Some(text) = text_for(words) {
         return print_text(&rt, text);

@@ -16,7 +16,7 @@ use Rattle.udp_program.specs.declared.listening.Errand.{Errand}
 use Rattle.udp_program.specs.Hearing.{HearsOutSocket}
 use Rattle.udp_program.specs.Serving.{Outcome, Serves, most_lines, writer_seen}
 use Rattle.udp_program.specs.Running.{AreErrands}
-use Rattle.udp_program.proofs.Started.{taker_new}
+use Rattle.udp_program.proofs.Started.{taker_new, taker_workers}
 
 -- what each thread heard, once its errand is known
 pub heard_sip : {sip control : Errand} (are : AreErrands sip control) (old new : PortSeats) (report : FeedReport)
@@ -36,11 +36,12 @@ pub serves_are : {W : Type 0} (contents : W → Option (List ℕ)) {start : ℕ 
     (count : ℕ) (before after : Sink W) (o : Outcome) (sip' control' : PortSeats) (ports : List PortSeats) (got : List (Item Out)) (fates : Fates) (wire wire' : WireSeen)
     → HearsOutSocket Sip count sip sip' o.feed → HearsOutSocket Control most_lines control control' o.control
     → ports ≡ sip' ∷ control' ∷ [] → IsJoined crew ports got o.workers
-    → IsEmitted fates taker.got got wire wire' (writer_seen contents before) (writer_seen contents after) o.emitted
+    → IsEmitted taker.workers fates taker.got got wire wire' (writer_seen contents before) (writer_seen contents after) o.emitted
     → Serves contents start workers count before after o
 serves_are contents {crew = crew} {sip = sip} {control = control} {taker = taker} is count before after o sip' control' ports got fates wire wire' hears_sip hears_control are joined emitted =
     let P : List PortSeats → Type 0 = λ l. IsJoined crew l got o.workers in
-    let Q : List (Item Out) → Type 0 = λ l. IsEmitted fates l got wire wire' (writer_seen contents before) (writer_seen contents after) o.emitted in record {
+    let Q : List (Item Out) → Type 0 = λ l. IsEmitted taker.workers fates l got wire wire' (writer_seen contents before) (writer_seen contents after) o.emitted in
+    let N : ℕ → Type 0 = λ n. IsEmitted n fates [] got wire wire' (writer_seen contents before) (writer_seen contents after) o.emitted in record {
       crew = crew;
       sip = sip;
       control = control;
@@ -55,5 +56,5 @@ serves_are contents {crew = crew} {sip = sip} {control = control} {taker = taker
       fates = fates;
       wire = wire;
       wire' = wire';
-      emitted = subst Q (taker_new is) emitted;
+      emitted = subst N (taker_workers is) (subst Q (taker_new is) emitted);
     }

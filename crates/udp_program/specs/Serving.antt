@@ -54,4 +54,4 @@ pub record Serves {W : Type 0} (contents : W → Option (List ℕ)) (start : ℕ
   pub fates : Fates
   pub wire : WireSeen
   pub wire' : WireSeen
-  pub emitted : IsEmitted fates [] got wire wire' (writer_seen contents before) (writer_seen contents after) outcome.emitted
+  pub emitted : IsEmitted workers fates [] got wire wire' (writer_seen contents before) (writer_seen contents after) outcome.emitted
