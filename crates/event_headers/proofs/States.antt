@@ -1,6 +1,6 @@
 -- A Subscription-State value.
 use Rattle.std.proofs.Common.{◌≡◌, ◌<◌, ◌≤◌, ◌+◌, ◌^◌, ℕ, cond, Bool, true, false, List, [], ◌∷◌, Option, Some, None, option_map, refl, sym, ap, subst}
-use Rattle.std.specs.Prelude.{◌||◌, ◌==◌, codes, nat_lt, nat_le, IfSome}
+use Rattle.std.specs.Prelude.{◌||◌, codes, nat_lt, nat_le, IfSome}
 use Rattle.std.specs.Str.{str_to_ascii_lowercase}
 use Rattle.std.specs.Char.{to_ascii_lowercase}
 use Rattle.std.specs.List.{list_all}

@@ -1,6 +1,6 @@
 -- The written text of a value, and that it is read as the value.
-use Rattle.std.proofs.Common.{◌≡◌, ◌≢◌, ◌<◌, ◌≤◌, ◌+◌, ◌-◌, ◌*◌, ◌/◌, ◌%◌, ◌^◌, ℕ, suc, true, false, List, [], ◌∷◌, ◌++◌, length, take, drop, get_or, reverse, Option, Some, None, option_map, refl, sym, ap, subst, ◌∙◌, append_assoc, arith, inr}
-use Rattle.std.specs.Prelude.{codes, decimal, IfSome, nat_le, All}
+use Rattle.std.proofs.Common.{◌≡◌, ◌≢◌, ◌<◌, ◌≤◌, ◌+◌, ◌-◌, ℕ, suc, true, false, List, [], ◌∷◌, ◌++◌, length, take, drop, get_or, reverse, Option, Some, None, option_map, refl, sym, ap, subst, ◌∙◌, append_assoc, arith, inr}
+use Rattle.std.specs.Prelude.{codes, decimal, IfSome, All}
 use Rattle.std.specs.List.{list_all}
 use Rattle.std.specs.Char.{to_ascii_lowercase}
 use Rattle.std.specs.Str.{str_eq_ignore_ascii_case, str_to_ascii_lowercase}
@@ -18,7 +18,7 @@ use Rattle.event_headers.specs.Laws.{EventIsReadAgain, StateIsReadAgain, Expires
 use Rattle.sip_text.proofs.Pieces.{and_both, NoSpace, word_stops_spaces}
 use Rattle.sip_text.proofs.NotEmpty.{cons_some, some_behind, nonempty_reverse, ends_more}
 use Rattle.sip_text.proofs.Numerals.{spelled}
-use Rattle.sip_text.proofs.Trims.{all-append, all-reverse}
+use Rattle.sip_text.proofs.Trims.{all-reverse}
 
 -- ---- what stands in a value
 

@@ -1,5 +1,5 @@
 -- The body of a NOTIFY: the whole content of a resource.
-use Rattle.std.specs.Prelude.{ℕ, Bool, false, ◌||◌, nat_lt, if◌then◌else◌, List, [], ◌∷◌, ◌++◌, Option, None, Some, codes, decimal}
+use Rattle.std.specs.Prelude.{ℕ, Bool, false, ◌||◌, nat_lt, if◌then◌else◌, List, [], ◌++◌, Option, None, Some, codes, decimal}
 use Rattle.package.specs.declared.counts.Counts.{Counts}
 use Rattle.package.specs.declared.counts.MailCounts.{MailCounts}
 use Rattle.package.specs.Content.{Content, OfMail, OfStatus}

@@ -1,5 +1,5 @@
 -- Texts that are put on a page.
-use Rattle.std.proofs.Common.{◌≡◌, ℕ, true, List, [], ◌∷◌, ◌++◌, refl, sym, ap, subst, ◌∙◌, codes, Bool, false, cond, ◌+◌, ◌<◌, length, map, get_or, take, drop, ◌-◌, ◌≤◌, arith, append_assoc, append-nil}
+use Rattle.std.proofs.Common.{◌≡◌, ℕ, List, [], ◌∷◌, ◌++◌, refl, sym, ap, subst, ◌∙◌, codes, Bool, false, cond, ◌+◌, ◌<◌, length, map, get_or, take, drop, ◌-◌, ◌≤◌, arith, append_assoc, append-nil}
 use Rattle.std.proofs.lemmas.List.{take_at, take_more}
 use Rattle.std.specs.Prelude.{Result, Ok, Err, is_ok, OnOk, OnErr}
 use Rattle.sip_text.specs.declared.error.NoMemory.{NoMemory}

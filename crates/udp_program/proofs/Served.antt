@@ -1,5 +1,5 @@
 -- A crew that served its two ports to its end.
-use Rattle.std.proofs.Common.{◌≡◌, ℕ, List, [], ◌∷◌, Option, subst, sym}
+use Rattle.std.proofs.Common.{◌≡◌, ℕ, List, [], ◌∷◌, Option, subst}
 use Rattle.queue_rule.specs.declared.items.Item.{Item}
 use Rattle.scripts.specs.declared.device.Sink.{Sink}
 use Rattle.notifier.specs.declared.event.Out.{Out}

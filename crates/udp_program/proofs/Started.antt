@@ -1,6 +1,5 @@
 -- A crew with two ports, as it was started.
-use Rattle.std.proofs.Common.{◌≡◌, ℕ, zero, suc, ◌+◌, ◌<◌, ◌≤◌, List, [], ◌∷◌, ◌++◌, length, map, get_or, Vec, refl, ap, sym, ◌∙◌, subst, arith, length-append}
-use Rattle.std.specs.List.{range_with_len}
+use Rattle.std.proofs.Common.{◌≡◌, ℕ, ◌<◌, List, [], ◌∷◌, ◌++◌, length, map, get_or, Vec, refl, ap, sym, ◌∙◌, arith, length-append}
 use Rattle.std.specs.declared.alloc.Global.{Global}
 use Rattle.std.proofs.lemmas.List.{get_or-map, length-map}
 use Rattle.std.proofs.lemmas.List.FromFn.{get_or-map-range_with_len}
@@ -9,7 +8,7 @@ use Rattle.package.specs.Content.{Seen}
 use Rattle.notifier.specs.declared.place.Setup.{Setup}
 use Rattle.notifier.specs.Start.{Start, place_of}
 use Rattle.outbox.specs.Seats.{TakerSeat, new_taker}
-use Rattle.crew.specs.Ports.{PortSeats, port_of}
+use Rattle.crew.specs.Ports.{PortSeats}
 use Rattle.crew.specs.Ready.{start_of}
 use Rattle.crew.specs.Started.{Hired, IsStarted}
 use Rattle.crew.proofs.Starting.{element}

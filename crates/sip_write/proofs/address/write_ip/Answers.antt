@@ -1,4 +1,4 @@
-use Rattle.std.proofs.Common.{◌≡◌, ◌++◌, ℕ, List, [], length, refl, codes, decimal, arith, append-nil, drop_of_length-le}
+use Rattle.std.proofs.Common.{◌≡◌, ◌++◌, ℕ, List, [], refl, codes, decimal, arith, append-nil, drop_of_length-le}
 use Rattle.std.proofs.lemmas.Fmt.{length-decimal-le}
 use Rattle.sip_write.proofs.address.write_ip.Goals as goal
 

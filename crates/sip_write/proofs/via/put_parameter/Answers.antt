@@ -1,4 +1,4 @@
-use Rattle.std.proofs.Common.{◌++◌, ℕ, List, codes, decimal, sym, ap, ◌∙◌}
+use Rattle.std.proofs.Common.{decimal, sym, ap, ◌∙◌}
 use Rattle.sip_write.proofs.Pages.{nothing, and_then, same}
 use Rattle.sip_write.proofs.ViaLines.{left_out, copied, with_port}
 use Rattle.sip_write.proofs.via.put_parameter.Goals as goal

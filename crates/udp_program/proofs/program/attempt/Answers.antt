@@ -1,4 +1,3 @@
-use Rattle.std.proofs.Common.{refl, arith}
 use Rattle.server.proofs.Worked.{if_ok}
 use Rattle.udp_program.proofs.Ended.{bad_asks_none}
 use Rattle.udp_program.proofs.program.attempt.Goals as goal

@@ -1,4 +1,4 @@
-use Rattle.std.proofs.Common.{map, arith}
+use Rattle.std.proofs.Common.{arith}
 use Rattle.server.specs.Boxes.{box_seen}
 use Rattle.udp_program.proofs.Started.{workers_are, crew_is}
 use Rattle.udp_program.proofs.program.start_crew.Goals as goal

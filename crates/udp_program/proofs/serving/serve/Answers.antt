@@ -1,5 +1,4 @@
 use Rattle.std.proofs.Common.{◌≡◌, ◌<◌, ℕ, List, [], ◌∷◌, get_or, sym, ap, ◌∙◌, subst, arith}
-use Rattle.scripts.specs.declared.device.Sink.{Sink}
 use Rattle.crew.specs.Ports.{PortSeats}
 use Rattle.udp_program.specs.Running.{IsNew, outcome_of}
 use Rattle.udp_program.specs.Serving.{Serves}
