@@ -11,18 +11,20 @@ use Rattle.notifier.specs.Start.{Start}
 use Rattle.outbox.specs.Seats.{TakerSeat, PosterSeat, new_taker}
 use Rattle.outbox.specs.Took.{posted_item}
 use Rattle.outbox.specs.declared.ends.Posted.{Posted}
+use Rattle.emitting.specs.Emitted.{AllBy}
 use Rattle.crew.specs.Joined.{Reported}
 use Rattle.crew.specs.Started.{Hired}
 use Rattle.crew.specs.declared.report.WorkerReport.{WorkerReport}
 use Rattle.lives.specs.Notices.{newest_first, notices}
 use Rattle.lives.specs.Laws.{IsStart, AreNotifies, notifies_with}
+use Rattle.worlds.specs.Laws.{Rise}
 use Rattle.worlds.proofs.Cases.{never_both, is_below}
 use Rattle.worlds.proofs.Steps.{above}
 use Rattle.worlds.proofs.Numbering.{first_rise}
 use Rattle.worlds.proofs.Told.{none_at_all}
 use Rattle.worlds.proofs.Others.{IsStrange, others_strange, others_silent, with_tag, IsAlone, own_alone}
 use Rattle.crew_laws.specs.Laws.{events_handled, its_tag}
-use Rattle.crew_laws.specs.Whole.{AllBy, TookAll, TookLaw, IsCrewRun, WholeLaw, RisingLaw}
+use Rattle.crew_laws.specs.Whole.{TookAll, TookLaw, IsCrewRun, WholeLaw, RisingLaw, EmittedLaw, outs_of}
 use Rattle.crew_laws.proofs.Joined.{joined_life_law}
 
 -- ---- what was got is of the crew's workers
@@ -47,7 +49,7 @@ none_above n v (x ∷ xs) high by =
 
 -- ---- the workers of a run
 
-module _ (start : ℕ → Start) (crew : List Hired) (got : List (Item Out)) (reports : List WorkerReport) (h : Hired) (r : WorkerReport) (run : IsCrewRun start crew got reports) where
+module _ (start : ℕ → Start) (crew : List Hired) (got : List (Item Out)) (reports : List WorkerReport) (h : Hired) (r : WorkerReport) (run : IsCrewRun start crew got reports) (by : AllBy (length crew) got) where
   abbrev hired_at : ℕ → Hired
   hired_at v = get_or crew v h
 
@@ -89,24 +91,36 @@ module _ (start : ℕ → Start) (crew : List Hired) (got : List (Item Out)) (re
       by_number : (d : Bool) → nat_lt v (length crew) ≡ d → with_tag (its_tag (hired_at w) serial) (items_of v got) ≡ []
       by_number true e = silent v w serial (is_below v (length crew) e) lw other
       by_number false e =
-          ap (with_tag (its_tag (hired_at w) serial)) (none_above (length crew) v got (above v (length crew) e) run.by_crew)
+          ap (with_tag (its_tag (hired_at w) serial)) (none_above (length crew) v got (above v (length crew) e) by)
           ∙ none_at_all (its_tag (hired_at w) serial)
 
 pub whole_law : WholeLaw
-whole_law start crew got reports w serial h r run lt small =
+whole_law start crew got reports w serial h r run by lt small =
     let hired : Hired = get_or crew w h in
     let report : WorkerReport = get_or reports w r in
     let tag : List ℕ = its_tag hired serial in
-    let of_worker = joined_life_law hired got report serial (starts_well start crew got reports h r run w lt) small (told start crew got reports h r run w lt) in
+    let of_worker = joined_life_law hired got report serial (starts_well start crew got reports h r run by w lt) small (told start crew got reports h r run by w lt) in
     let all : with_tag tag got ≡ with_tag tag (items_of hired.posts.number got) =
-    own_alone tag w got (alone start crew got reports h r run w serial lt)
-    ∙ ap (λ k. with_tag tag (items_of k got)) (sym (posts_as start crew got reports h r run w lt)) in
+    own_alone tag w got (alone start crew got reports h r run by w serial lt)
+    ∙ ap (λ k. with_tag tag (items_of k got)) (sym (posts_as start crew got reports h r run by w lt)) in
     subst (AreNotifies tag (notices hired.start serial (newest_first (events_handled hired report)))) (sym all) of_worker
 
 pub rising_law : RisingLaw
-rising_law start crew got reports w serial h r run lt small =
+rising_law start crew got reports w serial h r run by lt small =
     let hired : Hired = get_or crew w h in
     let past = newest_first (events_handled hired (get_or reports w r)) in
     let all = notices hired.start serial past in
     first_rise hired.start serial past (its_tag hired serial) all (notifies_with (its_tag hired serial) (values got))
-    ([], sym (append-nil all)) (whole_law start crew got reports w serial h r run lt small)
+    ([], sym (append-nil all)) (whole_law start crew got reports w serial h r run by lt small)
+
+pub emitted_law : EmittedLaw
+emitted_law start crew got reports w serial h r fates wire wire' writer writer' report run emitted lt small =
+    let outs = emitted.outs in
+    let same : outs.0 ≡ got = sym outs.1 in
+    let tag : List ℕ = its_tag (get_or crew w h) serial in
+    let by : AllBy (length crew) got = subst (AllBy (length crew)) same outs.3 in
+    let met : values got ≡ outs_of fates = ap values (sym same) ∙ outs.2 in (
+      subst (λ (l : List Out). AreNotifies tag (notices (get_or crew w h).start serial (newest_first (events_handled (get_or crew w h) (get_or reports w r)))) (notifies_with tag l))
+      met (whole_law start crew got reports w serial h r run by lt small),
+      subst (λ (l : List Out). Rise (notifies_with tag l)) met (rising_law start crew got reports w serial h r run by lt small),
+    )

@@ -12,7 +12,7 @@
 
 ghost use Rattle.crew_laws.specs.Elsewhere.{EveryPortLaw, NowhereElseLaw};
 ghost use Rattle.crew_laws.specs.Laws.{AllLaw, AloneLaw, LifeLaw};
-ghost use Rattle.crew_laws.specs.Whole.{RisingLaw, TookLaw, WholeLaw};
+ghost use Rattle.crew_laws.specs.Whole.{EmittedLaw, RisingLaw, TookLaw, WholeLaw};
 
 /// A worker that ended as Closed handled all events that it took, and the planned stop.
 pub fn all()
@@ -30,24 +30,30 @@ pub fn took()
     ensures { TookLaw }
 {}
 
-/// They are all that the taker got with the subscription's tag since the crew's start, from whichever worker: no other worker's
-/// outs have that tag.
+/// The NOTIFYs with a subscription's tag among all that the taker got since the crew's start, from whichever worker, are those
+/// of its life: no other worker's outs have that tag.
 pub fn whole()
     ensures { WholeLaw }
 {}
 
-/// They are numbered 1, 2, 3 and so on, and none follows a terminated one.
+/// Those NOTIFYs are numbered 1, 2, 3 and so on, and none follows a terminated one.
 pub fn rising()
     ensures { RisingLaw }
 {}
 
-/// They are what the subscription would be told of its own events alone, by one worker, as its first.
+/// Where `emit` took what the workers posted, those NOTIFYs are all with the subscription's tag that met a fate: that were sent,
+/// or at which the wire failed. The contracts of `notifyd udp` and `serve` have what this law asks of a run.
+pub fn emitted()
+    ensures { EmittedLaw }
+{}
+
+/// What the taker got of a subscription is what it would be told of its own events alone, by one worker, as its first.
 pub fn alone()
     ensures { AloneLaw }
 {}
 
-/// No other worker took any of its own events but ticks and the planned stop, where every port of the crew was handed to
-/// `Crew::join`: whatever the number of workers, it is told by one.
+/// No other worker took any of a subscription's own events but ticks and the planned stop, where every port of the crew was
+/// handed to `Crew::join`: whatever the number of workers, it is told by one.
 pub fn nowhere_else()
     ensures { NowhereElseLaw }
 {}

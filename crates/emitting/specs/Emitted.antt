@@ -148,9 +148,9 @@ pub record WriterSeen : Type 0 where
   pub contents : Option (List ℕ)
   pub failures : ℕ
 
--- the outs that were got of the workers met these fates. The wire took, in order, just the datagrams that were sent, and failed at the others;
--- the writer failed at each transfer that isn't written; it took of each out, in order, what that is, and so, where it never failed,
--- the lines of all
+-- the outs that were got of the workers met these fates. The wire took, in order, just the datagrams that were sent, and failed
+-- at the others; the writer failed at each transfer that isn't written; it took of each out, in order, what that is, and so,
+-- where it never failed, the lines of all
 pub record IsEmitted (workers : ℕ) (log : Fates) (got got' : List (Item Out)) (wire wire' : WireSeen) (writer writer' : WriterSeen) (report : EmitReport) : Type 0 where
   pub outs : AreGot workers log got got'
   pub meet : AllMeet log

@@ -91,4 +91,5 @@ pub record Runs (start : ℕ → Start) (workers : ℕ) (mailboxes : List (List 
 -- what left by a wire and a writer were outs that were got: each was sent, written or failed, in order
 abbrev pub Leaves : WireSeen → WireSeen → WriterSeen → WriterSeen → Type 0
 Leaves wire wire' writer writer' =
-    (workers : ℕ) × (fates : Fates) × (got : List (Item Out)) × (report : EmitReport) × IsEmitted workers fates [] got wire wire' writer writer' report
+    (workers : ℕ) × (fates : Fates) × (got : List (Item Out)) × (report : EmitReport)
+    × IsEmitted workers fates [] got wire wire' writer writer' report
