@@ -121,6 +121,6 @@ emitted_law start crew got reports w serial h r fates wire wire' writer writer' 
     let by : AllBy (length crew) got = subst (AllBy (length crew)) same outs.3 in
     let met : values got ≡ outs_of fates = ap values (sym same) ∙ outs.2 in (
       subst (λ (l : List Out). AreNotifies tag (notices (get_or crew w h).start serial (newest_first (events_handled (get_or crew w h) (get_or reports w r)))) (notifies_with tag l))
-      met (whole_law start crew got reports w serial h r run by lt small),
+          met (whole_law start crew got reports w serial h r run by lt small),
       subst (λ (l : List Out). Rise (notifies_with tag l)) met (rising_law start crew got reports w serial h r run by lt small),
     )
