@@ -117,7 +117,8 @@ pub fn send_outs<R: Wait + Clock, W: Wire, F: Write>(
     requires none { taker.old.got ≡ [] }
     // Each out that was taken is sent, written or failed, in order, and nothing else is sent or written. Where the writer
     // never failed, what it took is flushed.
-    ensures emitted { (log : Fates) × (report : EmitReport) × IsEmitted taker.old.workers log taker.old.got taker.new.got
+    ensures emitted { (log : Fates) × (report : EmitReport)
+        × IsEmitted taker.old.workers log taker.old.got taker.new.got
         (record { taken = W.taken exit.old.wire; failures = W.failures exit.old.wire })
         (record { taken = W.taken exit.new.wire; failures = W.failures exit.new.wire })
         (record { contents = F.contents exit.old.sink.writer; failures = exit.old.sink.failures })
