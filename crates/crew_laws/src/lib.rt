@@ -5,7 +5,7 @@
 //! tag came from any worker, and [`alone`] that neither the number of workers nor any other event shows in it; [`nowhere_else`]
 //! says that no other worker took any of its own events.
 //! What the taker may rely on at any moment before, `worlds::world` says.
-//! No function here does anything: each is a theorem over the definitions of `crew`, `lives` and `isolation`.
+//! No function here does anything: each is a theorem over the definitions of `crew`, `emitting`, `lives` and `isolation`.
 //!
 //! Begin with `specs/Laws`, then `specs/Whole` and `specs/Elsewhere`.
 #![tactic(auto)]
