@@ -1,6 +1,6 @@
 //! What `notifyd serve --help` and `--version` print.
 
-ghost use Rattle.std.specs.Prelude.{IfSome};
+ghost use Rattle.std.specs.Prelude.{◌≢◌, None, IfSome};
 ghost use Rattle.serving.specs.Refused.{AskForText};
 
 use sip_text::Text;
@@ -34,6 +34,7 @@ Lines for tell: MAIL, PROGRESS, STATUS, CLOSE; see notifyd(8).";
 /// The text that the words ask for, where they ask for that alone.
 pub(crate) fn text_for(words: &[Text]) -> Option<&'static str>
     ensures asked { IfSome result (λ _. AskForText words.now) }
+    ensures only { AskForText words.now → result ≢ None }
 {
     match words {
         [word] if word.is("--help") => Some(HELP),

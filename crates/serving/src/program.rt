@@ -3,7 +3,7 @@ ghost use Rattle.std.specs.Prelude.{◌≡◌, ◌<◌, ◌≤◌, ◌⊎◌, ge
 ghost use Rattle.crew.specs.Ready.{start_of};
 ghost use Rattle.server.specs.Boxes.{box_seen};
 ghost use Rattle.server.specs.Call as call;
-ghost use Rattle.serving.specs.Refused.{AskForService, IsOther, IsRefusal, IsStatus, status_of};
+ghost use Rattle.serving.specs.Refused.{AskForService, AskForText, IsOther, IsRefusal, IsStatus, status_of};
 ghost use Rattle.serving.specs.declared.error.ServeError.TheVariants as error;
 ghost use Rattle.serving.specs.Serving.{AreOpen, IsWork, Ran, Serves, new_sink};
 
@@ -268,6 +268,8 @@ where
         + Send
         + 'static,
     ensures status { IsStatus words.now result }
+    // A text that is asked for is printed, or could not be.
+    ensures text { AskForText words.now → (result ≡ 0) ⊎ (result ≡ status_of error.Device) }
 {
     if let Some(text) = text_for(words) {
         return print_text(&rt, text);
