@@ -1,6 +1,6 @@
 -- What ports keep, and how a taker comes to all ends.
-use Rattle.std.proofs.Common.{◌≡◌, ⊎_elim, ℕ, zero, suc, ◌+◌, ◌<◌, ◌≤◌, List, [], ◌∷◌, ◌++◌, length, map, get_or, set, take, drop, true, refl, ap, sym, ◌∙◌, subst, arith, below_more}
-use Rattle.std.specs.Prelude.{MatchResult, Result, Ok, Err, Some, slice_get, slice_set}
+use Rattle.std.proofs.Common.{◌≡◌, inl, inr, ⊎_elim, ℕ, zero, suc, ◌+◌, ◌<◌, ◌≤◌, List, [], ◌∷◌, ◌++◌, length, map, get_or, set, take, drop, true, refl, ap, sym, ◌∙◌, subst, arith, below_more}
+use Rattle.std.specs.Prelude.{MatchResult, OnErr, Result, Ok, Err, Some, slice_get, slice_set}
 use Rattle.std.proofs.lemmas.List.{get_or-map, length-map, length-set, get_or-set_other, get_or-set_same, get_or_default}
 use Rattle.queue_rule.specs.declared.items.Item.{Item}
 use Rattle.queue_rule.specs.Items.{items_of, has_end}
@@ -15,7 +15,7 @@ use Rattle.outbox.specs.Seats.{TakerSeat, PosterSeat}
 use Rattle.outbox.specs.Took.{Took}
 use Rattle.outbox.specs.declared.ends.Posted.{Posted}
 use Rattle.outbox.specs.declared.ends.Posted.TheVariants as posted
-use Rattle.crew.specs.Ports.{PortSeats, new_seat, Closes, ClosesSome, SendsTo, sends_first}
+use Rattle.crew.specs.Ports.{PortSeats, new_seat, Closes, ClosesSome, OneStays, IsShut, SendsTo, sends_first}
 use Rattle.crew.specs.PortErrors.{GivesBack, TicksFirst}
 use Rattle.crew.specs.declared.errors.SendError.{SendError}
 use Rattle.crew.specs.declared.errors.TickError.{TickError}
@@ -42,6 +42,12 @@ by_count (suc n) old new e k = ap (map emptied) (k.0 (omega arith)) ∙ ended_ke
 pub close_keeps : {A B : Type 0} (r : Result A B) (old new : PortSeats) → MatchResult r (λ _. Closes old new) (λ _. ClosesSome old.seats new.seats) → SameSeats old new
 close_keeps (Ok x) old new k = by_count old.still_open old new refl k
 close_keeps (Err x) old new k = some_keep old.seats new.seats k
+
+-- however `close` answers
+pub is_shut : {A B : Type 0} (r : Result A B) (old new : PortSeats) → MatchResult r (λ _. Closes old new) (λ _. ClosesSome old.seats new.seats)
+    → OnErr r (OneStays old.seats new.seats) → IsShut old new
+is_shut (Ok x) old new ends left = inl ends
+is_shut (Err x) old new ends left = inr (ends, left)
 
 -- ---- closing all
 

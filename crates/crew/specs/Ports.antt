@@ -74,3 +74,7 @@ OneStays (s ∷ old) new = (t : SenderSeat) × (rest : List SenderSeat) × (new 
 -- each seat has its end mark; a closed port is as it was
 abbrev pub Closes : PortSeats → PortSeats → Type 0
 Closes old new = (0 < old.still_open → new.seats ≡ map (λ s. with_sent s (end_item s.number)) old.seats) × (old.still_open ≡ 0 → new ≡ old)
+
+-- what is left of a port that was closed, however that was answered: where not each seat has its end mark, one at least is as it was
+abbrev pub IsShut : PortSeats → PortSeats → Type 0
+IsShut old new = Closes old new ⊎ (ClosesSome old.seats new.seats × OneStays old.seats new.seats)

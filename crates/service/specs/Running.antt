@@ -8,7 +8,7 @@ use Rattle.queue_rule.specs.declared.items.Item.{Item}
 use Rattle.notifier.specs.declared.event.Out.{Out}
 use Rattle.notifier.specs.Start.{Start}
 use Rattle.outbox.specs.Seats.{TakerSeat}
-use Rattle.crew.specs.Ports.{PortSeats, Closes, ClosesSome}
+use Rattle.crew.specs.Ports.{PortSeats, IsShut}
 use Rattle.crew.specs.Kept.{SameSeats}
 use Rattle.crew.specs.Started.{Hired, IsStarted}
 use Rattle.crew.specs.Joined.{IsJoined}
@@ -40,12 +40,12 @@ SendsFor (task.Datagrams wire) end old new = SendsDatagrams end old new
 SendsFor (task.Lines desk) end old new = SendsLines desk.mailboxes.items end old new
 SendsFor task.Time end old new = SendsTicks end old new
 
--- a port was sent through and then closed: each worker has its end mark then, or only some have it where a worker is gone
+-- a port was sent through and then closed: each worker has its end mark then, or only some have it, and one at least has not, where a worker is gone
 pub record ThenCloses (sends : PortSeats → PortSeats → Type 0) (old new : PortSeats) : Type 0 where
   pub fed_to : PortSeats
   pub fed : sends old fed_to
   pub shut : new.still_open ≡ 0
-  pub ends : Closes fed_to new ⊎ ClosesSome fed_to.seats new.seats
+  pub ends : IsShut fed_to new
   pub seats : SameSeats old new
 
 -- ---- how it ended

@@ -1,7 +1,7 @@
 //! The threads that feed the ports of the crew, each a port of its own.
 ghost use Rattle.std.specs.Prelude.{◌≡◌, ◌<◌, ◌⊎◌, ℕ, IfOk};
 ghost use Rattle.crew.specs.Kept.{SameSeats};
-ghost use Rattle.crew.specs.Ports.{Closes, ClosesSome};
+ghost use Rattle.crew.specs.Ports.{IsShut};
 ghost use Rattle.service.specs.Running.{SendsDatagrams, SendsLines, SendsTicks, SendsFor, ThenCloses};
 
 use crate::clock::tell_time;
@@ -66,7 +66,7 @@ impl<F: Drop> From<SpawnError<F>> for NoThread {
 fn shut<R: Wait>(rt: &R, mut port: Port, end: FeedEnd, shared: &Shared) -> Fed
     ensures end { result.end ≡ end }
     ensures shut { result.port.still_open ≡ 0 }
-    ensures ends { Closes port result.port ⊎ ClosesSome port.seats result.port.seats }
+    ensures ends { IsShut port result.port }
     ensures seats { SameSeats port result.port }
 {
     shared.close();

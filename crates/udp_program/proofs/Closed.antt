@@ -1,20 +1,13 @@
 -- Two ports that were closed.
-use Rattle.std.proofs.Common.{◌≡◌, ◌⊎◌, inl, inr, ℕ, zero, suc, ◌<◌, List, [], ◌∷◌, ◌++◌, length, get_or, refl, ap, sym, ◌∙◌, subst, arith}
-use Rattle.std.specs.Prelude.{MatchResult, Result, Ok, Err}
+use Rattle.std.proofs.Common.{◌≡◌, ℕ, zero, suc, ◌<◌, List, [], ◌∷◌, ◌++◌, length, get_or, refl, ap, sym, ◌∙◌, subst, arith}
 use Rattle.std.proofs.lemmas.List.{nil_from_length}
 use Rattle.notifier.specs.Start.{Start}
 use Rattle.outbox.specs.Seats.{TakerSeat}
-use Rattle.crew.specs.Ports.{PortSeats, Closes, ClosesSome}
+use Rattle.crew.specs.Ports.{PortSeats}
 use Rattle.crew.specs.Kept.{SameSeats, AllClosed}
 use Rattle.crew.specs.Started.{Hired, IsStarted}
 use Rattle.crew.specs.Joined.{IsPortOf}
 use Rattle.crew.proofs.Keeping.{started_port}
-
--- however `close` answers
-pub has_ended : {A B : Type 0} (r : Result A B) (old new : PortSeats) → MatchResult r (λ _. Closes old new) (λ _. ClosesSome old.seats new.seats)
-    → Closes old new ⊎ ClosesSome old.seats new.seats
-has_ended (Ok x) old new ends = inl ends
-has_ended (Err x) old new ends = inr ends
 
 both_shut : (a b : PortSeats) → a.still_open ≡ 0 → b.still_open ≡ 0 → (k : ℕ) (p : PortSeats) → k < 2 → (get_or (a ∷ b ∷ []) k p).still_open ≡ 0
 both_shut a b shut shut' zero p low = shut

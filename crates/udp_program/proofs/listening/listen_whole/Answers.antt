@@ -1,6 +1,5 @@
 use Rattle.std.proofs.Common.{◌∙◌}
-use Rattle.crew.proofs.Keeping.{close_keeps}
-use Rattle.udp_program.proofs.Closed.{has_ended}
+use Rattle.crew.proofs.Keeping.{close_keeps, is_shut}
 use Rattle.udp_program.proofs.listening.listen_whole.Goals as goal
 
 pub returns-clause-heard : goal.returns-clause-heard
@@ -11,6 +10,6 @@ returns-clause-heard g c =
       given = heard.fed.1;
       fed = heard.fed.2;
       shut = shut.ensures.closed;
-      ends = has_ended shut.result c.listen-report.new.port shut.new.self shut.ensures.ends;
+      ends = is_shut shut.result c.listen-report.new.port shut.new.self shut.ensures.ends shut.ensures.left;
       seats = close_keeps shut.result c.listen-report.new.port shut.new.self shut.ensures.ends ∙ heard.seats;
     }
