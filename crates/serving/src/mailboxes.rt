@@ -1,22 +1,28 @@
 //! The mailboxes that the settings of a service name, by themselves or by files.
-ghost use Rattle.std.specs.Prelude.{IfOk, IfErr, OnOk};
+ghost use Rattle.std.specs.Prelude.{◌≡◌, IfOk, IfErr, OnOk};
+ghost use Rattle.std.specs.IoError.{error_kind};
 ghost use Rattle.std.specs.List.{All};
 ghost use Rattle.options.specs.Settings.{IsMailbox};
 ghost use Rattle.serving.specs.Plans.{Names, AreNamed};
-ghost use Rattle.serving.specs.Refused.{IsOther};
+ghost use Rattle.serving.specs.declared.error.ServeError.TheVariants as error;
+ghost use Rattle.serving.specs.Refused.{IsOfFile, IsOfSetting, IsOfOne};
 
 use crate::error::ServeError;
 use options::{Setting, mailbox_in};
 use sip_text::Text;
 use std::alloc::Global;
-use std::fs;
-use std::io::{BufRead, BufReader};
+use std::io::{BufRead, BufReader, ErrorKind};
 use std::rt::Files;
+use std::{fs, io};
 
-/// Why the file at this path can't be read, where there is memory to say so.
-fn unread(alloc: Global, path: &Text) -> ServeError
-    ensures { IsOther result }
+/// Why the file at this path can't be read, where it failed so: want of memory is no fault of the file.
+fn unread(alloc: Global, path: &Text, fault: &io::Error) -> ServeError
+    ensures of_file { IsOfFile path.now result }
+    ensures memory { error_kind fault.now ≡ ErrorKind.OutOfMemory → result ≡ error.NoMemory }
 {
+    if fault.kind() == ErrorKind::OutOfMemory {
+        return ServeError::NoMemory;
+    }
     match path.copy(alloc) {
         Ok(path) => ServeError::File(path),
         Err(_) => ServeError::NoMemory,
@@ -33,7 +39,7 @@ fn add_named(
 ) -> Result<(), ServeError>
     requires { All IsMailbox names.old.items }
     ensures names { OnOk result (All IsMailbox names.new.items) }
-    ensures refused { IfErr result IsOther }
+    ensures refused { IfErr result (IsOfFile path.now) }
 {
     match mailbox_in(alloc, line) {
         Ok(Some(name)) => names.push(name)?,
@@ -50,13 +56,14 @@ fn read_names<B: BufRead + Drop>(
     path: &Text,
 ) -> Result<Vec<Text>, ServeError>
     ensures names { IfOk result (λ names. All IsMailbox names.items) }
-    ensures refused { IfErr result IsOther }
+    ensures refused { IfErr result (IsOfFile path.now) }
 {
     let mut names = Vec::new(alloc);
     let mut number = 0u64;
     for line in reader.lines(alloc) {
-        let Ok(line) = line else {
-            return Err(unread(alloc, path));
+        let line = match line {
+            Ok(line) => line,
+            Err(fault) => return Err(unread(alloc, path, &fault)),
         };
         number = number.saturating_add(1);
         add_named(alloc, &mut names, path, number, line.as_str())?;
@@ -67,19 +74,23 @@ fn read_names<B: BufRead + Drop>(
 /// The mailboxes that the file at this path names.
 fn names_at<R: Files + AllocGlobal>(rt: &R, path: &Text) -> Result<Vec<Text>, ServeError>
     ensures names { IfOk result (λ names. All IsMailbox names.items) }
-    ensures refused { IfErr result IsOther }
+    ensures refused { IfErr result (IsOfFile path.now) }
 {
     let alloc = rt.alloc();
-    match fs::open(rt, path.as_str()) {
-        Ok(file) => read_names(alloc, BufReader::new(alloc, file)?, path),
-        Err(_) => Err(unread(alloc, path)),
+    let opened = match fs::open(rt, path.as_str()) {
+        Ok(file) => BufReader::new(alloc, file),
+        Err(fault) => Err(fault),
+    };
+    match opened {
+        Ok(reader) => read_names(alloc, reader, path),
+        Err(fault) => Err(unread(alloc, path, &fault)),
     }
 }
 
 /// The mailboxes that one setting names.
 fn names_of<R: Files + AllocGlobal>(rt: &R, setting: &Setting) -> Result<Vec<Text>, ServeError>
     ensures names { IfOk result (λ names. Names setting.now names.items) }
-    ensures refused { IfErr result IsOther }
+    ensures refused { IfErr result (IsOfSetting setting.now) }
 {
     match setting {
         Setting::Mailbox(name) => {
@@ -102,7 +113,7 @@ pub(crate) fn mailboxes_of<R: Files + AllocGlobal>(
     settings: &[Setting],
 ) -> Result<Vec<Text>, ServeError>
     ensures names { IfOk result (λ names. AreNamed settings.now names.items) }
-    ensures refused { IfErr result IsOther }
+    ensures refused { IfErr result (IsOfOne settings.now) }
 {
     let mut names = Vec::new(rt.alloc());
     for setting in settings {

@@ -92,7 +92,7 @@ fn is_reached(choices: &Choices) -> bool
 }
 
 /// What the words ask for, but for the mailboxes of files.
-#[tactic(auto, using(crate::proofs::Refused::other_is))]
+#[tactic(auto, using(crate::proofs::Refused::of_one_is))]
 fn read_words<R: Files + AllocGlobal>(
     rt: &R,
     words: &[Text],

@@ -1,6 +1,6 @@
 //! The sockets of a service.
 ghost use Rattle.std.specs.Prelude.{◌≡◌, IfOk, IfErr};
-ghost use Rattle.serving.specs.Refused.{IsOther};
+ghost use Rattle.serving.specs.Refused.{IsListened, IsOther};
 ghost use Rattle.serving.specs.Serving.{IsAt, AreOpen};
 
 use crate::error::ServeError;
@@ -23,6 +23,7 @@ pub(crate) struct Sockets {
 
 /// Two wires over a socket at this address, which an option named.
 fn bind<R: Wait + Net>(rt: &R, place: Place, addr: Addr) -> Result<(UdpWire, UdpWire), ServeError>
+    requires { IsListened place }
     ensures at { IfOk result (λ r. IsAt addr r.0.local) }
     ensures same { IfOk result (λ r. r.1.local ≡ r.0.local) }
     ensures refused { IfErr result IsOther }
