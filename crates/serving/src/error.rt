@@ -7,7 +7,6 @@ use options::{Flag, OptionsError, Place};
 use service::RunError;
 use sip_text::{NoMemory, Text};
 use std::alloc::{AllocError, AllocFailed};
-use std::io;
 use thiserror::Error;
 
 /// Why a service doesn't run, or has ended. The text is one line.
@@ -118,13 +117,5 @@ impl From<RunError> for ServeError {
             RunError::NoThread => ServeError::System,
             RunError::NoMemory => ServeError::NoMemory,
         }
-    }
-}
-
-impl From<io::Error> for ServeError {
-    ghost from_gives = { λ _ e. e ≡ error.Device };
-
-    fn from(_error: io::Error) -> ServeError {
-        ServeError::Device
     }
 }

@@ -43,7 +43,10 @@ fn begin<R: Clock + AllocGlobal>(
 ) -> Result<(Arc<Shared, Global>, Arc<Shared, Global>), ServeError>
     ensures { IfErr result IsOther }
 {
-    let shared = Arc::new(rt.alloc(), Shared::new(Instant::now(rt)?))?;
+    let Ok(now) = Instant::now(rt) else {
+        return Err(ServeError::System);
+    };
+    let shared = Arc::new(rt.alloc(), Shared::new(now))?;
     let theirs = Arc::try_clone(&shared)?;
     Ok((shared, theirs))
 }
