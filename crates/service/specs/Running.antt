@@ -3,7 +3,7 @@
 --   a SIP datagram -> port 0 -+              +-> an answer or a NOTIFY, by the wire
 --   a control line -> port 1 -+-> workers ->-+
 --   a tick         -> port 2 -+              +-> START <tag> <refer_to>, by the writer
-use Rattle.std.specs.Prelude.{◌≡◌, ◌⊎◌, ◌||◌, ℕ, Bool, true, false, List, [], ◌∷◌}
+use Rattle.std.specs.Prelude.{◌≡◌, ◌||◌, ℕ, Bool, true, false, List, [], ◌∷◌}
 use Rattle.queue_rule.specs.declared.items.Item.{Item}
 use Rattle.notifier.specs.declared.event.Out.{Out}
 use Rattle.notifier.specs.Start.{Start}
@@ -40,7 +40,8 @@ SendsFor (task.Datagrams wire) end old new = SendsDatagrams end old new
 SendsFor (task.Lines desk) end old new = SendsLines desk.mailboxes.items end old new
 SendsFor task.Time end old new = SendsTicks end old new
 
--- a port was sent through and then closed: each worker has its end mark then, or only some have it, and one at least has not, where a worker is gone
+-- a port was sent through and then closed: each worker has its end mark then, or only some have it, and one at least has not,
+-- where a worker is gone
 pub record ThenCloses (sends : PortSeats → PortSeats → Type 0) (old new : PortSeats) : Type 0 where
   pub fed_to : PortSeats
   pub fed : sends old fed_to

@@ -2,12 +2,13 @@
 use Rattle.std.proofs.Common.{◌≡◌, ◌<◌, ◌≤◌, ◌⊎◌, inl, inr, ⊎_elim, Bool, true, [], ◌∷◌, length, get_or, sym, ap, ◌∙◌, subst, arith}
 use Rattle.std.proofs.lemmas.Slice.Eq.{bytes_eq-Decides}
 use Rattle.std.specs.Prelude.{IfErr, IfOk, Result, Ok, Err, Some, ℕ, List, slice_get, bytes_eq}
+use Rattle.options.specs.declared.flag.Place.{Place}
 use Rattle.options.specs.declared.setting.Setting.{Setting}
 use Rattle.options.specs.declared.setting.Setting.TheVariants as setting
 use Rattle.options.specs.Settings.{AreSettings}
 use Rattle.serving.specs.declared.error.ServeError.{ServeError}
 use Rattle.serving.specs.declared.error.ServeError.TheVariants as error
-use Rattle.serving.specs.Refused.{IsOther, IsOfFile, IsOfSetting, IsOfOne, NameFile, IsRefusal, AskForText, IsStatus, status_of}
+use Rattle.serving.specs.Refused.{IsOther, IsOfFile, IsOfSetting, IsOfOne, NameFile, IsListened, IsRefusal, AskForText, IsStatus, status_of}
 
 pub other_is : (words : List (List ℕ)) (e : ServeError) → IsOther e → IsRefusal words e
 other_is words (error.Options e) is = absurd is
@@ -21,11 +22,14 @@ other_is words error.System is = tt
 other_is words error.Device is = tt
 other_is words error.NoMemory is = tt
 
+pub address_is : (place : Place) (e : ServeError) → e ≡ error.Address place → IsListened place → IsOther e
+address_is place e is listened = subst IsOther (sym is) listened
+
 pub others_are : {T : Type 0} (words : List (List ℕ)) (r : Result T ServeError) → IfErr r IsOther → IfErr r (IsRefusal words)
 others_are words (Ok x) is = is
 others_are words (Err e) is = other_is words e is
 
-pub memory_of_file : (path : List ℕ) (e : ServeError) → e ≡ error.NoMemory → IsOfFile path e
+memory_of_file : (path : List ℕ) (e : ServeError) → e ≡ error.NoMemory → IsOfFile path e
 memory_of_file path e is = subst (IsOfFile path) (sym is) tt
 
 pub memory_of_setting : (s : Setting) (e : ServeError) → e ≡ error.NoMemory → IsOfSetting s e

@@ -112,7 +112,8 @@ IsOfOne settings e = (k : ℕ) × (s : Setting) × (slice_get settings k ≡ Som
 
 -- the words name this file
 abbrev pub NameFile : List (List ℕ) → List ℕ → Type 0
-NameFile words path = (settings : List Setting) × (k : ℕ) × AreSettings words settings × (slice_get settings k ≡ Some (setting.MailboxFile path))
+NameFile words path =
+    (settings : List Setting) × (k : ℕ) × AreSettings words settings × (slice_get settings k ≡ Some (setting.MailboxFile path))
 
 -- ---- all of it
 

@@ -1,6 +1,7 @@
 //! The sockets of a service.
 ghost use Rattle.std.specs.Prelude.{◌≡◌, IfOk, IfErr};
-ghost use Rattle.serving.specs.Refused.{IsListened, IsOther};
+ghost use Rattle.serving.specs.declared.error.ServeError.TheVariants as error;
+ghost use Rattle.serving.specs.Refused.{IsOther};
 ghost use Rattle.serving.specs.Serving.{IsAt, AreOpen};
 
 use crate::error::ServeError;
@@ -23,10 +24,9 @@ pub(crate) struct Sockets {
 
 /// Two wires over a socket at this address, which an option named.
 fn bind<R: Wait + Net>(rt: &R, place: Place, addr: Addr) -> Result<(UdpWire, UdpWire), ServeError>
-    requires { IsListened place }
     ensures at { IfOk result (λ r. IsAt addr r.0.local) }
     ensures same { IfOk result (λ r. r.1.local ≡ r.0.local) }
-    ensures refused { IfErr result IsOther }
+    ensures refused { IfErr result (λ e. e ≡ error.Address place) }
 {
     match UdpWire::bind_at(rt, addr) {
         Ok(wires) => Ok(wires),
@@ -51,6 +51,7 @@ fn bell_for<R: Wait + Net>(rt: &R, sip: Addr, control: Addr) -> Result<Bell<UdpW
 }
 
 /// Opens the sockets.
+#[tactic(auto, using(crate::proofs::Refused::address_is))]
 pub(crate) fn open<R: Wait + Net>(rt: &R, choices: &Choices) -> Result<Sockets, ServeError>
     ensures opened { IfOk result (AreOpen choices.now) }
     ensures refused { IfErr result IsOther }

@@ -1,5 +1,5 @@
 -- What a thread hears by a wire, to its end.
-use Rattle.std.specs.Prelude.{◌≡◌, ◌⊎◌, ℕ, List, Option, None}
+use Rattle.std.specs.Prelude.{◌≡◌, ℕ, List, Option, None}
 use Rattle.wires.specs.declared.datagram.Datagram.{Datagram}
 use Rattle.wires.specs.Wires.{Grows}
 use Rattle.crew.specs.Kept.{SameSeats}
