@@ -10,7 +10,7 @@ ghost use Rattle.service.specs.declared.error.RunError.TheVariants as error;
 ghost use Rattle.service.specs.Running.{Runs, Leaves, is_faulty};
 
 use crate::error::RunError;
-use crate::feeding::{Feeder, NoThread, Task, start_feeder};
+use crate::feeding::{Feeder, Task, start_feeder};
 use crate::lines::ControlDesk;
 use crate::outs::{Bell, Exit, send_outs};
 use crate::shared::Shared;
@@ -96,6 +96,29 @@ pub(crate) struct Feeders {
     pub(crate) time: Feeder,
 }
 
+/// The threads that were started where a further one was refused.
+#[derive(Drop)]
+pub(crate) struct Begun {
+    time: Option<Feeder>,
+    lines: Option<Feeder>,
+}
+
+impl Begun {
+    /// Waits for their ends, once the service closes and is finished, and lets their ports go: while an end of a closed port is
+    /// kept, workers wait for a port that went away unclosed. The one for lines is woken twice: it takes none, and refuses none.
+    fn end<R: Threads + Wait>(self, rt: &R, bell: &mut Bell<UdpWire>) {
+        let Begun { time, lines } = self;
+        if let Some(time) = time {
+            drop(time.join(rt));
+        }
+        if let Some(lines) = lines {
+            bell.ring(rt);
+            bell.ring(rt);
+            drop(lines.join(rt));
+        }
+    }
+}
+
 /// The three ports of a crew.
 fn take_three(ports: &mut Vec<Port>) -> (Port, Port, Port)
     requires { vec_len ports.old ≡ 3 }
@@ -115,14 +138,15 @@ fn take_three(ports: &mut Vec<Port>) -> (Port, Port, Port)
     (first, second, third)
 }
 
-/// Starts a thread for each of the three ports. Where one is refused, those that were started end once the service closes.
+/// Starts a thread for each of the three ports, or answers those that were started where one is refused. The one for SIP is the
+/// last: so nothing was subscribed then, and no worker waits for room in the outbox.
 fn start_feeders<R: Threads + Wait + Clock + Eprint + Copy + Send + 'static>(
     rt: R,
     alloc: Global,
     ports: &mut Vec<Port>,
     ears: Ears,
     shared: &Arc<Shared, Global>,
-) -> Result<Feeders, NoThread>
+) -> Result<Feeders, Begun>
     requires three { vec_len ports.old ≡ 3 }
     requires still_open { NoneClosed ports.old.items }
     ensures ports { IfOk result (λ f. AreLent ports.old.items f) }
@@ -132,17 +156,33 @@ fn start_feeders<R: Threads + Wait + Clock + Eprint + Copy + Send + 'static>(
 {
     let (first, second, third) = take_three(ports);
     let Ears { sip, desk } = ears;
-    let time = start_feeder(rt, alloc, third, Task::Time, shared)?;
-    let lines = start_feeder(rt, alloc, second, Task::Lines(desk), shared)?;
-    let sip = start_feeder(rt, alloc, first, Task::Datagrams(sip), shared)?;
+    let Ok(time) = start_feeder(rt, alloc, third, Task::Time, shared) else {
+        return Err(Begun {
+            time: None,
+            lines: None,
+        });
+    };
+    let Ok(lines) = start_feeder(rt, alloc, second, Task::Lines(desk), shared) else {
+        return Err(Begun {
+            time: Some(time),
+            lines: None,
+        });
+    };
+    let Ok(sip) = start_feeder(rt, alloc, first, Task::Datagrams(sip), shared) else {
+        return Err(Begun {
+            time: Some(time),
+            lines: Some(lines),
+        });
+    };
     Ok(Feeders { sip, lines, time })
 }
 
-/// Closes a service whose ports are gone or ending, and waits for the end of its crew.
+/// Closes a service of which only these threads were started, and waits for their end and that of its crew.
 fn wind_up<R: Threads + Wait + Clock, W: Wire, F: Write>(
     rt: &R,
     alloc: Global,
     running: Running,
+    begun: Begun,
     exit: &mut Exit<W, F>,
 )
     requires { (start : ℕ → Start) × (ports : List PortSeats) × IsNew start ports running }
@@ -160,9 +200,9 @@ fn wind_up<R: Threads + Wait + Clock, W: Wire, F: Write>(
         shared,
     } = running;
     shared.close();
-    send_outs(rt, exit, &mut taker, workers, &mut bell, &shared);
     shared.finish();
-    bell.ring(rt);
+    begun.end(rt, &mut bell);
+    send_outs(rt, exit, &mut taker, workers, &mut bell, &shared);
     let report = crew.join(rt, Vec::new(alloc), taker);
     drop(report);
 }
@@ -243,8 +283,8 @@ where
 {
     match start_feeders(rt, alloc, &mut ports, ears, &running.shared) {
         Ok(feeders) => Ok(serve_to_end(&rt, running, ports, feeders, exit)),
-        Err(_) => {
-            wind_up(&rt, alloc, running, exit);
+        Err(begun) => {
+            wind_up(&rt, alloc, running, begun, exit);
             Err(RunError::NoThread)
         }
     }

@@ -161,8 +161,9 @@ where
     let Ok(sip) = start_listening(rt, alloc, sip, first, Language::Sip, count) else {
         let mut running = running;
         let _ = running.outgoing.send(&rt, control_addr, b"CLOSE");
-        wind_up(&rt, alloc, running);
+        // First the port that it closed goes: while an end of it is kept the workers wait for the one that went away unclosed.
         drop(control.join(&rt));
+        wind_up(&rt, alloc, running);
         return Err(NoThread);
     };
     Ok(serve_to_end(&rt, running, ports, Listeners { sip, control }, sink))
