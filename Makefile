@@ -1,18 +1,22 @@
 # `make gate` proves and tests everything from nothing. `make run` proves and builds the program `notifyd`, leaves it at
 # crates/notifyd/out/notifyd, and runs it on its stored example, one SUBSCRIBE. `make try` runs that example without a proof,
-# in under a minute. `make wrong` tries the wrong bodies that the gate leaves to releases (`make wrong CRATES="scripts refer"`).
+# in under a minute. `make tests` tries the built program from outside, as the gate does behind its proofs. `make wrong` tries the wrong bodies that the gate leaves to releases (`make wrong CRATES="scripts refer"`).
 # `make field` tries the built program with real peers on this machine, and `make bench` measures it beside an echo; field/run and
 # bench/service say what they need, and neither is part of the gate.
-.PHONY: gate run try wrong field bench
+.PHONY: gate run try tests wrong field bench
 
 gate:
-	@rt ci
+	@.ci/run
 
 run:
-	@cd crates/notifyd && rt run < stdin
+	@.ci/program
+	@crates/notifyd/out/notifyd < crates/notifyd/stdin
 
 try:
 	@cd crates/notifyd && rt try < stdin
+
+tests:
+	@tests/run
 
 wrong:
 	@.ci/wrong $(CRATES)
@@ -21,5 +25,4 @@ field:
 	@field/run
 
 bench:
-	@cd crates/bench_echo && rt run < /dev/null
 	@bench/service
