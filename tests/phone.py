@@ -235,7 +235,7 @@ class Operator:
 
     def say(self, line):
         """Sends a line, for which no answer is waited."""
-        self.socket.send(line.encode())
+        persist(self.socket.send, line.encode())
 
     def ask(self, line):
         """The answer to a line."""
