@@ -6,7 +6,7 @@ import socket
 import time
 
 from phone import NO_MESSAGES, OVER, Operator, Phone, open_socket, persist
-from suite import Running, ended_with, free_port, run, same
+from suite import LIMIT, Running, ended_with, free_port, run, same
 from tags import home_of, local_tag
 
 # With a seed of zeros and this address for phones a notifier's messages are known to the byte, at whatever port it listens.
@@ -77,11 +77,11 @@ class Service:
     """A service at two ports, to be used in a `with`: it runs once this is made, and at the end of the block at the latest it
     is killed."""
 
-    def __init__(self, program, *words, ports=None):
+    def __init__(self, program, *words, ports=None, limit=LIMIT):
         self.program = program
         self.sip, self.control = ports or (free_port(), free_port())
         places = ("--listen", address(self.sip), "--control", address(self.control))
-        self.running = Running(program, ["serve", *places, *words])
+        self.running = Running(program, ["serve", *places, *words], limit)
 
     def __enter__(self):
         self.running.__enter__()

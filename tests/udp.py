@@ -152,11 +152,15 @@ def a_notify_too_long(program, folder):
 
 
 def a_writer_takes_nothing(program, folder):
+    shut = os.path.join(folder, "shut")
+    with open(shut, "w") as script:
+        script.write(f"#!/bin/sh\nexec '{program}' \"$@\" >&-\n")
+    os.chmod(shut, 0o700)
     reader, writer = os.pipe()
     os.close(reader)
     with open("/dev/full", "wb") as full, os.fdopen(writer, "wb") as unread:
-        for how in ({"stdout": full}, {"stdout": unread}, {"stdout": None, "preexec_fn": lambda: os.close(1)}):
-            with Run(program, 2, 1, ("alice", "bob", "dave"), **how) as errand, Operator(errand.control) as operator:
+        for program, stdout in ((program, full), (program, unread), (shut, None)):
+            with Run(program, 2, 1, ("alice", "bob", "dave"), stdout=stdout) as errand, Operator(errand.control) as operator:
                 with errand.phone("bob"):
                     operator.say("CLOSE")
             ended_with(errand.ended, 3, None, DEVICE_FAULT)
