@@ -45,16 +45,16 @@ class Message:
     """A SIP message that came: its first line, its header lines in order, and its body."""
 
     def __init__(self, octets):
-        head, _, body = octets.decode().partition("\r\n\r\n")
+        head, _, self.body = octets.decode().partition("\r\n\r\n")
         self.first, *self.lines = head.split("\r\n")
-        self.body = body
+        # The first line of a name counts.
+        self.values = dict(line.split(": ", 1) for line in reversed(self.lines) if ": " in line)
 
     def value(self, name):
         """The value of the first line of this name."""
-        for line in self.lines:
-            if line.startswith(name + ": "):
-                return line[len(name) + 2 :]
-        raise AssertionError(f"no line {name} below {self.first}: {self.lines}")
+        if name not in self.values:
+            raise AssertionError(f"no line {name} below {self.first}: {self.lines}")
+        return self.values[name]
 
     def tag(self, name):
         """The tag of a From or To line."""

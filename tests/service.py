@@ -216,6 +216,19 @@ def close_says_farewell(program, folder):
         ended_with(told, 3, b"", b"notifyd: nobody answered\n")
 
 
+def lines_are_refused_at_the_end(program, folder):
+    """While nobody reads standard output a service can't write the lines of its transfers, and so not end."""
+    with Service(program, "alice") as service, service.phone("bob") as phone, service.operator() as operator:
+        for _ in range(2):
+            phone.refer("sip:" + "c" * 40_000)  # more than a pipe keeps
+        operator.tell("CLOSE")
+        for line in ("STATUS", "MAIL alice voice 1 0 0 0", "no line", "CLOSE"):
+            operator.tell(line, "closed")
+        ended = service.running.end()
+        starts = [line for line in ended.out.splitlines() if line.startswith(b"START ")]
+        same("the exit status, and how many transfers were told", (0, 2), (ended.status, len(starts)))
+
+
 def subscriptions_may_be_kept(program, folder):
     with Service(program, "--keep-subscriptions", "alice") as service, service.phone("alice") as phone:
         phone.subscribe()
@@ -318,6 +331,7 @@ def checks():
     yield "serve: the clock alone ends a subscription of a second", the_clock_ends_a_subscription
     yield "serve: STATUS counts what came and went", status_counts
     yield "serve: CLOSE is answered, says farewell and ends it", close_says_farewell
+    yield "serve: lines that come while it ends are answered closed", lines_are_refused_at_the_end
     yield "serve: no farewell with --keep-subscriptions", subscriptions_may_be_kept
     yield "serve: a transfer is told to its end", a_transfer_is_told
     yield "serve: a file names mailboxes, with comments", a_file_names_mailboxes

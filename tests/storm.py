@@ -155,6 +155,7 @@ class Storm:
     """All phones and senders at a service, on one thread, which hears what comes as it comes. To be used in a `with`."""
 
     def __init__(self, service):
+        self.service = service
         self.flow = Flow()
         self.watchers = [Watcher(service.sip, f"m{number}", self.flow) for number in range(MAILBOXES)]
         places = range(0, MAILBOXES, MAILBOXES // VISITORS)
@@ -212,7 +213,9 @@ class Storm:
         """Hears what came, or waits for something."""
         came = self.selector.select(PATIENCE)
         if not came:
-            raise AssertionError(f"nothing comes for {PATIENCE} seconds, where {self.flow.due} NOTIFYs are waited for")
+            running = "runs" if self.service.running.process.poll() is None else "has ended"
+            due = f"where {self.flow.due} NOTIFYs are waited for and the service {running}"
+            raise AssertionError(f"nothing comes for {PATIENCE} seconds, {due}")
         for key, _ in came:
             key.data()
 

@@ -10,7 +10,6 @@ from phone import NO_MESSAGES, OVER, Operator, Phone, open_socket
 from suite import LIMIT, ended_with, free_port, run, same
 from tags import local_tag
 
-ZEROS = "0" * 64
 SEED = "00112233445566778899aabbccddeeffFFEEDDCCBBAA99887766554433221100"
 
 DEVICE_FAULT = b"notifyd: device fault\n"
