@@ -7,6 +7,7 @@ those whose NOTIFY came, and of the datagrams of SIP those that STATUS has count
 
 import re
 import selectors
+import time
 
 from phone import OVER, Operator, Phone
 from service import Service, counters_become
@@ -17,6 +18,9 @@ WORKERS = 4
 MAILBOXES = 300
 ROUNDS = 20
 VISITORS = 20
+
+# Seconds in which rounds begin, on a machine that is too slow for all of them. One in each half is always brought.
+SECONDS = 6
 
 # The class of each sender's messages, and the name of its line in a NOTIFY.
 CLASSES = (("voice", "Voice"), ("fax", "Fax"), ("pager", "Pager"), ("multimedia", "Multimedia"))
@@ -29,9 +33,9 @@ MOST_UNKNOWN = 64
 # It is asked how many were heard when so many more were sent.
 STRIDE = 24
 
-# Seconds in which nothing comes before it is missed, and seconds that a storm may take. It takes a few.
+# Seconds in which nothing comes before it is missed, and behind which the service is killed. A storm takes a few.
 PATIENCE = 10
-LIMIT = 60
+LIMIT = 120
 
 
 def body_of(counts):
@@ -164,6 +168,7 @@ class Storm:
         self.senders = [Sender(service.control, number, self.flow) for number in range(len(CLASSES))]
         self.operator = Operator(service.control)
         self.is_asked = False  # how many datagrams were heard
+        self.rounds = 0  # that are brought
         self.selector = selectors.DefaultSelector()
         for speaker in (*self.guests, *self.senders):
             self.selector.register(speaker.socket, selectors.EVENT_READ, speaker.hear)
@@ -183,17 +188,21 @@ class Storm:
             watcher.come()
             yield
 
-    def mails(self, first, last):
-        """One message more for each mailbox by each sender, from the first to the last, one line with each step. A visitor comes
-        anew when the first sender brings a message for its mailbox."""
-        for count in range(first, last + 1):
+    def mails(self):
+        """Half of the rounds, or as many of them as begin in time: one message more for each mailbox by each sender, one line with
+        each step. A visitor comes anew when the first sender brings a message for its mailbox."""
+        until = time.monotonic() + SECONDS / 2
+        for _ in range(ROUNDS // 2):
+            self.rounds += 1
             for turn in range(MAILBOXES):
                 visitor = self.visitors.get(turn)
                 if visitor is not None and visitor.is_away():
                     visitor.come()
                 for sender in self.senders:
-                    sender.bring(turn, count)
+                    sender.bring(turn, self.rounds)
                     yield
+            if time.monotonic() > until:
+                return
 
     def hear_counters(self):
         answer = self.operator.socket.recv(65535).decode()
@@ -236,10 +245,10 @@ class Storm:
             self.look()
             self.hear_some()
 
-    def all_know(self, count):
-        """Each watcher was told last that its mailbox holds so many messages of each class."""
+    def all_know(self):
+        """Each watcher was told last what its mailbox holds, and each visitor came, stayed and left."""
         for watcher in self.watchers:
-            same(f"what {watcher.user} knows", (count,) * len(CLASSES), watcher.counts)
+            same(f"what {watcher.user} knows", (self.rounds,) * len(CLASSES), watcher.counts)
         same("visitors who came", VISITORS, sum(visitor.notifies > 2 for visitor in self.visitors.values()))
 
     def counted(self):
@@ -271,9 +280,9 @@ def a_storm(program, folder):
     words = ("--workers", str(WORKERS), "--mailboxes", path)
     with Service(program, *words, limit=LIMIT) as service, Storm(service) as storm:
         storm.play(storm.arrivals())
-        for first, last in ((1, ROUNDS // 2), (ROUNDS // 2 + 1, ROUNDS)):
-            storm.play(storm.mails(first, last))
-            storm.all_know(last)
+        for _ in range(2):
+            storm.play(storm.mails())
+            storm.all_know()
         counters_become(storm.operator, storm.counted())
         ended = service.close()
         storm.hear_farewells()
