@@ -1,0 +1,256 @@
+"""A phone at a notifier over UDP: it subscribes, asks for more time, leaves, asks for transfers, answers each NOTIFY by a 200, and
+keeps what it was told. Each NOTIFY that comes is checked, whoever waits for it: it belongs to a dialog of this phone that isn't
+over, its number is one more than the last, its lines are those of the dialog, and its body is as long as it says."""
+
+import re
+import socket
+
+from suite import same, shown
+
+# The lines of a request that its answer repeats (RFC 3261 section 8.2.6.2).
+REPEATED = ("Via: ", "From: ", "To: ", "Call-ID: ", "CSeq: ")
+
+# Seconds that a phone waits for a datagram.
+PATIENCE = 15
+
+# Bytes that a phone's socket keeps, as far as the system grants them.
+ROOM = 1 << 22
+
+NO_MESSAGES = "Messages-Waiting: no\r\n"
+
+# The state of a NOTIFY at the end of a subscription, by its cause.
+OVER = "terminated;reason="
+
+
+def open_socket(server):
+    """A socket of 127.0.0.1 that hears this server alone."""
+    opened = socket.socket(socket.AF_INET, socket.SOCK_DGRAM)
+    opened.setsockopt(socket.SOL_SOCKET, socket.SO_RCVBUF, ROOM)
+    opened.bind(("127.0.0.1", 0))
+    opened.connect(server)
+    opened.settimeout(PATIENCE)
+    return opened
+
+
+def persist(call, *words):
+    """What a call of a socket gives. Where an earlier datagram came back, since nobody has the port any more, the socket says so
+    once in place of the call, which is made again then."""
+    try:
+        return call(*words)
+    except ConnectionRefusedError:
+        return call(*words)
+
+
+class Message:
+    """A SIP message that came: its first line, its header lines in order, and its body."""
+
+    def __init__(self, octets):
+        head, _, self.body = octets.decode().partition("\r\n\r\n")
+        self.first, *self.lines = head.split("\r\n")
+        # The first line of a name counts.
+        self.values = dict(line.split(": ", 1) for line in reversed(self.lines) if ": " in line)
+
+    def value(self, name):
+        """The value of the first line of this name."""
+        if name not in self.values:
+            raise AssertionError(f"no line {name} below {self.first}: {self.lines}")
+        return self.values[name]
+
+    def tag(self, name):
+        """The tag of a From or To line."""
+        return self.value(name).partition(";tag=")[2]
+
+    def is_notify(self):
+        return self.first.startswith("NOTIFY ")
+
+    def agreement(self):
+        """The 200 to this request."""
+        kept = [line for line in self.lines if line.startswith(REPEATED)]
+        return "\r\n".join(["SIP/2.0 200 OK", *kept, "Content-Length: 0", "", ""]).encode()
+
+
+class Dialog:
+    """A dialog of a phone: what it asked, and how far it was told."""
+
+    def __init__(self, user, call_id, event):
+        self.user = user
+        self.call_id = call_id
+        self.event = event
+        self.asked = 0  # the CSeq of the last request
+        self.tag = ""  # the notifier's, once it is known
+        self.number = 0  # of the last NOTIFY
+        self.state = ""
+        self.body = ""
+
+    @property
+    def is_over(self):
+        return self.state.startswith("terminated")
+
+    def hear(self, notify):
+        """Takes a NOTIFY in, which must be the next of this dialog."""
+        self.tag = self.tag or notify.tag("From")
+        where = f"a NOTIFY to {self.user} in {self.call_id}"
+        same(f"whether it was over before {where}", False, self.is_over)
+        same(f"CSeq of {where}", f"{self.number + 1} NOTIFY", notify.value("CSeq"))
+        same(f"tags of {where}", (self.tag, "f1"), (notify.tag("From"), notify.tag("To")))
+        same(f"Event of {where}", self.event, notify.value("Event"))
+        same(f"Content-Length of {where}", notify.value("Content-Length"), str(len(notify.body)))
+        self.number += 1
+        self.state = notify.value("Subscription-State")
+        self.body = notify.body
+
+
+class Phone:
+    """A phone of this user with a socket of its own, at the notifier at this port."""
+
+    def __init__(self, sip, user):
+        self.user = user
+        self.socket = open_socket(("127.0.0.1", sip))
+        self.me = "{}:{}".format(*self.socket.getsockname())
+        self.dialogs = {}
+        self.sent = 0  # datagrams to the notifier
+
+    def __enter__(self):
+        return self
+
+    def __exit__(self, *_):
+        self.socket.close()
+
+    def send(self, octets):
+        persist(self.socket.send, octets)
+        self.sent += 1
+
+    def request(self, method, call_id, number, tag, lines):
+        """The text of a request to this phone's mailbox, with these further lines."""
+        tag = f";tag={tag}" if tag else ""
+        head = [
+            f"{method} sip:{self.user}@127.0.0.1 SIP/2.0",
+            f"Via: SIP/2.0/UDP {self.me};branch=z9hG4bK{call_id}.{number}",
+            "Max-Forwards: 70",
+            f"From: <sip:{self.user}@127.0.0.1>;tag=f1",
+            f"To: <sip:{self.user}@127.0.0.1>{tag}",
+            f"Call-ID: {call_id}",
+            f"CSeq: {number} {method}",
+            f"Contact: <sip:{self.user}@{self.me}>",
+        ]
+        return "\r\n".join([*head, *lines, "Content-Length: 0", "", ""]).encode()
+
+    def begin(self, method, event, lines):
+        """Sends a request outside a dialog. The dialog that it makes, if it is accepted."""
+        again = sum(call_id.startswith(method) for call_id in self.dialogs)
+        call_id = f"{method}{self.user}" + (f"-{again}" if again else "")
+        dialog = self.dialogs[call_id] = Dialog(self.user, call_id, event)
+        dialog.asked = 1
+        self.send(self.request(method, call_id, 1, "", lines))
+        return dialog
+
+    def go_on(self, dialog, seconds):
+        """Asks for so many seconds more in a dialog: none ends it."""
+        dialog.asked += 1
+        lines = (f"Event: {dialog.event}", f"Expires: {seconds}")
+        self.send(self.request("SUBSCRIBE", dialog.call_id, dialog.asked, dialog.tag, lines))
+
+    def receive(self):
+        """The next message of the notifier. A NOTIFY is checked, and answered."""
+        try:
+            message = Message(persist(self.socket.recv, 65535))
+        except socket.timeout:
+            raise AssertionError(f"nothing comes to the phone of {self.user} for {PATIENCE} seconds") from None
+        if message.is_notify():
+            dialog = self.dialogs.get(message.value("Call-ID"))
+            if dialog is None:
+                raise AssertionError(f"a NOTIFY to {self.user} in nobody's dialog: {message.lines}")
+            dialog.hear(message)
+            self.send(message.agreement())
+        return message
+
+    def expect(self, first):
+        """The next message, which must be an answer with this first line."""
+        answer = self.receive()
+        same(f"what comes next to {self.user}", first, answer.first)
+        return answer
+
+    def expect_notify(self, state, body=None):
+        """The next message, which must be a NOTIFY that says this: `active` stands for that with any time left."""
+        notify = self.receive()
+        same(f"what comes next to {self.user}", "NOTIFY", notify.first.split(" ")[0])
+        came = notify.value("Subscription-State")
+        if state == "active":
+            came = re.sub(r"^active;expires=[1-9]\d*$", "active", came)
+        same(f"the state that {self.user} is told", state, came)
+        if body is not None:
+            same(f"what {self.user} is told", body, notify.body)
+        return notify
+
+    def ask(self, first, *lines):
+        """Sends a SUBSCRIBE with these further lines, whose answer has this first line."""
+        dialog = self.begin("SUBSCRIBE", "message-summary", ("Event: message-summary", *lines))
+        dialog.tag = self.expect(first).tag("To")
+        return dialog
+
+    def subscribe(self, body=NO_MESSAGES, seconds=3600):
+        """Subscribes to its mailbox: a 200 comes, and a NOTIFY with this body."""
+        dialog = self.ask("SIP/2.0 200 OK", f"Expires: {seconds}")
+        self.expect_notify(f"active;expires={seconds}", body)
+        return dialog
+
+    def refresh(self, dialog, seconds, body):
+        """Asks for so many seconds more: a 200 comes, and a NOTIFY with this body."""
+        self.go_on(dialog, seconds)
+        same("the time granted", str(seconds), self.expect("SIP/2.0 200 OK").value("Expires"))
+        self.expect_notify(f"active;expires={seconds}" if seconds else OVER + "timeout", body)
+
+    def leave(self, dialog, body):
+        """Asks for no more time: a 200 comes, and the last NOTIFY, with this body."""
+        self.refresh(dialog, 0, body)
+
+    def refer(self, target):
+        """Asks for a transfer: a 202 comes, and a NOTIFY that it is tried. Its tag, by which it is told how it goes."""
+        dialog = self.begin("REFER", "refer;id=1", (f"Refer-To: <{target}>",))
+        dialog.tag = self.expect("SIP/2.0 202 Accepted").tag("To")
+        self.expect_notify("active;expires=180", "SIP/2.0 100 Trying\r\n")
+        return dialog.tag
+
+    def is_heard(self, question):
+        """Whether somebody answers an OPTIONS, which no notifier understands: where nobody has the port it comes back as refused."""
+        try:
+            self.socket.send(question)
+            same("the answer to an OPTIONS", "SIP/2.0 405 Method Not Allowed", Message(self.socket.recv(65535)).first)
+            return True
+        except ConnectionRefusedError:
+            return False
+
+
+class Operator:
+    """Whoever tells a service what happened, over a socket of its own."""
+
+    def __init__(self, control):
+        self.socket = open_socket(("127.0.0.1", control))
+
+    def __enter__(self):
+        return self
+
+    def __exit__(self, *_):
+        self.socket.close()
+
+    def say(self, line):
+        """Sends a line, for which no answer is waited."""
+        persist(self.socket.send, line.encode())
+
+    def ask(self, line):
+        """The answer to a line."""
+        self.say(line)
+        try:
+            return self.socket.recv(65535).decode()
+        except socket.timeout:
+            raise AssertionError(f"the line {shown(line)} is not answered for {PATIENCE} seconds") from None
+
+    def tell(self, line, answer="ok"):
+        """Tells a line, which must be answered so."""
+        same(f"the answer to {line}", answer, self.ask(line))
+
+    def counters(self):
+        """What STATUS says, each counter by its name."""
+        first, *lines = self.ask("STATUS").splitlines()
+        same("the first line of STATUS", "ok", first)
+        return dict(line.split(" ", 1) for line in lines)

@@ -1,0 +1,341 @@
+"""`notifyd serve` from its first datagram to its farewell: phones subscribe over sockets, an operator tells what happened."""
+
+import os
+import re
+import socket
+import time
+
+from phone import NO_MESSAGES, OVER, Operator, Phone, open_socket, persist
+from suite import LIMIT, Running, ended_with, free_port, run, same
+from tags import home_of, local_tag
+
+# With a seed of zeros and this address for phones a notifier's messages are known to the byte, at whatever port it listens.
+ZEROS = "0" * 64
+KNOWN = ("--contact", "127.0.0.1:5060", "--seed", ZEROS)
+
+SUBSCRIBE = b"""\
+SUBSCRIBE sip:alice@127.0.0.1 SIP/2.0
+Via: SIP/2.0/UDP 127.0.0.1:5070;branch=z9hG4bKa1
+Max-Forwards: 70
+From: <sip:alice@127.0.0.1>;tag=f1
+To: <sip:alice@127.0.0.1>
+Call-ID: c1
+CSeq: 1 SUBSCRIBE
+Contact: <sip:alice@127.0.0.1:5070>
+Event: message-summary
+Content-Length: 0
+
+""".replace(b"\n", b"\r\n")
+
+ANSWER = b"""\
+SIP/2.0 200 OK
+Via: SIP/2.0/UDP 127.0.0.1:5070;branch=z9hG4bKa1
+From: <sip:alice@127.0.0.1>;tag=f1
+To: <sip:alice@127.0.0.1>;tag=w0-1-76b8e0ada0f13d90
+Call-ID: c1
+CSeq: 1 SUBSCRIBE
+Contact: <sip:127.0.0.1:5060>
+Expires: 3600
+Content-Length: 0
+
+""".replace(b"\n", b"\r\n")
+
+NOTIFY = b"""\
+NOTIFY sip:alice@127.0.0.1:5070 SIP/2.0
+Via: SIP/2.0/UDP 127.0.0.1:5060;branch=z9hG4bK-w0-1-76b8e0ada0f13d90-1
+Max-Forwards: 70
+From: <sip:alice@127.0.0.1>;tag=w0-1-76b8e0ada0f13d90
+To: <sip:alice@127.0.0.1>;tag=f1
+Call-ID: c1
+CSeq: 1 NOTIFY
+Contact: <sip:127.0.0.1:5060>
+Event: message-summary
+Subscription-State: active;expires=3600
+Content-Type: application/simple-message-summary
+Content-Length: 22
+
+Messages-Waiting: no
+""".replace(b"\n", b"\r\n")
+
+# Datagrams that are no SIP message, one for each cause by which a datagram of UDP can be refused, in the order of STATUS.
+UNREAD = (
+    b"no message",
+    SUBSCRIBE.replace(b"CSeq: 1", b"CSeq: one"),
+    SUBSCRIBE.replace(b"Call-ID: c1\r\n", b""),
+    SUBSCRIBE.replace(b"Call-ID: c1\r\n", b"Call-ID: c1\r\nCall-ID: c1\r\n"),
+    SUBSCRIBE.replace(b"Content-Length: 0", b"Content-Length: 1"),
+)
+
+HEARD = "Messages-Waiting: yes\r\nVoice-Message: 2/8 (0/2)\r\n"
+
+
+def address(port):
+    return f"127.0.0.1:{port}"
+
+
+class Service:
+    """A service at two ports, to be used in a `with`: it runs once this is made, and at the end of the block at the latest it
+    is killed."""
+
+    def __init__(self, program, *words, ports=None, limit=LIMIT):
+        self.program = program
+        self.sip, self.control = ports or (free_port(), free_port())
+        places = ("--listen", address(self.sip), "--control", address(self.control))
+        self.running = Running(program, ["serve", *places, *words], limit)
+
+    def __enter__(self):
+        self.running.__enter__()
+        try:
+            self.running.lines_until(b"listening at")
+        except BaseException:
+            self.running.__exit__()
+            raise
+        return self
+
+    def __exit__(self, *_):
+        self.running.__exit__()
+
+    def phone(self, user):
+        return Phone(self.sip, user)
+
+    def operator(self):
+        return Operator(self.control)
+
+    def close(self):
+        """Has it closed by `notifyd tell`, and waits for its end, which must be a good one. What it wrote."""
+        told = run(self.program, ["tell", "--control", address(self.control), "CLOSE"])
+        ended_with(told, 0, b"ok\n", b"")
+        ended = self.running.end()
+        same("the exit status", 0, ended.status)
+        return ended
+
+
+def next_datagram(phone):
+    """The next datagram, nothing where none comes."""
+    try:
+        return persist(phone.recv, 65535)
+    except socket.timeout:
+        return b""
+
+
+def as_written_down(program, folder):
+    with Service(program, *KNOWN, "--workers", "1", "alice", "bob") as service:
+        with open_socket(("127.0.0.1", service.sip)) as phone:
+            phone.send(SUBSCRIBE)
+            same("the answer", ANSWER, next_datagram(phone))
+            same("the NOTIFY", NOTIFY, next_datagram(phone))
+        service.close()
+
+
+def a_change_is_notified(program, folder):
+    with Service(program, "alice") as service, service.phone("alice") as phone, service.operator() as operator:
+        dialog = phone.subscribe()
+        operator.tell("MAIL alice voice 2 8 0 2")
+        phone.expect_notify("active", HEARD)
+        operator.tell("MAIL alice voice 2 8 0 2\n")  # nothing changes
+        operator.tell("MAIL alice fax 0 1 0 0")
+        both = HEARD + "Fax-Message: 0/1 (0/0)\r\n"
+        phone.expect_notify("active", both)
+        phone.refresh(dialog, 1800, both)
+        phone.leave(dialog, both)
+        service.close()
+
+
+def each_line_is_answered(program, folder):
+    lines = (
+        ("MAIL alice voice 2 8 0 2", "ok"),
+        ("MAIL carol voice 1 0 0 0", "unknown mailbox"),
+        ("MAIL alice voice 1 0 2 0", "bad line"),  # more of them urgent than there are
+        ("MAIL alice voice 1 0 0", "bad line"),
+        ("TICK 5", "bad line"),  # a service has a clock
+        ("PROGRESS w0-7-0000000000000000 180 Ringing", "ok"),
+        ("PROGRESS w0-7-0000000000000000 99 Early", "bad line"),
+        ("status", "bad line"),
+        ("", "bad line"),
+    )
+    with Service(program, "alice") as service, service.operator() as operator:
+        for line, answer in lines:
+            operator.tell(line, answer)
+        service.close()
+
+
+def the_clock_ends_a_subscription(program, folder):
+    with Service(program, "--min-time", "1", "bob") as service, service.phone("bob") as phone:
+        phone.subscribe(seconds=1)
+        phone.expect_notify(OVER + "timeout", NO_MESSAGES)
+        service.close()
+
+
+def counters_become(operator, wanted):
+    """Waits until STATUS counts so: a counter goes up just after its datagram went out, or came."""
+    for _ in range(100):
+        came = operator.counters()
+        came.pop("up")
+        if came == wanted:
+            return
+        time.sleep(0.02)
+    same("the counters", wanted, came)
+
+
+def status_counts(program, folder):
+    with Service(program, "alice") as service, service.phone("alice") as phone, service.operator() as operator:
+        phone.subscribe()
+        operator.tell("MAIL alice voice 2 8 0 2")
+        phone.expect_notify("active", HEARD)
+        phone.leave(phone.subscribe(HEARD), HEARD)
+        phone.refer("sip:carol@127.0.0.1")
+        for octets in UNREAD:
+            phone.send(octets)
+        # Four requests and an answer to each of five NOTIFYs came as SIP; of three subscriptions one was left.
+        same("what the phone sent", 9 + len(UNREAD), phone.sent)
+        counted = {"datagrams": "14", "events": "9", "answers": "4", "notifies": "5", "starts": "1", "failed": "0"}
+        counted = {**counted, "begun": "3", "over": "1", "unread": "1 1 1 1 1 0 0"}
+        counters_become(operator, counted)
+        ended = service.close()
+        phone.expect_notify(OVER + "deactivated", HEARD)
+        phone.expect_notify(OVER + "deactivated", "SIP/2.0 100 Trying\r\n")
+    goodbye = ended.err.decode().splitlines()[-1]
+    counted = {**counted, "notifies": "7", "over": "3"}
+    words = ", ".join(f"{name} {count}" for name, count in counted.items())
+    same("the line at the end", f"notifyd: ended: up N, {words}", re.sub("up [0-9]+", "up N", goodbye))
+
+
+def close_says_farewell(program, folder):
+    with Service(program, *KNOWN, "--workers", "1", "alice", "bob") as service, service.phone("alice") as phone:
+        phone.subscribe()
+        ended = service.close()
+        phone.expect_notify(OVER + "deactivated", NO_MESSAGES)
+        hello, *more, goodbye = ended.err.decode().splitlines()
+        places = f"listening at {address(service.sip)}, control at {address(service.control)}"
+        same("the line at the start", f"notifyd: {places}, 1 workers, 2 mailboxes", hello)
+        same("the lines between", [], more)
+        same("how the line at the end begins", "notifyd: ended: up ", goodbye[:19])
+        # An answer and two NOTIFYs; of the events ticks are some.
+        same("what is printed", b"WORKER 0 N 3 closed\n", re.sub(rb"0 \d+", b"0 N", ended.out, count=1))
+        told = run(program, ["tell", "--control", address(service.control), "STATUS"])
+        ended_with(told, 3, b"", b"notifyd: nobody answered\n")
+
+
+def lines_are_refused_at_the_end(program, folder):
+    """While nobody reads standard output a service can't write the lines of its transfers, and so not end."""
+    with Service(program, "alice") as service, service.phone("bob") as phone, service.operator() as operator:
+        for _ in range(2):
+            phone.refer("sip:" + "c" * 40_000)  # more than a pipe keeps
+        operator.tell("CLOSE")
+        for line in ("STATUS", "MAIL alice voice 1 0 0 0", "no line", "CLOSE"):
+            operator.tell(line, "closed")
+        ended = service.running.end()
+        starts = [line for line in ended.out.splitlines() if line.startswith(b"START ")]
+        same("the exit status, and how many transfers were told", (0, 2), (ended.status, len(starts)))
+
+
+def subscriptions_may_be_kept(program, folder):
+    with Service(program, "--keep-subscriptions", "alice") as service, service.phone("alice") as phone:
+        phone.subscribe()
+        service.close()
+        phone.socket.settimeout(0.2)
+        same("what comes behind the end", b"", next_datagram(phone.socket))
+
+
+def a_transfer_is_told(program, folder):
+    with Service(program, "alice") as service, service.phone("bob") as phone, service.operator() as operator:
+        tag = phone.refer("sip:carol@127.0.0.1")
+        started = service.running.process.stdout.readline()
+        same("the line of the transfer", f"START {tag} sip:carol@127.0.0.1\n".encode(), started)
+        operator.tell(f"PROGRESS {tag} 180 Ringing")
+        phone.expect_notify("active", "SIP/2.0 180 Ringing\r\n")
+        operator.tell(f"PROGRESS {tag} 200 OK")
+        phone.expect_notify(OVER + "noresource", "SIP/2.0 200 OK\r\n")
+        service.close()
+
+
+def a_file_names_mailboxes(program, folder):
+    path = os.path.join(folder, "mailboxes")
+    with open(path, "w") as file:
+        file.write("# a mailbox a line\nalice\n\n#carol\nbob")
+    with Service(program, "--mailboxes", path, "dave") as service, service.operator() as operator:
+        for user in ("alice", "bob", "dave"):
+            with service.phone(user) as phone:
+                phone.subscribe()
+            operator.tell(f"MAIL {user} text 1 0 0 0")
+        for user in ("carol", "#carol", ""):
+            with service.phone(user) as phone:
+                phone.ask("SIP/2.0 404 Not Found")
+        operator.tell("MAIL carol text 1 0 0 0", "unknown mailbox")
+        operator.tell("MAIL #carol text 1 0 0 0", "unknown mailbox")
+        service.close()
+
+
+def a_file_names_none(program, folder):
+    path = os.path.join(folder, "mailboxes")
+    words = ["serve", "--listen", address(free_port()), "--control", address(free_port()), "--mailboxes", path]
+    why = f"notifyd: no such file, or it can't be read: {path}\n"
+    ended_with(run(program, words), 3, b"", why.encode())
+    with open(path, "w") as file:
+        file.write("# some\nalice\nbob and dave\n")
+    why = f"notifyd: {path}, line 3: no name of a mailbox: bob and dave (one or more characters, none of them a space)\n"
+    ended_with(run(program, words), 3, b"", why.encode())
+    with open(path, "w") as file:
+        file.write("# none\n\n")
+    why = "notifyd: no mailbox: name some, or a file of them with --mailboxes <file>\n"
+    ended_with(run(program, words), 1, b"", why.encode())
+
+
+def two_workers_have_homes(program, folder):
+    users = ("alice", "bob", "dave", "erin")
+    serials = [0, 0]
+    with Service(program, "--seed", ZEROS, "--workers", "2", *users) as service, service.operator() as operator:
+        for user in users:
+            home = home_of(user, 2)
+            serials[home] += 1
+            with service.phone(user) as phone:
+                dialog = phone.subscribe()
+                same(f"the tag of the subscription to {user}", local_tag(ZEROS, home, serials[home]), dialog.tag)
+                operator.tell(f"MAIL {user} voice 2 8 0 2")
+                phone.expect_notify("active", HEARD)
+                phone.leave(dialog, HEARD)
+        ended = service.close()
+    # For each phone two answers and three NOTIFYs.
+    lines = "".join(f"WORKER {worker} N {5 * count} closed\n" for worker, count in enumerate(serials))
+    same("what is printed", lines.encode(), re.sub(rb"(?m)^(WORKER \d) \d+", rb"\1 N", ended.out))
+
+
+def it_starts_again_at_once(program, folder):
+    ports = free_port(), free_port()
+    with Phone(ports[0], "alice") as phone:
+        with Service(program, "alice", ports=ports) as service:
+            old = phone.subscribe()
+            service.close()
+            phone.expect_notify(OVER + "deactivated", NO_MESSAGES)
+        with Service(program, "alice", ports=ports) as service:
+            phone.go_on(old, 3600)
+            phone.expect("SIP/2.0 481 Call/Transaction Does Not Exist")
+            phone.leave(phone.subscribe(), NO_MESSAGES)
+            service.close()
+
+
+def a_taken_port_is_told(program, folder):
+    for taken in ("--listen", "--control"):
+        with open_socket(("127.0.0.1", 9)) as other:
+            ports = {"--listen": free_port(), "--control": free_port(), taken: other.getsockname()[1]}
+            words = [word for name, port in ports.items() for word in (name, address(port))]
+            ended = run(program, ["serve", *words, "alice"])
+            why = f"notifyd: a port in use, or an address not of this machine: {taken}\n"
+            ended_with(ended, 3, b"", why.encode())
+
+
+def checks():
+    yield "serve: the answer and the first NOTIFY, byte for byte", as_written_down
+    yield "serve: a change is notified, and what changes nothing isn't; more time, and an end", a_change_is_notified
+    yield "serve: each control line is answered", each_line_is_answered
+    yield "serve: the clock alone ends a subscription of a second", the_clock_ends_a_subscription
+    yield "serve: STATUS counts what came and went", status_counts
+    yield "serve: CLOSE is answered, says farewell and ends it", close_says_farewell
+    yield "serve: lines that come while it ends are answered closed", lines_are_refused_at_the_end
+    yield "serve: no farewell with --keep-subscriptions", subscriptions_may_be_kept
+    yield "serve: a transfer is told to its end", a_transfer_is_told
+    yield "serve: a file names mailboxes, with comments", a_file_names_mailboxes
+    yield "serve: files that name none", a_file_names_none
+    yield "serve: two workers have their mailboxes", two_workers_have_homes
+    yield "serve: it starts again at the same address, and knows no old dialog", it_starts_again_at_once
+    yield "serve: a port in use", a_taken_port_is_told
