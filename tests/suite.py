@@ -19,6 +19,7 @@ each comes from `free_port`, which gives none twice.
 """
 
 import os
+import re
 import socket
 import subprocess
 import threading
@@ -118,6 +119,39 @@ def ended_with(ended, status, out, err):
     same("status, standard output, standard error", Ended(status, out, err), ended)
 
 
+def sip_block(datagram, source="127.0.0.1:5070"):
+    """The block of a script that brings this datagram from this address."""
+    return f"SIP {source} {len(datagram)}\n".encode() + datagram + b"\n"
+
+
+def brief(page):
+    """A page in brief: its UNREAD, WORKER and START lines, of an answer the first line behind `SIP/2.0`, of a NOTIFY its number
+    and its state. Raises AssertionError where the bytes aren't a page (`docs/FORMATS.md`)."""
+    told = []
+    while page:
+        line, feed, page = page.partition(b"\n")
+        words = line.decode().split(" ")
+        if words[0] in ("ANSWER", "NOTIFY") and words[-1].isdigit():
+            length = int(words[-1])
+            out, feed, page = page[:length], page[length : length + 1], page[length + 1 :]
+            told.append(in_brief(words, out.decode()))
+        elif words[0] in ("UNREAD", "WORKER", "START"):
+            told.append(line.decode())
+        else:
+            raise AssertionError(f"no line of a page: {shown(line)}")
+        if feed != b"\n":
+            raise AssertionError(f"no line feed behind {shown(line)} and what belongs to it")
+    return told
+
+
+def in_brief(words, out):
+    """An answer or a NOTIFY, to which a line of these words belongs, in brief."""
+    if words[0] == "ANSWER":
+        return out.partition("\r\n")[0].removeprefix("SIP/2.0 ")
+    states = re.findall(r"^Subscription-State: (.*)\r$", out, re.M)
+    return f"NOTIFY {words[2]} {' '.join(states)}"
+
+
 # Ports that the system gives to nobody by itself begin at 32768; those below are asked for by their number alone.
 FIRST_PORT, LAST_PORT = 10_000, 32_000
 _lock = threading.Lock()
@@ -125,7 +159,7 @@ _next_port = FIRST_PORT + os.getpid() * 61 % (LAST_PORT - FIRST_PORT)
 
 
 def free_port():
-    """A UDP port of 127.0.0.1 that is free, and that this run has not had before."""
+    """A UDP port of 127.0.0.1 that is free, and that no other check of this run has."""
     global _next_port
     with _lock:
         for _ in range(FIRST_PORT, LAST_PORT):
