@@ -1,13 +1,13 @@
 """What the program makes of its words, of scripts, of an operator's words and lines, and of devices that fail.
 
-The tables say what is handed in and what must come of it, by the tables and grammars of `docs/FORMATS.md`, `docs/OPERATING.md`
-and the man page. That a call is refused before anything is read is seen by its standard input, a folder: whoever reads it fails.
+The tables say what is handed in and what must come of it, by the tables and grammars of `docs/FORMATS.md`,
+`docs/OPERATING.md` and the man page. That a call is refused before anything is read is seen by its standard input, a folder:
+whoever reads it fails.
 """
 
 import os
 import resource
 import socket
-import subprocess
 import sys
 import time
 
@@ -299,7 +299,7 @@ def a_port_in_use(program, _):
 
 
 def a_service_as_asked(program, _):
-    """Options and mailboxes stand in any order, the last of an option counts, and times, workers and the end are as asked."""
+    """Options and mailboxes stand in any order, the last of an option counts; times, workers and the end are as asked."""
     asked = "alice --workers 4 --max-time 600 --default-time 300 bob --workers 2 --keep-subscriptions".split()
     sip, control, words = service_words(asked)
     hello = f"notifyd: listening at 127.0.0.1:{sip}, control at 127.0.0.1:{control}, 2 workers, 2 mailboxes\n"
@@ -378,7 +378,7 @@ def line_at_udp(line, is_event):
 
 
 def tell_all(port, lines):
-    """Sends these lines to a port of 127.0.0.1 as soon as somebody listens there. What is sent before is refused by the system."""
+    """Sends these lines to a port of 127.0.0.1 once somebody listens there. Until then the system refuses what is sent."""
     with socket.socket(socket.AF_INET, socket.SOCK_DGRAM) as teller:
         teller.connect(("127.0.0.1", port))
         for _ in range(400):
@@ -507,19 +507,18 @@ def a_full_output(program, _):
 
 
 def output_that_fails(words, length):
-    """A check that each front of a page is out where a file takes no more: the program that this module is tries them all."""
+    """A check that each front of a page is out where a file takes no more. They are tried by this module as a program."""
 
     def check(program, folder):
-        tried = [sys.executable, "-B", os.path.abspath(__file__), str(length), os.path.join(folder, "page"), program, *words]
-        ended = subprocess.run(tried, capture_output=True, timeout=100, check=False)
-        ended_with(Ended(ended.returncode, ended.stdout, ended.stderr), 0, b"", b"")
+        module = [os.path.abspath(__file__), str(length), os.path.join(folder, "page"), program, *words]
+        return run(sys.executable, ["-B", *module], limit=100).err.decode() or None
 
     return check
 
 
 def write_to_short_files(length, path, program, words):
-    """Has the program write its page of so many bytes to files that take 0 bytes, 1, and so on. It runs in a process of its own,
-    since such a limit holds for all threads."""
+    """Has the program write its page of so many bytes to files that take 0 bytes, 1, and so on. It runs in a process of its
+    own, since such a limit holds for all threads."""
     script = data("one_subscription.script")
     page = run(program, words, script).out
     same("bytes of the page", length, len(page))
@@ -549,4 +548,7 @@ def checks():
 
 if __name__ == "__main__":
     _, asked_length, asked_path, asked_program, *asked_words = sys.argv
-    write_to_short_files(int(asked_length), asked_path, asked_program, asked_words)
+    try:
+        write_to_short_files(int(asked_length), asked_path, asked_program, asked_words)
+    except AssertionError as told:
+        sys.exit(str(told))

@@ -11,7 +11,7 @@ parts and runs the checks, some at a time, so a check may rely on nothing that a
 
     def an_empty_script(program, folder):
         ended = run(program, ["script", "1", "alice"], b"")
-        same("the page", b"WORKER 0 0 0\\n", ended.out)
+        same("the page", b"WORKER 0 0 0 closed\\n", ended.out)
 
 Whatever a check starts ends with it: `run` waits for the end of a call, `Running` is for a program that goes on beside the
 check. Both take a limit in seconds, behind which the program is killed and the check has failed. Ports are of 127.0.0.1, and
@@ -60,7 +60,8 @@ class Running:
     def __init__(self, program, words, limit=LIMIT):
         self.limit = limit
         self.process = subprocess.Popen(
-            [program, *words], stdin=subprocess.DEVNULL, stdout=subprocess.PIPE, stderr=subprocess.PIPE
+            # Without a buffer, so that `end` finds what `lines_until` has left.
+            [program, *words], bufsize=0, stdin=subprocess.DEVNULL, stdout=subprocess.PIPE, stderr=subprocess.PIPE
         )
         self.killer = threading.Timer(limit, self.process.kill)
         self.killer.daemon = True
@@ -155,7 +156,7 @@ def in_brief(words, out):
 # Ports that the system gives to nobody by itself begin at 32768; those below are asked for by their number alone.
 FIRST_PORT, LAST_PORT = 10_000, 32_000
 _lock = threading.Lock()
-_next_port = FIRST_PORT + os.getpid() * 61 % (LAST_PORT - FIRST_PORT)
+_next_port = FIRST_PORT + os.getpid() * 509 % (LAST_PORT - FIRST_PORT)
 
 
 def free_port():
