@@ -506,39 +506,49 @@ def a_full_output(program, _):
             same("standard error", b"" if words == ["--help"] else DEVICE_FAULT, ended.err)
 
 
-def output_that_fails(words, length):
-    """A check that each front of a page is out where a file takes no more. They are tried by this module as a program."""
+def output_that_fails(name, length, step, words):
+    """A check that fronts of a page are out where a file takes no more. They are tried by this module as a program."""
 
     def check(program, folder):
-        module = [os.path.abspath(__file__), str(length), os.path.join(folder, "page"), program, *words]
-        return run(sys.executable, ["-B", *module], limit=100).err.decode() or None
+        asked = [os.path.abspath(__file__), name, str(length), str(step), os.path.join(folder, "page"), program, *words]
+        same("its end", Ended(0, b"", b""), run(sys.executable, ["-B", *asked], limit=60))
 
     return check
 
 
-def write_to_short_files(length, path, program, words):
-    """Has the program write its page of so many bytes to files that take 0 bytes, 1, and so on. It runs in a process of its
-    own, since such a limit holds for all threads."""
-    script = data("one_subscription.script")
+def write_to_short_files(name, length, step, path, program, *words):
+    """Has the program write a page of so many bytes to files that take no more than 0 bytes, a step, two, and so on. It runs
+    in a process of its own, since such a limit holds for all threads."""
+    script, step = data(name), int(step)
     page = run(program, words, script).out
-    same("bytes of the page", length, len(page))
-    for most in range(length + 1):
-        resource.setrlimit(resource.RLIMIT_FSIZE, (most, resource.RLIM_INFINITY))
+    same("bytes of the page", int(length), len(page))
+    _, hard = resource.getrlimit(resource.RLIMIT_FSIZE)
+    for most in range(0, len(page) + step, step):
+        resource.setrlimit(resource.RLIMIT_FSIZE, (most, hard))
         with open(path, "wb") as file:
             # Python ignores the signal of a file that is too long, and so does the program that it starts.
             ended = run(program, words, script, stdout=file, restore_signals=False)
         with open(path, "rb") as file:
             same(f"what a file of {most} bytes has", page[:most], file.read())
-        wanted = (0, b"") if most == length else (3, DEVICE_FAULT)
+        wanted = (0, b"") if most >= len(page) else (3, DEVICE_FAULT)
         same(f"the end with a file of {most} bytes", wanted, (ended.status, ended.err))
+
+
+# A script, how many bytes its page has, every how many the output fails, and the words.
+SHORT_OUTPUTS = [
+    ("an_empty_script.script", 20, 1, []),
+    ("an_empty_script.script", 40, 1, ["script", "2", "alice", "bob"]),
+    ("one_subscription.script", 791, 7, []),
+    ("one_subscription.script", 811, 7, ["script", "2", "alice", "bob"]),
+]
 
 
 def device_checks():
     yield "a folder as standard input", a_folder_as_input
     yield "an input that never ends", an_input_that_never_ends
     yield "an output that takes nothing", a_full_output
-    yield "an output that fails after each byte", output_that_fails([], 791)
-    yield "an output that fails after each byte, of two workers", output_that_fails(["script", "2", "alice", "bob"], 811)
+    for output in SHORT_OUTPUTS:
+        yield f"an output that fails: {output}", output_that_fails(*output)
 
 
 def checks():
@@ -547,8 +557,7 @@ def checks():
 
 
 if __name__ == "__main__":
-    _, asked_length, asked_path, asked_program, *asked_words = sys.argv
     try:
-        write_to_short_files(int(asked_length), asked_path, asked_program, asked_words)
+        write_to_short_files(*sys.argv[1:])
     except AssertionError as told:
         sys.exit(str(told))
