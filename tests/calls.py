@@ -2,7 +2,7 @@
 
 The tables say what is handed in and what must come of it, by the tables and grammars of `docs/FORMATS.md`,
 `docs/OPERATING.md` and the man page. That a call is refused before anything is read is seen by its standard input, a folder:
-whoever reads it fails.
+whoever reads it fails. What good lines of a script say is seen by their pages, `what_lines_say` among them (`pages.py`).
 """
 
 import os
@@ -12,7 +12,7 @@ import sys
 import time
 
 from pages import SEED, data
-from suite import Ended, Running, brief, ended_with, free_port, run, same, shown, sip_block
+from suite import LONG_LIMIT, Ended, Running, brief, ended_with, free_port, run, same, shown, sip_block
 
 BAD_ARGUMENTS = Ended(1, b"", b"notifyd: bad arguments\n")
 BAD_SCRIPT = Ended(2, b"", b"notifyd: bad script\n")
@@ -188,6 +188,16 @@ CONTROL_LINES = [
 # What a service answers at the third try, and the status of `notifyd tell`.
 ANSWERS = [(b"ok\nup 3\n", 0), (b"ok", 0), (b"okay", 1), (b"unknown mailbox", 1)]
 
+TWO_WORKERS = ["script", "2", "alice", "bob"]
+
+# A script, how many bytes its page has, every how many the output fails, and the words.
+SHORT_OUTPUTS = [
+    ("an_empty_script.script", 20, 1, []),
+    ("an_empty_script.script", 40, 1, TWO_WORKERS),
+    ("one_subscription.script", 791, 7, []),
+    ("one_subscription.script", 811, 7, TWO_WORKERS),
+]
+
 
 def subscribe(user, call_id="c1"):
     """A SUBSCRIBE to this mailbox."""
@@ -216,7 +226,7 @@ def call(program, words, stdin):
 
 def script_gives(script, wanted):
     """A check that the program without words ends so with this script."""
-    return lambda program, _: same("its end", wanted, run(program, [], script))
+    return lambda program, _: same("its end", wanted, run(program, [], script, limit=LONG_LIMIT))
 
 
 def words_are_refused(words):
@@ -257,7 +267,7 @@ def script_checks():
     for script, page in GOOD_SCRIPTS:
         yield f"{shown(script)} is a script", script_gives(script, Ended(0, page, b""))
     yield "no front of a script is one", fronts_are_refused([])
-    yield "no front of a script is one for two workers", fronts_are_refused(["script", "2", "alice", "bob"])
+    yield "no front of a script is one for two workers", fronts_are_refused(TWO_WORKERS)
 
 
 def word_checks():
@@ -491,16 +501,18 @@ def tell_checks():
 
 
 def a_folder_as_input(program, folder):
-    ended_with(call(program, [], folder), 3, b"", DEVICE_FAULT)
+    for words in ([], TWO_WORKERS):
+        ended_with(call(program, words, folder), 3, b"", DEVICE_FAULT)
 
 
 def an_input_that_never_ends(program, _):
-    same("its end", BAD_SCRIPT, call(program, [], "/dev/zero"))
+    for words in ([], TWO_WORKERS):
+        same("its end", BAD_SCRIPT, call(program, words, "/dev/zero"))
 
 
 def a_full_output(program, _):
     with open("/dev/full", "wb") as full:
-        for words in ([], ["script", "2", "alice", "bob"], ["--help"]):
+        for words in ([], TWO_WORKERS, ["--help"]):
             ended = run(program, words, b"", stdout=full)
             same("the status", 3, ended.status)
             same("standard error", b"" if words == ["--help"] else DEVICE_FAULT, ended.err)
@@ -511,7 +523,7 @@ def output_that_fails(name, length, step, words):
 
     def check(program, folder):
         asked = [os.path.abspath(__file__), name, str(length), str(step), os.path.join(folder, "page"), program, *words]
-        same("its end", Ended(0, b"", b""), run(sys.executable, ["-B", *asked], limit=60))
+        same("its end", Ended(0, b"", b""), run(sys.executable, ["-B", *asked], limit=LONG_LIMIT))
 
     return check
 
@@ -532,15 +544,6 @@ def write_to_short_files(name, length, step, path, program, *words):
             same(f"what a file of {most} bytes has", page[:most], file.read())
         wanted = (0, b"") if most >= len(page) else (3, DEVICE_FAULT)
         same(f"the end with a file of {most} bytes", wanted, (ended.status, ended.err))
-
-
-# A script, how many bytes its page has, every how many the output fails, and the words.
-SHORT_OUTPUTS = [
-    ("an_empty_script.script", 20, 1, []),
-    ("an_empty_script.script", 40, 1, ["script", "2", "alice", "bob"]),
-    ("one_subscription.script", 791, 7, []),
-    ("one_subscription.script", 811, 7, ["script", "2", "alice", "bob"]),
-]
 
 
 def device_checks():

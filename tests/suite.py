@@ -31,6 +31,9 @@ Ended = namedtuple("Ended", "status out err")
 # Seconds that a call may take where nothing else is said. All of them take far less; a busy machine may be slow.
 LIMIT = 20
 
+# The same for calls that have much to read, or start many others.
+LONG_LIMIT = 60
+
 
 def run(program, words=(), given=b"", limit=LIMIT, **how):
     """Runs the program with these words, these bytes as standard input, and answers how it ended.

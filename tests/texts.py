@@ -7,8 +7,8 @@ the SUBSCRIBE is answered (`docs/PROFILE.md` has the order of the refusals).
 
     tests/texts.py TIMES [PROGRAM]
 
-measures instead: each text is handed in a script as often as it fits there, at half its length and at the whole, each script so
-often. A line has the least time of one text at either length, in microseconds of processor time, and how many hundredths of the
+measures instead: each text is handed in a script as often as it fits there, at half its length and at the whole, each script
+so often; one of a script is a script of half the greatest length, and of the whole. A line has the least time of one text at either length, in microseconds of processor time, and how many hundredths of the
 one the other is: 200 where the time rises as the length does, 400 where it rises as its square.
 """
 
@@ -17,7 +17,7 @@ import sys
 from collections import namedtuple
 
 from calls import BAD_SCRIPT, line_at_udp
-from suite import brief, ended_with, run, same, sip_block
+from suite import LONG_LIMIT, brief, ended_with, run, same, sip_block
 
 # The lines of a SUBSCRIBE that is answered by a 200, by the places that a text may take.
 USUAL = {
@@ -168,7 +168,7 @@ def reads(kind):
     """A check that a datagram or a script is read as it should be."""
 
     def check(program, _):
-        ended = run(program, [], script_of(kind, text_of(kind, LENGTH)))
+        ended = run(program, [], script_of(kind, text_of(kind, LENGTH)), limit=LONG_LIMIT)
         if kind.wanted == "bad script":
             return same("its end", BAD_SCRIPT, ended)
         ended_with(ended, 0, ended.out, b"")
@@ -194,7 +194,7 @@ def time_of(program, script, times):
     least = float("inf")
     for _ in range(times):
         before = resource.getrusage(resource.RUSAGE_CHILDREN)
-        run(program, [], script, limit=60)
+        run(program, [], script, limit=LONG_LIMIT)
         behind = resource.getrusage(resource.RUSAGE_CHILDREN)
         least = min(least, behind.ru_utime + behind.ru_stime - before.ru_utime - before.ru_stime)
     return least
@@ -203,7 +203,7 @@ def time_of(program, script, times):
 def time_of_one(program, kind, length, times):
     """The processor time in microseconds that one text of this length takes beyond an empty script."""
     script = script_of(kind, text_of(kind, length))
-    count = SCRIPT_LENGTH // len(script)
+    count = 1 if kind.place == SCRIPT else SCRIPT_LENGTH // len(script)
     spent = time_of(program, script * count, times) - time_of(program, b"", times)
     return max(spent, 1e-6) * 1e6 / count
 
