@@ -203,7 +203,9 @@ def time_of(program, script, times):
 def time_of_one(program, kind, length, times):
     """The processor time in microseconds that one text of this length takes beyond an empty script."""
     script = script_of(kind, text_of(kind, length))
-    count = 1 if kind.place == SCRIPT else SCRIPT_LENGTH // len(script)
+    # What makes a script bad is the last that is read of it.
+    stands_alone = kind.place == SCRIPT or kind.wanted == "no event"
+    count = 1 if stands_alone else SCRIPT_LENGTH // len(script)
     spent = time_of(program, script * count, times) - time_of(program, b"", times)
     return max(spent, 1e-6) * 1e6 / count
 
