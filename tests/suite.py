@@ -1,0 +1,178 @@
+"""What the parts of this suite share: how a part is made, how `notifyd` is started, and how a wrong answer is told.
+
+A part is a module with a function `checks()` that yields pairs of a name and a function. Such a function is a check: it
+takes the program's path and a folder of its own, which is empty and goes away behind it, and ends if all is well. If not, it
+raises `AssertionError` with a text of what was wanted and what came (`same` does), or answers that text. `tests/run` names the
+parts and runs the checks, some at a time, so a check may rely on nothing that another one does; it prints in the order of
+`checks()`.
+
+    def checks():
+        yield "a script of nothing gives a page of one line", an_empty_script
+
+    def an_empty_script(program, folder):
+        ended = run(program, ["script", "1", "alice"], b"")
+        same("the page", b"WORKER 0 0 0 closed\\n", ended.out)
+
+Whatever a check starts ends with it: `run` waits for the end of a call, `Running` is for a program that goes on beside the
+check. Both take a limit in seconds, behind which the program is killed and the check has failed. Ports are of 127.0.0.1, and
+each comes from `free_port`, which gives none twice.
+"""
+
+import os
+import re
+import socket
+import subprocess
+import threading
+from collections import namedtuple
+
+# How a call ended: its exit status (negative: the signal that killed it), and the bytes of both streams.
+Ended = namedtuple("Ended", "status out err")
+
+# Seconds that a call may take where nothing else is said. All of them take far less; a busy machine may be slow.
+LIMIT = 20
+
+# The same for calls that have much to read, or start many others.
+LONG_LIMIT = 60
+
+
+def run(program, words=(), given=b"", limit=LIMIT, **how):
+    """Runs the program with these words, these bytes as standard input, and answers how it ended.
+
+    `how` are further words for `subprocess.Popen`: `stdin` in place of the bytes, `stdout`, `cwd`.
+    """
+    how = {"stdin": subprocess.PIPE, "stdout": subprocess.PIPE, "stderr": subprocess.PIPE, **how}
+    given = given if how["stdin"] == subprocess.PIPE else None
+    with subprocess.Popen([program, *words], **how) as process:
+        try:
+            out, err = process.communicate(given, timeout=limit)
+        except subprocess.TimeoutExpired:
+            process.kill()
+            raise AssertionError(f"it did not end within {limit} seconds: {shown(words)}") from None
+        except BaseException:
+            process.kill()
+            raise
+    return Ended(process.returncode, out, err)
+
+
+class Running:
+    """A program that goes on beside the check, to be used in a `with`: at its end the program is killed, if it still runs.
+
+    `lines_until` waits for a line on standard error (a service says there that it listens), `end` for the end of the program.
+    """
+
+    def __init__(self, program, words, limit=LIMIT):
+        self.limit = limit
+        self.process = subprocess.Popen(
+            # Without a buffer, so that `end` finds what `lines_until` has left.
+            [program, *words], bufsize=0, stdin=subprocess.DEVNULL, stdout=subprocess.PIPE, stderr=subprocess.PIPE
+        )
+        self.killer = threading.Timer(limit, self.process.kill)
+        self.killer.daemon = True
+        self.killer.start()
+        self.err = b""
+
+    def __enter__(self):
+        return self
+
+    def __exit__(self, *_):
+        self.killer.cancel()
+        self.process.kill()
+        self.process.wait()
+        self.process.stdout.close()
+        self.process.stderr.close()
+
+    def lines_until(self, part):
+        """The lines on standard error up to the first that has these bytes in it."""
+        for line in self.process.stderr:
+            self.err += line
+            if part in line:
+                return self.err
+        raise AssertionError(f"it ended without a line {shown(part)} on standard error: {shown(self.err)}")
+
+    def end(self):
+        """Waits for the end of the program, and answers how it ended, with all that it wrote on standard error."""
+        try:
+            out, err = self.process.communicate(timeout=self.limit)
+        except subprocess.TimeoutExpired:
+            raise AssertionError(f"it did not end within {self.limit} seconds") from None
+        self.err += err
+        return Ended(self.process.returncode, out, self.err)
+
+
+def shown(thing):
+    """Something as a text of one line that says which bytes it has, cut where it is long."""
+    text = repr(thing)
+    return text if len(text) <= 400 else f"{text[:300]} .. {text[-80:]} ({len(thing)} long)"
+
+
+def same(what, wanted, came):
+    """Raises AssertionError where something else came than was wanted, with the place where texts begin to differ."""
+    if wanted == came:
+        return
+    where = ""
+    if isinstance(wanted, bytes) and isinstance(came, bytes):
+        start = len(os.path.commonprefix([wanted, came]))
+        if start > 40:
+            where = f" (from byte {start} on)"
+            wanted, came = wanted[start - 40 :], came[start - 40 :]
+    raise AssertionError(f"{what}{where}: wanted {shown(wanted)}, came {shown(came)}")
+
+
+def ended_with(ended, status, out, err):
+    """Raises AssertionError unless a call ended with this status and wrote these bytes on standard output and error."""
+    same("status, standard output, standard error", Ended(status, out, err), ended)
+
+
+def sip_block(datagram, source="127.0.0.1:5070"):
+    """The block of a script that brings this datagram from this address."""
+    return f"SIP {source} {len(datagram)}\n".encode() + datagram + b"\n"
+
+
+def brief(page):
+    """A page in brief: its UNREAD, WORKER and START lines, of an answer the first line behind `SIP/2.0`, of a NOTIFY its number
+    and its state. Raises AssertionError where the bytes aren't a page (`docs/FORMATS.md`)."""
+    told = []
+    while page:
+        line, feed, page = page.partition(b"\n")
+        words = line.decode().split(" ")
+        if words[0] in ("ANSWER", "NOTIFY") and words[-1].isdigit():
+            length = int(words[-1])
+            out, feed, page = page[:length], page[length : length + 1], page[length + 1 :]
+            told.append(in_brief(words, out.decode()))
+        elif words[0] in ("UNREAD", "WORKER", "START"):
+            told.append(line.decode())
+        else:
+            raise AssertionError(f"no line of a page: {shown(line)}")
+        if feed != b"\n":
+            raise AssertionError(f"no line feed behind {shown(line)} and what belongs to it")
+    return told
+
+
+def in_brief(words, out):
+    """An answer or a NOTIFY, to which a line of these words belongs, in brief."""
+    if words[0] == "ANSWER":
+        return out.partition("\r\n")[0].removeprefix("SIP/2.0 ")
+    states = re.findall(r"^Subscription-State: (.*)\r$", out, re.M)
+    return f"NOTIFY {words[2]} {' '.join(states)}"
+
+
+# Ports that the system gives to nobody by itself begin at 32768; those below are asked for by their number alone.
+FIRST_PORT, LAST_PORT = 10_000, 32_000
+_lock = threading.Lock()
+_next_port = FIRST_PORT + os.getpid() * 509 % (LAST_PORT - FIRST_PORT)
+
+
+def free_port():
+    """A UDP port of 127.0.0.1 that is free, and that no other check of this run has."""
+    global _next_port
+    with _lock:
+        for _ in range(FIRST_PORT, LAST_PORT):
+            port = _next_port
+            _next_port = port + 1 if port < LAST_PORT else FIRST_PORT
+            with socket.socket(socket.AF_INET, socket.SOCK_DGRAM) as probe:
+                try:
+                    probe.bind(("127.0.0.1", port))
+                    return port
+                except OSError:
+                    continue
+    raise AssertionError("no UDP port of 127.0.0.1 is free")
