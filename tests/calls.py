@@ -286,7 +286,7 @@ def service_words(words):
 def ask(port, line):
     """What a service at this port answers to a datagram."""
     with socket.socket(socket.AF_INET, socket.SOCK_DGRAM) as asker:
-        asker.settimeout(10)
+        asker.settimeout(60)
         asker.connect(("127.0.0.1", port))
         asker.send(line)
         return asker.recv(65536)
@@ -316,7 +316,7 @@ def a_service_as_asked(program, _):
     with Running(program, words) as service, socket.socket(socket.AF_INET, socket.SOCK_DGRAM) as phone:
         same("the first line", hello.encode(), service.lines_until(b"listening"))
         phone.bind(("127.0.0.1", 0))
-        phone.settimeout(10)
+        phone.settimeout(60)
         phone.sendto(subscribe("bob"), ("127.0.0.1", sip))
         outs = phone.recv(65536), phone.recv(65536)
         same("a grant of 600 seconds", True, b"\r\nExpires: 600\r\n" in outs[0])
@@ -451,7 +451,7 @@ def fake_service():
     """A socket at which a service might be, and the words of `notifyd tell` that name it."""
     service = socket.socket(socket.AF_INET, socket.SOCK_DGRAM)
     service.bind(("127.0.0.1", 0))
-    service.settimeout(10)
+    service.settimeout(60)
     return service, ["tell", "--control", f"127.0.0.1:{service.getsockname()[1]}"]
 
 
@@ -486,7 +486,7 @@ def never_answered(program, _):
 def nobody_listens(program, _):
     for port in (1, free_port()):
         words = ["tell", "--control", f"127.0.0.1:{port}", "STATUS"]
-        ended_with(run(program, words, limit=5), 3, b"", b"notifyd: nobody answered\n")
+        ended_with(run(program, words, limit=60), 3, b"", b"notifyd: nobody answered\n")
 
 
 def tell_checks():

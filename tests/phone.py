@@ -11,7 +11,7 @@ from suite import same, shown
 REPEATED = ("Via: ", "From: ", "To: ", "Call-ID: ", "CSeq: ")
 
 # Seconds that a phone waits for a datagram.
-PATIENCE = 15
+PATIENCE = 60
 
 # Bytes that a phone's socket keeps, as far as the system grants them.
 ROOM = 1 << 22

@@ -5,7 +5,7 @@ import re
 import socket
 import time
 
-from phone import NO_MESSAGES, OVER, Operator, Phone, open_socket, persist
+from phone import NO_MESSAGES, OVER, PATIENCE, Operator, Phone, open_socket, persist
 from suite import LIMIT, Running, ended_with, free_port, run, same
 from tags import home_of, local_tag
 
@@ -168,12 +168,12 @@ def the_clock_ends_a_subscription(program, folder):
 
 def counters_become(operator, wanted):
     """Waits until STATUS counts so: a counter goes up just after its datagram went out, or came."""
-    for _ in range(100):
+    until = time.monotonic() + PATIENCE
+    came = None
+    while came != wanted and time.monotonic() < until:
+        time.sleep(0.02)
         came = operator.counters()
         came.pop("up")
-        if came == wanted:
-            return
-        time.sleep(0.02)
     same("the counters", wanted, came)
 
 
@@ -246,6 +246,16 @@ def a_transfer_is_told(program, folder):
         phone.expect_notify("active", "SIP/2.0 180 Ringing\r\n")
         operator.tell(f"PROGRESS {tag} 200 OK")
         phone.expect_notify(OVER + "noresource", "SIP/2.0 200 OK\r\n")
+        service.close()
+
+
+def a_long_reason_is_told_whole(program, folder):
+    """A control line may be as long as a datagram: no more of it is lost than of a SIP message."""
+    reason = "x" * 9_000
+    with Service(program, "alice") as service, service.phone("bob") as phone, service.operator() as operator:
+        tag = phone.refer("sip:carol@127.0.0.1")
+        operator.tell(f"PROGRESS {tag} 180 {reason}")
+        phone.expect_notify("active", f"SIP/2.0 180 {reason}\r\n")
         service.close()
 
 
@@ -334,6 +344,7 @@ def checks():
     yield "serve: lines that come while it ends are answered closed", lines_are_refused_at_the_end
     yield "serve: no farewell with --keep-subscriptions", subscriptions_may_be_kept
     yield "serve: a transfer is told to its end", a_transfer_is_told
+    yield "serve: a control line of nine thousand octets is heard whole", a_long_reason_is_told_whole
     yield "serve: a file names mailboxes, with comments", a_file_names_mailboxes
     yield "serve: files that name none", a_file_names_none
     yield "serve: two workers have their mailboxes", two_workers_have_homes

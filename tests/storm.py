@@ -34,8 +34,8 @@ MOST_UNKNOWN = 64
 STRIDE = 24
 
 # Seconds in which nothing comes before it is missed, and behind which the service is killed. A storm takes a few.
-PATIENCE = 10
-LIMIT = 120
+PATIENCE = 60
+LIMIT = 300
 
 
 def body_of(counts):

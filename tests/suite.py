@@ -29,10 +29,10 @@ from collections import namedtuple
 Ended = namedtuple("Ended", "status out err")
 
 # Seconds that a call may take where nothing else is said. All of them take far less; a busy machine may be slow.
-LIMIT = 20
+LIMIT = 120
 
 # The same for calls that have much to read, or start many others.
-LONG_LIMIT = 60
+LONG_LIMIT = 300
 
 
 def run(program, words=(), given=b"", limit=LIMIT, **how):
