@@ -52,8 +52,9 @@ pub fn alone()
     ensures { AloneLaw }
 {}
 
-/// No other worker took any of a subscription's own events but ticks and the planned stop, where every port of the crew was
-/// handed to `Crew::join`: whatever the number of workers, it is told by one.
+/// No other worker took any of a subscription's own events but ticks and the planned stop, where it was born at the home of its
+/// request, every port of the crew was handed to `Crew::join`, and each sent events to their homes: whatever the number of workers,
+/// it is told by one.
 pub fn nowhere_else()
     ensures { NowhereElseLaw }
 {}

@@ -52,12 +52,13 @@ pub fn by_keys()
     ensures { OwnKeysLaw }
 {}
 
-/// With several workers, what concerns a subscription goes to the worker where it was born.
+/// With several workers, what concerns a subscription that was born at the home of its request goes to the worker where it was
+/// born.
 pub fn together()
     ensures { TogetherLaw }
 {}
 
-/// With several workers, no other gets anything that concerns it, but what goes to all.
+/// With several workers, no other gets anything that concerns such a subscription, but what goes to all.
 pub fn nowhere_else()
     ensures { NowhereElseLaw }
 {}

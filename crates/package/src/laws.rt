@@ -2,7 +2,7 @@
 ghost use Rattle.package.specs.Run.{ContentLaw, KindLaw};
 
 /// After a list of changes a mailbox has of each class the counts of the last change to it, and a transfer has the first
-/// final status since its last Begin, or without one the last.
+/// final status since it is held (the first Begin after the last Forget), or without one the last.
 pub fn the_last_counts()
     ensures { ContentLaw }
 {}

@@ -4,7 +4,7 @@
 --   0        none                       done
 --   1        notifyd: bad arguments     the arguments don't ask for workers that run a script
 --   2        notifyd: bad script        the bytes are no script
---   3        notifyd: device fault      a read or a write failed
+--   3        notifyd: device fault      a read or a write failed, or a thread could not be started
 --   4        notifyd: out of memory     a growth was refused
 use Rattle.std.specs.Prelude.{ℕ, Bool, ◌%◌, ◌==◌, List, [], ◌∷◌, map, filter, codes, Option, Some, None}
 use Rattle.std.specs.List.{range_with_len}

@@ -20,7 +20,8 @@ pub fn a_notify_is_read_again()
     ensures { NotifyIsReadAgain }
 {}
 
-/// The bytes of a NOTIFY in whose values no CR stands fix its number, its event, its state and its body.
+/// The bytes of a NOTIFY in whose values no CR stands, and whose event and state are in their grammars, fix its number, its event, its
+/// state and its body.
 pub fn a_notify_fixes_its_values()
     ensures { NotifyFixesItsValues }
 {}
