@@ -1,6 +1,7 @@
 //! Values of headers. A line of `data/headers` has what is tried, a value (with backslashes as in [`crate::tables`]), and what is
-//! wanted: what the value says and how it is written again, or why it is refused; for `covers`, a range, a blank and a media
-//! type, whether the range covers it.
+//! wanted: what the value says and how it is written again, or why it is refused. `numbered`, `active` and `ended` are made by a
+//! call in place of being read. For `covers` the value is a range, a blank and a media type: whether the range covers it. For
+//! `package`, `id`, `word` and `reason` it is a text: whether it may be that part of a value.
 
 use crate::look::as_text;
 use event_headers::{
@@ -10,112 +11,106 @@ use event_headers::{
 use sip_text::NoMemory;
 use std::alloc::Global;
 
-/// Appends what a value says, before how it is written.
-fn add(says: Result<String, NoMemory>, out: &mut Vec<u8>) -> Result<(), NoMemory> {
-    out.extend_from_slice(says?.as_bytes())?;
-    Ok(())
-}
-
-fn event_says(alloc: Global, event: &EventValue) -> Result<String, NoMemory> {
+/// Appends how a copy of an event is written, and answers what it says.
+fn add_event(alloc: Global, event: &EventValue, out: &mut Vec<u8>) -> Result<String, NoMemory> {
     let id = event.id().unwrap_or("");
-    Ok(format!(in alloc; "package {}, id {id}, written ", event.package())?)
+    let says = format!(in alloc; "package {}, id {id}, written ", event.package())?;
+    write_event(alloc, &event.copy(alloc)?, out)?;
+    Ok(says)
 }
 
-/// How a copy of an event is written.
-fn add_copy(alloc: Global, event: &EventValue, out: &mut Vec<u8>) -> Result<(), NoMemory> {
-    let copy = event.copy(alloc)?;
-    write_event(alloc, &copy, out)
-}
-
-fn add_event(alloc: Global, value: &[u8], out: &mut Vec<u8>) -> Result<(), HeaderError> {
-    let event = read_event(alloc, value)?;
-    add(event_says(alloc, &event), out)?;
-    Ok(add_copy(alloc, &event, out)?)
-}
-
-fn state_says(alloc: Global, state: &StateValue) -> Result<String, NoMemory> {
+/// Appends how a state is written, and answers what it says.
+fn add_state(alloc: Global, state: &StateValue, out: &mut Vec<u8>) -> Result<String, NoMemory> {
     let word = state.word();
-    match state.expires() {
-        Some(seconds) => Ok(format!(in alloc; "word {word}, expires {seconds}, written ")?),
-        None => Ok(format!(in alloc; "word {word}, no expires, written ")?),
-    }
+    let says = match state.expires() {
+        Some(seconds) => format!(in alloc; "word {word}, expires {seconds}, written ")?,
+        None => format!(in alloc; "word {word}, no expires, written ")?,
+    };
+    write_state(alloc, state, out)?;
+    Ok(says)
 }
 
-fn add_state(alloc: Global, value: &[u8], out: &mut Vec<u8>) -> Result<(), HeaderError> {
-    let state = read_state(alloc, value)?;
-    add(state_says(alloc, &state), out)?;
-    Ok(write_state(alloc, &state, out)?)
+/// Appends how ranges are written, and answers how many there are.
+fn add_ranges(alloc: Global, ranges: &[Range], out: &mut Vec<u8>) -> Result<String, NoMemory> {
+    let says = format!(in alloc; "{} ranges, written ", ranges.len())?;
+    write_accept(alloc, ranges, out)?;
+    Ok(says)
 }
 
-fn seconds_say(alloc: Global, seconds: u32) -> Result<String, NoMemory> {
-    Ok(format!(in alloc; "{seconds} seconds, written ")?)
-}
-
-fn add_expires(alloc: Global, value: &[u8], out: &mut Vec<u8>) -> Result<(), HeaderError> {
-    let seconds = read_expires(value)?;
-    add(seconds_say(alloc, seconds), out)?;
-    Ok(write_expires(alloc, seconds, out)?)
-}
-
-fn ranges_say(alloc: Global, ranges: &[Range]) -> Result<String, NoMemory> {
-    Ok(format!(in alloc; "{} ranges, written ", ranges.len())?)
-}
-
-fn add_accept(alloc: Global, value: &[u8], out: &mut Vec<u8>) -> Result<(), HeaderError> {
-    let ranges = read_accept(alloc, value)?;
-    add(ranges_say(alloc, ranges.as_slice()), out)?;
-    Ok(write_accept(alloc, ranges.as_slice(), out)?)
-}
-
-/// The range of a main type and a subtype.
-pub(crate) fn a_range(alloc: Global, main: &str, sub: &str) -> Result<Option<Range>, NoMemory> {
-    let main = String::from_str(alloc, main)?;
-    let sub = String::from_str(alloc, sub)?;
-    Ok(Range::new(main, sub))
-}
-
-/// Whether a range covers a type.
-fn covered(range: &Option<Range>, content_type: &str) -> &'static str {
-    match range {
-        Some(range) if covers(range, content_type) => "true",
-        Some(_) => "false",
-        None => "no range",
-    }
+/// Appends how seconds are written, and answers how many they are.
+fn add_seconds(alloc: Global, seconds: u32, out: &mut Vec<u8>) -> Result<String, NoMemory> {
+    let says = format!(in alloc; "{seconds} seconds, written ")?;
+    write_expires(alloc, seconds, out)?;
+    Ok(says)
 }
 
 /// Whether the range before the blank covers the type behind it.
-fn add_covers(alloc: Global, value: &str, out: &mut Vec<u8>) -> Result<(), HeaderError> {
-    let (range, content_type) = value.split_once(' ').unwrap_or((value, ""));
+fn covered(alloc: Global, text: &str) -> Result<&'static str, NoMemory> {
+    let (range, content_type) = text.split_once(' ').unwrap_or((text, ""));
     let (main, sub) = range.split_once('/').unwrap_or((range, ""));
-    let range = a_range(alloc, main, sub)?;
-    out.extend_from_slice(covered(&range, content_type).as_bytes())?;
-    Ok(())
+    let main = String::from_str(alloc, main)?;
+    let sub = String::from_str(alloc, sub)?;
+    match &Range::new(main, sub) {
+        Some(range) if covers(range, content_type) => Ok("true"),
+        Some(_) => Ok("false"),
+        None => Ok("no range"),
+    }
 }
 
-/// Appends what is told of a value.
-fn add_value(
+/// Whether a text may be a part of a value: tokens may, but for an event's package in small letters.
+fn may_be(alloc: Global, part: &str, text: &str) -> Result<&'static str, NoMemory> {
+    let text = String::from_str(alloc, text)?;
+    let other = String::from_str(alloc, if part == "id" { "refer" } else { "active" })?;
+    let is_made = match part {
+        "package" => EventValue::new(text, None).is_some(),
+        "id" => EventValue::new(other, Some(text)).is_some(),
+        "word" => StateValue::new(text, Some(5), None, None).is_some(),
+        _ => StateValue::new(other, None, Some(text), None).is_some(),
+    };
+    Ok(if is_made { "true" } else { "false" })
+}
+
+/// Appends how a value that is made, and not read, is written, and answers what it says.
+fn add_made(alloc: Global, tried: &str, text: &str, out: &mut Vec<u8>) -> Result<String, NoMemory> {
+    match tried {
+        "numbered" => add_event(alloc, &EventValue::numbered(alloc, "refer", 93)?, out),
+        "active" => {
+            let state = StateValue::worded(alloc, "active", Some(5), None, None)?;
+            add_state(alloc, &state, out)
+        }
+        "ended" => {
+            let why = Some("noresource");
+            let state = StateValue::worded(alloc, "terminated", None, why, Some(7))?;
+            add_state(alloc, &state, out)
+        }
+        "covers" => Ok(String::from_str(alloc, covered(alloc, text)?)?),
+        part => Ok(String::from_str(alloc, may_be(alloc, part, text)?)?),
+    }
+}
+
+/// Appends how a value is written, and answers what it says. Where it is refused nothing is appended.
+pub(crate) fn add_value(
     alloc: Global,
     tried: &str,
     value: &[u8],
     out: &mut Vec<u8>,
-) -> Result<(), HeaderError> {
-    match tried {
-        "event" => add_event(alloc, value, out),
-        "state" => add_state(alloc, value, out),
-        "expires" => add_expires(alloc, value, out),
-        "accept" => add_accept(alloc, value, out),
-        _ => add_covers(alloc, as_text(value), out),
-    }
+) -> Result<String, HeaderError> {
+    Ok(match tried {
+        "event" => add_event(alloc, &read_event(alloc, value)?, out)?,
+        "state" => add_state(alloc, &read_state(alloc, value)?, out)?,
+        "expires" => add_seconds(alloc, read_expires(value)?, out)?,
+        "accept" => add_ranges(alloc, read_accept(alloc, value)?.as_slice(), out)?,
+        _ => add_made(alloc, tried, as_text(value), out)?,
+    })
 }
 
 /// What is told of a value.
 pub(crate) fn value_told(alloc: Global, tried: &str, value: &[u8]) -> Result<String, NoMemory> {
     let mut out = Vec::new(alloc);
-    let told = match add_value(alloc, tried, value, &mut out) {
-        Ok(()) => as_text(out.as_slice()),
-        Err(HeaderError::Grammar) => "refused: grammar",
-        Err(HeaderError::TooLarge) => "refused: too large",
-        Err(HeaderError::NoMemory) => return Err(NoMemory),
-    };
-    Ok(String::from_str(alloc, told)?)
+    match add_value(alloc, tried, value, &mut out) {
+        Ok(says) => Ok(format!(in alloc; "{}{}", says.as_str(), as_text(out.as_slice()))?),
+        Err(HeaderError::Grammar) => Ok(String::from_str(alloc, "refused: grammar")?),
+        Err(HeaderError::TooLarge) => Ok(String::from_str(alloc, "refused: too large")?),
+        Err(HeaderError::NoMemory) => Err(NoMemory),
+    }
 }
