@@ -46,15 +46,29 @@ const CUT: [(&str, Lengths); 3] = [
     ("notify.dat", (439, 40, 416)),
 ];
 
-/// Tells of three messages cut off, and of one too long.
-pub(crate) fn tell_all(rt: &(impl Files + Print + AllocGlobal)) -> io::Result<()> {
-    for (name, lengths) in CUT {
-        let message = fs::read(rt, name)?;
-        let is_so = are_refused(rt.alloc(), lengths, message.as_slice()).map_err(no_memory)?;
-        println!(rt; "{name}, cut off: {is_so}")?;
-    }
+/// Tells whether a message that was cut off is refused.
+fn tell_cut(
+    rt: &(impl Files + Print + AllocGlobal),
+    name: &str,
+    lengths: Lengths,
+) -> io::Result<()> {
+    let message = fs::read(rt, name)?;
+    let is_so = are_refused(rt.alloc(), lengths, message.as_slice()).map_err(no_memory)?;
+    println!(rt; "{name}, cut off: {is_so}")
+}
+
+/// Tells whether a datagram has at most 65,535 bytes.
+fn tell_longest(rt: &(impl Files + Print + AllocGlobal)) -> io::Result<()> {
     let message = fs::read(rt, "subscribe.dat")?;
     let fields = fs::read_to_string(rt, "subscribe.read")?;
     let is_so = is_bounded(rt.alloc(), message.as_slice(), fields.as_str()).map_err(no_memory)?;
     println!(rt; "65535 bytes are read, 65536 are not: {is_so}")
+}
+
+/// Tells of three messages cut off, and of one too long.
+pub(crate) fn tell_all(rt: &(impl Files + Print + AllocGlobal)) -> io::Result<()> {
+    for (name, lengths) in CUT {
+        tell_cut(rt, name, lengths)?;
+    }
+    tell_longest(rt)
 }

@@ -3,6 +3,7 @@
 //! call in place of being read. For `covers` the value is a range, a blank and a media type: whether the range covers it. For
 //! `package`, `id`, `word` and `reason` it is a text: whether it may be that part of a value.
 
+use crate::fields::add_all;
 use crate::look::as_text;
 use event_headers::{
     EventValue, HeaderError, Range, StateValue, covers, read_accept, read_event, read_expires,
@@ -11,37 +12,58 @@ use event_headers::{
 use sip_text::NoMemory;
 use std::alloc::Global;
 
-/// Appends how a copy of an event is written, and answers what it says.
-fn add_event(alloc: Global, event: &EventValue, out: &mut Vec<u8>) -> Result<String, NoMemory> {
+/// Appends what an event says, and how a copy of it is written.
+fn add_event(
+    alloc: Global,
+    event: &EventValue,
+    says: &mut String,
+    out: &mut Vec<u8>,
+) -> Result<(), NoMemory> {
     let id = event.id().unwrap_or("");
-    let says = format!(in alloc; "package {}, id {id}, written ", event.package())?;
-    write_event(alloc, &event.copy(alloc)?, out)?;
-    Ok(says)
+    add_all(
+        says,
+        &["package ", event.package(), ", id ", id, ", written "],
+    )?;
+    write_event(alloc, &event.copy(alloc)?, out)
 }
 
-/// Appends how a state is written, and answers what it says.
-fn add_state(alloc: Global, state: &StateValue, out: &mut Vec<u8>) -> Result<String, NoMemory> {
-    let word = state.word();
-    let says = match state.expires() {
-        Some(seconds) => format!(in alloc; "word {word}, expires {seconds}, written ")?,
-        None => format!(in alloc; "word {word}, no expires, written ")?,
+/// Appends what a state says, and how it is written.
+fn add_state(
+    alloc: Global,
+    state: &StateValue,
+    says: &mut String,
+    out: &mut Vec<u8>,
+) -> Result<(), NoMemory> {
+    let expires = match state.expires() {
+        Some(seconds) => format!(in alloc; ", expires {seconds}, written ")?,
+        None => String::from_str(alloc, ", no expires, written ")?,
     };
-    write_state(alloc, state, out)?;
-    Ok(says)
+    add_all(says, &["word ", state.word(), expires.as_str()])?;
+    write_state(alloc, state, out)
 }
 
-/// Appends how ranges are written, and answers how many there are.
-fn add_ranges(alloc: Global, ranges: &[Range], out: &mut Vec<u8>) -> Result<String, NoMemory> {
-    let says = format!(in alloc; "{} ranges, written ", ranges.len())?;
-    write_accept(alloc, ranges, out)?;
-    Ok(says)
+/// Appends how many ranges there are, and how they are written.
+fn add_ranges(
+    alloc: Global,
+    ranges: &[Range],
+    says: &mut String,
+    out: &mut Vec<u8>,
+) -> Result<(), NoMemory> {
+    let count = format!(in alloc; "{} ranges, written ", ranges.len())?;
+    add_all(says, &[count.as_str()])?;
+    write_accept(alloc, ranges, out)
 }
 
-/// Appends how seconds are written, and answers how many they are.
-fn add_seconds(alloc: Global, seconds: u32, out: &mut Vec<u8>) -> Result<String, NoMemory> {
-    let says = format!(in alloc; "{seconds} seconds, written ")?;
-    write_expires(alloc, seconds, out)?;
-    Ok(says)
+/// Appends how many seconds there are, and how they are written.
+fn add_seconds(
+    alloc: Global,
+    seconds: u32,
+    says: &mut String,
+    out: &mut Vec<u8>,
+) -> Result<(), NoMemory> {
+    let count = format!(in alloc; "{seconds} seconds, written ")?;
+    add_all(says, &[count.as_str()])?;
+    write_expires(alloc, seconds, out)
 }
 
 /// Whether the range before the blank covers the type behind it.
@@ -57,60 +79,93 @@ fn covered(alloc: Global, text: &str) -> Result<&'static str, NoMemory> {
     }
 }
 
-/// Whether a text may be a part of a value: tokens may, but for an event's package in small letters.
-fn may_be(alloc: Global, part: &str, text: &str) -> Result<&'static str, NoMemory> {
-    let text = String::from_str(alloc, text)?;
-    let other = String::from_str(alloc, if part == "id" { "refer" } else { "active" })?;
-    let is_made = match part {
+/// Whether a text may be this part of a value, beside another text where the value has two.
+fn is_part(part: &str, text: String, other: String) -> bool {
+    match part {
         "package" => EventValue::new(text, None).is_some(),
         "id" => EventValue::new(other, Some(text)).is_some(),
         "word" => StateValue::new(text, Some(5), None, None).is_some(),
         _ => StateValue::new(other, None, Some(text), None).is_some(),
-    };
-    Ok(if is_made { "true" } else { "false" })
-}
-
-/// Appends how a value that is made, and not read, is written, and answers what it says.
-fn add_made(alloc: Global, tried: &str, text: &str, out: &mut Vec<u8>) -> Result<String, NoMemory> {
-    match tried {
-        "numbered" => add_event(alloc, &EventValue::numbered(alloc, "refer", 93)?, out),
-        "active" => {
-            let state = StateValue::worded(alloc, "active", Some(5), None, None)?;
-            add_state(alloc, &state, out)
-        }
-        "ended" => {
-            let why = Some("noresource");
-            let state = StateValue::worded(alloc, "terminated", None, why, Some(7))?;
-            add_state(alloc, &state, out)
-        }
-        "covers" => Ok(String::from_str(alloc, covered(alloc, text)?)?),
-        part => Ok(String::from_str(alloc, may_be(alloc, part, text)?)?),
     }
 }
 
-/// Appends how a value is written, and answers what it says. Where it is refused nothing is appended.
+/// Whether a text may be this part of a value: tokens may, where an id has a package and a reason a word before it.
+fn may_be(alloc: Global, part: &str, text: &str) -> Result<&'static str, NoMemory> {
+    let text = String::from_str(alloc, text)?;
+    let other = String::from_str(alloc, "refer")?;
+    Ok(if is_part(part, text, other) {
+        "true"
+    } else {
+        "false"
+    })
+}
+
+/// The state of an example: with an expiry, or with a reason and a time to try again.
+fn made_state(alloc: Global, is_active: bool) -> Result<StateValue, NoMemory> {
+    if is_active {
+        return StateValue::worded(alloc, "active", Some(5), None, None);
+    }
+    StateValue::worded(alloc, "terminated", None, Some("noresource"), Some(7))
+}
+
+/// Appends what a value that is made, and not read, says, and how it is written.
+fn add_made(
+    alloc: Global,
+    tried: &str,
+    text: &str,
+    says: &mut String,
+    out: &mut Vec<u8>,
+) -> Result<(), NoMemory> {
+    match tried {
+        "numbered" => match &EventValue::numbered(alloc, "refer", 93) {
+            Ok(event) => add_event(alloc, event, says, out),
+            Err(short) => Err(*short),
+        },
+        "active" | "ended" => match &made_state(alloc, tried == "active") {
+            Ok(state) => add_state(alloc, state, says, out),
+            Err(short) => Err(*short),
+        },
+        "covers" => add_all(says, &[covered(alloc, text)?]),
+        part => add_all(says, &[may_be(alloc, part, text)?]),
+    }
+}
+
+/// Appends what a value says, and how it is written. Where it is refused, or memory is short, nothing is written.
 pub(crate) fn add_value(
     alloc: Global,
     tried: &str,
     value: &[u8],
+    says: &mut String,
     out: &mut Vec<u8>,
-) -> Result<String, HeaderError> {
-    Ok(match tried {
-        "event" => add_event(alloc, &read_event(alloc, value)?, out)?,
-        "state" => add_state(alloc, &read_state(alloc, value)?, out)?,
-        "expires" => add_seconds(alloc, read_expires(value)?, out)?,
-        "accept" => add_ranges(alloc, read_accept(alloc, value)?.as_slice(), out)?,
-        _ => add_made(alloc, tried, as_text(value), out)?,
-    })
+) -> Result<(), HeaderError> {
+    let added = match tried {
+        "event" => match &read_event(alloc, value) {
+            Ok(event) => add_event(alloc, event, says, out),
+            Err(error) => return Err(*error),
+        },
+        "state" => match &read_state(alloc, value) {
+            Ok(state) => add_state(alloc, state, says, out),
+            Err(error) => return Err(*error),
+        },
+        "accept" => match &read_accept(alloc, value) {
+            Ok(ranges) => add_ranges(alloc, ranges.as_slice(), says, out),
+            Err(error) => return Err(*error),
+        },
+        "expires" => add_seconds(alloc, read_expires(value)?, says, out),
+        _ => add_made(alloc, tried, as_text(value), says, out),
+    };
+    Ok(added?)
 }
 
 /// What is told of a value.
 pub(crate) fn value_told(alloc: Global, tried: &str, value: &[u8]) -> Result<String, NoMemory> {
+    let mut told = String::new(alloc);
     let mut out = Vec::new(alloc);
-    match add_value(alloc, tried, value, &mut out) {
-        Ok(says) => Ok(format!(in alloc; "{}{}", says.as_str(), as_text(out.as_slice()))?),
-        Err(HeaderError::Grammar) => Ok(String::from_str(alloc, "refused: grammar")?),
-        Err(HeaderError::TooLarge) => Ok(String::from_str(alloc, "refused: too large")?),
-        Err(HeaderError::NoMemory) => Err(NoMemory),
+    match add_value(alloc, tried, value, &mut told, &mut out) {
+        Ok(()) => told.push_str(as_text(out.as_slice()))?,
+        Err(HeaderError::Grammar) => told.push_str("refused: grammar")?,
+        Err(HeaderError::TooLarge) => told.push_str("refused: too large")?,
+        Err(HeaderError::NoMemory) => return Err(NoMemory),
     }
+    Ok(told)
 }

@@ -39,10 +39,10 @@ const FIELDS: &str = "request SUBSCRIBE sip:a@b\n\
     call-id x\n\
     cseq 1 SUBSCRIBE\n\
     event a b\n\
-    expires Absent\n\
     accept a/b c/d\n\
     contact sip:a@b\n\
     refer-to sip:c@d\n\
+    expires Absent\n\
     refer-sub Absent\n\
     require p\n\
     require q\n\
@@ -79,40 +79,43 @@ fn is_written(alloc: Global, example: Example) -> bool {
 }
 
 /// Whether a value is written behind bytes, or memory was short and those bytes stay as they were.
-fn keeps(alloc: Global, tried: &str, value: &[u8]) -> bool {
+fn keeps(alloc: Global, tried: &str, value: &str) -> bool {
     let Ok(mut out) = Vec::from_slice(alloc, b"kept") else {
         return true;
     };
-    match add_value(alloc, tried, value, &mut out).err() {
+    let mut says = String::new(alloc);
+    match add_value(alloc, tried, value.as_bytes(), &mut says, &mut out).err() {
         None => true,
         Some(error) => error == HeaderError::NoMemory && out.as_slice() == b"kept".as_slice(),
     }
 }
 
-/// Values, what each tries, and what is told of it.
-const VALUES: [(&str, &[u8], &str); 6] = [
-    ("event", b"refer;x=1;id=93", "an Event"),
-    ("numbered", b"", "a numbered Event"),
+/// Values: what each is, what is tried of it, and its text.
+const VALUES: [(&str, &str, &str); 6] = [
+    ("an Event", "event", "refer;x=1;id=93"),
+    ("a numbered Event", "numbered", ""),
     (
-        "state",
-        b"terminated;reason=timeout;retry-after=5",
         "a Subscription-State",
+        "state",
+        "terminated;reason=timeout;retry-after=5",
     ),
-    ("ended", b"", "a worded Subscription-State"),
-    ("expires", b"3600", "an Expires"),
-    ("accept", b"*/*, text/plain;q=1", "an Accept"),
+    ("a worded Subscription-State", "ended", ""),
+    ("an Expires", "expires", "3600"),
+    ("an Accept", "accept", "*/*, text/plain;q=1"),
 ];
 
 /// Tells whether each was done, or changed nothing.
 pub(crate) fn tell_all(rt: &(impl Print + AllocGlobal)) -> io::Result<()> {
     let alloc = rt.alloc();
-    println!(rt; "read, or memory was short: {}", is_read(alloc))?;
+    let is_read = is_read(alloc);
     let is_answered = is_written(alloc, Example::TaggedOptions);
-    println!(rt; "answered, or the bytes stay: {is_answered}")?;
     let is_notified = is_written(alloc, Example::OfOpenTransfer);
-    println!(rt; "notified, or the bytes stay: {is_notified}")?;
-    for (tried, value, name) in VALUES {
-        println!(rt; "{name}, or the bytes stay: {}", keeps(alloc, tried, value))?;
+    println!(rt;
+        "read, or memory was short: {is_read}\nanswered, or the bytes stay: {is_answered}\nnotified, or the bytes stay: {is_notified}"
+    )?;
+    for (name, tried, value) in VALUES {
+        let is_so = keeps(alloc, tried, value);
+        println!(rt; "{name}, or the bytes stay: {is_so}")?;
     }
     Ok(())
 }

@@ -117,6 +117,17 @@ fn file_of(
     }
 }
 
+/// What is told of a line that has all columns.
+fn told_of_row(
+    rt: &(impl Files + AllocGlobal),
+    about: About,
+    table: &str,
+    row: Row<'_>,
+) -> io::Result<String> {
+    let file = file_of(rt, about, table, row.0)?;
+    told_of(rt.alloc(), about, row, file.as_slice()).map_err(no_memory)
+}
+
 /// Tells of a line.
 fn tell_line(
     rt: &(impl Files + Print + AllocGlobal),
@@ -128,13 +139,14 @@ fn tell_line(
         return println!(rt; "no line of the table: {line}");
     };
     let (first, second, wanted) = row;
-    let file = file_of(rt, about, table, first)?;
-    let told = told_of(rt.alloc(), about, row, file.as_slice()).map_err(no_memory)?;
-    if is_meant(rt.alloc(), told.as_str(), wanted).map_err(no_memory)? {
-        println!(rt; "{first} | {second}: as the table says")
+    let told = told_of_row(rt, about, table, row)?;
+    let is_so = is_meant(rt.alloc(), told.as_str(), wanted).map_err(no_memory)?;
+    let (outcome, read) = if is_so {
+        ("as the table says", "")
     } else {
-        println!(rt; "{first} | {second}: READ AS {told}")
-    }
+        ("READ AS ", told.as_str())
+    };
+    println!(rt; "{first} | {second}: {outcome}{read}")
 }
 
 /// Tells of each line of a table.

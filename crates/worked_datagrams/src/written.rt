@@ -189,19 +189,21 @@ fn append(
     }
 }
 
-/// What an example writes behind a byte that stays, as a text. Where memory is short, the bytes are as they were.
-pub(crate) fn written_for(
+/// Appends what an example writes behind a byte that stays, as a text. Where memory is short, the bytes are as they were.
+pub(crate) fn add_written(
     alloc: Global,
+    told: &mut String,
     example: Example,
     request: &Request,
-) -> Result<String, NoMemory> {
+) -> Result<(), NoMemory> {
     let mut out = Vec::from_slice(alloc, b">")?;
     let appended = append(alloc, example, request, &mut out);
     if appended.is_err() && out.as_slice() == b">".as_slice() {
         return Err(NoMemory);
     }
-    match as_text(out.as_slice()).strip_prefix('>') {
-        Some(written) if appended.is_ok() => Ok(String::from_str(alloc, written)?),
-        _ => Ok(String::from_str(alloc, LEFT)?),
-    }
+    let written = match as_text(out.as_slice()).strip_prefix('>') {
+        Some(written) if appended.is_ok() => written,
+        _ => LEFT,
+    };
+    Ok(told.push_str(written)?)
 }
