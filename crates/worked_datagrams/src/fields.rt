@@ -1,16 +1,27 @@
 //! What a datagram is read as: in one line, or field by field, a message line by line, or the number of its error and what the
-//! error says. Texts are put together piece by piece: a piece is cheaper to prove than a value among many that are formatted.
-use event_headers::Range;
+//! error says.
+use event_headers::{EventValue, Range};
 use sip_read::{Head, Message, ReadError, Request};
-use sip_text::{Field, NoMemory, Text};
-use std::alloc::Global;
+use sip_text::{Field, Text, Values};
+use std::alloc::{AllocError, Global};
+use std::fmt;
+use std::fmt::{Formatter, Write};
 
-/// Appends these texts.
-pub(crate) fn add_all(out: &mut String, parts: &[&str]) -> Result<(), NoMemory> {
-    for part in parts {
-        out.push_str(part)?;
+#[derive(Clone, Copy)]
+struct Reading<'a>(&'a Result<Message, ReadError>);
+
+impl fmt::Display for Reading<'_> {
+    fn fmt<W: Write>(&self, f: &mut Formatter<W>) -> fmt::Result {
+        match self.0 {
+            Ok(Message::Request(request)) => write_request(f, request),
+            Ok(Message::Response(response)) => {
+                let reason = response.reason.as_str();
+                writeln!(f, "response {} {reason}", response.status)?;
+                write_head(f, &response.head)
+            }
+            Err(error) => writeln!(f, "error {}: {error}", error.number()),
+        }
     }
-    Ok(())
 }
 
 fn some_text(text: &Option<Text>) -> &str {
@@ -28,147 +39,119 @@ fn field_text(field: &Field<Text>) -> &str {
     }
 }
 
-/// A line for each text.
-fn add_texts(out: &mut String, name: &str, texts: &[Text]) -> Result<(), NoMemory> {
-    for text in texts {
-        add_all(out, &[name, text.as_str(), "\n"])?;
+fn write_texts<W: Write>(f: &mut Formatter<W>, name: &str, texts: &Values<Text>) -> fmt::Result {
+    for text in texts.as_slice() {
+        writeln!(f, "{name} {}", text.as_str())?;
     }
     Ok(())
 }
 
-fn add_head(alloc: Global, out: &mut String, head: &Head) -> Result<(), NoMemory> {
-    add_texts(out, "via ", head.vias.as_slice())?;
-    let top = &head.top;
-    let rport = if top.bare_rport { "bare" } else { "none" };
-    let sent_by = top.sent_by.as_str();
-    let branch = some_text(&top.branch);
-    add_all(
-        out,
-        &["sent by ", sent_by, "\nbranch ", branch, "\nrport ", rport],
-    )?;
-    let from = head.from.text.as_str();
-    add_all(
-        out,
-        &["\nfrom ", from, "\nfrom tag ", some_text(&head.from.tag)],
-    )?;
-    let to = head.to.text.as_str();
-    add_all(out, &["\nto ", to, "\nto tag ", some_text(&head.to.tag)])?;
-    let cseq = format!(in alloc; "\ncseq {} ", head.cseq)?;
-    let method = head.cseq_method.as_str();
-    add_all(
-        out,
-        &[
-            "\ncall-id ",
-            head.call_id.as_str(),
-            cseq.as_str(),
-            method,
-            "\n",
-        ],
+fn write_head<W: Write>(f: &mut Formatter<W>, head: &Head) -> fmt::Result {
+    write_texts(f, "via", &head.vias)?;
+    let rport = if head.top.bare_rport { "bare" } else { "none" };
+    writeln!(
+        f,
+        "sent by {}\nbranch {}\nrport {rport}\nfrom {}\nfrom tag {}\nto {}\nto tag {}\ncall-id {}\ncseq {} {}",
+        head.top.sent_by.as_str(),
+        some_text(&head.top.branch),
+        head.from.text.as_str(),
+        some_text(&head.from.tag),
+        head.to.text.as_str(),
+        some_text(&head.to.tag),
+        head.call_id.as_str(),
+        head.cseq,
+        head.cseq_method.as_str()
     )
 }
 
-fn add_ranges(out: &mut String, ranges: &[Range]) -> Result<(), NoMemory> {
-    for range in ranges {
-        add_all(out, &[" ", range.main(), "/", range.sub()])?;
-    }
-    Ok(())
-}
-
-fn add_event(out: &mut String, request: &Request) -> Result<(), NoMemory> {
-    match &request.event {
+fn write_event<W: Write>(f: &mut Formatter<W>, event: &Field<EventValue>) -> fmt::Result {
+    match event {
         Field::Value(event) => {
             let id = event.id().unwrap_or("none");
-            add_all(out, &["event ", event.package(), " ", id, "\naccept"])
+            writeln!(f, "event {} {id}", event.package())
         }
-        Field::Absent => add_all(out, &["event absent\naccept"]),
-        Field::Bad => add_all(out, &["event bad\naccept"]),
+        Field::Absent => writeln!(f, "event absent"),
+        Field::Bad => writeln!(f, "event bad"),
     }
 }
 
-/// The lines of a request between those of its head and its routes.
-fn add_fields(alloc: Global, out: &mut String, request: &Request) -> Result<(), NoMemory> {
-    add_event(out, request)?;
-    match &request.accept {
-        Field::Value(ranges) => add_ranges(out, ranges.as_slice())?,
-        Field::Absent => add_all(out, &[" absent"])?,
-        Field::Bad => add_all(out, &[" bad"])?,
+fn write_accept<W: Write>(f: &mut Formatter<W>, accept: &Field<Values<Range>>) -> fmt::Result {
+    match accept {
+        Field::Value(ranges) => {
+            write!(f, "accept")?;
+            for range in ranges.as_slice() {
+                write!(f, " {}/{}", range.main(), range.sub())?;
+            }
+            writeln!(f)
+        }
+        Field::Absent => writeln!(f, "accept absent"),
+        Field::Bad => writeln!(f, "accept bad"),
     }
-    let contact = field_text(&request.contact);
-    let refer_to = field_text(&request.refer_to);
-    add_all(out, &["\ncontact ", contact, "\nrefer-to ", refer_to])?;
-    let (expires, refer_sub) = (request.expires, request.refer_sub);
-    let values = format!(in alloc; "\nexpires {expires:?}\nrefer-sub {refer_sub:?}\n")?;
-    add_all(out, &[values.as_str()])
 }
 
-/// The body as a text, if it is one.
-fn add_body(alloc: Global, out: &mut String, body: &[u8]) -> Result<(), NoMemory> {
-    let body = match str::from_utf8(body) {
-        Ok(text) => format!(in alloc; "body {text:?}\n")?,
-        Err(_) => format!(in alloc; "body {body:?}\n")?,
-    };
-    add_all(out, &[body.as_str()])
+/// What stands in the lines of a request between those of its head and its routes.
+fn write_fields<W: Write>(f: &mut Formatter<W>, request: &Request) -> fmt::Result {
+    write_event(f, &request.event)?;
+    write_accept(f, &request.accept)?;
+    writeln!(
+        f,
+        "contact {}\nrefer-to {}\nexpires {:?}\nrefer-sub {:?}",
+        field_text(&request.contact),
+        field_text(&request.refer_to),
+        request.expires,
+        request.refer_sub
+    )
 }
 
-fn add_request(alloc: Global, out: &mut String, request: &Request) -> Result<(), NoMemory> {
+/// Its body as a text, if it is one.
+fn write_request<W: Write>(f: &mut Formatter<W>, request: &Request) -> fmt::Result {
     let method = request.method.as_str();
-    add_all(out, &["request ", method, " ", request.uri.as_str(), "\n"])?;
-    add_head(alloc, out, &request.head)?;
-    add_fields(alloc, out, request)?;
-    add_texts(out, "require ", request.require.as_slice())?;
-    add_texts(out, "record-route ", request.record_routes.as_slice())?;
-    add_body(alloc, out, request.body.as_slice())
-}
-
-/// Appends the fields of what was read, a line each.
-pub(crate) fn add_read(
-    alloc: Global,
-    out: &mut String,
-    read: &Result<Message, ReadError>,
-) -> Result<(), NoMemory> {
-    match read {
-        Ok(Message::Request(request)) => add_request(alloc, out, request),
-        Ok(Message::Response(response)) => {
-            let first = format!(in alloc; "response {} ", response.status)?;
-            add_all(out, &[first.as_str(), response.reason.as_str(), "\n"])?;
-            add_head(alloc, out, &response.head)
-        }
-        Err(error) => {
-            let error = format!(in alloc; "error {}: {error}\n", error.number())?;
-            add_all(out, &[error.as_str()])
-        }
+    writeln!(f, "request {method} {}", request.uri.as_str())?;
+    write_head(f, &request.head)?;
+    write_fields(f, request)?;
+    write_texts(f, "require", &request.require)?;
+    write_texts(f, "record-route", &request.record_routes)?;
+    let body = request.body.as_slice();
+    match str::from_utf8(body) {
+        Ok(text) => writeln!(f, "body {text:?}"),
+        Err(_) => writeln!(f, "body {body:?}"),
     }
 }
 
-/// Appends how many Via values a message has, and its CSeq.
-fn add_counts(alloc: Global, out: &mut String, head: &Head) -> Result<(), NoMemory> {
-    let vias = head.vias.as_slice().len();
-    let counts = format!(in alloc; ", {vias} Via, CSeq {} ", head.cseq)?;
-    add_all(out, &[counts.as_str(), head.cseq_method.as_str()])
+/// The fields of what was read, a line each.
+pub(crate) fn fields_of(
+    alloc: Global,
+    read: &Result<Message, ReadError>,
+) -> Result<String, AllocError> {
+    format!(in alloc; "{}", Reading(read))
 }
 
-/// Appends what was read in one line: of a message its parts, else why it is refused.
-pub(crate) fn add_summary(
+/// What was read in one line: of a message its parts, else why it is refused.
+pub(crate) fn summary_of(
     alloc: Global,
-    out: &mut String,
     read: &Result<Message, ReadError>,
-) -> Result<(), NoMemory> {
+) -> Result<String, AllocError> {
     match read {
         Ok(Message::Request(request)) => {
-            add_all(out, &[request.method.as_str()])?;
-            add_counts(alloc, out, &request.head)?;
-            let body = format!(in alloc; ", body of {}", request.body.as_slice().len())?;
-            let contact = field_text(&request.contact);
-            add_all(out, &[", Contact ", contact, body.as_str()])
+            format!(in alloc;
+                "{}, {} Via, CSeq {} {}, Contact {}, body of {}",
+                request.method.as_str(),
+                request.head.vias.as_slice().len(),
+                request.head.cseq,
+                request.head.cseq_method.as_str(),
+                field_text(&request.contact),
+                request.body.as_slice().len()
+            )
         }
         Ok(Message::Response(response)) => {
-            let first = format!(in alloc; "answer {}", response.status)?;
-            add_all(out, &[first.as_str()])?;
-            add_counts(alloc, out, &response.head)
+            format!(in alloc;
+                "answer {}, {} Via, CSeq {} {}",
+                response.status,
+                response.head.vias.as_slice().len(),
+                response.head.cseq,
+                response.head.cseq_method.as_str()
+            )
         }
-        Err(error) => {
-            let refusal = format!(in alloc; "refused: {error}")?;
-            add_all(out, &[refusal.as_str()])
-        }
+        Err(error) => format!(in alloc; "refused: {error}"),
     }
 }

@@ -3,7 +3,6 @@
 //! call in place of being read. For `covers` the value is a range, a blank and a media type: whether the range covers it. For
 //! `package`, `id`, `word` and `reason` it is a text: whether it may be that part of a value.
 
-use crate::fields::add_all;
 use crate::look::as_text;
 use event_headers::{
     EventValue, HeaderError, Range, StateValue, covers, read_accept, read_event, read_expires,
@@ -11,6 +10,14 @@ use event_headers::{
 };
 use sip_text::NoMemory;
 use std::alloc::Global;
+
+/// Appends these texts.
+fn add_all(out: &mut String, parts: &[&str]) -> Result<(), NoMemory> {
+    for part in parts {
+        out.push_str(part)?;
+    }
+    Ok(())
+}
 
 /// Appends what an event says, and how a copy of it is written.
 fn add_event(
@@ -50,7 +57,7 @@ fn add_ranges(
     out: &mut Vec<u8>,
 ) -> Result<(), NoMemory> {
     let count = format!(in alloc; "{} ranges, written ", ranges.len())?;
-    add_all(says, &[count.as_str()])?;
+    says.push_str(count.as_str())?;
     write_accept(alloc, ranges, out)
 }
 
@@ -62,7 +69,7 @@ fn add_seconds(
     out: &mut Vec<u8>,
 ) -> Result<(), NoMemory> {
     let count = format!(in alloc; "{seconds} seconds, written ")?;
-    add_all(says, &[count.as_str()])?;
+    says.push_str(count.as_str())?;
     write_expires(alloc, seconds, out)
 }
 
@@ -125,8 +132,8 @@ fn add_made(
             Ok(state) => add_state(alloc, state, says, out),
             Err(short) => Err(*short),
         },
-        "covers" => add_all(says, &[covered(alloc, text)?]),
-        part => add_all(says, &[may_be(alloc, part, text)?]),
+        "covers" => Ok(says.push_str(covered(alloc, text)?)?),
+        part => Ok(says.push_str(may_be(alloc, part, text)?)?),
     }
 }
 

@@ -1,7 +1,7 @@
 //! A datagram is read, looked at in one way, and what was read is let go in one place.
 
-use crate::fields::{add_read, add_summary};
-use crate::written::{Example, add_written};
+use crate::fields::{fields_of, summary_of};
+use crate::written::{Example, written_for};
 use sip_read::{Message, ReadError, read};
 use sip_text::NoMemory;
 use std::alloc::Global;
@@ -18,30 +18,27 @@ pub(crate) enum Look {
     Written(Example),
 }
 
-/// Appends what is told of what was read.
-fn add_told(
+/// What is told of what was read.
+fn told_of(
     alloc: Global,
-    out: &mut String,
     read: &Result<Message, ReadError>,
     look: Look,
-) -> Result<(), NoMemory> {
+) -> Result<String, NoMemory> {
     match (look, read) {
         (Look::Written(example), Ok(Message::Request(request))) => {
-            add_written(alloc, out, example, request)
+            written_for(alloc, example, request)
         }
-        (Look::Summary, _) => add_summary(alloc, out, read),
-        _ => add_read(alloc, out, read),
+        (Look::Summary, _) => Ok(summary_of(alloc, read)?),
+        _ => Ok(fields_of(alloc, read)?),
     }
 }
 
 /// What is told of a datagram.
 pub(crate) fn look_at(alloc: Global, datagram: &[u8], look: Look) -> Result<String, NoMemory> {
-    let mut told = String::new(alloc);
     let read = read(alloc, datagram);
-    let added = add_told(alloc, &mut told, &read, look);
+    let told = told_of(alloc, &read, look);
     drop(read);
-    added?;
-    Ok(told)
+    told
 }
 
 /// Whether these fields are told of a datagram.

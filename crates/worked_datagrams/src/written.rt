@@ -189,21 +189,19 @@ fn append(
     }
 }
 
-/// Appends what an example writes behind a byte that stays, as a text. Where memory is short, the bytes are as they were.
-pub(crate) fn add_written(
+/// What an example writes behind a byte that stays, as a text. Where memory is short, the bytes are as they were.
+pub(crate) fn written_for(
     alloc: Global,
-    told: &mut String,
     example: Example,
     request: &Request,
-) -> Result<(), NoMemory> {
+) -> Result<String, NoMemory> {
     let mut out = Vec::from_slice(alloc, b">")?;
     let appended = append(alloc, example, request, &mut out);
     if appended.is_err() && out.as_slice() == b">".as_slice() {
         return Err(NoMemory);
     }
-    let written = match as_text(out.as_slice()).strip_prefix('>') {
-        Some(written) if appended.is_ok() => written,
-        _ => LEFT,
-    };
-    Ok(told.push_str(written)?)
+    match as_text(out.as_slice()).strip_prefix('>') {
+        Some(written) if appended.is_ok() => Ok(String::from_str(alloc, written)?),
+        _ => Ok(String::from_str(alloc, LEFT)?),
+    }
 }
