@@ -1,6 +1,7 @@
-//! What a datagram is read as, field by field: a message line by line, or the number of its error and what the error says.
+//! What a datagram is read as: in one line, or field by field, a message line by line, or the number of its error and what the
+//! error says.
 use event_headers::{EventValue, Range};
-use sip_read::{Head, Message, ReadError, Request, Response, Via};
+use sip_read::{Head, Message, ReadError, Request};
 use sip_text::{Field, Text, Values};
 use std::alloc::{AllocError, Global};
 use std::fmt;
@@ -13,7 +14,11 @@ impl fmt::Display for Reading<'_> {
     fn fmt<W: Write>(&self, f: &mut Formatter<W>) -> fmt::Result {
         match self.0 {
             Ok(Message::Request(request)) => write_request(f, request),
-            Ok(Message::Response(response)) => write_response(f, response),
+            Ok(Message::Response(response)) => {
+                let reason = response.reason.as_str();
+                writeln!(f, "response {} {reason}", response.status)?;
+                write_head(f, &response.head)
+            }
             Err(error) => writeln!(f, "error {}: {error}", error.number()),
         }
     }
@@ -41,53 +46,32 @@ fn write_texts<W: Write>(f: &mut Formatter<W>, name: &str, texts: &Values<Text>)
     Ok(())
 }
 
-fn write_parties<W: Write>(f: &mut Formatter<W>, head: &Head) -> fmt::Result {
-    let from = head.from.text.as_str();
-    let from_tag = some_text(&head.from.tag);
-    let to = head.to.text.as_str();
-    let to_tag = some_text(&head.to.tag);
-    writeln!(
-        f,
-        "from {from}\nfrom tag {from_tag}\nto {to}\nto tag {to_tag}"
-    )
-}
-
-fn write_top<W: Write>(f: &mut Formatter<W>, top: &Via) -> fmt::Result {
-    let sent_by = top.sent_by.as_str();
-    let branch = some_text(&top.branch);
-    let rport = if top.bare_rport { "bare" } else { "none" };
-    writeln!(f, "sent by {sent_by}\nbranch {branch}\nrport {rport}")
-}
-
 fn write_head<W: Write>(f: &mut Formatter<W>, head: &Head) -> fmt::Result {
     write_texts(f, "via", &head.vias)?;
-    write_top(f, &head.top)?;
-    write_parties(f, head)?;
-    let call_id = head.call_id.as_str();
-    let method = head.cseq_method.as_str();
-    writeln!(f, "call-id {call_id}\ncseq {} {method}", head.cseq)
+    let rport = if head.top.bare_rport { "bare" } else { "none" };
+    writeln!(
+        f,
+        "sent by {}\nbranch {}\nrport {rport}\nfrom {}\nfrom tag {}\nto {}\nto tag {}\ncall-id {}\ncseq {} {}",
+        head.top.sent_by.as_str(),
+        some_text(&head.top.branch),
+        head.from.text.as_str(),
+        some_text(&head.from.tag),
+        head.to.text.as_str(),
+        some_text(&head.to.tag),
+        head.call_id.as_str(),
+        head.cseq,
+        head.cseq_method.as_str()
+    )
 }
 
 fn write_event<W: Write>(f: &mut Formatter<W>, event: &Field<EventValue>) -> fmt::Result {
     match event {
         Field::Value(event) => {
-            writeln!(
-                f,
-                "event {} {}",
-                event.package(),
-                event.id().unwrap_or("none")
-            )
+            let id = event.id().unwrap_or("none");
+            writeln!(f, "event {} {id}", event.package())
         }
         Field::Absent => writeln!(f, "event absent"),
         Field::Bad => writeln!(f, "event bad"),
-    }
-}
-
-fn write_expires<W: Write>(f: &mut Formatter<W>, expires: &Field<u32>) -> fmt::Result {
-    match expires {
-        Field::Value(seconds) => writeln!(f, "expires {seconds}"),
-        Field::Absent => writeln!(f, "expires absent"),
-        Field::Bad => writeln!(f, "expires bad"),
     }
 }
 
@@ -105,34 +89,21 @@ fn write_accept<W: Write>(f: &mut Formatter<W>, accept: &Field<Values<Range>>) -
     }
 }
 
-/// Nothing, where there is no line.
-fn write_refer_sub<W: Write>(f: &mut Formatter<W>, wanted: &Field<bool>) -> fmt::Result {
-    match wanted {
-        Field::Value(wanted) => writeln!(f, "refer-sub {wanted}"),
-        Field::Absent => Ok(()),
-        Field::Bad => writeln!(f, "refer-sub bad"),
-    }
-}
-
-/// As a text, if it is one.
-fn write_body<W: Write>(f: &mut Formatter<W>, body: &[u8]) -> fmt::Result {
-    match str::from_utf8(body) {
-        Ok(text) => writeln!(f, "body {text:?}"),
-        Err(_) => writeln!(f, "body {body:?}"),
-    }
-}
-
 /// What stands in the lines of a request between those of its head and its routes.
 fn write_fields<W: Write>(f: &mut Formatter<W>, request: &Request) -> fmt::Result {
     write_event(f, &request.event)?;
-    write_expires(f, &request.expires)?;
     write_accept(f, &request.accept)?;
-    let contact = field_text(&request.contact);
-    let refer_to = field_text(&request.refer_to);
-    writeln!(f, "contact {contact}\nrefer-to {refer_to}")?;
-    write_refer_sub(f, &request.refer_sub)
+    writeln!(
+        f,
+        "contact {}\nrefer-to {}\nexpires {:?}\nrefer-sub {:?}",
+        field_text(&request.contact),
+        field_text(&request.refer_to),
+        request.expires,
+        request.refer_sub
+    )
 }
 
+/// Its body as a text, if it is one.
 fn write_request<W: Write>(f: &mut Formatter<W>, request: &Request) -> fmt::Result {
     let method = request.method.as_str();
     writeln!(f, "request {method} {}", request.uri.as_str())?;
@@ -140,17 +111,11 @@ fn write_request<W: Write>(f: &mut Formatter<W>, request: &Request) -> fmt::Resu
     write_fields(f, request)?;
     write_texts(f, "require", &request.require)?;
     write_texts(f, "record-route", &request.record_routes)?;
-    write_body(f, request.body.as_slice())
-}
-
-fn write_response<W: Write>(f: &mut Formatter<W>, response: &Response) -> fmt::Result {
-    writeln!(
-        f,
-        "response {} {}",
-        response.status,
-        response.reason.as_str()
-    )?;
-    write_head(f, &response.head)
+    let body = request.body.as_slice();
+    match str::from_utf8(body) {
+        Ok(text) => writeln!(f, "body {text:?}"),
+        Err(_) => writeln!(f, "body {body:?}"),
+    }
 }
 
 /// The fields of what was read, a line each.
@@ -159,4 +124,34 @@ pub(crate) fn fields_of(
     read: &Result<Message, ReadError>,
 ) -> Result<String, AllocError> {
     format!(in alloc; "{}", Reading(read))
+}
+
+/// What was read in one line: of a message its parts, else why it is refused.
+pub(crate) fn summary_of(
+    alloc: Global,
+    read: &Result<Message, ReadError>,
+) -> Result<String, AllocError> {
+    match read {
+        Ok(Message::Request(request)) => {
+            format!(in alloc;
+                "{}, {} Via, CSeq {} {}, Contact {}, body of {}",
+                request.method.as_str(),
+                request.head.vias.as_slice().len(),
+                request.head.cseq,
+                request.head.cseq_method.as_str(),
+                field_text(&request.contact),
+                request.body.as_slice().len()
+            )
+        }
+        Ok(Message::Response(response)) => {
+            format!(in alloc;
+                "answer {}, {} Via, CSeq {} {}",
+                response.status,
+                response.head.vias.as_slice().len(),
+                response.head.cseq,
+                response.head.cseq_method.as_str()
+            )
+        }
+        Err(error) => format!(in alloc; "refused: {error}"),
+    }
 }

@@ -1,12 +1,10 @@
 //! Whichever growth is refused, each call answers that memory is short, and the bytes before stay. `rt try --fail-alloc N` refuses
 //! the growths in turn; each line here says true in each such run.
 
+use crate::headers::add_value;
 use crate::look::{Look, look_at};
 use crate::written::{Example, LEFT};
-use event_headers::{
-    EventValue, HeaderError, StateValue, read_accept, read_event, read_state, write_accept,
-    write_event, write_expires, write_state,
-};
+use event_headers::HeaderError;
 use sip_text::NoMemory;
 use std::alloc::Global;
 use std::io;
@@ -41,10 +39,11 @@ const FIELDS: &str = "request SUBSCRIBE sip:a@b\n\
     call-id x\n\
     cseq 1 SUBSCRIBE\n\
     event a b\n\
-    expires absent\n\
     accept a/b c/d\n\
     contact sip:a@b\n\
     refer-to sip:c@d\n\
+    expires Absent\n\
+    refer-sub Absent\n\
     require p\n\
     require q\n\
     record-route <sip:r;lr>;p\n\
@@ -79,83 +78,44 @@ fn is_written(alloc: Global, example: Example) -> bool {
     }
 }
 
-/// What is read and written behind bytes that stay.
-#[derive(Clone, Copy)]
-enum Value {
-    Event,
-    State,
-    Expires,
-    Accept,
-}
-
-/// Reads, writes, copies and makes an event.
-fn append_event(alloc: Global, out: &mut Vec<u8>) -> Result<(), HeaderError> {
-    let event = read_event(alloc, b"refer;x=1;id=93")?;
-    let written = write_event(alloc, &event, out);
-    drop(event.copy(alloc));
-    drop(EventValue::numbered(alloc, "refer", 93));
-    Ok(written?)
-}
-
-/// Reads, writes and makes a state.
-fn append_state(alloc: Global, out: &mut Vec<u8>) -> Result<(), HeaderError> {
-    let state = read_state(alloc, b"terminated;reason=timeout;retry-after=5")?;
-    let written = write_state(alloc, &state, out);
-    drop(StateValue::worded(alloc, "terminated", None, Some("timeout"), Some(5)));
-    Ok(written?)
-}
-
-/// Reads and writes ranges.
-fn append_accept(alloc: Global, out: &mut Vec<u8>) -> Result<(), HeaderError> {
-    let ranges = read_accept(alloc, b"*/*, text/plain;q=1")?;
-    Ok(write_accept(alloc, ranges.as_slice(), out)?)
-}
-
-fn append(alloc: Global, value: Value, out: &mut Vec<u8>) -> Result<(), HeaderError> {
-    match value {
-        Value::Event => append_event(alloc, out),
-        Value::State => append_state(alloc, out),
-        Value::Expires => Ok(write_expires(alloc, 3600, out)?),
-        Value::Accept => append_accept(alloc, out),
-    }
-}
-
-/// Whether a value is appended, or memory was short and the bytes before it stay.
-fn keeps(alloc: Global, value: Value) -> bool {
+/// Whether a value is written behind bytes, or memory was short and those bytes stay as they were.
+fn keeps(alloc: Global, tried: &str, value: &str) -> bool {
     let Ok(mut out) = Vec::from_slice(alloc, b"kept") else {
         return true;
     };
-    match append(alloc, value, &mut out) {
-        Ok(()) => true,
-        Err(error) => error == HeaderError::NoMemory && out.as_slice() == b"kept".as_slice(),
+    let mut says = String::new(alloc);
+    match add_value(alloc, tried, value.as_bytes(), &mut says, &mut out).err() {
+        None => true,
+        Some(error) => error == HeaderError::NoMemory && out.as_slice() == b"kept".as_slice(),
     }
 }
+
+/// Values: what each is, what is tried of it, and its text.
+const VALUES: [(&str, &str, &str); 6] = [
+    ("an Event", "event", "refer;x=1;id=93"),
+    ("a numbered Event", "numbered", ""),
+    (
+        "a Subscription-State",
+        "state",
+        "terminated;reason=timeout;retry-after=5",
+    ),
+    ("a worded Subscription-State", "ended", ""),
+    ("an Expires", "expires", "3600"),
+    ("an Accept", "accept", "*/*, text/plain;q=1"),
+];
 
 /// Tells whether each was done, or changed nothing.
 pub(crate) fn tell_all(rt: &(impl Print + AllocGlobal)) -> io::Result<()> {
     let alloc = rt.alloc();
-    for (done, is_so) in [
-        ("read, or memory was short", is_read(alloc)),
-        (
-            "answered, or the bytes stay",
-            is_written(alloc, Example::TaggedOptions),
-        ),
-        (
-            "notified, or the bytes stay",
-            is_written(alloc, Example::OfOpenTransfer),
-        ),
-        ("an Event, or the bytes stay", keeps(alloc, Value::Event)),
-        (
-            "a Subscription-State, or the bytes stay",
-            keeps(alloc, Value::State),
-        ),
-        (
-            "an Expires, or the bytes stay",
-            keeps(alloc, Value::Expires),
-        ),
-        ("an Accept, or the bytes stay", keeps(alloc, Value::Accept)),
-    ] {
-        println!(rt; "{done}: {is_so}")?;
+    let is_read = is_read(alloc);
+    let is_answered = is_written(alloc, Example::TaggedOptions);
+    let is_notified = is_written(alloc, Example::OfOpenTransfer);
+    println!(rt;
+        "read, or memory was short: {is_read}\nanswered, or the bytes stay: {is_answered}\nnotified, or the bytes stay: {is_notified}"
+    )?;
+    for (name, tried, value) in VALUES {
+        let is_so = keeps(alloc, tried, value);
+        println!(rt; "{name}, or the bytes stay: {is_so}")?;
     }
     Ok(())
 }

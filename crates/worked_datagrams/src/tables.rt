@@ -34,42 +34,18 @@ const TABLES: [(&str, About); 6] = [
     ("headers", About::Values),
 ];
 
-/// A line of a table.
-#[derive(Clone, Copy)]
-struct Row<'a> {
-    first: &'a str,
-    second: &'a str,
-    wanted: &'a str,
-}
-
 /// What stands between a line's columns.
 const BETWEEN: &str = " | ";
+
+/// The first column of a line, the second, and what is wanted.
+type Row<'a> = (&'a str, &'a str, &'a str);
 
 /// The columns of a line. None where it has too few.
 fn row_of(line: &str) -> Option<Row<'_>> {
     let (first, rest) = line.split_once(BETWEEN)?;
     let (second, rest) = rest.split_once(BETWEEN)?;
     let (wanted, _why) = rest.split_once(BETWEEN)?;
-    Some(Row {
-        first,
-        second,
-        wanted,
-    })
-}
-
-/// What is meant by a backslash before this byte.
-fn meant_by(byte: u8) -> u8 {
-    match byte {
-        b'r' => b'\r',
-        b'n' => b'\n',
-        b't' => b'\t',
-        b'0' => 0,
-        b'1' => 1,
-        b'a' => 7,
-        b'd' => 127,
-        b'y' => 255,
-        _ => byte,
-    }
+    Some((first, second, wanted))
 }
 
 /// Appends what a column means.
@@ -78,67 +54,53 @@ fn append_meant(column: &str, out: &mut Vec<u8>) -> Result<(), NoMemory> {
     for &byte in column.as_bytes() {
         if byte == b'\\' && !is_behind_backslash {
             is_behind_backslash = true;
-        } else {
-            out.push(if is_behind_backslash {
-                meant_by(byte)
-            } else {
-                byte
-            })?;
-            is_behind_backslash = false;
+            continue;
         }
+        out.push(match byte {
+            b'r' if is_behind_backslash => b'\r',
+            b'n' if is_behind_backslash => b'\n',
+            b't' if is_behind_backslash => b'\t',
+            b'0' if is_behind_backslash => 0,
+            b'1' if is_behind_backslash => 1,
+            b'a' if is_behind_backslash => 7,
+            b'd' if is_behind_backslash => 127,
+            b'y' if is_behind_backslash => 255,
+            _ => byte,
+        })?;
+        is_behind_backslash = false;
     }
     Ok(())
 }
 
-/// What a column means.
-fn meant(alloc: Global, column: &str) -> Result<Vec<u8>, NoMemory> {
-    let mut out = Vec::new(alloc);
-    append_meant(column, &mut out)?;
-    Ok(out)
-}
-
-/// Appends the datagram of a line.
-fn append_datagram(row: Row<'_>, usual: &[u8], out: &mut Vec<u8>) -> Result<(), NoMemory> {
-    append_meant(row.first, out)?;
-    out.extend_from_slice(b"\r\n")?;
-    out.extend_from_slice(usual)?;
-    append_meant(row.second, out)
-}
-
-/// What is told of the short datagram of a line.
-fn short_told(alloc: Global, row: Row<'_>, usual: &[u8], look: Look) -> Result<String, NoMemory> {
-    let mut datagram = Vec::new(alloc);
-    append_datagram(row, usual, &mut datagram)?;
-    look_at(alloc, datagram.as_slice(), look)
-}
-
-/// What is told of the value of a line.
-fn told_of_value(alloc: Global, row: Row<'_>) -> Result<String, NoMemory> {
-    let value = meant(alloc, row.second)?;
-    value_told(alloc, row.first, value.as_slice())
-}
-
 /// What is told of a line. The file of a whole datagram, or the usual lines, are handed in.
 fn told_of(alloc: Global, about: About, row: Row<'_>, file: &[u8]) -> Result<String, NoMemory> {
+    let (first, second, _) = row;
+    let mut out = Vec::new(alloc);
     match about {
         About::Whole => look_at(alloc, file, Look::Summary),
-        About::Short(look) => short_told(alloc, row, file, look),
-        About::Values => told_of_value(alloc, row),
+        About::Short(look) => {
+            append_meant(first, &mut out)?;
+            out.extend_from_slice(b"\r\n")?;
+            out.extend_from_slice(file)?;
+            append_meant(second, &mut out)?;
+            look_at(alloc, out.as_slice(), look)
+        }
+        About::Values => {
+            append_meant(second, &mut out)?;
+            value_told(alloc, first, out.as_slice())
+        }
     }
 }
 
 /// Whether what is told is what is wanted. What begins with a line end is wanted as lines of it, anything else as the whole.
-fn is_wanted(told: &str, wanted: &str) -> bool {
-    match wanted.strip_prefix('\n') {
+fn is_meant(alloc: Global, told: &str, wanted: &str) -> Result<bool, NoMemory> {
+    let mut out = Vec::new(alloc);
+    append_meant(wanted, &mut out)?;
+    let wanted = as_text(out.as_slice());
+    Ok(match wanted.strip_prefix('\n') {
         Some(first) => told.starts_with(first) || told.contains(wanted),
         None => told == wanted,
-    }
-}
-
-/// Whether what is told is what a line wants.
-fn is_meant(alloc: Global, told: &str, row: Row<'_>) -> Result<bool, NoMemory> {
-    let wanted = meant(alloc, row.wanted)?;
-    Ok(is_wanted(told, as_text(wanted.as_slice())))
+    })
 }
 
 /// The file that a line, or all lines of its table, need: its whole datagram, or the usual lines.
@@ -162,18 +124,8 @@ fn told_of_row(
     table: &str,
     row: Row<'_>,
 ) -> io::Result<String> {
-    let file = file_of(rt, about, table, row.first)?;
+    let file = file_of(rt, about, table, row.0)?;
     told_of(rt.alloc(), about, row, file.as_slice()).map_err(no_memory)
-}
-
-/// Prints what a line tries.
-fn print_title(rt: &impl Print, about: About, row: Row<'_>) -> io::Result<()> {
-    let Row { first, second, .. } = row;
-    match about {
-        About::Whole => print!(rt; "{first}: "),
-        About::Short(_) => print!(rt; "{first} | {second}: "),
-        About::Values => print!(rt; "{first} {second}: "),
-    }
 }
 
 /// Tells of a line.
@@ -186,14 +138,15 @@ fn tell_line(
     let Some(row) = row_of(line) else {
         return println!(rt; "no line of the table: {line}");
     };
+    let (first, second, wanted) = row;
     let told = told_of_row(rt, about, table, row)?;
-    let is_so = is_meant(rt.alloc(), told.as_str(), row).map_err(no_memory)?;
-    print_title(rt, about, row)?;
-    if is_so {
-        println!(rt; "as the table says")
+    let is_so = is_meant(rt.alloc(), told.as_str(), wanted).map_err(no_memory)?;
+    let (outcome, read) = if is_so {
+        ("as the table says", "")
     } else {
-        println!(rt; "READ AS {told}")
-    }
+        ("READ AS ", told.as_str())
+    };
+    println!(rt; "{first} | {second}: {outcome}{read}")
 }
 
 /// Tells of each line of a table.

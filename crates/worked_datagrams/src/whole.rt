@@ -62,12 +62,6 @@ const MESSAGES: [(&str, Look, &str); 16] = [
     ),
 ];
 
-/// What is told of the datagram in a file.
-fn told_of(rt: &(impl Files + AllocGlobal), datagram: &str, look: Look) -> io::Result<String> {
-    let bytes = fs::read(rt, datagram)?;
-    look_at(rt.alloc(), bytes.as_slice(), look).map_err(no_memory)
-}
-
 /// Tells of a datagram whether what is told is what the file says, and of how many bytes that file is.
 fn tell(
     rt: &(impl Files + Print + AllocGlobal),
@@ -75,8 +69,9 @@ fn tell(
     look: Look,
     wanted: &str,
 ) -> io::Result<()> {
-    let told = told_of(rt, datagram, look)?;
+    let bytes = fs::read(rt, datagram)?;
     let text = fs::read_to_string(rt, wanted)?;
+    let told = look_at(rt.alloc(), bytes.as_slice(), look).map_err(no_memory)?;
     if told.as_str() == text.as_str() {
         println!(rt; "{datagram}: as {wanted} says, {} bytes", text.len())
     } else {

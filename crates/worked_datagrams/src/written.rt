@@ -47,19 +47,15 @@ pub(crate) enum Example {
 /// What is told where a refused growth did not leave the bytes as they were.
 pub(crate) const LEFT: &str = "bytes were left behind";
 
-fn from_port(port: u16) -> Addr {
-    Addr {
-        ip: [127, 0, 0, 1],
-        port,
-    }
-}
-
-/// An answer with no line but those that every answer has.
-fn bare(head: &Head, port: u16, status: Status) -> Answer<'_> {
+/// An answer with no line but those that every answer has, that there is nobody.
+fn bare(head: &Head, port: u16) -> Answer<'_> {
     Answer {
         head,
-        source: from_port(port),
-        status,
+        source: Addr {
+            ip: [127, 0, 0, 1],
+            port,
+        },
+        status: Status::NotFound,
         tag: None,
         record_routes: &[],
         contact: None,
@@ -72,63 +68,72 @@ fn bare(head: &Head, port: u16, status: Status) -> Answer<'_> {
     }
 }
 
-/// An answer from the address of this server, with its tag.
-fn ours(head: &Head, status: Status) -> Answer<'_> {
-    let mut answer = bare(head, 5070, status);
+/// The answer of an example that grants something, from the address of this server and with its tag.
+fn grant_of(example: Example, request: &Request) -> Answer<'_> {
+    let mut answer = bare(&request.head, 5070);
+    answer.status = Status::Accepted;
     answer.tag = Some(TAG);
     answer.contact = Some(ME);
+    match example {
+        Example::WithoutSubscription => answer.without_subscription = true,
+        Example::Routed => answer.record_routes = request.record_routes.as_slice(),
+        _ => {
+            answer.status = Status::Ok;
+            answer.expires = Some(3600);
+        }
+    }
     answer
 }
 
-/// The answer of an example; to the other examples that there is nobody.
-fn answer_of(example: Example, request: &Request) -> Answer<'_> {
-    let head = &request.head;
+/// The answer of an example that refuses; to the other examples that there is nobody.
+fn refusal_of(example: Example, head: &Head) -> Answer<'_> {
+    let is_far = matches!(example, Example::TaggedOptions | Example::NotFound);
+    let mut answer = bare(head, if is_far { 40000 } else { 5070 });
     match example {
-        Example::Accepted => Answer {
-            expires: Some(3600),
-            ..ours(head, Status::Ok)
-        },
-        Example::WithoutSubscription => Answer {
-            without_subscription: true,
-            ..ours(head, Status::Accepted)
-        },
-        Example::TooBrief => Answer {
-            tag: Some("w0-0"),
-            min_expires: Some(60),
-            ..bare(head, 5070, Status::IntervalTooBrief)
-        },
-        Example::Routed => Answer {
-            record_routes: request.record_routes.as_slice(),
-            ..ours(head, Status::Accepted)
-        },
-        Example::Methods => Answer {
-            allow: Some(&["SUBSCRIBE", "REFER"]),
-            ..bare(head, 5070, Status::MethodNotAllowed)
-        },
-        Example::Packages => Answer {
-            allow_events: Some(&["message-summary", "refer"]),
-            ..bare(head, 5070, Status::BadEvent)
-        },
-        Example::Options => Answer {
-            unsupported: Some(&["foo", "bar"]),
-            ..bare(head, 5070, Status::BadExtension)
-        },
-        Example::TaggedOptions => Answer {
-            tag: Some("w0-0"),
-            unsupported: Some(&["foo", "bar"]),
-            ..bare(head, 40000, Status::BadExtension)
-        },
-        _ => bare(head, 40000, Status::NotFound),
+        Example::TooBrief => {
+            answer.status = Status::IntervalTooBrief;
+            answer.tag = Some("w0-0");
+            answer.min_expires = Some(60);
+        }
+        Example::Methods => {
+            answer.status = Status::MethodNotAllowed;
+            answer.allow = Some(&["SUBSCRIBE", "REFER"]);
+        }
+        Example::Packages => {
+            answer.status = Status::BadEvent;
+            answer.allow_events = Some(&["message-summary", "refer"]);
+        }
+        Example::Options => {
+            answer.status = Status::BadExtension;
+            answer.unsupported = Some(&["foo", "bar"]);
+        }
+        Example::TaggedOptions => {
+            answer.status = Status::BadExtension;
+            answer.tag = Some("w0-0");
+            answer.unsupported = Some(&["foo", "bar"]);
+        }
+        _ => {}
+    }
+    answer
+}
+
+/// The state of an example's subscription.
+fn state_of(alloc: Global, example: Example) -> Result<StateValue, NoMemory> {
+    match example {
+        Example::OfMailbox => StateValue::worded(alloc, "active", Some(3600), None, None),
+        Example::OfOpenTransfer => StateValue::worded(alloc, "active", Some(180), None, None),
+        _ => StateValue::worded(alloc, "terminated", None, Some("noresource"), None),
     }
 }
 
-/// The third NOTIFY of a transfer, with the routes of its request.
-fn of_transfer<'a>(
+/// The NOTIFY of an example: the first of a mailbox, else the third of a transfer, with the routes of its request.
+fn notify_of<'a>(
+    example: Example,
     request: &'a Request,
     event: &'a EventValue,
     state: &'a StateValue,
 ) -> NotifyText<'a> {
-    NotifyText {
+    let mut text = NotifyText {
         target: "sip:alice@127.0.0.1:5070",
         routes: request.record_routes.as_slice(),
         me: ME,
@@ -141,45 +146,15 @@ fn of_transfer<'a>(
         state,
         content_type: "message/sipfrag;version=2.0",
         body: b"SIP/2.0 200 OK\r\n",
+    };
+    if let Example::OfMailbox = example {
+        text.local = "<sip:alice@127.0.0.1>";
+        text.call_id = "c1";
+        text.number = 1;
+        text.content_type = "application/simple-message-summary";
+        text.body = b"Messages-Waiting: no\r\n";
     }
-}
-
-/// The first NOTIFY of a mailbox.
-fn of_mailbox<'a>(
-    request: &'a Request,
-    event: &'a EventValue,
-    state: &'a StateValue,
-) -> NotifyText<'a> {
-    NotifyText {
-        local: "<sip:alice@127.0.0.1>",
-        call_id: "c1",
-        number: 1,
-        content_type: "application/simple-message-summary",
-        body: b"Messages-Waiting: no\r\n",
-        ..of_transfer(request, event, state)
-    }
-}
-
-/// The state of an example's subscription.
-fn state_of(alloc: Global, example: Example) -> Result<StateValue, NoMemory> {
-    match example {
-        Example::OfMailbox => StateValue::worded(alloc, "active", Some(3600), None, None),
-        Example::OfOpenTransfer => StateValue::worded(alloc, "active", Some(180), None, None),
-        _ => StateValue::worded(alloc, "terminated", None, Some("noresource"), None),
-    }
-}
-
-/// The NOTIFY of an example.
-fn notify_of<'a>(
-    example: Example,
-    request: &'a Request,
-    event: &'a EventValue,
-    state: &'a StateValue,
-) -> NotifyText<'a> {
-    match example {
-        Example::OfMailbox => of_mailbox(request, event, state),
-        _ => of_transfer(request, event, state),
-    }
+    text
 }
 
 /// Appends a NOTIFY about the event of a request. Nothing, where it has none.
@@ -207,7 +182,10 @@ fn append(
         Example::OfMailbox | Example::OfTransfer | Example::OfOpenTransfer => {
             append_notify(alloc, example, request, out)
         }
-        _ => write_response(alloc, &answer_of(example, request), out),
+        Example::Accepted | Example::WithoutSubscription | Example::Routed => {
+            write_response(alloc, &grant_of(example, request), out)
+        }
+        _ => write_response(alloc, &refusal_of(example, &request.head), out),
     }
 }
 
@@ -226,12 +204,4 @@ pub(crate) fn written_for(
         Some(written) if appended.is_ok() => Ok(String::from_str(alloc, written)?),
         _ => Ok(String::from_str(alloc, LEFT)?),
     }
-}
-
-/// That the 200 to a request with this head is written, or that memory did not serve.
-pub(crate) fn answered(alloc: Global, head: &Head) -> Result<String, NoMemory> {
-    let mut out = Vec::new(alloc);
-    let is_written = write_response(alloc, &bare(head, 5070, Status::Ok), &mut out).is_ok();
-    drop(out);
-    Ok(String::from_str(alloc, if is_written { "answered" } else { "no answer" })?)
 }

@@ -3,10 +3,11 @@
 use std::io;
 use std::io::{ErrorKind, Read, Write};
 
-/// A reader that gives a byte a read, and fails after so many reads. Where `is_endless`, it goes on with line feeds.
+/// A reader that gives so many bytes a read at most, and fails after so many reads. Where `is_endless`, it goes on with line feeds.
 #[derive(Drop)]
 pub(crate) struct Drip<'a> {
     pub(crate) rest: &'a [u8],
+    pub(crate) most: usize,
     pub(crate) left: u32,
     pub(crate) is_endless: bool,
 }
@@ -17,32 +18,23 @@ impl<'a> Read for Drip<'a> {
             return Err(io::Error::from(ErrorKind::BrokenPipe));
         }
         self.left -= 1;
-        if self.rest.is_empty() {
-            let mut more: &[u8] = if self.is_endless { b"\n" } else { b"" };
+        if self.rest.is_empty() && self.is_endless {
+            let mut more: &[u8] = b"\n";
             return more.read(buf);
         }
-        let (mut first, rest) = self.rest.split_at(1);
+        let count = self.rest.len().min(self.most).min(buf.len());
+        let (mut first, rest) = self.rest.split_at(count);
         self.rest = rest;
         first.read(buf)
     }
 }
 
 /// What is wrong with a writer.
-#[derive(Clone, Copy, PartialEq)]
+#[derive(Clone, Copy)]
 pub(crate) enum Fault {
     Fails,
     TakesNone,
     FlushFails,
-}
-
-impl Fault {
-    pub(crate) fn name(self) -> &'static str {
-        match self {
-            Fault::Fails => "a write fails",
-            Fault::TakesNone => "a write takes nothing",
-            Fault::FlushFails => "a flush fails",
-        }
-    }
 }
 
 /// A writer that takes at most so many bytes a write, so often, and then has a fault.
@@ -56,20 +48,20 @@ pub(crate) struct Drain {
 
 impl Write for Drain {
     fn write(&mut self, buf: &[u8]) -> io::Result<usize> {
-        if self.left == 0 && self.fault == Fault::Fails {
-            return Err(io::Error::from(ErrorKind::BrokenPipe));
+        match self.fault {
+            Fault::Fails if self.left == 0 => Err(io::Error::from(ErrorKind::BrokenPipe)),
+            Fault::TakesNone if self.left == 0 => Ok(0),
+            _ => {
+                self.left = self.left.saturating_sub(1);
+                self.taken.write(buf.split_at(buf.len().min(self.most)).0)
+            }
         }
-        if self.left == 0 && self.fault == Fault::TakesNone {
-            return Ok(0);
-        }
-        self.left = self.left.saturating_sub(1);
-        self.taken.write(buf.split_at(buf.len().min(self.most)).0)
     }
 
     fn flush(&mut self) -> io::Result<()> {
-        if self.fault == Fault::FlushFails {
-            return Err(io::Error::from(ErrorKind::BrokenPipe));
+        match self.fault {
+            Fault::FlushFails => Err(io::Error::from(ErrorKind::BrokenPipe)),
+            _ => Ok(()),
         }
-        Ok(())
     }
 }

@@ -1,48 +1,24 @@
-//! The worked runs of the whole program: scripts with the pages that they are to have, and one of them over devices that fail;
-//! examples of what it reads and writes, and of what is read of an operator's words and lines.
+//! The worked runs inside one process: what a call of the program from outside can't show.
 //!
-//! There is nothing here that others build on. Begin with `pages`, then `devices`, the readers and writers, `trials` and
-//! `failures`. `examples` and `calls` have tables of scripts, control lines, arguments and calls, `streams` readers and writers
-//! that end, fail or never end, and `memory` is for runs in which a growth is refused. `operator` and `speakers` have what
-//! `notifyd serve` and `notifyd tell` read and say.
+//! There is nothing here that others build on. `desks` and `memory` are for runs in which a growth is refused; `pages` has runs with
+//! limits that no argument sets, over packages in boxes, one of them neither mailboxes nor transfers; `streams` has readers and
+//! writers that end, fail or never end, and `trials` the program over such `devices`.
 #![tactic(auto)]
 
-mod briefs;
-mod calls;
 mod desks;
 mod devices;
-mod examples;
-mod failures;
 mod memory;
-mod operator;
 mod pages;
 mod presence;
-mod speakers;
 mod streams;
-mod table;
 mod trials;
-mod words;
 
-use crate::calls::{tell_calls, tell_statuses};
-use crate::desks::tell_desks;
-use crate::examples::tell_examples;
-use crate::failures::tell_failures;
-use crate::memory::tell_memory;
-use crate::operator::tell_operator;
-use crate::pages::tell_pages;
-use crate::speakers::tell_speakers;
-use crate::streams::tell_streams;
 use std::io;
 
 fn main(rt: HostRuntime) -> io::Result<()> {
-    tell_desks(&rt)?;
-    tell_memory(rt)?;
-    tell_examples(&rt)?;
-    tell_calls(rt)?;
-    tell_statuses(&rt)?;
-    tell_streams(&rt)?;
-    tell_pages(rt)?;
-    tell_failures(rt)?;
-    tell_operator(&rt)?;
-    tell_speakers(&rt)
+    desks::tell_all(&rt)?;
+    memory::tell_all(rt)?;
+    streams::tell_all(&rt)?;
+    pages::tell_all(&rt)?;
+    trials::tell_all(rt)
 }

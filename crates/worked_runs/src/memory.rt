@@ -1,12 +1,12 @@
 //! Runs that go on after a growth that was refused. `rt try --fail-alloc N` refuses the Nth growth; each line here says that all
 //! is as it should be in each such run, or the program ends with an error.
 
-use crate::examples::is_script;
-use crate::words::words_of;
-use scripts::{ArgumentsError, Page, ScriptError, Sink, Source, parse_arguments, read_script};
-use server::{Status, run};
+use crate::trials::{Trial, run_once, words_of};
+use scripts::{
+    ArgumentsError, Page, ScriptError, Source, parse_arguments, parse_script, read_script,
+};
+use server::Status;
 use sip_read::Addr;
-use sip_text::{NoMemory, Text};
 use std::alloc::Global;
 use std::rt::Files;
 use std::sync::Wait;
@@ -15,31 +15,52 @@ use std::{fs, io};
 
 /// Whether four blocks are read, or memory was short.
 fn reads_blocks(alloc: Global, script: &[u8]) -> bool {
-    match is_script(alloc, script, "4 blocks") {
-        Ok(is_so) => is_so,
-        Err(NoMemory) => true,
-    }
+    let blocks = parse_script(alloc, script);
+    let is_so = match &blocks {
+        Ok(blocks) => blocks.len() == 4,
+        Err(error) => *error == ScriptError::NoMemory,
+    };
+    drop(blocks);
+    is_so
 }
 
 /// Whether a script is read whole, or memory was short.
 fn reads_script(alloc: Global, script: &[u8]) -> bool {
-    match read_script(alloc, &mut Source::new(script)) {
-        Ok(bytes) => bytes.as_slice() == script,
-        Err(error) => error == ScriptError::NoMemory,
-    }
+    let mut source = Source::new(script);
+    let bytes = read_script(alloc, &mut source);
+    let is_so = match &bytes {
+        Ok(bytes) => bytes.as_slice() == script && source.failures == 0,
+        Err(error) => *error == ScriptError::NoMemory,
+    };
+    drop(bytes);
+    is_so
 }
 
-/// Whether a page grows, or stays as it was.
-fn grows(alloc: Global) -> bool {
-    let addr = Addr {
-        ip: [10, 0, 0, 9],
-        port: 5070,
-    };
+const ADDR: Addr = Addr {
+    ip: [127, 0, 0, 1],
+    port: 5070,
+};
+
+const TAG: &str = "w0-1-76b8e0ada0f13d90";
+
+/// Whether each thing that is told adds its line to a page, or leaves it as it was; all of them are the wanted page.
+fn grows(alloc: Global, wanted: &[u8]) -> bool {
     let mut page = Page::new(alloc);
-    let is_answered = page.answer(alloc, addr, b"hello").is_ok();
-    let before = page.as_slice().len();
-    let is_told = page.notify(alloc, "t", 1, addr, b"hello").is_ok();
-    is_answered == (before > 0) && is_told == (page.as_slice().len() > before)
+    let mut is_right = true;
+    let mut is_whole = true;
+    for line in 0..5u8 {
+        let before = page.as_slice().len();
+        let told = match line {
+            0 => page.unread(alloc, 1, 1),
+            1 => page.worker(alloc, 0, 1, 2),
+            2 => page.answer(alloc, ADDR, b"SIP/2.0 200 OK\r\n\r\n"),
+            3 => page.notify(alloc, TAG, 1, ADDR, b""),
+            _ => page.start(alloc, TAG, "sip:carol@127.0.0.1"),
+        };
+        is_right = is_right && told.is_ok() == (page.as_slice().len() > before);
+        is_whole = is_whole && told.is_ok();
+    }
+    is_right && (!is_whole || page.as_slice() == wanted)
 }
 
 /// Whether arguments are read, or memory was short.
@@ -47,79 +68,69 @@ fn reads_arguments(alloc: Global) -> bool {
     let Ok(words) = words_of(alloc, &["script", "1", "alice"]) else {
         return true;
     };
-    match parse_arguments(alloc, words.as_slice()) {
+    let arguments = parse_arguments(alloc, words.as_slice());
+    let is_so = match &arguments {
         Ok(arguments) => arguments.workers == 1,
-        Err(error) => error == ArgumentsError::NoMemory,
-    }
+        Err(error) => *error == ArgumentsError::NoMemory,
+    };
+    drop(arguments);
+    is_so
 }
 
-/// How a call with these words ends, and what it wrote.
-#[derive(Drop)]
-struct Ended {
-    status: Status,
-    written: Vec<u8>,
-}
-
-fn end_of<H>(rt: H, alloc: Global, words: &[Text], script: &[u8]) -> Ended
+/// Whether a call writes a page with this beginning, or nothing. A device fault is a growth of the writer, or a thread, that was
+/// refused.
+fn is_page_or_nothing<H>(rt: H, words: &[&str], script: &[u8], first: &[u8]) -> bool
 where
-    H: Threads + Wait + Copy + Send + 'static,
+    H: Threads + Wait + AllocGlobal + Copy + Send + 'static,
 {
-    let mut source = Source::new(script);
-    let mut sink = Sink::new(Vec::new(alloc));
-    let status = run(rt, alloc, words, &mut source, &mut sink);
-    Ended {
-        status,
-        written: sink.writer,
-    }
-}
-
-/// Whether one worker writes its page, or nothing. A device fault is a growth of the writer that was refused.
-fn is_page_or_nothing<H>(rt: H, alloc: Global, script: &[u8]) -> bool
-where
-    H: Threads + Wait + Copy + Send + 'static,
-{
-    let Ended { status, written } = end_of(rt, alloc, &[], script);
-    if written.is_empty() {
-        return status == Status::OutOfMemory || status == Status::DeviceFault;
-    }
-    let first = b"UNREAD 2 1\nWORKER 0 4 4 closed\n".as_slice();
-    status == Status::Done && written.as_slice().starts_with(first)
-}
-
-/// The same of two workers. The growth that is refused may be that of a thread.
-fn is_page_of_two_or_nothing<H>(rt: H, alloc: Global, script: &[u8]) -> bool
-where
-    H: Threads + Wait + Copy + Send + 'static,
-{
-    let Ok(words) = words_of(alloc, &["script", "2", "alice", "bob"]) else {
+    let Ok(words) = words_of(rt.alloc(), words) else {
         return true;
     };
-    let Ended { status, written } = end_of(rt, alloc, words.as_slice(), script);
-    if status == Status::Done {
-        return written.as_slice().starts_with(b"UNREAD 2 1\nWORKER 0 ");
+    let (status, sink) = run_once(rt, words.as_slice(), script, Trial::Cut, u32::MAX);
+    let written = sink.writer.taken.as_slice();
+    match status {
+        Status::Done => written.starts_with(first),
+        Status::OutOfMemory | Status::DeviceFault => written.is_empty(),
+        _ => false,
     }
-    written.is_empty()
 }
 
 /// Tells whether each call is done, or says that memory was short and changes nothing.
-pub(crate) fn tell_memory<H>(rt: H) -> io::Result<()>
+pub(crate) fn tell_all<H>(rt: H) -> io::Result<()>
 where
     H: Threads + Wait + Files + Print + AllocGlobal + Copy + Send + 'static,
 {
     let alloc = rt.alloc();
     let blocks = fs::read(&rt, "blocks.script")?;
     let mail = fs::read(&rt, "mail.script")?;
-    let is_read = reads_blocks(alloc, blocks.as_slice());
-    println!(rt; "blocks are read, or memory was short: {is_read}")?;
-    let is_read = reads_script(alloc, blocks.as_slice());
-    println!(rt; "a script is read, or memory was short: {is_read}")?;
-    println!(rt; "a page grows, or stays: {}", grows(alloc))?;
-    println!(rt;
-        "arguments are read, or memory was short: {}",
-        reads_arguments(alloc)
-    )?;
-    let is_so = is_page_or_nothing(rt, alloc, mail.as_slice());
-    println!(rt; "one worker writes its page or nothing: {is_so}")?;
-    let is_so = is_page_of_two_or_nothing(rt, alloc, mail.as_slice());
-    println!(rt; "two workers write their page or nothing: {is_so}")
+    let lines = fs::read(&rt, "lines.page")?;
+    let (blocks, mail) = (blocks.as_slice(), mail.as_slice());
+    let one = b"UNREAD 2 1\nWORKER 0 4 4 closed\n".as_slice();
+    let two = b"UNREAD 2 1\nWORKER 0 ".as_slice();
+    for (done, is_so) in [
+        (
+            "blocks are read, or memory was short",
+            reads_blocks(alloc, blocks),
+        ),
+        (
+            "a script is read, or memory was short",
+            reads_script(alloc, blocks),
+        ),
+        ("a page grows, or stays", grows(alloc, lines.as_slice())),
+        (
+            "arguments are read, or memory was short",
+            reads_arguments(alloc),
+        ),
+        (
+            "one worker writes its page or nothing",
+            is_page_or_nothing(rt, &[], mail, one),
+        ),
+        (
+            "two workers write their page or nothing",
+            is_page_or_nothing(rt, &["script", "2", "alice", "bob"], mail, two),
+        ),
+    ] {
+        println!(rt; "{done}: {is_so}")?;
+    }
+    Ok(())
 }

@@ -1,221 +1,190 @@
-//! Runs of one call over failing devices, counted by how they ended.
+//! The program over readers and writers that fail, by one worker and by several.
+//!
+//! The script of one datagram is cut at each byte, read by a reader that fails at each of its reads or never ends, and its page
+//! is written by a writer that fails, or takes nothing, at each of its writes. For each of these a line says how many runs
+//! ended in which way, and whether each wrote what it may: the page, a front of it, or nothing. The counts were worked out by
+//! hand: the script has 308 bytes, and its page 791, or 811 with the line of a second worker.
 
 use crate::devices::{Drain, Drip, Fault};
 use scripts::{Sink, Source};
 use server::{Status, run};
-use sip_text::Text;
+use sip_text::{NoMemory, Text};
 use std::alloc::Global;
-use std::fmt::{Formatter, Write};
-use std::io::Read;
+use std::rt::Files;
 use std::sync::Wait;
 use std::thread::Threads;
-use std::{fmt, io};
+use std::{fs, io};
 
-/// A call of the program, its script, and the page that is to come.
-#[derive(Clone, Copy)]
-pub(crate) struct Trial<'a, H> {
-    pub(crate) rt: H,
-    pub(crate) alloc: Global,
-    pub(crate) words: &'a [Text],
-    pub(crate) script: &'a [u8],
-    pub(crate) page: &'a [u8],
-}
-
-/// How many runs ended in which way.
-#[derive(Clone, Copy)]
-pub(crate) struct Ends {
-    done: u32,
-    bad_scripts: u32,
-    device_faults: u32,
-    others: u32,
-    /// Runs that wrote what they may not, or told of more or fewer failures than one.
-    wrong: u32,
-}
-
-impl Ends {
-    fn none() -> Ends {
-        Ends {
-            done: 0,
-            bad_scripts: 0,
-            device_faults: 0,
-            others: 0,
-            wrong: 0,
-        }
+/// The words of a call.
+pub(crate) fn words_of(alloc: Global, words: &[&str]) -> Result<Vec<Text>, NoMemory> {
+    let mut texts = Vec::new(alloc);
+    for word in words {
+        texts.push(Text::of(alloc, word)?)?;
     }
+    Ok(texts)
+}
 
-    /// One run more that ended so.
-    fn count(&mut self, status: Status, is_right: bool) {
+/// What is tried of a call, again and again: each turn has a number, from 0.
+#[derive(Clone, Copy)]
+pub(crate) enum Trial {
+    /// So many bytes of the script are all there is of it.
+    Cut,
+    /// A byte a read, of which so many serve.
+    Reads,
+    /// A reader that never ends.
+    Endless,
+    /// Seven bytes a write, of which so many serve before this fault.
+    Writes(Fault),
+}
+
+/// The trials, and how many turns each has: up to the whole script, and to the read or the write behind the last.
+const TRIALS: [(&str, Trial, u32); 5] = [
+    ("scripts cut at each byte", Trial::Cut, 309),
+    ("reads that fail", Trial::Reads, 310),
+    ("a reader that never ends", Trial::Endless, 1),
+    ("writes that fail", Trial::Writes(Fault::Fails), 117),
+    (
+        "writes that take nothing",
+        Trial::Writes(Fault::TakesNone),
+        117,
+    ),
+];
+
+/// The reader of a turn.
+fn drip_of(trial: Trial, script: &[u8], turn: u32) -> Drip<'_> {
+    let mut drip = Drip {
+        rest: script,
+        most: usize::MAX,
+        left: u32::MAX,
+        is_endless: false,
+    };
+    match trial {
+        Trial::Cut => drip.rest = script.split_at(script.len().min(turn as usize)).0,
+        Trial::Reads => {
+            drip.most = 1;
+            drip.left = turn;
+        }
+        Trial::Endless => {
+            drip.rest = b"";
+            drip.is_endless = true;
+        }
+        Trial::Writes(_) => {}
+    }
+    drip
+}
+
+/// The writer of a turn.
+fn drain_of(alloc: Global, trial: Trial, turn: u32) -> Drain {
+    let (most, left, fault) = match trial {
+        Trial::Writes(fault) => (7, turn, fault),
+        _ => (usize::MAX, u32::MAX, Fault::Fails),
+    };
+    Drain {
+        taken: Vec::new(alloc),
+        most,
+        left,
+        fault,
+    }
+}
+
+/// How a turn ends, and the writer.
+pub(crate) fn run_once<H>(
+    rt: H,
+    words: &[Text],
+    script: &[u8],
+    trial: Trial,
+    turn: u32,
+) -> (Status, Sink<Drain>)
+where
+    H: Threads + Wait + AllocGlobal + Copy + Send + 'static,
+{
+    let alloc = rt.alloc();
+    let mut source = Source::new(drip_of(trial, script, turn));
+    let mut sink = Sink::new(drain_of(alloc, trial, turn));
+    let status = run(rt, alloc, words, &mut source, &mut sink);
+    (status, sink)
+}
+
+/// Whether a turn wrote what it may, and told of no more and no fewer failures than one where a write had a fault.
+fn is_right(trial: Trial, turn: u32, page: &[u8], status: Status, sink: &Sink<Drain>) -> bool {
+    let taken = sink.writer.taken.as_slice();
+    let is_done = status == Status::Done;
+    match trial {
+        Trial::Cut if turn == 0 => is_done && !taken.is_empty(),
+        Trial::Writes(_) => {
+            let length = page.len().min(7 * turn as usize);
+            let is_told = is_done == (sink.failures == 0) && sink.failures <= 1;
+            is_told && taken.len() == length && page.starts_with(taken)
+        }
+        _ if is_done => taken == page,
+        _ => taken.is_empty(),
+    }
+}
+
+/// A call of the program: its words and its script, and the page that is to come.
+#[derive(Clone, Copy)]
+struct Call<'a> {
+    words: &'a [Text],
+    script: &'a [u8],
+    page: &'a [u8],
+}
+
+/// Tells how many turns of a trial ended in which way.
+fn tell_trial<H>(rt: H, call: Call<'_>, title: &str, trial: Trial, turns: u32) -> io::Result<()>
+where
+    H: Threads + Wait + Print + AllocGlobal + Copy + Send + 'static,
+{
+    let (mut done, mut bad_scripts, mut faults, mut others, mut wrong) = (
+        0u32, 0u32, 0u32, 0u32, 0u32,
+    );
+    for turn in 0..turns {
+        let (status, sink) = run_once(rt, call.words, call.script, trial, turn);
+        if !is_right(trial, turn, call.page, status, &sink) {
+            wrong = wrong.saturating_add(1);
+        }
+        drop(sink);
         let count = match status {
-            Status::Done => &mut self.done,
-            Status::BadScript => &mut self.bad_scripts,
-            Status::DeviceFault => &mut self.device_faults,
-            _ => &mut self.others,
+            Status::Done => &mut done,
+            Status::BadScript => &mut bad_scripts,
+            Status::DeviceFault => &mut faults,
+            _ => &mut others,
         };
         *count = count.saturating_add(1);
-        if !is_right {
-            self.wrong = self.wrong.saturating_add(1);
-        }
     }
+    println!(rt;
+        "{title}: {done} done, {bad_scripts} bad scripts, {faults} device faults, {others} others, {wrong} wrong"
+    )
 }
 
-impl fmt::Display for Ends {
-    fn fmt<W: Write>(&self, f: &mut Formatter<W>) -> fmt::Result {
-        let Ends {
-            done,
-            bad_scripts,
-            device_faults,
-            others,
-            wrong,
-        } = self;
-        write!(
-            f,
-            "{done} done, {bad_scripts} bad scripts, {device_faults} device faults, {others} others, {wrong} wrong"
-        )
-    }
-}
-
-/// How a run ended, how many writes failed, and the writer.
-#[derive(Drop)]
-struct Ended<W> {
-    status: Status,
-    failures: u64,
-    writer: W,
-}
-
-/// One run over this reader and this writer.
-fn run_once<H, R: Read + Drop, W: io::Write + Drop>(
-    trial: &Trial<'_, H>,
-    reader: R,
-    writer: W,
-) -> Ended<W>
+/// Tries a call with these words on this script.
+fn tell_call<H>(rt: H, words: &[&str], script: &[u8]) -> io::Result<()>
 where
-    H: Threads + Wait + Copy + Send + 'static,
+    H: Threads + Wait + Print + AllocGlobal + Copy + Send + 'static,
 {
-    let mut source = Source::new(reader);
-    let mut sink = Sink::new(writer);
-    let status = run(trial.rt, trial.alloc, trial.words, &mut source, &mut sink);
-    let Sink {
-        writer,
-        failures,
-        ..
-    } = sink;
-    Ended {
-        status,
-        failures,
-        writer,
-    }
-}
-
-/// The page that a call writes of its script.
-pub(crate) fn page_of<H>(trial: &Trial<'_, H>) -> Vec<u8>
-where
-    H: Threads + Wait + Copy + Send + 'static,
-{
-    let Ended { writer, .. } = run_once(trial, trial.script, Vec::new(trial.alloc));
-    writer
-}
-
-/// Each front of the script, and the script. Only the empty front and the whole are scripts.
-pub(crate) fn cut_scripts<H>(trial: &Trial<'_, H>) -> Ends
-where
-    H: Threads + Wait + Copy + Send + 'static,
-{
-    let Trial {
-        alloc,
-        script,
-        page,
-        ..
-    } = *trial;
-    let mut ends = Ends::none();
-    for end in 0..script.len() {
-        let (front, _) = script.split_at(end);
-        let Ended { status, writer, .. } = run_once(trial, front, Vec::new(alloc));
-        let is_right = (end == 0) == (status == Status::Done) && (end == 0) != writer.is_empty();
-        ends.count(status, is_right);
-    }
-    let Ended { status, writer, .. } = run_once(trial, script, Vec::new(alloc));
-    ends.count(status, writer.as_slice() == page);
-    ends
-}
-
-/// A byte a read, and each read that fails, up to the one behind the last. Where none fails the page comes, else nothing.
-pub(crate) fn failed_reads<H>(trial: &Trial<'_, H>) -> Ends
-where
-    H: Threads + Wait + Copy + Send + 'static,
-{
-    let Trial {
-        alloc,
-        script,
-        page,
-        ..
-    } = *trial;
-    let mut ends = Ends::none();
-    for left in 0..310 {
-        let drip = Drip {
-            rest: script,
-            left,
-            is_endless: false,
-        };
-        let Ended { status, writer, .. } = run_once(trial, drip, Vec::new(alloc));
-        let is_right = match status {
-            Status::Done => writer.as_slice() == page,
-            _ => writer.is_empty(),
-        };
-        ends.count(status, is_right);
-    }
-    ends
-}
-
-/// A reader that never ends.
-pub(crate) fn endless_reader<H>(trial: &Trial<'_, H>) -> Ends
-where
-    H: Threads + Wait + Copy + Send + 'static,
-{
-    let drip = Drip {
-        rest: b"",
-        left: u32::MAX,
-        is_endless: true,
+    let Ok(words) = words_of(rt.alloc(), words) else {
+        return println!(rt; "out of memory");
     };
-    let Ended { status, writer, .. } = run_once(trial, drip, Vec::new(trial.alloc));
-    let mut ends = Ends::none();
-    ends.count(status, writer.is_empty());
-    ends
-}
-
-/// Whether these bytes are what so many writes of seven bytes take of the page.
-fn is_front(page: &[u8], taken: &[u8], writes: u32) -> bool {
-    let length = page.len().min(7 * writes as usize);
-    taken.len() == length && page.starts_with(taken)
-}
-
-/// Seven bytes a write, and each write that fails or takes nothing, up to the one behind the last. What went out is a front of
-/// the page, of all writes before.
-pub(crate) fn failed_writes<H>(trial: &Trial<'_, H>, fault: Fault) -> Ends
-where
-    H: Threads + Wait + Copy + Send + 'static,
-{
-    let Trial {
-        alloc,
+    let (_, sink) = run_once(rt, words.as_slice(), script, Trial::Cut, u32::MAX);
+    let call = Call {
+        words: words.as_slice(),
         script,
-        page,
-        ..
-    } = *trial;
-    let mut ends = Ends::none();
-    for left in 0..117 {
-        let drain = Drain {
-            taken: Vec::new(alloc),
-            most: 7,
-            left,
-            fault,
-        };
-        let Ended {
-            status,
-            failures,
-            writer,
-        } = run_once(trial, script, drain);
-        let is_told = (status == Status::Done) == (failures == 0) && failures <= 1;
-        let is_right = is_told && is_front(page, writer.taken.as_slice(), left);
-        ends.count(status, is_right);
+        page: sink.writer.taken.as_slice(),
+    };
+    println!(rt; "a page of {} bytes", call.page.len())?;
+    for (title, trial, turns) in TRIALS {
+        tell_trial(rt, call, title, trial, turns)?;
     }
-    ends
+    Ok(())
+}
+
+/// Tells of the trials by one worker and by two.
+pub(crate) fn tell_all<H>(rt: H) -> io::Result<()>
+where
+    H: Threads + Wait + Files + Print + AllocGlobal + Copy + Send + 'static,
+{
+    let script = fs::read(&rt, "one_subscription.script")?;
+    println!(rt; "one worker")?;
+    tell_call(rt, &["script", "1", "alice"], script.as_slice())?;
+    println!(rt; "two workers")?;
+    tell_call(rt, &["script", "2", "alice", "bob"], script.as_slice())
 }
