@@ -21,5 +21,4 @@ field:
 	@field/run
 
 bench:
-	@cd crates/bench_echo && rt run < /dev/null
 	@bench/service
