@@ -3,30 +3,45 @@
 //!
 //! `data/mailboxes` and `data/transfers` have scenes of a package, written by RFC 3842, RFC 3515 and RFC 3420 and not by the
 //! program: a title, the package with the closing that it leaves (its name, the resources that it held, its changes), and then
-//! what is done or asked, line by line. Behind the bar of a line stands what it must give. In the text of a body `\r\n` stands
-//! for the end of a line. `data/subscriptions` has scenes of one subscription, by RFC 6665: a title, and then what happens to
-//! it, with the NOTIFY that tells of it behind the bar.
+//! what is done or asked, line by line. Behind the bar of a line stands what it must give. `data/subscriptions` has scenes of
+//! one subscription, by RFC 6665: a title, and then what befalls it, with the NOTIFY that tells of it behind the bar, or
+//! whether it stays or is gone untold. What a backslash means in a text, `table` says.
 //!
-//! Begin with `data/mailboxes` and `scenes`. `changes` and `closings` are examples that need no table, and `memory` those
-//! that go on after a growth that was refused: `rt try --fail-alloc 1..` refuses each in turn, and the program then ends
-//! with an error or tells what it tells with ample memory.
+//! Begin with `data/mailboxes` and `scenes`. `rt try --fail-alloc 1..` refuses each growth in turn: a line of a package's scene
+//! is then tried once more and goes as it does with ample memory; elsewhere the program ends with an error.
 #![tactic(auto)]
 
-mod changes;
 mod closings;
 mod making;
-mod memory;
 mod scenes;
 mod subscriptions;
+mod table;
 
-use crate::scenes::tell_scenes;
-use std::io;
+use crate::closings::ending_counts;
+use crate::table::tell;
+use std::rt::Files;
+use std::{fs, io};
+
+/// Plays each scene of a table. A blank line stands between two scenes.
+fn tell_table(rt: &(impl Files + Print + AllocGlobal), name: &str) -> io::Result<()> {
+    let table = fs::read_to_string(rt, name)?;
+    for scene in table.split("\n\n") {
+        let told = match name {
+            "subscriptions" => subscriptions::tell_scene(rt, scene),
+            _ => scenes::tell_twice(rt, scene),
+        };
+        told?;
+    }
+    Ok(())
+}
 
 fn main(rt: HostRuntime) -> io::Result<()> {
-    memory::tell_all(&rt)?;
-    tell_scenes(&rt, "mailboxes")?;
-    tell_scenes(&rt, "transfers")?;
-    changes::tell_all(&rt)?;
-    closings::tell_all(&rt)?;
-    subscriptions::tell_all(&rt)
+    tell_table(&rt, "mailboxes")?;
+    tell_table(&rt, "transfers")?;
+    tell_table(&rt, "subscriptions")?;
+    tell(
+        &rt,
+        "an ending offers its name and what it counted",
+        ending_counts(rt.alloc()),
+    )
 }

@@ -1,9 +1,9 @@
-//! Changes as the lines of a table write them.
+//! Changes and packages as the lines of a table write them.
+use crate::table::{meant, number_of};
 use message_summary::Mailboxes;
 use package::{Change, Class, ClosingCell, Counts, MailChange, Progress};
 use sip_text::{NoMemory, Text};
-use std::alloc::{AllocError, Global};
-use std::io;
+use std::alloc::Global;
 use std::sync::Arc;
 
 /// The class of this name.
@@ -18,85 +18,49 @@ fn class_of(name: &str) -> Option<Class> {
     }
 }
 
-/// The number of a word that is one.
-pub(crate) fn number_of(word: Option<&str>) -> Option<u32> {
-    word?.parse::<u32>().ok()
-}
-
 /// A class and its new, old, urgent new and urgent old messages.
 fn counts_of(text: &str) -> Option<(Class, Counts)> {
     let mut words = text.split(' ');
     let class = class_of(words.next()?)?;
-    let new_count = number_of(words.next())?;
-    let old_count = number_of(words.next())?;
-    let urgent_new = number_of(words.next())?;
-    let urgent_old = number_of(words.next())?;
     let counts = Counts {
-        new_count,
-        old_count,
-        urgent_new,
-        urgent_old,
+        new_count: number_of(words.next()?)?,
+        old_count: number_of(words.next()?)?,
+        urgent_new: number_of(words.next()?)?,
+        urgent_old: number_of(words.next()?)?,
     };
     Some((class, counts))
 }
 
-/// None where the change is refused.
-pub(crate) fn mail(
-    alloc: Global,
-    mailbox: &str,
-    class: Class,
-    counts: Counts,
-) -> Result<Option<MailChange>, NoMemory> {
-    let mailbox = String::from_str(alloc, mailbox)?;
-    Ok(MailChange::new(
-        mailbox,
+/// The change of a line `mail MAILBOX CLASS NEW OLD URGENT-NEW URGENT-OLD`.
+fn mail_of(alloc: Global, text: &str) -> Result<Option<Change>, NoMemory> {
+    let (mailbox, counts) = text.split_once(' ').unwrap_or((text, ""));
+    let Some((class, counts)) = counts_of(counts) else {
+        return Ok(None);
+    };
+    let mail = MailChange::new(
+        meant(alloc, mailbox)?,
         class,
         counts.new_count,
         counts.old_count,
         counts.urgent_new,
         counts.urgent_old,
-    ))
+    );
+    Ok(mail.map(Change::Mail))
 }
 
-/// None where the progress is refused.
-pub(crate) fn progress(
-    alloc: Global,
-    tag: &str,
-    code: u16,
-    reason: &str,
-) -> Result<Option<Progress>, NoMemory> {
-    let tag = String::from_str(alloc, tag)?;
-    let reason = String::from_str(alloc, reason)?;
-    Ok(Progress::new(tag, code, reason))
-}
-
-/// The change of a line `mail MAILBOX CLASS NEW OLD URGENT-NEW URGENT-OLD`.
-fn mail_of(alloc: Global, text: &str) -> Result<Option<Change>, NoMemory> {
-    let Some((mailbox, counts)) = text.split_once(' ') else {
-        return Ok(None);
-    };
-    let Some((class, counts)) = counts_of(counts) else {
-        return Ok(None);
-    };
-    Ok(mail(alloc, mailbox, class, counts)?.map(Change::Mail))
-}
-
-/// A tag, a code and a reason, which may be empty.
-fn status_of(text: &str) -> Option<(&str, u16, &str)> {
-    let (tag, status) = text.split_once(' ')?;
-    let (code, reason) = status.split_once(' ')?;
-    Some((tag, code.parse::<u16>().ok()?, reason))
-}
-
-/// The change of a line `step TAG CODE REASON`.
+/// The change of a line `step TAG CODE REASON`. The reason may be empty.
 fn step_of(alloc: Global, text: &str) -> Result<Option<Change>, NoMemory> {
-    let Some((tag, code, reason)) = status_of(text) else {
+    let (tag, status) = text.split_once(' ').unwrap_or((text, ""));
+    let (code, reason) = status.split_once(' ').unwrap_or((status, ""));
+    let Ok(code) = code.parse::<u16>() else {
         return Ok(None);
     };
-    Ok(progress(alloc, tag, code, reason)?.map(Change::Step))
+    let tag = meant(alloc, tag)?;
+    let reason = meant(alloc, reason)?;
+    Ok(Progress::new(tag, code, reason).map(Change::Step))
 }
 
-/// The change that a line tells by this word and the text behind it. None where it tells none.
+/// The change that a line tells by this word and the text behind it. None where it tells none, or one that is refused.
 pub(crate) fn change_of(alloc: Global, word: &str, text: &str) -> Result<Option<Change>, NoMemory> {
     match word {
         "mail" => mail_of(alloc, text),
@@ -118,22 +82,4 @@ pub(crate) fn mailboxes(
         owned.push(String::from_str(alloc, name)?)?;
     }
     Mailboxes::new(alloc, owned, cell)
-}
-
-/// A refused growth as main tells it.
-pub(crate) fn error_of(_refused: NoMemory) -> io::Error {
-    io::Error::from(AllocError)
-}
-
-/// Says whether an example goes as it should.
-pub(crate) fn tell(
-    rt: &impl Print,
-    example: &str,
-    is_so: Result<bool, NoMemory>,
-) -> io::Result<()> {
-    match is_so {
-        Ok(true) => println!(rt; "{example}: as it should"),
-        Ok(false) => println!(rt; "{example}: NOT AS IT SHOULD"),
-        Err(refused) => Err(error_of(refused)),
-    }
 }

@@ -1,83 +1,98 @@
 //! Scenes of a package: what it is told and asked, line by line, and what it must answer.
-use crate::making::{change_of, error_of, mailboxes, tell};
-use package::{Change, Closing, ClosingCell, Outcome, Package};
+use crate::closings::{has_closing, offer};
+use crate::making::{change_of, mailboxes};
+use crate::table::{BAR, Line, error_of, is_answer, line_of, meant, tell};
+use package::{Change, ClosingCell, MailChange, Outcome, Package, Progress};
 use refer::Transfers;
 use sip_text::NoMemory;
 use std::alloc::Global;
-use std::rt::Files;
+use std::io;
 use std::sync::Arc;
-use std::{fs, io};
 
-/// What stands before that which must come.
-const BAR: &str = " | ";
-
-/// A line of a scene: a word, what stands behind it, and what must come of it.
-#[derive(Clone, Copy)]
-pub(crate) struct Line<'a> {
-    pub(crate) word: &'a str,
-    pub(crate) text: &'a str,
-    pub(crate) wanted: &'a str,
-}
-
-/// None where a line lacks a word, a text or what is wanted.
-pub(crate) fn line_of(line: &str) -> Option<Line<'_>> {
-    let (done, wanted) = line.split_once(BAR)?;
-    let (word, text) = done.split_once(' ')?;
-    Some(Line { word, text, wanted })
-}
-
-/// Whether the body of the resource has these bytes; `none` where it has none.
-fn tells<P: Package>(
-    alloc: Global,
-    package: &P,
-    resource: &str,
-    wanted: &str,
-) -> Result<bool, NoMemory> {
-    let wanted_bytes = wanted.replace(alloc, "\\r\\n", "\r\n")?;
-    match package.body(alloc, resource)? {
-        Some(body) => Ok(body.as_slice() == wanted_bytes.as_bytes()),
-        None => Ok(wanted == "none"),
+/// Whether this is the body that is wanted, or one of the length that is; `none` where there is none.
+fn is_body(alloc: Global, body: &Option<Vec<u8>>, line: &Line<'_>) -> Result<bool, NoMemory> {
+    let Some(body) = body else {
+        return Ok(line.wanted == "none");
+    };
+    if line.word == "length" {
+        return Ok(line.wanted.parse::<usize>().ok() == Some(body.len()));
     }
+    Ok(meant(alloc, line.wanted)?.as_bytes() == body.as_slice())
 }
 
-/// The word of an outcome.
-fn word_of(outcome: Outcome) -> &'static str {
-    match outcome {
-        Outcome::Changed => "changed",
-        Outcome::Same => "same",
-        Outcome::Unknown => "unknown",
-    }
+/// Whether the package tells of the resource what is wanted.
+fn tells<P: Package>(alloc: Global, package: &P, line: &Line<'_>) -> Result<bool, NoMemory> {
+    let body = package.body(alloc, line.text)?;
+    let is_so = is_body(alloc, &body, line);
+    drop(body);
+    is_so
 }
 
-/// Whether the body of the resource is so long.
-fn has_length<P: Package>(
-    alloc: Global,
-    package: &P,
-    resource: &str,
-    wanted: &str,
-) -> Result<bool, NoMemory> {
-    let body = package.body(alloc, resource)?;
-    let length = body.map(|body| body.len());
-    Ok(length.is_some() && length == wanted.parse::<usize>().ok())
+/// Whether the copy of a mail change gives what was handed in: each count by its own name, and all of them.
+fn mail_gives(alloc: Global, mail: &MailChange, wanted: &str) -> Result<bool, NoMemory> {
+    let copy = mail.copy(alloc)?;
+    let counts = [
+        copy.new_count(),
+        copy.old_count(),
+        copy.urgent_new(),
+        copy.urgent_old(),
+    ];
+    let given = (copy.mailbox(), copy.class(), counts, copy.counts());
+    let told = format!(in alloc; "{given:?}")?;
+    Ok(told.as_str() == wanted)
 }
 
-/// What the package answers to a change, if there is one.
-pub(crate) fn answer<P: Package>(
+/// Whether the copy of a step gives what was handed in.
+fn step_gives(alloc: Global, step: &Progress, wanted: &str) -> Result<bool, NoMemory> {
+    let copy = step.copy(alloc)?;
+    let given = (copy.tag(), copy.code(), copy.reason());
+    let told = format!(in alloc; "{given:?}")?;
+    Ok(told.as_str() == wanted)
+}
+
+/// Whether the package answers a change as is wanted. No mail takes memory, and no forgetting.
+fn answers<P: Package>(
     alloc: Global,
     package: &mut P,
-    change: Option<Change>,
-) -> Result<Option<Outcome>, NoMemory> {
-    let Some(change) = change else {
-        return Ok(None);
-    };
-    let answer = package.change(alloc, &change);
-    drop(change);
-    Ok(Some(answer?))
+    change: &Change,
+    wanted: &str,
+) -> Result<bool, NoMemory> {
+    match package.change(alloc, change) {
+        Ok(Outcome::Changed) => Ok(wanted == "changed"),
+        Ok(Outcome::Same) => Ok(wanted == "same"),
+        Ok(Outcome::Unknown) => Ok(wanted == "unknown"),
+        Err(NoMemory) => match change {
+            Change::Mail(_) | Change::Forget(_) => Ok(false),
+            Change::Begin(_) | Change::Step(_) => Err(NoMemory),
+        },
+    }
 }
 
-/// Whether a test gives the word that is wanted.
-fn is_answer(answer: bool, wanted: &str) -> bool {
-    wanted == if answer { "yes" } else { "no" }
+/// Whether a change says what is wanted: the package that it is `for`, or what its copy `gives`.
+fn says(alloc: Global, change: &Change, line: &Line<'_>) -> Result<bool, NoMemory> {
+    match change {
+        _ if line.word == "for" => Ok(change.event() == line.wanted),
+        Change::Mail(mail) => mail_gives(alloc, mail, line.wanted),
+        Change::Step(step) => step_gives(alloc, step, line.wanted),
+        Change::Begin(_) | Change::Forget(_) => Ok(false),
+    }
+}
+
+/// Whether a change goes as it should: it is refused or answered by the package, or only says what it is.
+fn changes<P: Package>(alloc: Global, package: &mut P, line: &Line<'_>) -> Result<bool, NoMemory> {
+    let is_said = line.word == "for" || line.word == "gives";
+    let (word, text) = match line.text.split_once(' ') {
+        Some((word, text)) if is_said => (word, text),
+        _ => (line.word, line.text),
+    };
+    let change = change_of(alloc, word, text)?;
+    let is_so = match &change {
+        Some(change) if is_said => says(alloc, change, line),
+        Some(change) => answers(alloc, package, change, line.wanted),
+        None => Ok(line.wanted == "refused"),
+    };
+    drop(change);
+    is_so
 }
 
 /// Whether a line goes as it should.
@@ -85,22 +100,40 @@ fn goes<P: Package>(
     alloc: Global,
     package: &mut P,
     cell: &ClosingCell,
-    line: Line<'_>,
+    text: &str,
 ) -> Result<bool, NoMemory> {
-    let Line { word, text, wanted } = line;
-    match word {
-        "body" => tells(alloc, package, text, wanted),
-        "length" => has_length(alloc, package, text, wanted),
-        "holds" => Ok(is_answer(package.holds(text), wanted)),
-        "over" => Ok(is_answer(package.is_over(text), wanted)),
-        "name" => Ok(package.event() == wanted),
-        "type" => Ok(package.content_type() == wanted),
-        "closing" => has_closing(alloc, cell, wanted),
-        _ => {
-            let change = change_of(alloc, word, text)?;
-            Ok(answer(alloc, package, change)?.map(word_of) == Some(wanted))
-        }
+    let Some(line) = line_of(text) else {
+        return Ok(false);
+    };
+    match line.word {
+        "body" | "length" => tells(alloc, package, &line),
+        "holds" => Ok(is_answer(package.holds(line.text), line.wanted)),
+        "over" => Ok(is_answer(package.is_over(line.text), line.wanted)),
+        "name" => Ok(package.event() == line.wanted),
+        "type" => Ok(package.content_type() == line.wanted),
+        "closing" => has_closing(alloc, cell, line.wanted),
+        "offer" => offer(alloc, cell, line.text, line.wanted),
+        _ => changes(alloc, package, &line),
     }
+}
+
+/// Whether the line of this number goes as it should, once more where a growth is refused. That leaves all as it was: a body
+/// that the line before asks for is that body still.
+fn goes_at_last<P: Package>(
+    alloc: Global,
+    package: &mut P,
+    cell: &ClosingCell,
+    lines: &str,
+    number: usize,
+) -> Result<bool, NoMemory> {
+    let text = lines.lines().nth(number).unwrap_or("");
+    let is_so = goes(alloc, package, cell, text);
+    if is_so.is_ok() {
+        return is_so;
+    }
+    let before = lines.lines().nth(number.saturating_sub(1)).unwrap_or("");
+    let is_left = !before.starts_with("body") || goes(alloc, package, cell, before)?;
+    Ok(is_left && goes(alloc, package, cell, text)?)
 }
 
 /// Plays the lines of a scene, and lets the package go.
@@ -111,32 +144,13 @@ fn play<P: Package>(
     cell: &ClosingCell,
     lines: &str,
 ) -> io::Result<()> {
+    let mut number = 0usize;
     for text in lines.lines() {
-        let is_so = match line_of(text) {
-            Some(line) => goes(alloc, &mut package, cell, line),
-            None => Ok(false),
-        };
+        let is_so = goes_at_last(alloc, &mut package, cell, lines, number);
         tell(rt, text, is_so)?;
+        number = number.saturating_add(1);
     }
     Ok(())
-}
-
-/// Whether the closing in the cell is told so: the package's name, the resources that it held, and its changes.
-pub(crate) fn has_closing(
-    alloc: Global,
-    cell: &ClosingCell,
-    wanted: &str,
-) -> Result<bool, NoMemory> {
-    let Some(closing) = cell.get() else {
-        return Ok(wanted == "none");
-    };
-    let Closing {
-        event,
-        resources,
-        changes,
-    } = closing;
-    let told = format!(in alloc; "{} {resources} {changes}", event.as_str())?;
-    Ok(told.as_str() == wanted)
 }
 
 /// A scene: its title, the package that is made with the closing that it leaves, and what is done and asked.
@@ -161,93 +175,59 @@ fn scene_of(text: &str) -> Option<Scene<'_>> {
     })
 }
 
-/// Plays a scene with the package as it is. Its closing goes to the cell that is shared.
-fn play_bare(
-    rt: &impl Print,
-    alloc: Global,
-    scene: Scene<'_>,
-    cell: &ClosingCell,
-    shared: Arc<ClosingCell>,
-) -> io::Result<()> {
-    match scene.made.split_once(' ') {
-        Some((_, names)) => {
-            let package = mailboxes(alloc, names, shared).map_err(error_of)?;
-            play(rt, alloc, package, cell, scene.lines)
-        }
-        None => {
-            let package = Transfers::new(alloc, shared).map_err(error_of)?;
-            play(rt, alloc, package, cell, scene.lines)
-        }
-    }
-}
-
-/// The package on the heap.
-fn on_heap<P: Package>(alloc: Global, package: P) -> Result<Box<P>, NoMemory> {
-    Ok(Box::new(alloc, package)?)
-}
-
-/// Plays a scene with the package in a box. Its closing goes to the cell that is shared.
-fn play_boxed(
-    rt: &impl Print,
-    alloc: Global,
-    scene: Scene<'_>,
-    cell: &ClosingCell,
-    shared: Arc<ClosingCell>,
-) -> io::Result<()> {
-    match scene.made.split_once(' ') {
-        Some((_, names)) => {
-            let package = mailboxes(alloc, names, shared).map_err(error_of)?;
-            let boxed: Box<dyn Package> = on_heap(alloc, package).map_err(error_of)?;
-            play(rt, alloc, boxed, cell, scene.lines)
-        }
-        None => {
-            let package = Transfers::new(alloc, shared).map_err(error_of)?;
-            let boxed: Box<dyn Package> = on_heap(alloc, package).map_err(error_of)?;
-            play(rt, alloc, boxed, cell, scene.lines)
-        }
-    }
-}
-
-/// Plays a scene. A second package then finds the cell full.
+/// Plays a scene with the package that it names, as it is or in a box. Its closing goes to the cell that is shared.
 fn play_scene(
-    rt: &impl Print,
-    alloc: Global,
+    rt: &(impl Print + AllocGlobal),
     scene: Scene<'_>,
     is_boxed: bool,
-    cell: &Arc<ClosingCell>,
+    cell: &ClosingCell,
+    shared: Arc<ClosingCell>,
 ) -> io::Result<()> {
-    if is_boxed {
-        play_boxed(rt, alloc, scene, cell, cell.clone()?)?;
-    } else {
-        play_bare(rt, alloc, scene, cell, cell.clone()?)?;
+    let alloc = rt.alloc();
+    match scene.made.split_once(' ') {
+        Some((_, names)) => {
+            let package = mailboxes(alloc, names, shared).map_err(error_of)?;
+            if is_boxed {
+                let boxed: Box<dyn Package> = Box::new(alloc, package)?;
+                play(rt, alloc, boxed, cell, scene.lines)
+            } else {
+                play(rt, alloc, package, cell, scene.lines)
+            }
+        }
+        None => {
+            let package = Transfers::new(alloc, shared).map_err(error_of)?;
+            if is_boxed {
+                let boxed: Box<dyn Package> = Box::new(alloc, package)?;
+                play(rt, alloc, boxed, cell, scene.lines)
+            } else {
+                play(rt, alloc, package, cell, scene.lines)
+            }
+        }
     }
-    drop(Transfers::new(alloc, cell.clone()?).map_err(error_of)?);
+}
+
+/// Lets go of a package whose closing goes to this cell.
+fn let_go(alloc: Global, cell: Arc<ClosingCell>) -> Result<(), NoMemory> {
+    drop(Transfers::new(alloc, cell)?);
     Ok(())
 }
 
-/// Plays a scene and looks at the closing that its package leaves.
-fn tell_scene(rt: &impl Print, alloc: Global, scene: Scene<'_>, is_boxed: bool) -> io::Result<()> {
+/// Plays a scene and looks at the closing that its package leaves. A second package then finds the cell full.
+fn tell_scene(rt: &(impl Print + AllocGlobal), scene: Scene<'_>, is_boxed: bool) -> io::Result<()> {
+    let alloc = rt.alloc();
     let how = if is_boxed { ", in a box" } else { "" };
     println!(rt; "- {}{how}", scene.title)?;
     let cell = ClosingCell::new(alloc).map_err(error_of)?;
-    play_scene(rt, alloc, scene, is_boxed, &cell)?;
+    play_scene(rt, scene, is_boxed, &cell, cell.clone()?)?;
+    let_go(alloc, cell.clone()?).map_err(error_of)?;
     tell(rt, scene.left, has_closing(alloc, &cell, scene.left))
 }
 
 /// Plays a scene twice, with the package as it is and in a box.
-fn tell_twice(rt: &(impl Print + AllocGlobal), text: &str) -> io::Result<()> {
+pub(crate) fn tell_twice(rt: &(impl Print + AllocGlobal), text: &str) -> io::Result<()> {
     let Some(scene) = scene_of(text) else {
         return println!(rt; "NO SCENE: {text}");
     };
-    tell_scene(rt, rt.alloc(), scene, false)?;
-    tell_scene(rt, rt.alloc(), scene, true)
-}
-
-/// Plays each scene of a file. A blank line stands between two scenes.
-pub(crate) fn tell_scenes(rt: &(impl Files + Print + AllocGlobal), name: &str) -> io::Result<()> {
-    let table = fs::read_to_string(rt, name)?;
-    for text in table.split("\n\n") {
-        tell_twice(rt, text)?;
-    }
-    Ok(())
+    tell_scene(rt, scene, false)?;
+    tell_scene(rt, scene, true)
 }

@@ -1,127 +1,44 @@
-//! Scenes of one subscription (RFC 6665): what happens to it, line by line, and the NOTIFY that tells of it, or what it then has.
+//! Scenes of one subscription (RFC 6665): what befalls it, line by line, and the NOTIFY that tells of it, or what it then has.
+//!
+//! What befalls a subscription takes it and hands back what is left, so that it is let go in one place, at a scene's end.
 
-use crate::making::{number_of, tell};
-use crate::scenes::{Line, line_of};
-use event_headers::{HeaderError, read_event};
+use crate::table::{Line, error_of, is_answer, line_of, number_of, tell};
+use event_headers::read_event;
 use sip_read::{Addr, Message, Response, read};
 use sip_text::{NoMemory, Text, Values};
 use std::alloc::Global;
-use std::rt::Files;
-use std::{fs, io};
-use subscription::{Notice, Phase, Reason, Step, Sub, Usage, Want};
+use std::io;
+use subscription::{Notice, Reason, Step, Sub, Usage, Want};
 
 const TAG: &str = "w0-1-76b8e0ada0f13d90";
 
-/// The dialog of each scene.
-fn usage(alloc: Global) -> Result<Usage, NoMemory> {
-    Ok(Usage {
-        call_id: Text::of(alloc, "c1")?,
-        local_tag: Text::of(alloc, TAG)?,
-        remote_tag: Text::of(alloc, "f1")?,
-        local: Text::of(alloc, "<sip:alice@127.0.0.1>")?,
-        remote: Text::of(alloc, "<sip:alice@127.0.0.1>;tag=f1")?,
-        target: Text::of(alloc, "sip:alice@127.0.0.1:5070")?,
-        routes: Values::new(Vec::new(alloc)),
-        remote_cseq: 1,
-    })
+/// What there is of a subscription.
+#[derive(Drop)]
+enum Life {
+    /// A dialog, and what is asked for in it.
+    Asked(Usage, Want),
+    Live(Sub),
+    /// The dialog of one that is over.
+    Over(Usage),
 }
 
-fn source(port: u16) -> Addr {
-    Addr {
-        ip: [127, 0, 0, 1],
-        port,
-    }
+/// What befalls it.
+#[derive(Clone, Copy)]
+enum Cause<'a> {
+    /// 3600 seconds are granted, up to this last number.
+    Accept(u32),
+    /// No time is granted.
+    Fetch,
+    /// What it watches changes in this second, or is over.
+    Change(u64, bool),
+    Refresh(Renewal<'a>),
+    End(Reason),
+    Answer(&'a Response),
+    /// A NOTIFY stays unanswered.
+    Loss,
 }
 
-/// The event of each scene can be read, so what is not is want of memory.
-fn short_of(_error: HeaderError) -> NoMemory {
-    NoMemory
-}
-
-/// What is asked for in each scene.
-fn want(alloc: Global) -> Result<Want, NoMemory> {
-    let resource = Text::of(alloc, "alice")?;
-    Ok(Want {
-        event: read_event(alloc, b"message-summary").map_err(short_of)?,
-        resource,
-        to: source(5070),
-        max_cseq: 1,
-    })
-}
-
-/// Whether a NOTIFY is the one that is wanted: its word, its number, and the seconds left or the reason.
-fn is_notice(notice: Notice, wanted: &str) -> bool {
-    let Notice { number, phase } = notice;
-    let mut words = wanted.split(' ');
-    let is_word = words.next() == Some(phase.word());
-    let is_number = number_of(words.next()) == Some(number);
-    let last = words.next();
-    let is_last = match phase.expires() {
-        Some(left) => number_of(last) == Some(left),
-        None => last == phase.reason(),
-    };
-    is_word && is_number && is_last
-}
-
-/// Whether it is over, told by the NOTIFY that is wanted.
-fn is_over(usage: &Usage, notice: Notice, wanted: &str) -> bool {
-    usage.call_id.is("c1") && is_notice(notice, wanted)
-}
-
-/// Goes on with what follows, and says whether the NOTIFY is the one that is wanted.
-fn follow(life: &mut Option<Sub>, step: Step, wanted: &str) -> bool {
-    match step {
-        Step::Live(sub, notice) => {
-            *life = Some(sub);
-            is_notice(notice, wanted)
-        }
-        Step::Over(usage, notice) => is_over(&usage, notice, wanted),
-    }
-}
-
-/// A subscription of 3600 seconds from the start, whose last number is in the text.
-fn accept(alloc: Global, life: &mut Option<Sub>, line: Line<'_>) -> Result<bool, NoMemory> {
-    let Ok(max_cseq) = line.text.parse::<u32>() else {
-        return Ok(false);
-    };
-    if max_cseq == 0 {
-        return Ok(false);
-    }
-    let usage = usage(alloc)?;
-    let mut want = want(alloc)?;
-    want.max_cseq = max_cseq;
-    Ok(follow(life, Sub::accept(usage, want, 0, 3600), line.wanted))
-}
-
-/// A subscription of no time.
-fn fetch(alloc: Global, wanted: &str) -> Result<bool, NoMemory> {
-    let usage = usage(alloc)?;
-    let (usage, notice) = Sub::fetch(usage, want(alloc)?);
-    Ok(is_over(&usage, notice, wanted))
-}
-
-/// The second of a change, and whether it is the end of what is watched.
-fn change_in(text: &str) -> Option<(u64, bool)> {
-    let (now, how) = text.split_once(' ')?;
-    Some((now.parse::<u64>().ok()?, how == "over"))
-}
-
-/// What it watches changes in a second, or is over.
-fn change(life: &mut Option<Sub>, line: Line<'_>) -> bool {
-    let Some((now, is_over)) = change_in(line.text) else {
-        return false;
-    };
-    let Some(sub) = life.take() else {
-        return false;
-    };
-    let due = sub.due();
-    if now >= due || due - now > 4294967295 {
-        return false;
-    }
-    follow(life, sub.changed(now, is_over), line.wanted)
-}
-
-/// What a refresh brings.
+/// What a refresh brings. The target `same` is none.
 #[derive(Clone, Copy)]
 struct Renewal<'a> {
     cseq: u32,
@@ -131,116 +48,213 @@ struct Renewal<'a> {
     granted: u32,
 }
 
-/// None where the text lacks one of them, or no time is granted.
+/// What a cause leaves, and the NOTIFY that tells of it, if one does.
+type Left = (Life, Result<Option<Notice>, NoMemory>);
+
+fn source(port: u16) -> Addr {
+    Addr {
+        ip: [127, 0, 0, 1],
+        port,
+    }
+}
+
+/// What each scene begins with. A text that no line looks at is empty.
+fn asked(alloc: Global) -> Result<Life, NoMemory> {
+    let call_id = Text::of(alloc, "c1")?;
+    let local_tag = Text::of(alloc, TAG)?;
+    let usage = Usage {
+        call_id,
+        local_tag,
+        remote_tag: Text::new(String::new(alloc)),
+        local: Text::new(String::new(alloc)),
+        remote: Text::new(String::new(alloc)),
+        target: Text::new(String::new(alloc)),
+        routes: Values::new(Vec::new(alloc)),
+        remote_cseq: 1,
+    };
+    // The event can be read, so what is not is want of memory.
+    let Ok(event) = read_event(alloc, b"message-summary") else {
+        return Err(NoMemory);
+    };
+    let want = Want {
+        event,
+        resource: Text::new(String::new(alloc)),
+        to: source(5070),
+        max_cseq: 1,
+    };
+    Ok(Life::Asked(usage, want))
+}
+
+/// None where the text lacks one of them.
 fn renewal_of(text: &str) -> Option<Renewal<'_>> {
     let mut words = text.split(' ');
-    let cseq = number_of(words.next())?;
-    let target = words.next()?;
-    let port = words.next()?.parse::<u16>().ok()?;
-    let now = words.next()?.parse::<u64>().ok()?;
-    let granted = number_of(words.next())?;
     Some(Renewal {
-        cseq,
-        target,
-        port,
-        now,
-        granted,
+        cseq: number_of(words.next()?)?,
+        target: words.next()?,
+        port: u16::try_from(number_of(words.next()?)?).ok()?,
+        now: u64::from(number_of(words.next()?)?),
+        granted: number_of(words.next()?)?,
     })
 }
 
-/// The time begins anew. The target `same` is none.
-fn refresh(alloc: Global, life: &mut Option<Sub>, line: Line<'_>) -> Result<bool, NoMemory> {
-    let Some(renewal) = renewal_of(line.text) else {
-        return Ok(false);
-    };
-    let Renewal {
-        cseq,
-        target,
-        port,
-        now,
-        granted,
-    } = renewal;
+/// The cause that a line tells.
+fn cause_of<'a>(line: &Line<'a>) -> Option<Cause<'a>> {
+    match (line.word, line.text) {
+        ("accept", text) => Some(Cause::Accept(number_of(text)?)),
+        ("fetch", _) => Some(Cause::Fetch),
+        ("change", text) => {
+            let (now, how) = text.split_once(' ')?;
+            Some(Cause::Change(u64::from(number_of(now)?), how == "over"))
+        }
+        ("refresh", text) => Some(Cause::Refresh(renewal_of(text)?)),
+        ("end", "timeout") => Some(Cause::End(Reason::Timeout)),
+        ("end", "noresource") => Some(Cause::End(Reason::Noresource)),
+        ("end", "deactivated") => Some(Cause::End(Reason::Deactivated)),
+        ("lost", _) => Some(Cause::Loss),
+        _ => None,
+    }
+}
+
+fn left_of(step: Step) -> (Life, Option<Notice>) {
+    match step {
+        Step::Live(sub, notice) => (Life::Live(sub), Some(notice)),
+        Step::Over(usage, notice) => (Life::Over(usage), Some(notice)),
+    }
+}
+
+/// A dialog becomes a subscription, or is told of once.
+fn begun(usage: Usage, want: Want, cause: Cause<'_>) -> (Life, Option<Notice>) {
+    match cause {
+        Cause::Accept(max_cseq) if max_cseq > 0 => {
+            let want = Want { max_cseq, ..want };
+            left_of(Sub::accept(usage, want, 0, 3600))
+        }
+        Cause::Fetch => {
+            let (usage, notice) = Sub::fetch(usage, want);
+            (Life::Over(usage), Some(notice))
+        }
+        _ => (Life::Asked(usage, want), None),
+    }
+}
+
+/// The time begins anew.
+fn renewed(alloc: Global, sub: Sub, renewal: Renewal<'_>) -> Left {
+    let Renewal { now, granted, .. } = renewal;
     if granted == 0 || now > 4294967295 {
-        return Ok(false);
+        return (Life::Live(sub), Ok(None));
     }
-    let target = match target {
-        "same" => None,
-        _ => Some(Text::of(alloc, target)?),
+    let target = match renewal.target {
+        "same" => Ok(None),
+        target => Text::of(alloc, target).map(Some),
     };
-    let Some(sub) = life.take() else {
-        return Ok(false);
-    };
-    let step = sub.refresh(cseq, target, source(port), now, granted);
-    Ok(follow(life, step, line.wanted))
-}
-
-/// It ends for this reason.
-fn end(life: &mut Option<Sub>, line: Line<'_>) -> bool {
-    let reason = match line.text {
-        "timeout" => Reason::Timeout,
-        "noresource" => Reason::Noresource,
-        _ => Reason::Deactivated,
-    };
-    let Some(sub) = life.take() else {
-        return false;
-    };
-    let (usage, notice) = sub.end(reason);
-    is_over(&usage, notice, line.wanted)
-}
-
-/// Whether a response refuses it or not, as is wanted. Where not, it goes on.
-fn refuses(life: &mut Option<Sub>, response: &Response, wanted: &str) -> bool {
-    let Some(sub) = life.take() else {
-        return false;
-    };
-    *life = sub.refused_by(response).err();
-    wanted == if life.is_some() { "stays" } else { "refused" }
-}
-
-/// Whether a response answers one of its NOTIFYs or not, as is wanted.
-fn answers(life: &Option<Sub>, response: &Response, wanted: &str) -> bool {
-    match life {
-        Some(sub) => wanted
-            == if sub.is_answered_by(response) {
-                "yes"
-            } else {
-                "no"
-            },
-        None => false,
+    match target {
+        Ok(target) => {
+            let (life, notice) = left_of(sub.refresh(
+                renewal.cseq,
+                target,
+                source(renewal.port),
+                now,
+                granted,
+            ));
+            (life, Ok(notice))
+        }
+        Err(short) => (Life::Live(sub), Err(short)),
     }
 }
 
-/// A response to the NOTIFY with a number comes: the text has its status and the number.
-fn respond(alloc: Global, life: &mut Option<Sub>, line: Line<'_>) -> Result<bool, NoMemory> {
-    let (status, number) = line.text.split_once(' ').unwrap_or(("", ""));
+/// What it watches changes.
+fn changed(sub: Sub, now: u64, is_over: bool) -> (Life, Option<Notice>) {
+    let due = sub.due();
+    if now >= due || due - now > 4294967295 {
+        return (Life::Live(sub), None);
+    }
+    left_of(sub.changed(now, is_over))
+}
+
+/// What befalls a subscription that lives.
+fn befallen(alloc: Global, sub: Sub, cause: Cause<'_>) -> Left {
+    let (life, notice) = match cause {
+        Cause::Refresh(renewal) => return renewed(alloc, sub, renewal),
+        Cause::Change(now, is_over) => changed(sub, now, is_over),
+        Cause::End(reason) => {
+            let (usage, notice) = sub.end(reason);
+            (Life::Over(usage), Some(notice))
+        }
+        Cause::Answer(response) => match sub.refused_by(response) {
+            Ok(usage) => (Life::Over(usage), None),
+            Err(sub) => (Life::Live(sub), None),
+        },
+        Cause::Loss => (Life::Over(sub.lost()), None),
+        Cause::Accept(_) | Cause::Fetch => (Life::Live(sub), None),
+    };
+    (life, Ok(notice))
+}
+
+/// Whether a NOTIFY is the one that is wanted: its word, its number, and the seconds left or the reason.
+fn is_notice(alloc: Global, notice: Notice, wanted: &str) -> Result<bool, NoMemory> {
+    let Notice { number, phase } = notice;
+    let word = phase.word();
+    let told = match (phase.expires(), phase.reason(), phase.is_terminated()) {
+        (Some(left), None, false) => format!(in alloc; "{word} {number} {left}")?,
+        (None, Some(reason), true) => format!(in alloc; "{word} {number} {reason}")?,
+        _ => return Ok(false),
+    };
+    Ok(told.as_str() == wanted)
+}
+
+/// Whether this is left of the dialog, and told so. Where no NOTIFY tells of it, it stays or is gone.
+fn is_left(
+    alloc: Global,
+    life: &Life,
+    notice: Option<Notice>,
+    wanted: &str,
+) -> Result<bool, NoMemory> {
+    let (usage, word) = match life {
+        Life::Asked(usage, _) => (usage, "asked for"),
+        Life::Live(sub) => (sub.usage(), "stays"),
+        Life::Over(usage) => (usage, "gone"),
+    };
+    let is_told = match notice {
+        Some(notice) => is_notice(alloc, notice, wanted)?,
+        None => word == wanted,
+    };
+    Ok(usage.call_id.is("c1") && is_told)
+}
+
+/// What a cause leaves, and whether that is what is wanted.
+fn befall(
+    alloc: Global,
+    life: Life,
+    cause: Cause<'_>,
+    wanted: &str,
+) -> (Life, Result<bool, NoMemory>) {
+    let (life, notice) = match life {
+        Life::Asked(usage, want) => {
+            let (life, notice) = begun(usage, want, cause);
+            (life, Ok(notice))
+        }
+        Life::Live(sub) => befallen(alloc, sub, cause),
+        Life::Over(usage) => (Life::Over(usage), Ok(None)),
+    };
+    let is_so = match notice {
+        Ok(notice) => is_left(alloc, &life, notice, wanted),
+        Err(short) => Err(short),
+    };
+    (life, is_so)
+}
+
+/// The response to a NOTIFY by its status and the NOTIFY's number. It can be read: None is want of memory.
+fn message(alloc: Global, text: &str) -> Option<Message> {
+    let (status, number) = text.split_once(' ')?;
     let datagram = format!(in alloc;
         "SIP/2.0 {status} \r\nVia: SIP/2.0/UDP 127.0.0.1:5060\r\nFrom: <sip:alice@127.0.0.1>;tag={TAG}\r\nTo: <sip:alice@127.0.0.1>;tag=f1\r\nCall-ID: c1\r\nCSeq: {number} NOTIFY\r\n\r\n"
-    )?;
-    let read = read(alloc, datagram.as_bytes());
-    let is_so = match &read {
-        Ok(Message::Response(response)) if line.word == "answer" => {
-            Ok(refuses(life, response, line.wanted))
-        }
-        Ok(Message::Response(response)) => Ok(answers(life, response, line.wanted)),
-        Ok(Message::Request(_)) => Ok(false),
-        // Each response here is one that can be read.
-        Err(_) => Err(NoMemory),
-    };
-    drop(read);
-    is_so
-}
-
-/// A NOTIFY stays unanswered.
-fn lose(life: &mut Option<Sub>, wanted: &str) -> bool {
-    let Some(sub) = life.take() else {
-        return false;
-    };
-    sub.lost().call_id.is(wanted)
+    ).ok()?;
+    read(alloc, datagram.as_bytes()).ok()
 }
 
 /// Whether it has what is wanted.
-fn has(life: &Option<Sub>, line: Line<'_>) -> bool {
-    let Some(sub) = life else {
+fn has(life: &Life, line: &Line<'_>) -> bool {
+    let Life::Live(sub) = life else {
         return false;
     };
     let wanted = line.wanted;
@@ -256,76 +270,62 @@ fn has(life: &Option<Sub>, line: Line<'_>) -> bool {
     }
 }
 
-/// Whether a line goes as it should.
-fn goes(alloc: Global, life: &mut Option<Sub>, line: Line<'_>) -> Result<bool, NoMemory> {
-    match line.word {
-        "accept" => accept(alloc, life, line),
-        "fetch" => fetch(alloc, line.wanted),
-        "change" => Ok(change(life, line)),
-        "refresh" => refresh(alloc, life, line),
-        "end" => Ok(end(life, line)),
-        "answer" | "answers" => respond(alloc, life, line),
-        "lost" => Ok(lose(life, line.wanted)),
-        _ => Ok(has(life, line)),
+/// Whether a response answers one of its NOTIFYs or not, as is wanted.
+fn answers(life: &Life, response: &Response, wanted: &str) -> bool {
+    let Life::Live(sub) = life else {
+        return false;
+    };
+    is_answer(sub.is_answered_by(response), wanted)
+}
+
+/// What a response to the NOTIFY with a number leaves: the text has its status and the number.
+fn respond(alloc: Global, life: Life, line: &Line<'_>) -> (Life, Result<bool, NoMemory>) {
+    let read = message(alloc, line.text);
+    let left = match &read {
+        Some(Message::Response(response)) if line.word == "answer" => {
+            befall(alloc, life, Cause::Answer(response), line.wanted)
+        }
+        Some(Message::Response(response)) => {
+            let is_so = answers(&life, response, line.wanted);
+            (life, Ok(is_so))
+        }
+        _ => (life, Err(NoMemory)),
+    };
+    drop(read);
+    left
+}
+
+/// What a line leaves, and whether it goes as it should.
+fn goes(alloc: Global, life: Life, text: &str) -> (Life, Result<bool, NoMemory>) {
+    let Some(line) = line_of(text) else {
+        return (life, Ok(false));
+    };
+    if line.word == "answer" || line.word == "answers" {
+        return respond(alloc, life, &line);
+    }
+    match cause_of(&line) {
+        Some(cause) => befall(alloc, life, cause, line.wanted),
+        None => {
+            let is_so = has(&life, &line);
+            (life, Ok(is_so))
+        }
     }
 }
 
-/// Whether a line of the table goes as it should.
-fn line_goes(alloc: Global, life: &mut Option<Sub>, text: &str) -> Result<bool, NoMemory> {
-    match line_of(text) {
-        Some(line) => goes(alloc, life, line),
-        None => Ok(false),
-    }
-}
-
-/// Plays the lines of a scene.
-fn play_lines(
-    rt: &impl Print,
-    alloc: Global,
-    life: &mut Option<Sub>,
-    lines: &str,
-) -> io::Result<()> {
+/// Plays a scene.
+pub(crate) fn tell_scene(rt: &(impl Print + AllocGlobal), scene: &str) -> io::Result<()> {
+    let (title, lines) = scene.split_once('\n').unwrap_or((scene, ""));
+    println!(rt; "- {title}")?;
+    let mut life = asked(rt.alloc()).map_err(error_of)?;
+    let mut told = Ok(());
     for text in lines.lines() {
-        let is_so = line_goes(alloc, life, text);
-        tell(rt, text, is_so)?;
+        let (left, is_so) = goes(rt.alloc(), life, text);
+        life = left;
+        told = tell(rt, text, is_so);
+        if told.is_err() {
+            break;
+        }
     }
-    Ok(())
-}
-
-/// Plays a scene. What is left of its subscription is let go in one place.
-fn play(rt: &impl Print, alloc: Global, lines: &str) -> io::Result<()> {
-    let mut life = None;
-    let told = play_lines(rt, alloc, &mut life, lines);
     drop(life);
     told
-}
-
-/// Tells the words of each state.
-fn tell_phases(rt: &impl Print) -> io::Result<()> {
-    for phase in [
-        Phase::Active(3600),
-        Phase::Terminated(Reason::Timeout),
-        Phase::Terminated(Reason::Noresource),
-        Phase::Terminated(Reason::Deactivated),
-    ] {
-        println!(rt;
-            "{}, {} seconds, {}, over {}",
-            phase.word(),
-            phase.expires().unwrap_or(0),
-            phase.reason().unwrap_or("no reason"),
-            phase.is_terminated()
-        )?;
-    }
-    Ok(())
-}
-
-/// Plays each scene of the table. A blank line stands between two scenes.
-pub(crate) fn tell_all(rt: &(impl Files + Print + AllocGlobal)) -> io::Result<()> {
-    let table = fs::read_to_string(rt, "subscriptions")?;
-    for scene in table.split("\n\n") {
-        let (title, lines) = scene.split_once('\n').unwrap_or((scene, ""));
-        println!(rt; "- {title}")?;
-        play(rt, rt.alloc(), lines)?;
-    }
-    tell_phases(rt)
 }
