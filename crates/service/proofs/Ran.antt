@@ -8,6 +8,7 @@ use Rattle.outbox.specs.Seats.{TakerSeat}
 use Rattle.crew.specs.Ports.{PortSeats}
 use Rattle.crew.specs.Started.{Hired, IsStarted}
 use Rattle.crew.specs.Joined.{IsJoined}
+use Rattle.crew.specs.declared.report.WorkerReport.{WorkerReport}
 use Rattle.emitting.specs.declared.sending.EmitReport.{EmitReport}
 use Rattle.emitting.specs.Emitted.{Fates, WireSeen, WriterSeen, IsEmitted}
 use Rattle.network.specs.declared.feeding.FeedEnd.{FeedEnd}
@@ -32,10 +33,25 @@ pub on_err : {T E P Q : Type 0} (r : Result T E) → OnErr r P → (P → Q) →
 on_err (Ok x) p f = p
 on_err (Err e) p f = f p
 
-pub leaves : {workers : ℕ} {got got' : List (Item Out)} {wire wire' : WireSeen} {writer writer' : WriterSeen} (fates : Fates) (report : EmitReport)
-    → got ≡ [] → IsEmitted workers fates got got' wire wire' writer writer' report → Leaves wire wire' writer writer'
-leaves {workers = workers} {got' = got'} {wire = wire} {wire' = wire'} {writer = writer} {writer' = writer'} fates report none is =
-    let P : List (Item Out) → Type 0 = λ l. IsEmitted workers fates l got' wire wire' writer writer' report in (workers, fates, got', report, subst P none is)
+pub leaves : {start : ℕ → Start} {workers : ℕ} {crew : List Hired} {ports : List PortSeats} {taker : TakerSeat} (is : IsStarted start workers 3 crew ports taker)
+    {wire wire' : WireSeen} {writer writer' : WriterSeen} (none : List PortSeats) (got : List (Item Out)) (reports : List WorkerReport) (fates : Fates) (report : EmitReport)
+    → none ≡ [] → IsJoined crew none got reports → IsEmitted taker.workers fates taker.got got wire wire' writer writer' report
+    → Leaves start workers wire wire' writer writer'
+leaves {crew = crew} {ports = ports} {taker = taker} is {wire = wire} {wire' = wire'} {writer = writer} {writer' = writer'} none got reports fates report empty joined emitted =
+    let P : List PortSeats → Type 0 = λ l. IsJoined crew l got reports in
+    let Q : List (Item Out) → Type 0 = λ l. IsEmitted taker.workers fates l got wire wire' writer writer' report in
+    let N : ℕ → Type 0 = λ n. IsEmitted n fates [] got wire wire' writer writer' report in record {
+      crew = crew;
+      ports = ports;
+      taker = taker;
+      started = is;
+      got = got;
+      reports = reports;
+      joined = subst P empty joined;
+      fates = fates;
+      emitted_as = report;
+      emitted = subst N (taker_workers is) (subst Q (taker_new is) emitted);
+    }
 
 -- what each thread sent, once its errand is known
 module _ {mailboxes : List (List ℕ)} {f : Feeders} (are : AreErrands mailboxes f) (end : FeedEnd) (old new : PortSeats) where
@@ -88,3 +104,6 @@ module _ {start : ℕ → Start} {n m : ℕ} (same : m ≡ n) where
       → Runs start m mailboxes wire wire' writer writer' o → Runs start n mailboxes wire wire' writer writer' o
   runs_with {mailboxes = mailboxes} {wire = wire} {wire' = wire'} {writer = writer} {writer' = writer'} {o = o} runs =
       let P : ℕ → Type 0 = λ k. Runs start k mailboxes wire wire' writer writer' o in subst P same runs
+
+  pub leaves_with : {wire wire' : WireSeen} {writer writer' : WriterSeen} → Leaves start m wire wire' writer writer' → Leaves start n wire wire' writer writer'
+  leaves_with {wire = wire} {wire' = wire'} {writer = writer} {writer' = writer'} left = let P : ℕ → Type 0 = λ k. Leaves start k wire wire' writer writer' in subst P same left

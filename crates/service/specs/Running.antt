@@ -12,6 +12,7 @@ use Rattle.crew.specs.Ports.{PortSeats, IsShut}
 use Rattle.crew.specs.Kept.{SameSeats}
 use Rattle.crew.specs.Started.{Hired, IsStarted}
 use Rattle.crew.specs.Joined.{IsJoined}
+use Rattle.crew.specs.declared.report.WorkerReport.{WorkerReport}
 use Rattle.emitting.specs.declared.sending.EmitReport.{EmitReport}
 use Rattle.emitting.specs.Emitted.{Fates, WireSeen, WriterSeen, IsEmitted}
 use Rattle.network.specs.declared.feeding.FeedEnd.{FeedEnd}
@@ -89,8 +90,18 @@ pub record Runs (start : ℕ → Start) (workers : ℕ) (mailboxes : List (List 
 
 -- ---- a service that doesn't run
 
--- what left by a wire and a writer were outs that were got: each was sent, written or failed, in order
-abbrev pub Leaves : WireSeen → WireSeen → WriterSeen → WriterSeen → Type 0
-Leaves wire wire' writer writer' =
-    (workers : ℕ) × (fates : Fates) × (got : List (Item Out)) × (report : EmitReport)
-    × IsEmitted workers fates [] got wire wire' writer writer' report
+-- what left by a wire and a writer were outs of workers with these starts: of each all that the one-thread notifier makes of the
+-- events that it handled, and no others. Each was sent, written or failed, in order
+pub record Leaves (start : ℕ → Start) (workers : ℕ) (wire wire' : WireSeen) (writer writer' : WriterSeen) : Type 0 where
+  pub crew : List Hired
+  pub ports : List PortSeats
+  pub taker : TakerSeat
+  pub started : IsStarted start workers 3 crew ports taker
+  -- what the workers did, and which of their outs were got
+  pub got : List (Item Out)
+  pub reports : List WorkerReport
+  pub joined : IsJoined crew [] got reports
+  -- what became of these
+  pub fates : Fates
+  pub emitted_as : EmitReport
+  pub emitted : IsEmitted workers fates [] got wire wire' writer writer' emitted_as

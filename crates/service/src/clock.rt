@@ -10,21 +10,13 @@ use notifier::Event;
 use std::rt::Clock;
 use std::sync::Wait;
 use std::thread;
-use std::time::{Duration, Instant};
+use std::time::Duration;
 
 /// How long the clock sleeps at most before it looks whether the service closes, in milliseconds.
 const NAP: u64 = 50;
 
 /// How many seconds pass between two looks at what couldn't be read.
 const MINUTE: u64 = 60;
-
-/// The seconds since then.
-fn seconds_since<R: Clock>(rt: &R, began: Instant) -> Option<u64> {
-    match began.elapsed(rt) {
-        Ok(passed) => Some(passed.as_secs()),
-        Err(_) => None,
-    }
-}
 
 /// What couldn't be read, as it was told once a minute.
 #[derive(Clone, Copy)]
@@ -70,7 +62,7 @@ pub fn tell_time<R: Wait + Clock + Eprint>(rt: &R, port: &mut Port, shared: &Sha
         if shared.is_closing() {
             return FeedEnd::Done;
         }
-        let Some(now) = seconds_since(rt, shared.began()) else {
+        let Some(now) = shared.seconds(rt) else {
             return FeedEnd::Fault;
         };
         complaint.look(rt, shared, now);

@@ -115,10 +115,8 @@ fn report(alloc: Global, lines: &str) -> Result<String, NoMemory>
 fn counters<R: Clock>(rt: &R, alloc: Global, shared: &Shared) -> Option<String>
     ensures { IfSome result (λ text. IsReport (string_bytes text)) }
 {
-    let Ok(passed) = shared.began().elapsed(rt) else {
-        return None;
-    };
-    let Ok(lines) = shared.lines(alloc, passed.as_secs()) else {
+    let seconds = shared.seconds(rt)?;
+    let Ok(lines) = shared.lines(alloc, seconds) else {
         return None;
     };
     report(alloc, lines.as_str()).ok()

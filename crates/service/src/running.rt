@@ -186,7 +186,7 @@ fn wind_up<R: Threads + Wait + Clock, W: Wire, F: Write>(
     exit: &mut Exit<W, F>,
 )
     requires { (start : ℕ → Start) × (ports : List PortSeats) × IsNew start ports running }
-    ensures { Leaves
+    ensures { (start : ℕ → Start) (ports : List PortSeats) → IsNew start ports running → Leaves start running.workers
         (record { taken = W.taken exit.old.wire; failures = W.failures exit.old.wire })
         (record { taken = W.taken exit.new.wire; failures = W.failures exit.new.wire })
         (record { contents = F.contents exit.old.sink.writer; failures = exit.old.sink.failures })
@@ -275,7 +275,7 @@ where
         (record { contents = F.contents exit.old.sink.writer; failures = exit.old.sink.failures })
         (record { contents = F.contents exit.new.sink.writer; failures = exit.new.sink.failures }) o) }
     ensures refused { IfErr result (λ e. e ≡ error.NoThread) }
-    ensures left { OnErr result (Leaves
+    ensures left { OnErr result ((start : ℕ → Start) → IsNew start ports.items running → Leaves start running.workers
         (record { taken = W.taken exit.old.wire; failures = W.failures exit.old.wire })
         (record { taken = W.taken exit.new.wire; failures = W.failures exit.new.wire })
         (record { contents = F.contents exit.old.sink.writer; failures = exit.old.sink.failures })
@@ -332,13 +332,14 @@ where
         (record { taken = W.taken exit.new.wire; failures = W.failures exit.new.wire })
         (record { contents = F.contents exit.old.sink.writer; failures = exit.old.sink.failures })
         (record { contents = F.contents exit.new.sink.writer; failures = exit.new.sink.failures }) o) }
-    // Without memory nothing is started, and nothing leaves. Where a thread is refused only outs of workers that were started do.
+    // Without memory nothing is started, and nothing leaves. Where a thread is refused only outs of workers with these starts do.
     ensures no_memory { result ≡ Err error.NoMemory → exit.new ≡ exit.old }
-    ensures no_thread { OnErr result ((exit.new ≡ exit.old) ⊎ Leaves
+    ensures no_thread { OnErr result ((exit.new ≡ exit.old) ⊎ ((b : _)
+        → Leaves (λ w. start_of P.seen work.setup w (get_or boxes.items w b).items) (vec_len boxes)
         (record { taken = W.taken exit.old.wire; failures = W.failures exit.old.wire })
         (record { taken = W.taken exit.new.wire; failures = W.failures exit.new.wire })
         (record { contents = F.contents exit.old.sink.writer; failures = exit.old.sink.failures })
-        (record { contents = F.contents exit.new.sink.writer; failures = exit.new.sink.failures })) }
+        (record { contents = F.contents exit.new.sink.writer; failures = exit.new.sink.failures }))) }
 {
     let workers = boxes.len() as u32;
     let (crew, ports, taker) = start_crew(rt, alloc, &work.setup, boxes)?;

@@ -3,6 +3,7 @@
 use sip_read::ReadError;
 use sip_text::NoMemory;
 use std::alloc::Global;
+use std::rt::Clock;
 use std::sync::atomic::{AtomicBool, AtomicU64, Ordering};
 use std::time::Instant;
 
@@ -88,9 +89,12 @@ impl Shared {
         }
     }
 
-    /// When the service began.
-    pub fn began(&self) -> Instant {
-        self.began
+    /// How many seconds the service is up. None where the clock can't be read.
+    pub fn seconds<R: Clock>(&self, rt: &R) -> Option<u64> {
+        match self.began.elapsed(rt) {
+            Ok(passed) => Some(passed.as_secs()),
+            Err(_) => None,
+        }
     }
 
     /// Whether no more is taken.

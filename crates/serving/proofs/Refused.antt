@@ -1,13 +1,19 @@
 -- Why a service is refused.
 use Rattle.std.proofs.Common.{◌≡◌, ◌<◌, ◌≤◌, ◌⊎◌, inl, inr, ⊎_elim, Bool, true, [], ◌∷◌, length, get_or, sym, ap, ◌∙◌, subst, arith}
 use Rattle.std.proofs.lemmas.Slice.Eq.{bytes_eq-Decides}
-use Rattle.std.specs.Prelude.{IfErr, IfOk, Result, Ok, Err, Some, ℕ, List, slice_get, bytes_eq}
+use Rattle.std.specs.Prelude.{IfErr, OnOk, Result, Ok, Err, Option, Some, ℕ, List, false, slice_get, bytes_eq}
 use Rattle.options.specs.declared.flag.Place.{Place}
 use Rattle.options.specs.declared.setting.Setting.{Setting}
 use Rattle.options.specs.declared.setting.Setting.TheVariants as setting
 use Rattle.options.specs.Settings.{AreSettings}
 use Rattle.serving.specs.declared.error.ServeError.{ServeError}
 use Rattle.serving.specs.declared.error.ServeError.TheVariants as error
+use Rattle.scripts.specs.declared.device.Sink.{Sink}
+use Rattle.service.specs.declared.running.Outcome.{Outcome}
+use Rattle.service.specs.Running.{is_faulty}
+use Rattle.udp_program.specs.Ends.{all_closed, Tells}
+use Rattle.udp_program.specs.Serving.{writer_seen}
+use Rattle.serving.specs.Serving.{Serves, EndsWell}
 use Rattle.serving.specs.Refused.{IsOther, IsOfFile, IsOfSetting, IsOfOne, NameFile, IsListened, IsRefusal, AskForText, IsStatus, status_of}
 
 pub other_is : (words : List (List ℕ)) (e : ServeError) → IsOther e → IsRefusal words e
@@ -67,9 +73,28 @@ of_setting_is words settings k (setting.Mailbox name) e are at is = no_memory_is
 pub of_one_is : (words : List (List ℕ)) (settings : List Setting) (e : ServeError) → AreSettings words settings → IsOfOne settings e → IsRefusal words e
 of_one_is words settings e are is = of_setting_is words settings is.0 is.1 e are is.2 is.3
 
-pub ok_of : {T E P : Type 0} (r : Result T E) → P → IfOk r (λ _. P)
-ok_of (Ok x) p = p
-ok_of (Err e) p = tt
+-- a service that ran and was closed off so ended well
+pub ended_well : {W T E : Type 0} (contents : W → Option (List ℕ)) (words : List (List ℕ)) (r : Result T E) (before between after : Sink W) (o : Outcome)
+    → Serves contents words before between o → OnOk r (is_faulty o ≡ false) → OnOk r (all_closed o.report.workers.items ≡ true)
+    → OnOk r (Tells contents o.report.workers.items between after) → OnOk r (EndsWell words)
+ended_well contents words (Ok x) before between after o served no_fault closed told = record {
+  plan = served.plan;
+  is_plan = served.is_plan;
+  local = served.local;
+  is_at = served.is_at;
+  outcome = o;
+  wire = served.ran.wire;
+  wire' = served.ran.wire';
+  writer = writer_seen contents before;
+  writer' = writer_seen contents between;
+  runs = served.ran.runs;
+  no_fault = no_fault;
+  closed = closed;
+  last = writer_seen contents after;
+  told = told.written;
+  no_failure = told.no_failure;
+}
+ended_well contents words (Err e) before between after o served no_fault closed told = told
 
 -- a text that was printed, or could not be
 pub printed : (words : List (List ℕ)) (status : ℕ) → AskForText words → (status ≡ 0) ⊎ (status ≡ status_of error.Device) → IsStatus words status

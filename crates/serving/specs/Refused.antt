@@ -1,7 +1,7 @@
 -- Why no service runs, and the exit status of the program then.
 --
 --   status   cause
---   0        none: it came to its end
+--   0        none: it came to its end, and all went well
 --   1        the words ask for no service
 --   3        an address, a file, a thread or a socket can't be had, or one failed
 --   4        memory was wanting
@@ -21,8 +21,8 @@ use Rattle.service.specs.declared.error.RunError.{RunError}
 use Rattle.service.specs.declared.error.RunError.TheVariants as run
 use Rattle.serving.specs.declared.error.ServeError.{ServeError}
 use Rattle.serving.specs.declared.error.ServeError.TheVariants as error
-use Rattle.serving.specs.declared.plan.Plan.{Plan}
-use Rattle.serving.specs.Plans.{limits_of, IsReached, AreRead, IsPlan}
+use Rattle.serving.specs.Plans.{limits_of, IsReached, AreRead}
+use Rattle.serving.specs.Serving.{EndsWell}
 
 -- an address in another form may be a host that can't be found
 abbrev pub status_of_words : OptionsError → ℕ
@@ -137,11 +137,7 @@ IsRefusal words error.NoMemory = Unit {0}
 abbrev pub AskForText : List (List ℕ) → Type 0
 AskForText words = (words ≡ codes "--help" ∷ []) ⊎ (words ≡ codes "--version" ∷ [])
 
--- the words ask for a service
-abbrev pub AskForService : List (List ℕ) → Type 0
-AskForService words = (plan : Plan) × IsPlan words plan
-
--- 0 only where the words ask for a text, or for a service; any other is that of a cause
+-- 0 only where the words ask for a text, or for a service that ended well; any other is that of a cause
 abbrev pub IsStatus : List (List ℕ) → ℕ → Type 0
 IsStatus words status =
-    ((status ≡ 0) × (AskForText words ⊎ AskForService words)) ⊎ ((e : ServeError) × IsRefusal words e × (status ≡ status_of e))
+    ((status ≡ 0) × (AskForText words ⊎ EndsWell words)) ⊎ ((e : ServeError) × IsRefusal words e × (status ≡ status_of e))

@@ -1,15 +1,18 @@
 -- A service that an operator runs, from its words to its end.
-use Rattle.std.specs.Prelude.{◌≡◌, ◌≢◌, ℕ, false, List, Option}
+use Rattle.std.specs.Prelude.{◌≡◌, ◌≢◌, ℕ, true, false, List, Option}
+use Rattle.std.specs.Io.KnownBytes.{Appends}
 use Rattle.sip_text.specs.declared.address.Addr.{Addr}
 use Rattle.scripts.specs.declared.device.Sink.{Sink}
 use Rattle.notifier.specs.Start.{Start, place_of}
 use Rattle.server.specs.Call.{boxes_with, names_for}
-use Rattle.emitting.specs.Emitted.{WireSeen}
+use Rattle.emitting.specs.Emitted.{WireSeen, WriterSeen}
+use Rattle.udp_program.specs.Ends.{all_closed}
+use Rattle.udp_program.specs.Lines.{worker_lines}
 use Rattle.udp_program.specs.Serving.{writer_seen}
 use Rattle.service.specs.declared.outs.Bell.{Bell}
 use Rattle.service.specs.declared.running.Outcome.{Outcome}
 use Rattle.service.specs.declared.running.Work.{Work}
-use Rattle.service.specs.Running.{Runs}
+use Rattle.service.specs.Running.{Runs, is_faulty}
 use Rattle.options.specs.declared.choices.Choices.{Choices}
 use Rattle.wires.specs.declared.udp.UdpWire.{UdpWire}
 use Rattle.serving.specs.declared.plan.Plan.{Plan}
@@ -65,3 +68,22 @@ module _ {W : Type 0} (contents : W → Option (List ℕ)) where
     pub local : Addr
     pub is_at : IsAt plan.choices.listen local
     pub ran : Ran (start_at plan local) plan.workers plan.mailboxes.items before after outcome
+
+-- the words ask for a service, which ran to its end, and all went well: no thread tells of a fault, each worker came to the end of
+-- what was sent to it, and the lines of the workers were written
+pub record EndsWell (words : List (List ℕ)) : Type 0 where
+  pub plan : Plan
+  pub is_plan : IsPlan words plan
+  pub local : Addr
+  pub is_at : IsAt plan.choices.listen local
+  pub outcome : Outcome
+  pub wire : WireSeen
+  pub wire' : WireSeen
+  pub writer : WriterSeen
+  pub writer' : WriterSeen
+  pub runs : Runs (start_at plan local) plan.workers plan.mailboxes.items wire wire' writer writer' outcome
+  pub no_fault : is_faulty outcome ≡ false
+  pub closed : all_closed outcome.report.workers.items ≡ true
+  pub last : WriterSeen
+  pub told : Appends writer'.contents last.contents (worker_lines outcome.report.workers.items)
+  pub no_failure : last.failures ≡ writer'.failures

@@ -1,7 +1,10 @@
 //! `notifyd tell`.
-ghost use Rattle.std.specs.Prelude.{◌≡◌, ◌⊎◌};
+ghost use Rattle.std.specs.Prelude.{◌≡◌, ◌⊎◌, IfOk};
 ghost use Rattle.options.specs.declared.tell.TellCall.{TellCall};
+ghost use Rattle.options.specs.Choices.{loopback};
 ghost use Rattle.options.specs.Tell.{IsTellCall};
+ghost use Rattle.serving.specs.Plans.{reached};
+ghost use Rattle.serving.specs.Telling.{TellsLine};
 
 use options::{TellCall, TellError, parse_tell};
 use sip_text::{Addr, Text};
@@ -9,7 +12,7 @@ use std::io;
 use std::io::Write;
 use std::net::Net;
 use std::sync::Wait;
-use telling::{Outcome, UdpSpeaker, tell_line};
+use telling::{Outcome, Speaker, SpeakerFault, UdpSpeaker, tell_line};
 
 /// Where a service is told, unless it is said: 127.0.0.1:5061.
 const CONTROL: Addr = Addr {
@@ -33,17 +36,23 @@ fn answer_in(room: &[u8], length: usize) -> &[u8] {
     &room[..length.min(room.len())]
 }
 
-/// Sends the line, and prints the answer.
-fn ask<R: Wait + Net + Print + Eprint>(rt: &R, call: &TellCall) -> u8
-    ensures status { (result ≡ 0) ⊎ (result ≡ 1) ⊎ (result ≡ 3) }
+/// A speaker for the service that a call names, or for the one at 127.0.0.1:5061.
+fn speaker_for<R: Wait + Net>(rt: &R, call: &TellCall) -> Result<UdpSpeaker, SpeakerFault>
+    ensures service { IfOk result (λ s. s.service ≡ reached call.now.control (loopback 5061)) }
 {
-    let service = call.control.unwrap_or(CONTROL);
-    let Ok(mut speaker) = UdpSpeaker::to(rt, service) else {
-        let _ = eprintln!(rt; "notifyd: device fault");
-        return 3;
-    };
+    UdpSpeaker::to(rt, call.control.unwrap_or(CONTROL))
+}
+
+/// Asks the line of a call by this speaker, and prints what came of it. Answers the exit status: 3 also where that couldn't be
+/// printed.
+pub fn ask_by<R: Wait + Print + Eprint, S: Speaker>(rt: &R, speaker: &mut S, call: &TellCall) -> u8
+    // This line is asked and no other, and the status is that of what came of it.
+    ensures asked { TellsLine call.now.line
+        (record { asked = S.asked speaker.old; turns = S.turns speaker.old })
+        (record { asked = S.asked speaker.new; turns = S.turns speaker.new }) result }
+{
     let mut room = [0; ROOM];
-    let outcome = tell_line(rt, &mut speaker, call.line.as_str().as_bytes(), &mut room);
+    let outcome = tell_line(rt, speaker, call.line.as_str().as_bytes(), &mut room);
     let written = match outcome {
         Outcome::Done(length) | Outcome::Refused(length) => show(rt, answer_in(&room, length)),
         Outcome::Silent => eprintln!(rt; "notifyd: nobody answered"),
@@ -53,6 +62,17 @@ fn ask<R: Wait + Net + Print + Eprint>(rt: &R, call: &TellCall) -> u8
         Ok(()) => outcome.status(),
         Err(_) => 3,
     }
+}
+
+/// Sends the line, and prints the answer.
+fn ask<R: Wait + Net + Print + Eprint>(rt: &R, call: &TellCall) -> u8
+    ensures status { (result ≡ 0) ⊎ (result ≡ 1) ⊎ (result ≡ 3) }
+{
+    let Ok(mut speaker) = speaker_for(rt, call) else {
+        let _ = eprintln!(rt; "notifyd: device fault");
+        return 3;
+    };
+    ask_by(rt, &mut speaker, call)
 }
 
 /// `notifyd tell` with these words behind it. Answers the exit status: 0 where the answer is `ok`, 1 where it is another one or

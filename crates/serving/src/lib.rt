@@ -17,7 +17,7 @@ pub mod plan;
 pub mod program;
 mod sockets;
 
-pub use asking::tell;
+pub use asking::{ask_by, tell};
 pub use error::ServeError;
 pub use plan::Plan;
 pub use program::{Served, serve, serve_words};

@@ -35,10 +35,7 @@ pub(crate) fn say_goodbye<R: Eprint + Clock + AllocGlobal>(
     rt: &R,
     shared: &Shared,
 ) -> Result<(), NoMemory> {
-    let seconds = match shared.began().elapsed(rt) {
-        Ok(passed) => passed.as_secs(),
-        Err(_) => 0,
-    };
+    let seconds = shared.seconds(rt).unwrap_or(0);
     let lines = shared.lines(rt.alloc(), seconds)?;
     let line = lines.trim_end().replace(rt.alloc(), "\n", ", ")?;
     let _ = eprintln!(rt; "notifyd: ended: {line}");

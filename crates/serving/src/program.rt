@@ -1,18 +1,20 @@
 //! `notifyd serve`.
-ghost use Rattle.std.specs.Prelude.{◌≡◌, ◌<◌, ◌≤◌, ◌⊎◌, get_or, map, vec_len, IfOk, IfErr};
+ghost use Rattle.std.specs.Prelude.{◌≡◌, ◌<◌, ◌≤◌, ◌⊎◌, true, false, get_or, map, vec_len, IfOk, IfErr, OnOk};
 ghost use Rattle.crew.specs.Ready.{start_of};
 ghost use Rattle.server.specs.Boxes.{box_seen};
 ghost use Rattle.server.specs.Call as call;
-ghost use Rattle.serving.specs.Refused.{AskForService, AskForText, IsOther, IsRefusal, IsStatus, status_of};
+ghost use Rattle.service.specs.Running.{is_faulty};
+ghost use Rattle.udp_program.specs.Ends as ends;
+ghost use Rattle.udp_program.specs.Ends.{Tells};
+ghost use Rattle.serving.specs.Refused.{AskForText, IsOther, IsRefusal, IsStatus, status_of};
 ghost use Rattle.serving.specs.declared.error.ServeError.TheVariants as error;
-ghost use Rattle.serving.specs.Serving.{AreOpen, IsWork, Ran, Serves, new_sink};
+ghost use Rattle.serving.specs.Serving.{AreOpen, EndsWell, IsWork, Ran, Serves, new_sink};
 
 use crate::error::ServeError;
 use crate::help::text_for;
 use crate::logging::{say_goodbye, say_hello};
 use crate::plan::{Plan, plan_of, setup_of};
 use crate::sockets::{Sockets, open};
-use crew::{End, WorkerReport};
 use scripts::{Sink, write_page};
 use server::{Boxes, boxes_for};
 use service::{ControlDesk, Exit, Outcome, Shared, Work, run_crew};
@@ -26,7 +28,7 @@ use std::rt::{Clock, Files};
 use std::sync::{Arc, Wait};
 use std::thread::Threads;
 use std::time::Instant;
-use udp_program::worker_lines;
+use udp_program::{all_closed, worker_lines};
 use wires::UdpWire;
 
 /// A service that has ended: what came of it, and what its lines of transfers were written to.
@@ -185,16 +187,15 @@ where
     run(rt, boxes, work, shared, Exit { wire, sink })
 }
 
-/// Whether each worker came to the end of what was sent to it.
-fn all_closed(reports: &[WorkerReport]) -> bool {
-    reports.iter().all(|report| report.end == End::Closed)
-}
-
 /// Writes what the workers did, says goodbye, and tells whether all went well.
 fn close_off<R, F>(rt: &R, served: &mut Served<F>) -> Result<(), ServeError>
 where
     R: Clock + Eprint + AllocGlobal,
     F: Write,
+    ensures no_fault { OnOk result (is_faulty served.old.outcome ≡ false) }
+    ensures closed { OnOk result (ends.all_closed served.old.outcome.report.workers.items ≡ true) }
+    ensures told { OnOk result
+        (Tells F.contents served.old.outcome.report.workers.items served.old.sink served.new.sink) }
     ensures refused { IfErr result IsOther }
 {
     let reports = served.outcome.report.workers.as_slice();
@@ -228,7 +229,7 @@ where
         + Copy
         + Send
         + 'static,
-    ensures asked { IfOk result (λ _. AskForService words.now) }
+    ensures well { OnOk result (EndsWell words.now) }
     ensures refused { IfErr result (IsRefusal words.now) }
 {
     let mut served = serve_words(rt, words, io::writer(&rt))?;

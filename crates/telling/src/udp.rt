@@ -1,5 +1,5 @@
 //! A speaker over a UDP socket.
-ghost use Rattle.std.specs.Prelude.{◌≡◌, ◌≤◌, ℕ, length, Ok, Some};
+ghost use Rattle.std.specs.Prelude.{◌≡◌, ◌≤◌, ℕ, length, Ok, Some, IfOk};
 
 use crate::asking::{Speaker, SpeakerFault};
 use sip_text::Addr;
@@ -16,6 +16,8 @@ const PATIENCE: u64 = 200;
 #[derive(Drop)]
 pub struct UdpSpeaker {
     socket: UdpSocket,
+    /// Where that service is.
+    service: Addr,
     asked: u64,
 }
 
@@ -32,7 +34,10 @@ fn system_addr(addr: Addr) -> SocketAddr {
 
 impl UdpSpeaker {
     /// A speaker for the service whose control lines come in at this address. It has asked nothing yet.
-    pub fn to<R: Wait + Net>(rt: &R, service: Addr) -> Result<UdpSpeaker, SpeakerFault> {
+    pub fn to<R: Wait + Net>(rt: &R, service: Addr) -> Result<UdpSpeaker, SpeakerFault>
+        ensures service { IfOk result (λ s. s.service ≡ service) }
+        ensures unasked { IfOk result (λ s. s.asked ≡ 0) }
+    {
         let any = Addr {
             ip: [0; 4],
             port: 0,
@@ -40,7 +45,11 @@ impl UdpSpeaker {
         let socket = UdpSocket::bind(rt, system_addr(any))?;
         socket.connect(system_addr(service))?;
         socket.set_read_timeout(Some(Duration::from_millis(PATIENCE)))?;
-        Ok(UdpSpeaker { socket, asked: 0 })
+        Ok(UdpSpeaker {
+            socket,
+            service,
+            asked: 0,
+        })
     }
 }
 

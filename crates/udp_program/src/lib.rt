@@ -16,5 +16,5 @@ mod program;
 mod serving;
 
 pub use printing::worker_lines;
-pub use program::run;
+pub use program::{all_closed, run};
 pub use server::Status;

@@ -74,7 +74,7 @@ fn is_closed(end: End) -> bool
 }
 
 /// Whether each worker came to the end of what was sent to it.
-fn all_closed(reports: &[WorkerReport]) -> bool
+pub fn all_closed(reports: &[WorkerReport]) -> bool
     ensures { result ≡ ends.all_closed reports.now }
 {
     for report in reports {

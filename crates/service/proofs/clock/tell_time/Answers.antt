@@ -7,12 +7,12 @@ loop-init g c = record { still_open = c.requires.still_open; seats = refl; ticki
 
 pub returns-then-not-send_event-clause-ticks : goal.returns-then-not-send_event-clause-ticks
 returns-then-not-send_event-clause-ticks g c =
-    told_gone c.loop.invariant.ticking c.send_event.new.port c.in-Some-seconds_since.now c.if-now-second.false c.if-not-send_event.ensures.sent
+    told_gone c.loop.invariant.ticking c.send_event.new.port c.in-Some-seconds.now c.if-now-second.false c.if-not-send_event.ensures.sent
 
 pub loop-preserved : goal.loop-preserved
 loop-preserved g c =
     let sent = c.if-not-send_event.ensures.sent in record {
       still_open = (let same = sent.still_open in let was = c.loop.invariant.still_open in omega arith);
       seats = c.send_event.ensures.seats ∙ c.loop.invariant.seats;
-      ticking = ticking_more c.loop.invariant.ticking c.send_event.new.port c.in-Some-seconds_since.now c.if-now-second.false sent;
+      ticking = ticking_more c.loop.invariant.ticking c.send_event.new.port c.in-Some-seconds.now c.if-now-second.false sent;
     }

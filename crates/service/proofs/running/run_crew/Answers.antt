@@ -1,7 +1,7 @@
 use Rattle.std.proofs.Common.{inr, get_or, arith}
 use Rattle.crew.specs.Ready.{start_of}
 use Rattle.crew.proofs.Starting.{element}
-use Rattle.service.proofs.Ran.{on_ok, on_err, no_other, started_with, runs_with}
+use Rattle.service.proofs.Ran.{on_ok, on_err, no_other, started_with, runs_with, leaves_with}
 use Rattle.service.proofs.running.run_crew.Goals as goal
 
 pub serve-requires-clause-some : goal.serve-requires-clause-some
@@ -24,4 +24,6 @@ pub returns-clause-no_memory : goal.returns-clause-no_memory
 returns-clause-no_memory g c = λ e. no_other c.serve.result _ _ c.serve.ensures.refused e (λ same. cc)
 
 pub returns-clause-no_thread : goal.returns-clause-no_thread
-returns-clause-no_thread g c = on_err c.serve.result c.serve.ensures.left (λ left. inr left)
+returns-clause-no_thread g c =
+    on_err c.serve.result c.serve.ensures.left
+    (λ left. inr (λ held. leaves_with c.len-workers.ensures (left _ (started_with c.len-workers.ensures (c.in_ok-crew.ensures.started held)))))

@@ -19,3 +19,6 @@ wind_up-requires g c = (c.requires.new.0, c.args.ports.items, c.requires.new.1)
 
 pub returns-in-Ok-clause-served : goal.returns-in-Ok-clause-served
 returns-in-Ok-clause-served g c = λ start is. c.serve_to_end.ensures start c.args.ports.items c.args.ears.desk.mailboxes.items is c.in-Ok.ensures.ports c.in-Ok.ensures.errands
+
+pub returns-in-Err-clause-left : goal.returns-in-Err-clause-left
+returns-in-Err-clause-left g c = λ start is. c.wind_up.ensures start c.args.ports.items is

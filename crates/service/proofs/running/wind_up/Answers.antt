@@ -14,4 +14,6 @@ pub join-report-requires-clause-ended : goal.join-report-requires-clause-ended
 join-report-requires-clause-ended g c = started_end c.requires.2 c.send_outs.new.taker c.send_outs.ensures.outbox c.send_outs.ensures.ended
 
 pub returns : goal.returns
-returns g c = let sent = c.send_outs.ensures.emitted in leaves sent.0 sent.1 (taker_new c.requires.2) sent.2
+returns g c = λ start ports is.
+    let sent = c.send_outs.ensures.emitted in
+    leaves is c.new.result.items c.send_outs.new.taker.got _ sent.0 sent.1 c.new.ensures.items c.join-report.ensures sent.2

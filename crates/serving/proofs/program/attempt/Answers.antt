@@ -1,5 +1,6 @@
-use Rattle.serving.proofs.Refused.{ok_of}
+use Rattle.serving.proofs.Refused.{ended_well}
 use Rattle.serving.proofs.program.attempt.Goals as goal
 
-pub returns-clause-asked : goal.returns-clause-asked
-returns-clause-asked g c = let served = c.in_ok-served.ensures.served in ok_of c.close_off.result (served.plan, served.is_plan)
+pub returns-clause-well : goal.returns-clause-well
+returns-clause-well g c =
+    let off = c.close_off.ensures in ended_well _ _ c.close_off.result _ _ _ _ c.in_ok-served.ensures.served off.no_fault off.closed off.told
