@@ -16,11 +16,11 @@ pub(crate) const PHONE: Addr = Addr {
 
 /// The SUBSCRIBE of a phone for this mailbox, with this Call-ID: in the dialog with this tag of the notifier, or in none yet.
 /// Its branch is of the Call-ID and the CSeq number.
-pub(crate) fn subscribe(
+pub(crate) fn subscribe<'a>(
     alloc: Global,
-    mailbox: &str,
-    call: &str,
-    tag: &str,
+    mailbox: &'a str,
+    call: &'a str,
+    tag: &'a str,
 ) -> Result<Event, RunError> {
     let (name, cseq) = if tag.is_empty() {
         ("", "1")

@@ -38,7 +38,7 @@ use crate::queues::measuring::measure;
 use crate::queues::queues;
 use crate::scenes::{SCENES, play_scene};
 use crate::trials::{refused_growths, refused_starts, restart};
-use std::alloc::Global;
+use std::alloc::{Allocator, Global};
 use std::env;
 use std::net::Net;
 use std::rt::{Clock, Runtime};
@@ -152,11 +152,16 @@ where
     Ok(())
 }
 
+/// The number that a word is.
+fn number_in<A: Allocator>(word: String<A>) -> Option<u32> {
+    word.parse::<u32>().ok()
+}
+
 /// The numbers among the words that the program was given.
 fn numbers_of<R: Runtime>(rt: &R) -> Result<Vec<u32, R::A>, RunError> {
     let mut numbers = Vec::new(rt.alloc());
     for word in env::args(rt)? {
-        if let Ok(number) = word.parse::<u32>() {
+        if let Some(number) = number_in(word) {
             numbers.push(number)?;
         }
     }

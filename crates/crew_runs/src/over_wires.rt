@@ -265,7 +265,7 @@ fn is_next<R: Wait>(rt: &R, wire: &mut UdpWire, text: &str) -> Result<bool, Wire
 /// Subscribes, waits for the answer and the NOTIFY, and ends the notifier.
 fn call<R: Wait>(
     rt: &R,
-    mut phone: (UdpWire, UdpWire),
+    phone: &mut (UdpWire, UdpWire),
     sip: Addr,
     control: Addr,
 ) -> Result<Got, WireFault> {
@@ -285,8 +285,8 @@ fn start_call<R>(
 where
     R: Threads + Wait + Net + Copy + Send + 'static,
 {
-    let phone = UdpWire::bind(&rt, 0)?;
-    match thread::spawn(&rt, move || call(&rt, phone, sip, control)) {
+    let mut phone = UdpWire::bind(&rt, 0)?;
+    match thread::spawn(&rt, move || call(&rt, &mut phone, sip, control)) {
         Ok(handle) => Ok(handle),
         Err(_) => Err(RunError::NoThread),
     }
