@@ -13,8 +13,8 @@ use Rattle.std.specs.contracts.sync.Arc as Arc
 use Rattle.package.specs.declared.interface.Package.{Ghosts}
 use Rattle.replays.specs.contracts.shared.SharedDesk as Shared
 use Rattle.replays.proofs.Sent.{shared_send, shared_sync}
-use Rattle.crew_runs.specs.contracts.events.News as News
-use Rattle.crew_runs.proofs.events.News.TheSendSync as news
+use Rattle.crew_runs.specs.contracts.desks.News as News
+use Rattle.crew_runs.proofs.desks.News.TheSendSync as news
 
 -- the runtime, the allocator, the desk and its news
 abbrev caught : (R P : RattleType) → Ghosts P.Denot → List RattleType

@@ -5,12 +5,14 @@ ghost use Rattle.crew_runs.specs.Boxes.{seen_as};
 
 use crate::error::RunError;
 use crate::gates::Stage;
+use crate::names::{Names, names_of};
 use message_summary::Mailboxes;
 use package::{Change, ClosingCell, Outcome, Package};
 use refer::Transfers;
 use sip_text::NoMemory;
 use std::alloc::Global;
 use std::sync::Arc;
+use std::sync::atomic::Ordering;
 
 /// The packages of all workers of a crew.
 pub(crate) type Crowd = Vec<Vec<CrewPackage>>;
@@ -32,6 +34,29 @@ pub(crate) enum Manner {
     Refuses(u32),
 }
 
+/// The mailboxes that a worker holds, and their manner.
+pub(crate) type Role = (Names, Manner);
+
+/// What the packages of a crew share: where they meet, and where the first of each kind leaves its Closing. Each worker has
+/// transfers too where these have a cell.
+#[derive(Drop)]
+pub(crate) struct Props {
+    pub(crate) stage: Arc<Stage, Global>,
+    pub(crate) mail: Arc<ClosingCell>,
+    pub(crate) transfers: Option<Arc<ClosingCell>>,
+}
+
+impl Props {
+    /// A stage whose gate is open, or holds worker 0, and a cell for the mailboxes.
+    pub(crate) fn new(alloc: Global, holds_worker: bool) -> Result<Props, RunError> {
+        Ok(Props {
+            stage: Arc::new(alloc, Stage::new(holds_worker))?,
+            mail: ClosingCell::new(alloc)?,
+            transfers: None,
+        })
+    }
+}
+
 /// Mailboxes of one worker.
 #[derive(Drop)]
 pub(crate) struct Boxes {
@@ -47,29 +72,24 @@ pub(crate) enum CrewPackage {
     Transfers(Transfers),
 }
 
-/// What the manner does at the places.
-fn meet(manner: Manner, stage: &Stage) {
-    match manner {
-        Manner::Waits => stage.first.wait(),
-        Manner::Comes => stage.first.come(),
+/// Does at the places what the manner asks for, and tells whether a mail change may go on.
+fn act(manner: &mut Manner, stage: &Stage) -> bool {
+    match *manner {
+        Manner::Plain => {}
+        Manner::Waits => stage.wait(&stage.first),
+        Manner::Comes => stage.first.store(true, Ordering::SeqCst),
         Manner::MeetsFirst => {
-            stage.first.come();
-            stage.second.wait();
+            stage.first.store(true, Ordering::SeqCst);
+            stage.wait(&stage.second);
         }
         Manner::MeetsSecond => {
-            stage.second.come();
-            stage.first.wait();
+            stage.second.store(true, Ordering::SeqCst);
+            stage.wait(&stage.first);
         }
-        Manner::Plain | Manner::Refuses(_) => {}
+        Manner::Refuses(0) => return false,
+        Manner::Refuses(left) => *manner = Manner::Refuses(left - 1),
     }
-}
-
-/// The manner after a change, and nothing where the change may not go on.
-fn next_manner(manner: Manner) -> Option<Manner> {
-    match manner {
-        Manner::Refuses(left) => Some(Manner::Refuses(left.checked_sub(1)?)),
-        _ => Some(manner),
-    }
+    true
 }
 
 /// Whether this change may go on. The manner is asked at mail changes.
@@ -79,14 +99,7 @@ fn may_change(manner: &mut Manner, stage: &Stage, change: &Change) -> bool
     if !matches!(change, Change::Mail(_)) {
         return true;
     }
-    meet(*manner, stage);
-    match next_manner(*manner) {
-        Some(next) => {
-            *manner = next;
-            true
-        }
-        None => false,
-    }
+    act(manner, stage)
 }
 
 impl Package for CrewPackage {
@@ -140,68 +153,41 @@ impl Package for CrewPackage {
     }
 }
 
-/// The mailbox of this name alone.
-pub(crate) fn one_name(alloc: Global, mailbox: &str) -> Result<Vec<String>, RunError> {
-    let mut names = Vec::new(alloc);
-    names.push(String::from_str(alloc, mailbox)?)?;
-    Ok(names)
-}
-
-/// A package with these mailboxes, which leaves its closing in this cell.
-pub(crate) fn new_boxes(
-    alloc: Global,
-    names: Vec<String>,
-    manner: Manner,
-    stage: Arc<Stage, Global>,
-    cell: Arc<ClosingCell>,
-) -> Result<CrewPackage, RunError> {
-    let inner = Mailboxes::new(alloc, names, cell)?;
+/// The mailboxes of a worker, which leave their Closing in the cell.
+fn mailboxes_of(alloc: Global, role: Role, props: &Props) -> Result<CrewPackage, RunError> {
+    let stage = Arc::try_clone(&props.stage)?;
+    let cell = Arc::try_clone(&props.mail)?;
+    let inner = Mailboxes::new(alloc, names_of(alloc, role.0)?, cell)?;
     Ok(CrewPackage::Mail(Boxes {
         inner,
-        manner,
+        manner: role.1,
         stage,
     }))
 }
 
-/// A package with the mailbox of this name, and nothing besides.
-pub(crate) fn plain_box(
+/// The packages of a worker.
+pub(crate) fn packages_of(
     alloc: Global,
-    mailbox: &str,
-    cell: Arc<ClosingCell>,
-) -> Result<CrewPackage, RunError> {
-    let names = one_name(alloc, mailbox)?;
-    let stage = Arc::new(alloc, Stage::new(false))?;
-    new_boxes(alloc, names, Manner::Plain, stage, cell)
+    role: Role,
+    props: &Props,
+) -> Result<Vec<CrewPackage>, RunError> {
+    let mut packages = Vec::new(alloc);
+    packages.push(mailboxes_of(alloc, role, props)?)?;
+    if let Some(cell) = &props.transfers {
+        let transfers = Transfers::new(alloc, Arc::try_clone(cell)?)?;
+        packages.push(CrewPackage::Transfers(transfers))?;
+    }
+    Ok(packages)
 }
 
-/// One worker more, with this package.
-pub(crate) fn add_package(
-    alloc: Global,
-    crowd: &mut Crowd,
-    package: CrewPackage,
-) -> Result<(), RunError> {
-    let mut worker = Vec::new(alloc);
-    worker.push(package)?;
-    Ok(crowd.push(worker)?)
-}
-
-/// One worker more, with these mailboxes.
-pub(crate) fn add_worker(
-    alloc: Global,
-    crowd: &mut Crowd,
-    names: Vec<String>,
-    manner: Manner,
-    stage: &Arc<Stage, Global>,
-) -> Result<(), RunError> {
-    let stage = Arc::try_clone(stage)?;
-    let cell = ClosingCell::new(alloc)?;
-    add_package(alloc, crowd, new_boxes(alloc, names, manner, stage, cell)?)
-}
-
-/// These workers, if a crew may have so many.
-pub(crate) fn few(crowd: Crowd) -> Result<Crowd, RunError>
-    ensures { IfOk result (λ few. vec_len few ≤ 256) }
+/// The packages of these workers, if a crew may have so many.
+pub(crate) fn crowd_of(alloc: Global, roles: &[Role], props: &Props) -> Result<Crowd, RunError>
+    ensures { IfOk result (λ crowd. vec_len crowd ≤ 256) }
 {
+    let mut crowd = Vec::new(alloc);
+    for role in roles {
+        crowd.push(packages_of(alloc, *role, props)?)?;
+    }
     if crowd.len() > 256 {
         return Err(RunError::NoRun);
     }

@@ -5,46 +5,40 @@
 //! gives two outs, and the change one or none. Two desks have a lock each: a change of the one may wait for a change of the
 //! other.
 
-use crate::boxes::{CrewPackage, Manner, new_boxes, one_name};
+use crate::boxes::{CrewPackage, Manner, Props, packages_of};
 use crate::error::RunError;
-use crate::events::{News, event_of};
-use crate::gates::Stage;
+use crate::events::{mail, subscribe};
+use crate::names::Names;
 use crate::page::Page;
 use crate::running::{Plan, setup_of};
-use crate::scenarios::tell_meeting;
+use crate::scenes::tell_meeting;
 use notifier::Desk;
-use package::{ClosingCell, Package};
+use package::{Class, Package};
 use replays::{Replay, SharedDesk};
 use std::alloc::Global;
 use std::sync::{Arc, Wait};
 use std::thread;
 use std::thread::Threads;
 
-/// Queues of 64 places.
-const PLACES: Plan = Plan {
-    places: 64,
-    stop: false,
-};
+/// What a desk is told.
+#[derive(Clone, Copy)]
+pub(crate) enum News {
+    /// Alice's phone subscribes to her mailbox.
+    Subscription,
+    /// A voice message comes for her.
+    Voice,
+}
 
-/// A shared desk with alice's mailbox.
+/// A desk with alice's mailbox, for two threads.
 fn shared_desk(
     alloc: Global,
     manner: Manner,
-    stage: Arc<Stage, Global>,
-) -> Result<SharedDesk<CrewPackage>, RunError> {
-    let setup = setup_of(PLACES)?;
-    let cell = ClosingCell::new(alloc)?;
-    let boxes = new_boxes(alloc, one_name(alloc, "alice")?, manner, stage, cell)?;
-    let mut held = Vec::new(alloc);
-    held.push(boxes)?;
+    props: &Props,
+) -> Result<Arc<SharedDesk<CrewPackage>, Global>, RunError> {
+    let setup = setup_of(Plan::USUAL)?;
+    let held = packages_of(alloc, (Names::One("alice"), manner), props)?;
     let desk = Desk::new(alloc, &setup, 0, held)?;
-    Ok(SharedDesk::new(Replay::new(alloc, desk)))
-}
-
-/// A shared desk with alice's mailbox, and nothing besides.
-fn plain_desk(alloc: Global) -> Result<SharedDesk<CrewPackage>, RunError> {
-    let stage = Arc::new(alloc, Stage::new(false))?;
-    shared_desk(alloc, Manner::Plain, stage)
+    Ok(Arc::new(alloc, SharedDesk::new(Replay::new(alloc, desk)))?)
 }
 
 /// How many outs the desk gives for the news.
@@ -54,112 +48,91 @@ fn hear<R: Wait, P: Package>(
     desk: &SharedDesk<P>,
     news: News,
 ) -> Result<usize, RunError> {
-    let event = event_of(alloc, news)?;
+    let event = match news {
+        News::Subscription => subscribe(alloc, "alice", "c1", "")?,
+        News::Voice => mail(alloc, "alice", Class::Voice, 1)?,
+    };
     match desk.handle(rt, alloc, event) {
         Ok(outs) => Ok(outs.len()),
         Err(_) => Err(RunError::Memory),
     }
 }
 
-/// How many outs a desk gives for each of the news, one after the other.
-fn hear_in_turn<R: Wait>(
-    rt: &R,
-    alloc: Global,
-    first: News,
-    second: News,
-) -> Result<(usize, usize), RunError> {
-    let desk = plain_desk(alloc)?;
-    let first_outs = hear(rt, alloc, &desk, first)?;
-    let second_outs = hear(rt, alloc, &desk, second)?;
-    Ok((first_outs, second_outs))
-}
-
-/// A desk, and what it is told.
-#[derive(Drop)]
-struct Call<P: Package> {
-    desk: Arc<SharedDesk<P>, Global>,
-    news: News,
-}
-
-/// How many outs each of two calls gives: this thread makes the one, and a thread of its own the other.
+/// How many outs two desks, or one, give for the news: this thread tells it the one, and a thread of its own the other.
 fn hear_both<R, P>(
     rt: R,
     alloc: Global,
-    here: Call<P>,
-    there: Call<P>,
+    desks: (&SharedDesk<P>, Arc<SharedDesk<P>, Global>),
+    news: (News, News),
 ) -> Result<(usize, usize), RunError>
 where
     R: Threads + Wait + Copy + Send + 'static,
     P: Package + 'static,
 {
-    let Call { desk, news } = there;
-    let Ok(child) = thread::spawn(&rt, move || hear(&rt, alloc, &*desk, news)) else {
+    let (here, desk) = desks;
+    let news_there = news.1;
+    let Ok(child) = thread::spawn(&rt, move || hear(&rt, alloc, &*desk, news_there)) else {
         return Err(RunError::NoThread);
     };
-    let here_outs = hear(&rt, alloc, &*here.desk, here.news);
+    let here_outs = hear(&rt, alloc, here, news.0);
     let there_outs = child.join(&rt);
     Ok((here_outs?, there_outs?))
 }
 
-/// Two threads at one desk: alice subscribes, and her mailbox changes. The outs of the SUBSCRIBE and of the change.
-fn two_at_a_desk<R>(rt: R, alloc: Global) -> Result<(usize, usize), RunError>
-where
-    R: Threads + Wait + Copy + Send + 'static,
-{
-    let desk = Arc::new(alloc, plain_desk(alloc)?)?;
-    let there = Call {
-        desk: Arc::try_clone(&desk)?,
-        news: News::Voice,
-    };
-    let here = Call {
-        desk,
-        news: News::Subscription,
-    };
-    hear_both(rt, alloc, here, there)
-}
-
-/// A change at a desk whose box comes to one of the places of the stage at each change, and waits at the other.
-fn meeting_call(
+/// Tells a desk the one and then the other, and what it gave for the SUBSCRIBE and for the change.
+fn show_in_turn<R: Wait>(
+    rt: &R,
     alloc: Global,
-    manner: Manner,
-    stage: &Arc<Stage, Global>,
-) -> Result<Call<CrewPackage>, RunError> {
-    let desk = shared_desk(alloc, manner, Arc::try_clone(stage)?)?;
-    Ok(Call {
-        desk: Arc::new(alloc, desk)?,
-        news: News::Voice,
-    })
-}
-
-/// Two threads at two desks: the box of each holds its change until the other's has one. How many outs each gives.
-fn desks_meet<R>(
-    rt: R,
-    alloc: Global,
-    stage: &Arc<Stage, Global>,
-) -> Result<(usize, usize), RunError>
-where
-    R: Threads + Wait + Copy + Send + 'static,
-{
-    let here = meeting_call(alloc, Manner::MeetsFirst, stage)?;
-    let there = meeting_call(alloc, Manner::MeetsSecond, stage)?;
-    hear_both(rt, alloc, here, there)
-}
-
-/// What a desk gave, in a line.
-fn show_order(alloc: Global, order: &str, asked: usize, changed: usize, page: &mut Page) {
-    page.say(order);
-    page.tell(alloc, ": ", asked as u64);
-    page.tell(alloc, " outs of the SUBSCRIBE, ", changed as u64);
+    order: &str,
+    news: (News, News),
+    page: &mut Page,
+) -> Result<(), RunError> {
+    let props = Props::new(alloc, false)?;
+    let desk = shared_desk(alloc, Manner::Plain, &props)?;
+    let first = hear(rt, alloc, &*desk, news.0)? as u64;
+    let second = hear(rt, alloc, &*desk, news.1)? as u64;
+    let (asked, changed) = match news.0 {
+        News::Subscription => (first, second),
+        News::Voice => (second, first),
+    };
+    page.tell(alloc, order, asked);
+    page.tell(alloc, " outs of the SUBSCRIBE, ", changed);
     page.say(" of the change\n");
+    Ok(())
 }
 
-/// What two threads got of one desk, told alike for both orders.
-fn show_both(alloc: Global, asked: usize, changed: usize, page: &mut Page) {
+/// Two threads at one desk, told alike for both orders.
+fn show_both<R>(rt: R, alloc: Global, page: &mut Page) -> Result<(), RunError>
+where
+    R: Threads + Wait + Copy + Send + 'static,
+{
+    let props = Props::new(alloc, false)?;
+    let desk = shared_desk(alloc, Manner::Plain, &props)?;
+    let there = Arc::try_clone(&desk)?;
+    let news = (News::Subscription, News::Voice);
+    let (asked, changed) = hear_both(rt, alloc, (&*desk, there), news)?;
     if asked == 2 && changed <= 1 {
         page.say("two at a desk: 2 outs of the SUBSCRIBE, none or 1 of the change\n");
     } else {
-        show_order(alloc, "two at a desk", asked, changed, page);
+        page.tell(alloc, "two at a desk: ", asked as u64);
+        page.tell(alloc, " outs of the SUBSCRIBE, ", changed as u64);
+        page.say(" of the change\n");
     }
+    Ok(())
+}
+
+/// Two threads at two desks: the box of each holds its change until the other's has one.
+fn show_meeting<R>(rt: R, alloc: Global, page: &mut Page) -> Result<(), RunError>
+where
+    R: Threads + Wait + Copy + Send + 'static,
+{
+    let props = Props::new(alloc, false)?;
+    let here = shared_desk(alloc, Manner::MeetsFirst, &props)?;
+    let there = shared_desk(alloc, Manner::MeetsSecond, &props)?;
+    let outs = hear_both(rt, alloc, (&*here, there), (News::Voice, News::Voice))?;
+    page.say("desks meet: ");
+    tell_meeting(outs == (0, 0) && props.stage.was_kept(), page);
+    Ok(())
 }
 
 /// Alice subscribes and her mailbox changes: in either order, at one desk from two threads at once, and the change alone at two
@@ -168,15 +141,10 @@ pub(crate) fn shared_desks<R>(rt: R, alloc: Global, page: &mut Page) -> Result<(
 where
     R: Threads + Wait + Copy + Send + 'static,
 {
-    let (asked, changed) = hear_in_turn(&rt, alloc, News::Subscription, News::Voice)?;
-    show_order(alloc, "the SUBSCRIBE first", asked, changed, page);
-    let (changed, asked) = hear_in_turn(&rt, alloc, News::Voice, News::Subscription)?;
-    show_order(alloc, "the change first", asked, changed, page);
-    let (asked, changed) = two_at_a_desk(rt, alloc)?;
-    show_both(alloc, asked, changed, page);
-    let stage = Arc::new(alloc, Stage::new(false))?;
-    let outs = desks_meet(rt, alloc, &stage)?;
-    page.say("desks meet: ");
-    tell_meeting(outs == (0, 0) && stage.was_kept(), page);
-    Ok(())
+    let news = (News::Subscription, News::Voice);
+    show_in_turn(&rt, alloc, "the SUBSCRIBE first: ", news, page)?;
+    let news = (News::Voice, News::Subscription);
+    show_in_turn(&rt, alloc, "the change first: ", news, page)?;
+    show_both(rt, alloc, page)?;
+    show_meeting(rt, alloc, page)
 }

@@ -4,22 +4,19 @@ use crew::StartError;
 use sip_text::NoMemory;
 use std::alloc::{AllocError, AllocFailed};
 use std::io;
-use thiserror::Error;
+use wires::WireFault;
 
 /// Why a run tells nothing.
-#[derive(Clone, Copy, Debug, Error)]
+#[derive(Clone, Copy, Debug)]
 pub(crate) enum RunError {
-    #[error("out of memory")]
     Memory,
-    #[error("no crew: {0}")]
+    /// The crew was not started.
     Start(StartError),
-    #[error("no thread")]
     NoThread,
-    #[error("not an event")]
+    /// What was to be sent is no event.
     NoEvent,
-    #[error("no such run")]
     NoRun,
-    #[error("nothing could be written, or there is no clock")]
+    /// A socket failed, nothing could be written, or there is no clock.
     Device,
 }
 
@@ -44,6 +41,12 @@ impl From<NoMemory> for RunError {
 impl From<StartError> for RunError {
     fn from(error: StartError) -> RunError {
         RunError::Start(error)
+    }
+}
+
+impl From<WireFault> for RunError {
+    fn from(_fault: WireFault) -> RunError {
+        RunError::Device
     }
 }
 

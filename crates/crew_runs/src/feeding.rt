@@ -1,69 +1,70 @@
 //! What feeds the ports of a crew, each from a thread of its own.
-ghost use Rattle.std.specs.Prelude.{◌≡◌, ℕ, ◌<◌, get_or, vec_len, IfOk};
-ghost use Rattle.crew.specs.Kept.{SameSeats};
-ghost use Rattle.crew.specs.Ports.{PortSeats};
 
 use crate::error::RunError;
-use crate::events::{mail, own};
+use crate::events::{mail, subscribe};
 use crate::names::{Names, names_of};
 use crew::Port;
 use homes::is_for_all;
+use network::{FeedReport, MemoryWire, UdpWire, Wire, control, feed};
 use notifier::Event;
 use package::Class;
-use std::alloc::{AllocError, Global};
-use std::snapshot::Snapshot;
+use std::alloc::Global;
 use std::sync::Wait;
 use std::thread;
-use std::thread::{Promise, PromisedHandle, Threads};
+use std::thread::{JoinHandle, Threads};
 
-/// What is sent through one port: a SUBSCRIBE of each of these users, with this Call-ID, and of each of the mailboxes if it is
-/// watched, with its name; then so many mail changes for each of the mailboxes in turns, each with one new message more, and last
-/// the time.
+/// Of how many steps a feed tells what was refused.
+const STEPS: usize = 5;
+
+/// What is done with a port.
 #[derive(Clone, Copy)]
-pub(crate) struct Feed {
-    pub(crate) users: &'static [(&'static str, &'static str)],
-    pub(crate) mailboxes: Names,
-    pub(crate) are_watched: bool,
-    pub(crate) voices: u32,
-    pub(crate) second: Option<u64>,
+pub(crate) enum Step {
+    /// The SUBSCRIBE of a phone for this mailbox, with this Call-ID.
+    Subscribe(&'static str, &'static str),
+    /// The next one in its dialog, whose tag is known from before.
+    GoOn(&'static str, &'static str),
+    /// Rounds over mailboxes, from this one on and before that one: round 0 brings the SUBSCRIBE of each, with its name as
+    /// Call-ID, and each later one a mail change of each, with as many new messages.
+    Rounds(Names, u32, u32),
+    /// A new fax for this mailbox.
+    Fax(&'static str),
+    /// The time.
+    Tick(u64),
+    /// The port is closed.
+    Close,
+    /// The port is asked whether it is closed.
+    LookClosed,
 }
 
-impl Feed {
-    /// Nothing.
-    pub(crate) const NOTHING: Feed = Feed {
-        users: &[],
-        mailboxes: Names::Listed(&[]),
-        are_watched: false,
-        voices: 0,
-        second: None,
-    };
-}
-
-/// A port that was fed and closed.
+/// What feeds a port.
 #[derive(Drop)]
+pub(crate) enum Feeder {
+    /// These steps, by phones that know this tag of a dialog. The port goes away as they left it.
+    Steps(&'static [Step], String),
+    /// So many datagrams of a wire in memory.
+    Memory(MemoryWire, u32),
+    /// So many datagrams of a socket.
+    Datagrams(UdpWire, u32),
+    /// The control lines of a socket.
+    Lines(UdpWire),
+}
+
+/// What came of a feed.
+#[derive(Clone, Copy)]
 pub(crate) struct Fed {
-    pub(crate) port: Port,
-    /// How many events were not made or not sent.
-    pub(crate) refused: u32,
+    /// How many events were not made or not sent at each step; 1 also where a call of the port was refused.
+    pub(crate) refused: [u32; STEPS],
+    /// What a wire brought, and by which call.
+    pub(crate) heard: Option<(&'static str, FeedReport)>,
 }
 
-/// The port that a thread was given, as contracts see it: it comes back closed, with the seats that it had.
-#[derive(Drop)]
-pub(crate) struct Lent {
-    pub(crate) port: Snapshot<Port>,
-}
-
-impl Promise<Fed> for Lent {
-    ghost use Rattle.std.specs.Prelude.{◌≡◌};
-    ghost use Rattle.crew.specs.Kept.{SameSeats};
-
-    ghost kept_by = { λ p fed. (fed.port.still_open ≡ 0) × SameSeats p.port.value fed.port };
+/// How many were missed of one.
+fn missed(is_done: bool) -> u32 {
+    if is_done { 0 } else { 1 }
 }
 
 /// Sends one event that has a home, and tells whether it was sent.
-pub(crate) fn send_one<R: Wait>(rt: &R, port: &mut Port, event: Event) -> bool
-    ensures { SameSeats port.old port.new }
-{
+fn send_one<R: Wait>(rt: &R, port: &mut Port, event: Event) -> bool {
     if is_for_all(&event) {
         drop(event);
         return false;
@@ -74,135 +75,121 @@ pub(crate) fn send_one<R: Wait>(rt: &R, port: &mut Port, event: Event) -> bool
     is_sent
 }
 
-/// How many were missed of one.
-fn missed(is_done: bool) -> u32 {
-    if is_done { 0 } else { 1 }
-}
-
-/// Sends an event if it could be made, and tells how many were not sent.
-pub(crate) fn send_made<R: Wait>(rt: &R, port: &mut Port, made: Result<Event, RunError>) -> u32
-    ensures { SameSeats port.old port.new }
-{
+/// Sends an event, if it could be made, and tells how many were not sent.
+fn send_made<R: Wait>(rt: &R, port: &mut Port, made: Result<Event, RunError>) -> u32 {
     match made {
-        Ok(event) => if send_one(rt, port, event) { 0 } else { 1 },
+        Ok(event) => missed(send_one(rt, port, event)),
         Err(_) => 1,
     }
 }
 
-/// Tells the time, if this is one, and whether all were told.
-fn tell_time<R: Wait>(rt: &R, port: &mut Port, second: Option<u64>) -> bool
-    ensures { SameSeats port.old port.new }
-{
-    match second {
-        Some(second) => port.tick(rt, second).is_ok(),
-        None => true,
-    }
-}
-
-/// Makes and sends the SUBSCRIBE of each of these users, and tells how many were not sent.
-fn send_users<R: Wait>(rt: &R, alloc: Global, port: &mut Port, users: &[(&str, &str)]) -> u32
-    ensures { SameSeats port.old port.new }
-{
-    let mut refused = 0u32;
-    for asking in users {
-        let made = own(alloc, asking.0, asking.1);
-        refused = refused.saturating_add(send_made(rt, port, made));
-    }
-    refused
-}
-
-/// Makes and sends the SUBSCRIBE of each of these mailboxes' users, and tells how many were not sent.
-fn send_watchers<R: Wait>(rt: &R, alloc: Global, port: &mut Port, mailboxes: &[String]) -> u32
-    ensures { SameSeats port.old port.new }
-{
-    let mut refused = 0u32;
-    for mailbox in mailboxes {
-        let made = own(alloc, mailbox.as_str(), mailbox.as_str());
-        refused = refused.saturating_add(send_made(rt, port, made));
-    }
-    refused
-}
-
-/// Makes and sends a mail change for each mailbox, and tells how many were not sent.
+/// One round over these mailboxes. Tells how many events were not sent.
 fn send_round<R: Wait>(
     rt: &R,
     alloc: Global,
     port: &mut Port,
     mailboxes: &[String],
-    new_count: u32,
-) -> u32
-    ensures { SameSeats port.old port.new }
-{
+    round: u32,
+) -> u32 {
     let mut refused = 0u32;
     for mailbox in mailboxes {
-        let made = mail(alloc, mailbox.as_str(), Class::Voice, new_count);
+        let name = mailbox.as_str();
+        let made = if round == 0 {
+            subscribe(alloc, name, name, "")
+        } else {
+            mail(alloc, name, Class::Voice, round)
+        };
         refused = refused.saturating_add(send_made(rt, port, made));
     }
     refused
 }
 
-/// Makes and sends so many mail changes for each mailbox, and tells how many were not sent.
-pub(crate) fn send_voices<R: Wait>(
+/// These rounds over these mailboxes. Tells how many events were not sent.
+fn send_rounds<R: Wait>(
     rt: &R,
     alloc: Global,
     port: &mut Port,
-    mailboxes: &[String],
-    voices: u32,
-) -> u32
-    ensures { SameSeats port.old port.new }
-{
+    names: Names,
+    rounds: (u32, u32),
+) -> u32 {
+    let Ok(mailboxes) = names_of(alloc, names) else {
+        return 1;
+    };
     let mut refused = 0u32;
-    for at in 0..voices {
-        let more = send_round(rt, alloc, port, mailboxes, at.saturating_add(1));
+    for round in rounds.0..rounds.1 {
+        let more = send_round(rt, alloc, port, mailboxes.as_slice(), round);
         refused = refused.saturating_add(more);
     }
     refused
 }
 
-/// Those of these mailboxes that are watched.
-fn watched_of(mailboxes: &[String], are_watched: bool) -> &[String] {
-    if are_watched { mailboxes } else { &[] }
+/// One step. Tells how many events were not sent, or 1 where the port refused it.
+fn take_step<R: Wait>(rt: &R, alloc: Global, port: &mut Port, step: Step, tag: &str) -> u32 {
+    match step {
+        Step::Subscribe(mailbox, call) => {
+            send_made(rt, port, subscribe(alloc, mailbox, call, ""))
+        }
+        Step::GoOn(mailbox, call) => send_made(rt, port, subscribe(alloc, mailbox, call, tag)),
+        Step::Rounds(names, from, to) => send_rounds(rt, alloc, port, names, (from, to)),
+        Step::Fax(mailbox) => send_made(rt, port, mail(alloc, mailbox, Class::Fax, 1)),
+        Step::Tick(second) => missed(port.tick(rt, second).is_ok()),
+        Step::Close => missed(port.close(rt).is_ok()),
+        Step::LookClosed => missed(port.is_closed()),
+    }
 }
 
-/// Sends all of a feed for these mailboxes, and tells how many events were not sent.
-fn send_all<R: Wait>(
+/// These steps, one after the other. Tells what was refused at each.
+fn take_steps<R: Wait>(
     rt: &R,
     alloc: Global,
     port: &mut Port,
-    mailboxes: &[String],
-    feed: Feed,
-) -> u32
-    ensures { SameSeats port.old port.new }
-{
-    let users = send_users(rt, alloc, port, feed.users);
-    let watched = watched_of(mailboxes, feed.are_watched);
-    let watchers = send_watchers(rt, alloc, port, watched);
-    let voices = send_voices(rt, alloc, port, mailboxes, feed.voices);
-    let is_told = tell_time(rt, port, feed.second);
-    users
-        .saturating_add(watchers)
-        .saturating_add(voices)
-        .saturating_add(missed(is_told))
+    steps: &[Step],
+    tag: &str,
+) -> [u32; STEPS] {
+    let mut refused = [0; STEPS];
+    let mut at = 0usize;
+    for step in steps {
+        let more = take_step(rt, alloc, port, *step, tag);
+        if let Some(place) = refused.get_mut(at) {
+            *place = more;
+        }
+        at = at.saturating_add(1);
+    }
+    refused
 }
 
-/// Sends all of a feed for these mailboxes and closes the port.
-fn feed_port<R: Wait>(
+/// Feeds a port from a wire, with so many datagrams or with control lines, and closes the port. Nothing where it was closed.
+fn hear<R: Wait, W: Wire>(
     rt: &R,
     alloc: Global,
-    mut port: Port,
-    mailboxes: Vec<String>,
-    feed: Feed,
-) -> Fed
-    ensures closed { result.port.still_open ≡ 0 }
-    ensures seats { SameSeats port result.port }
-{
-    let sent = send_all(rt, alloc, &mut port, mailboxes.as_slice(), feed);
-    let told = port.close(rt);
-    let unclosed = if told.is_ok() { 0 } else { 1 };
-    Fed {
-        port,
-        refused: sent.saturating_add(unclosed),
+    wire: &mut W,
+    port: &mut Port,
+    count: Option<u32>,
+) -> Option<(&'static str, FeedReport)> {
+    if port.is_closed() {
+        return None;
     }
+    let heard = match count {
+        Some(count) => ("feed", feed(rt, alloc, wire, port, count)),
+        None => ("control", control(rt, alloc, wire, port)),
+    };
+    let _ = port.close(rt);
+    Some(heard)
+}
+
+/// Feeds a port, and lets it go.
+fn feed_port<R: Wait>(rt: &R, alloc: Global, mut port: Port, mut feeder: Feeder) -> Fed {
+    let mut refused = [0; STEPS];
+    let heard = match &mut feeder {
+        Feeder::Steps(steps, tag) => {
+            refused = take_steps(rt, alloc, &mut port, steps, tag.as_str());
+            None
+        }
+        Feeder::Memory(wire, count) => hear(rt, alloc, wire, &mut port, Some(*count)),
+        Feeder::Datagrams(wire, count) => hear(rt, alloc, wire, &mut port, Some(*count)),
+        Feeder::Lines(wire) => hear(rt, alloc, wire, &mut port, None),
+    };
+    Fed { refused, heard }
 }
 
 /// Starts the thread that feeds this port.
@@ -210,61 +197,39 @@ fn start_feed<R: Threads + Wait + Copy + Send + 'static>(
     rt: R,
     alloc: Global,
     port: Port,
-    mailboxes: Vec<String>,
-    next: Feed,
-) -> Result<PromisedHandle<Fed, Lent>, AllocError>
-    ensures { IfOk result (λ h. h.promise.port.value ≡ port) }
-{
-    let lent = Lent {
-        port: Snapshot::of(&port),
-    };
-    Ok(thread::spawn_with(
-        &rt,
-        lent,
-        move || feed_port(&rt, alloc, port, mailboxes, next),
-    )?)
+    feeder: Feeder,
+) -> Result<JoinHandle<Fed>, RunError> {
+    match thread::spawn(&rt, move || feed_port(&rt, alloc, port, feeder)) {
+        Ok(handle) => Ok(handle),
+        Err(_) => Err(RunError::NoThread),
+    }
 }
 
-/// Starts a thread for each port, which feeds it, once the mailboxes of the feed have their names.
+/// Starts a thread for each port. The last feeder gets the first port.
 pub(crate) fn start_feeds<R: Threads + Wait + Copy + Send + 'static>(
     rt: R,
     alloc: Global,
     ports: Vec<Port>,
-    feeds: &[Feed],
-) -> Result<Vec<PromisedHandle<Fed, Lent>>, RunError>
-    ensures len { IfOk result (λ lent. vec_len lent ≡ vec_len ports) }
-    ensures each { IfOk result (λ lent. (k : ℕ) (h : _) (q : PortSeats) → k < vec_len ports
-        → (get_or lent.items k h).promise.port.value ≡ get_or ports.items k q) }
-{
-    let mut lent = Vec::with_capacity(alloc, ports.len())?;
+    feeders: &mut Vec<Feeder>,
+) -> Result<Vec<JoinHandle<Fed>>, RunError> {
+    let mut threads = Vec::new(alloc);
     for port in ports {
-        let next = feeds.get(lent.len()).copied().unwrap_or(Feed::NOTHING);
-        let mailboxes = names_of(alloc, next.mailboxes)?;
-        lent.push(start_feed(rt, alloc, port, mailboxes, next)?)?;
+        if let Some(feeder) = feeders.pop() {
+            threads.push(start_feed(rt, alloc, port, feeder)?)?;
+        }
     }
-    Ok(lent)
+    Ok(threads)
 }
 
-/// Waits until the ports come back, and tells how many events were not sent.
-pub(crate) fn take_back<R: Threads>(
+/// Waits for the threads, if all were started, and tells what came of each.
+pub(crate) fn join_feeds<R: Threads>(
     rt: &R,
     alloc: Global,
-    lent: Vec<PromisedHandle<Fed, Lent>>,
-) -> Result<(Vec<Port>, u32), RunError>
-    ensures len { IfOk result (λ back. vec_len back.0 ≡ vec_len lent) }
-    ensures each { IfOk result (λ back. (k : ℕ) (h : _) (q : PortSeats) → k < vec_len lent
-        → ((get_or back.0.items k q).still_open ≡ 0)
-        × SameSeats (get_or lent.items k h).promise.port.value (get_or back.0.items k q)) }
-{
-    let mut ports = Vec::with_capacity(alloc, lent.len())?;
-    let mut refused = 0u32;
-    for handle in lent {
-        let Fed {
-            port,
-            refused: more,
-        } = handle.join(rt);
-        refused = refused.saturating_add(more);
-        ports.push(port)?;
+    threads: Result<Vec<JoinHandle<Fed>>, RunError>,
+) -> Result<Vec<Fed>, RunError> {
+    let mut fed = Vec::new(alloc);
+    for thread in threads? {
+        fed.push(thread.join(rt))?;
     }
-    Ok((ports, refused))
+    Ok(fed)
 }

@@ -25,25 +25,20 @@ impl Page {
         }
     }
 
-    /// Three words more.
-    pub(crate) fn line(&mut self, first: &str, second: &str, third: &str) {
-        self.say(first);
-        self.say(second);
-        self.say(third);
-    }
-
-    /// A number more.
-    pub(crate) fn count(&mut self, alloc: Global, number: u64) {
-        match format!(in alloc; "{number}") {
-            Ok(digits) => self.say(digits.as_str()),
-            Err(_) => self.is_cut = true,
+    /// All of these words more.
+    pub(crate) fn say_all(&mut self, parts: &[&str]) {
+        for words in parts {
+            self.say(words);
         }
     }
 
     /// Words with a number behind them.
     pub(crate) fn tell(&mut self, alloc: Global, words: &str, number: u64) {
         self.say(words);
-        self.count(alloc, number);
+        match format!(in alloc; "{number}") {
+            Ok(digits) => self.say(digits.as_str()),
+            Err(_) => self.is_cut = true,
+        }
     }
 
     /// Whether this is so, behind words.

@@ -1,14 +1,14 @@
 //! Small cases of both queues: ends that are gone or done, and calls that sleep and are woken.
 ghost use Rattle.std.specs.Prelude.{◌≡◌, ◌<◌, IfSome};
 
-use inbox::Sender;
+use inbox::{Receiver, Sender};
 use notifier::{Event, Out};
 use outbox::{Posted, Poster, Taker};
 use sip_text::Text;
 use std::alloc::Global;
 use std::sync::Wait;
 use std::thread;
-use std::thread::Threads;
+use std::thread::{JoinHandle, Threads};
 
 /// What a send answers: 0 sent, 1 gone with the event that was to be sent, 9 gone with another.
 fn send<R: Wait>(rt: &R, sender: &mut Sender, second: u64) -> u32 {
@@ -111,29 +111,43 @@ fn fill<R: Wait>(rt: &R, mut sender: Sender) -> u64 {
     1000
 }
 
-/// Drops a value late.
-fn drop_late<T: Drop>(value: T) {
+/// Ends of an inbox that go late.
+#[derive(Drop)]
+enum Late {
+    Receiver(Receiver),
+    Senders(Vec<Sender>),
+}
+
+fn drop_late(late: Late) {
     for _ in 0..10000 {
         thread::yield_now();
     }
-    drop(value)
+    drop(late)
+}
+
+/// Starts a thread in which these ends go late.
+fn start_late<R: Threads>(rt: &R, late: Late) -> Option<JoinHandle<()>> {
+    match thread::spawn(rt, move || drop_late(late)) {
+        Ok(handle) => Some(handle),
+        Err(_) => None,
+    }
 }
 
 /// Whether no more was sent than an inbox of one item holds, where the receiver goes late.
-pub(crate) fn gone_late<R: Threads + Wait + Sync>(rt: &R, alloc: Global) -> Option<bool> {
+pub(crate) fn gone_late<R: Threads + Wait>(rt: &R, alloc: Global) -> Option<bool> {
     let (mut senders, receiver) = inbox::make(alloc, 1, 1).ok()?;
     let sender = senders.pop()?;
-    let (sent, ()) = thread::join(rt, move || fill(rt, sender), move || drop_late(receiver));
+    let late = start_late(rt, Late::Receiver(receiver))?;
+    let sent = fill(rt, sender);
+    late.join(rt);
     Some(sent <= 1)
 }
 
 /// Whether a take that waits answers Left, where the senders go late.
-pub(crate) fn left_late<R: Threads + Wait + Sync>(rt: &R, alloc: Global) -> Option<bool> {
+pub(crate) fn left_late<R: Threads + Wait>(rt: &R, alloc: Global) -> Option<bool> {
     let (senders, mut receiver) = inbox::make(alloc, 1, 2).ok()?;
-    let (is_left, ()) = thread::join(
-        rt,
-        move || receiver.take(rt).is_err(),
-        move || drop_late(senders),
-    );
+    let late = start_late(rt, Late::Senders(senders))?;
+    let is_left = receiver.take(rt).is_err();
+    late.join(rt);
     Some(is_left)
 }

@@ -44,9 +44,11 @@ pub(crate) fn measure<R: Runtime + Threads + Wait + Sync>(
         mem::size_of::<Event>(),
         mem::size_of::<Out>()
     )?;
-    let count = numbers.first().copied().unwrap_or(0);
-    for &capacity in numbers.iter().skip(1) {
-        measure_one(rt, alloc, capacity, count)?;
+    let Some((count, capacities)) = numbers.split_first() else {
+        return Ok(());
+    };
+    for capacity in capacities {
+        measure_one(rt, alloc, *capacity, *count)?;
     }
     Ok(())
 }

@@ -40,16 +40,3 @@ Content-Type: application/simple-message-summary\r\n\
 Content-Length: 22\r\n\
 \r\n\
 Messages-Waiting: no\r\n";
-
-/// A SUBSCRIBE for bob's mailbox, for a second.
-pub(crate) const BRIEF: &str = "SUBSCRIBE sip:bob@127.0.0.1 SIP/2.0\r\n\
-Via: SIP/2.0/UDP 127.0.0.1:5070;branch=z9hG4bKb1\r\n\
-From: <sip:alice@127.0.0.1>;tag=f1\r\n\
-To: <sip:bob@127.0.0.1>\r\n\
-Call-ID: c2\r\n\
-CSeq: 1 SUBSCRIBE\r\n\
-Contact: <sip:alice@127.0.0.1:5070>\r\n\
-Event: message-summary\r\n\
-Expires: 1\r\n\
-Content-Length: 0\r\n\
-\r\n";
