@@ -20,8 +20,8 @@ use std::sync::Wait;
 use telling::{Answer, Asked, hear_line};
 use wires::Wire;
 
-/// The room for a control line: a longer one is cut, and so is none.
-const ROOM: usize = 4096;
+/// The room for a control line: as long as a datagram may be. A line that were cut might still be read, with a wrong number.
+const ROOM: usize = 65536;
 
 /// What is done with a control line.
 #[derive(Clone, Copy)]
