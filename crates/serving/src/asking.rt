@@ -76,7 +76,7 @@ fn ask<R: Wait + Net + Print + Eprint>(rt: &R, call: &TellCall) -> u8
 }
 
 /// `notifyd tell` with these words behind it. Answers the exit status: 0 where the answer is `ok`, 1 where it is another one or
-/// the words are no call, 3 where nobody answered or a socket failed, 4 where memory was wanted.
+/// the words are no call, 3 where nobody answered, a socket failed or what came couldn't be printed, 4 where memory was wanted.
 pub fn tell<R: Wait + Net + Print + Eprint + AllocGlobal>(rt: &R, words: &[Text]) -> u8
     ensures status { (result ≡ 0) ⊎ (result ≡ 1) ⊎ (result ≡ 3) ⊎ (result ≡ 4) }
     ensures no_call { ((call : TellCall) → ¬ IsTellCall words.now call) → (result ≡ 1) ⊎ (result ≡ 4) }

@@ -254,9 +254,9 @@ fn tell_why<R: Eprint>(rt: &R, error: &ServeError) -> u8
     error.status()
 }
 
-/// `notifyd serve` with these words behind it. Answers the exit status: 0 at a CLOSE, 1 where the words ask for no service, 3
-/// where an address is of another form or a socket, a file or a thread failed, 4 where memory was wanted. What went wrong is
-/// told in one line on standard error.
+/// `notifyd serve` with these words behind it. Answers the exit status: 0 where a service ended well, or where a text was asked for
+/// and printed, 1 where the words ask for no service, 3 where an address is of another form or a socket, a file or a thread failed,
+/// 4 where memory was wanted. What went wrong is told in one line on standard error.
 pub fn serve<R>(rt: R, words: &[Text]) -> u8
 where
     R: Threads
