@@ -6,7 +6,7 @@ use crate::feeding::Step;
 use crate::gathering::Gathered;
 use crate::names::Names;
 use crate::page::Page;
-use crate::running::Plan;
+use crate::running::{Came, Plan};
 use crate::scenes::{BOB, ONE, STOP, Scene, TWO, Tells, perform};
 use crew::{End, Report, StartError};
 use package::ClosingCell;
@@ -186,7 +186,21 @@ fn is_right_end(end: Option<End>, came: Option<u64>, changes: u64) -> bool {
     }
 }
 
-/// Runs the three events through a crew of one worker with these props, and tells whether all is as it should be.
+/// Whether each event of the one port was made and sent.
+fn is_fed(came: &Came) -> bool {
+    let Some(fed) = came.fed.first() else {
+        return false;
+    };
+    for refused in fed.refused.iter() {
+        if *refused > 0 {
+            return false;
+        }
+    }
+    true
+}
+
+/// Runs the three events through a crew of one worker with these props, and tells whether all is as it should be. Where an event
+/// can't be made, memory is wanting outside the crew.
 fn is_right<R>(rt: R, alloc: Global, props: &Props) -> Result<bool, RunError>
 where
     R: Threads + Wait + Clock + Copy + Send + 'static,
@@ -194,6 +208,9 @@ where
     let mut gathered = Gathered::nothing(alloc, 0, true)?;
     match perform(rt, alloc, &THREE_EVENTS, props, "", &mut gathered) {
         Ok(came) => {
+            if !is_fed(&came) {
+                return Err(RunError::Memory);
+            }
             let events = events_of(gathered.lines.text()?);
             match changes_left(props) {
                 Some(changes) => Ok(is_right_end(first_end(&came.report), events, changes)),
