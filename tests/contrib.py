@@ -7,7 +7,7 @@ from suite import Ended, run, same
 
 TOP = os.path.dirname(os.path.dirname(os.path.abspath(__file__)))
 
-TELLER = '#!/bin/sh\nfor word; do printf "<%s>" "$word"; done\nexit "${TOLD:-0}"\n'
+TELLER = '#!/bin/sh\nfor word; do printf "<%s>" "$word"; done | tee -a "$0.told"\nexit "${TOLD:-0}"\n'
 
 
 def called(folder, name, *words, **also):
@@ -60,8 +60,25 @@ def no_maildir_is_told_as_nothing(program, folder):
     same("status and words", (1, b""), (ended.status, ended.out))
 
 
+def all_mailboxes_of_asterisk_are_told(program, folder):
+    context = os.path.join(folder, "default")
+    for message in ("100/INBOX/msg0000.txt", "100/INBOX/msg0000.wav", "100/INBOX/msg0001.txt", "100/Old/msg0000.txt", "100/Urgent/msg0000.txt", "200/greet.wav"):
+        os.makedirs(os.path.dirname(os.path.join(context, message)), exist_ok=True)
+        open(os.path.join(context, message), "w").close()
+    same("its end", Ended(0, b"", b""), called(folder, "asterisk-tell-all", context))
+    with open(os.path.join(folder, "notifyd.told"), "rb") as told:
+        same("what is told", b"<tell><STATUS><tell><MAIL 100 voice 3 1 1 0><tell><MAIL 200 voice 0 0 0 0>", told.read())
+
+
+def no_context_is_told_as_nothing(program, folder):
+    ended = called(folder, "asterisk-tell-all", os.path.join(folder, "nowhere"))
+    same("status and words", (1, b""), (ended.status, ended.out))
+
+
 def checks():
     yield "contrib: what Asterisk counts is told", asterisk_is_told
+    yield "contrib: all mailboxes of Asterisk are told", all_mailboxes_of_asterisk_are_told
+    yield "contrib: a folder of Asterisk that isn't there is not told", no_context_is_told_as_nothing
     yield "contrib: a Maildir is told", a_maildir_is_told
     yield "contrib: an empty Maildir is told", an_empty_maildir_is_told
     yield "contrib: a Maildir that isn't there is not told", no_maildir_is_told_as_nothing
