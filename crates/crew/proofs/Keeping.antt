@@ -58,25 +58,6 @@ pub record Closing (old new : List PortSeats) (n : ℕ) : Type 0 where
   pub seats : (k : ℕ) (p : PortSeats) → k < n → SameSeats (get_or old k p) (get_or new k p)
   pub rest : (k : ℕ) (p : PortSeats) → n ≤ k → get_or new k p ≡ get_or old k p
 
-pub closing_first : (ports : List PortSeats) → Closing ports ports 0
-closing_first ports = record { len = refl; closed = λ k p low. absurd (omega arith); seats = λ k p low. absurd (omega arith); rest = λ k p low. refl }
-
-pub closing_more : (old ports : List PortSeats) (at : ℕ) (p q : PortSeats) → Closing old ports at → at < length ports → p ≡ get_or ports at p → q.still_open ≡ 0 → SameSeats p q → Closing old (set ports at q) (at + 1)
-closing_more old ports at p q was fits is shut same =
-    let here : (d : PortSeats) → get_or (set ports at q) at d ≡ q = λ d. get_or-set_same ports at q d fits in
-    let stood : (d : PortSeats) → p ≡ get_or old at d = λ d. is ∙ get_or_default ports at p d fits ∙ was.rest at d (omega arith) in
-    let P : ℕ → Type 0 = λ k. (d : PortSeats) → (get_or (set ports at q) k d).still_open ≡ 0 in
-    let Q : ℕ → Type 0 = λ k. (d : PortSeats) → SameSeats (get_or old k d) (get_or (set ports at q) k d) in record {
-      len = length-set ports at q ∙ was.len;
-      closed = λ k d low. below_more P at
-          (λ j less e. ap (λ (x : PortSeats). x.still_open) (get_or-set_other ports at j q e (omega arith)) ∙ was.closed j e less)
-          (λ e. ap (λ (x : PortSeats). x.still_open) (here e) ∙ shut) k low d;
-      seats = λ k d low. below_more Q at
-          (λ j less e. ap (λ (x : PortSeats). map emptied x.seats) (get_or-set_other ports at j q e (omega arith)) ∙ was.seats j e less)
-          (λ e. ap (λ (x : PortSeats). map emptied x.seats) (here e) ∙ same ∙ ap (λ (x : PortSeats). map emptied x.seats) (stood e)) k low d;
-      rest = λ k d low. get_or-set_other ports at k q d (omega arith) ∙ was.rest k d (omega arith);
-    }
-
 -- ---- taking all
 
 pub record Taking (t0 t : TakerSeat) (left : ℕ) : Type 0 where

@@ -54,9 +54,6 @@ pub record Settling (rows0 reports : List WorkerReport) (seats left : List Sende
   pub same : reports ≡ rows0
   pub came : HaveCome rows0 seats at
 
-pub settling_first : (reports : List WorkerReport) (sents : List SenderSeat) → Settling reports reports (reverse sents) sents 0
-settling_first reports sents = record { front = []; whole = refl; count = refl; same = refl; came = λ k s r low. absurd (omega arith) }
-
 module _ {rows0 reports : List WorkerReport} {seats left : List SenderSeat} {at : ℕ} (was : Settling rows0 reports seats left at) (fits : AreSeatsOf rows0 seats) where
   pub all_settled : length left ≡ 0 → HaveCome rows0 seats (length rows0)
   all_settled none =

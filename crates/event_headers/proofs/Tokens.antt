@@ -15,9 +15,6 @@ pub token_tested : (text : List ℕ) → is_token text ≡ true → IsToken text
 token_tested [] e = absurd (cc)
 token_tested (x ∷ xs) e = ((and_both (nat_lt 0 (length (x ∷ xs))) (list_all (is_in class.Token) (x ∷ xs)) e).1, λ empty. absurd (cc))
 
-pub small_token_tested : (text : List ℕ) → is_small_token text ≡ true → IsSmallToken text
-small_token_tested text e = let both = and_both (is_token text) (list_all (is_in class.Small) text) e in (token_tested text both.0, both.1)
-
 digit_token : (x : ℕ) → is_in class.Digit x ≡ true → is_in class.Token x ≡ true
 digit_token x e = grind (arith, nat_tests)
 

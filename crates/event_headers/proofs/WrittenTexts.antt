@@ -67,9 +67,6 @@ named : (k : Class) (n : List ℕ) (o : Option (List ℕ)) (ps : List Parameter)
 named k n None ps e w = e
 named k n (Some v) ps e w = (e, w)
 
-a_name : (n : List ℕ) → AllPassing (is_in class.Token) n → n ≢ [] → IsToken n
-a_name n all some = (all, some)
-
 -- ---- Event
 
 id : List ℕ

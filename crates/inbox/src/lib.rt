@@ -7,7 +7,8 @@
 //! items that it has sent, or taken, so far.
 //!
 //! It is a channel of `crossbeam_channel` under the rule of `queue_rule`, which every step of every thread keeps. What
-//! it isn't: it handles no event, and no clause says that an item arrives, or that a call that waits returns.
+//! it isn't: it handles no event, and no clause says that an item arrives, or that a call that waits returns. Begin
+//! with [`make`], then `specs/Seats`.
 #![tactic(auto)]
 
 mod ends;

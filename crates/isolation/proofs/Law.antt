@@ -179,10 +179,6 @@ module _ (start other : Start) (serial : ℕ) (x : Request) (like : IsLike start
   its-before None p = refl
   its-before (Some m) p = refl
 
-  some-its : (o : Option Life) → is_some (its_life old new o) ≡ is_some o
-  some-its None = refl
-  some-its (Some l) = refl
-
   befell-unborn : (past : List Event) (e : Event) → life start past serial ≡ None → befell start past e serial ≡ (if serial == births start past + 1 then birth_at start past e else None)
   unfolding befell
   befell-unborn past e is = rw is (unborn-befalls start serial past e (serial == births start past + 1) (birth_at start past e))

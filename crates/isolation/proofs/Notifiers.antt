@@ -1,14 +1,10 @@
 -- The law of isolation asked of two notifiers: this one, and one that numbers all NOTIFYs by one counter.
-use Rattle.std.proofs.Common.{◌≡◌, ℕ, List, [], ◌∷◌, false, refl, sym, ◌∙◌, ap, arith}
-use Rattle.std.specs.Prelude.{map, codes, replicate}
-use Rattle.std.specs.FinMap.{empty, get-empty}
-use Rattle.std.specs.Ordering.{nat_cmp}
-use Rattle.std.specs.Cmp.Lexicographic.{slice_cmp}
+use Rattle.std.proofs.Common.{◌≡◌, ℕ, List, [], ◌∷◌, refl, sym, ◌∙◌, ap, arith}
+use Rattle.std.specs.Prelude.{map, codes}
 use Rattle.sip_read.specs.declared.message.Request.{Request}
 use Rattle.notifier.specs.declared.event.Event.{Event}
-use Rattle.notifier.specs.Start.{Start}
 use Rattle.notifier.specs.Run.{made}
-use Rattle.notifier.proofs.Examples.{usual, port, refer, refer_1, of_call, comes}
+use Rattle.notifier.proofs.Examples.{refer, refer_1, of_call, comes}
 use Rattle.notifier.specs.Tag
 use Rattle.notifier.specs.Requests
 use Rattle.notifier.specs.Answers
@@ -21,8 +17,8 @@ use Rattle.lives.specs.Past
 use Rattle.lives.specs.Life
 use Rattle.lives.specs.Lives
 use Rattle.lives.specs.Notices.{newest_first}
-use Rattle.lives.specs.Laws.{IsStart}
 use Rattle.lives.proofs.Law.{notices_law}
+use Rattle.lives.proofs.UsualStart.{usual_start as transfers, is_start}
 use Rattle.rand_chacha.specs.Block
 use Rattle.rand_core.specs.Steps
 use Rattle.hex.specs.Hex
@@ -44,30 +40,6 @@ isolated_law start other serial serial' x es es' ok ok' small small' both =
     ∙ sym (notices_law other serial' es' ok' small'))
 
 -- ---- two runs: a transfer alone, and after another's
-
--- usual limits, and a package for transfers that holds nothing
-abbrev transfers : Start
-transfers = record {
-  place = record { limits = usual; seed = replicate 32 0; me = port 5060; stop = false; worker = 0 };
-  boxes = record { name = codes "refer"; content_type = codes "message/sipfrag;version=2.0"; contents = empty } ∷ [];
-}
-
-is_start : IsStart transfers
-is_start = record {
-  limits = record {
-    min_time = (omega arith, omega arith);
-    max_time = (omega arith, omega arith);
-    default_time = (omega arith, omega arith);
-    refer_time = (omega arith, omega arith);
-    max_cseq = (omega arith, omega arith);
-    table = (omega arith, omega arith);
-    serials = (omega arith, omega arith);
-    kept = (omega arith, omega arith);
-    inbox = (omega arith, omega arith);
-    outbox = (omega arith, omega arith);
-  };
-  no_transfer = λ tag. get-empty (slice_cmp nat_cmp) tag;
-}
 
 abbrev before : Request
 before = of_call (codes "c8") (refer (codes "z9hG4bKr2"))

@@ -26,10 +26,6 @@ module _ (old new : List ℕ) where
 
   -- ---- requests
 
-  pub event-renamed : (r : Request) → event_of (renamed_request old new r) ≡ event_of r
-  unfolding event_of
-  event-renamed r = refl
-
   pub asked-renamed : (limits : Limits) (r : Request) → asked limits (renamed_request old new r) ≡ asked limits r
   unfolding asked event_of
   asked-renamed limits r = refl

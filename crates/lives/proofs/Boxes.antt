@@ -3,19 +3,17 @@ use Rattle.std.proofs.Common.{◌≡◌, ℕ, List, [], ◌∷◌, Option, Some,
 use Rattle.std.proofs.lemmas.Bool.Decides.{nat_tests}
 use Rattle.std.specs.Prelude.{if◌then◌else◌, ◌||◌, ◌==◌, bytes_eq, option_map, is_some, codes}
 use Rattle.package.specs.declared.counts.Counts.{Counts}
-use Rattle.package.specs.declared.counts.MailCounts.{MailCounts}
 use Rattle.package.specs.Content.{Content, OfMail, OfStatus, Contents, held, with_held, mail_package, refer_package, Seen, is_final, finite_maps}
-use Rattle.lives.proofs.Texts.{Bytes, bytes_same, bytes_own, and-left, and-right}
-use Rattle.package.specs.declared.counts.Class.{Class}
-use Rattle.package.specs.declared.counts.Class.TheVariants.{Voice, Fax, Pager, Multimedia, Text}
+use Rattle.lives.proofs.Texts.{Bytes, bytes_same, bytes_own}
 use Rattle.package.specs.Values.{MailChange, Progress}
 use Rattle.package.specs.declared.change.Change.{Change}
 use Rattle.package.specs.declared.change.Change.TheVariants.{Mail, Begin, Step, Forget}
 use Rattle.package.specs.declared.change.Outcome.{Outcome}
 use Rattle.package.specs.declared.change.Outcome.TheVariants.{Changed, Same, Unknown}
-use Rattle.package.specs.Changes.{counts_of, with_counts, same_counts, event_of_change, applied, mail_at, begin_at, step_at, forget_at, change_of}
+use Rattle.package.specs.Changes.{counts_of, with_counts, same_counts, event_of_change, applied, mail_at, begin_at, step_at, change_of}
 use Rattle.package.specs.Boxes.{first_box, after_box, before_boxes, change_first, held_by, content_in}
-use Rattle.lives.proofs.Maps.{held-with, held-without}
+use Rattle.package.proofs.OneChange.{new_content, applied_held}
+use Rattle.lives.proofs.Maps.{held-with}
 
 abbrev pub boxes_without : List Seen → Bytes → List Seen
 boxes_without boxes tag = (change_first boxes (Forget tag)).1
@@ -82,34 +80,12 @@ content-other boxes c name resource h = ap (held_by resource) (change-other boxe
 
 -- what a mail change makes of what is held of its mailbox
 unfoldable pub mailed : MailChange → Option Content → Option Content
-mailed m None = None
-mailed m (Some (OfStatus code reason)) = Some (OfStatus code reason)
-mailed m (Some (OfMail counts)) = Some (OfMail (with_counts m.class m.counts counts))
+mailed m o = new_content (Mail m) o
 
 unfoldable pub mail_outcome : MailChange → Option Content → Outcome
 mail_outcome m None = Unknown
 mail_outcome m (Some (OfStatus code reason)) = Unknown
 mail_outcome m (Some (OfMail counts)) = if same_counts (counts_of m.class counts) (Some m.counts) then Same else Changed
-
-eq-numbers : (a b : ℕ) → (a == b) ≡ true → a ≡ b
-eq-numbers a b h = grind (arith, nat_tests)
-
-abbrev four : ℕ → ℕ → ℕ → ℕ → Counts
-four a b c d = record { new_count = a; old_count = b; urgent_new = c; urgent_old = d }
-
-pub same_counts-true : (o : Option Counts) (n : Counts) → same_counts o (Some n) ≡ true → o ≡ Some n
-same_counts-true None n h = absurd (cc)
-same_counts-true (Some m) n h =
-    let a : m.new_count ≡ n.new_count = eq-numbers _ _ (and-left (m.new_count == n.new_count) ((m.old_count == n.old_count) && ((m.urgent_new == n.urgent_new) && (m.urgent_old == n.urgent_old))) h) in
-    let h2 = and-right (m.new_count == n.new_count) ((m.old_count == n.old_count) && ((m.urgent_new == n.urgent_new) && (m.urgent_old == n.urgent_old))) h in
-    let b : m.old_count ≡ n.old_count = eq-numbers _ _ (and-left (m.old_count == n.old_count) ((m.urgent_new == n.urgent_new) && (m.urgent_old == n.urgent_old)) h2) in
-    let h3 = and-right (m.old_count == n.old_count) ((m.urgent_new == n.urgent_new) && (m.urgent_old == n.urgent_old)) h2 in
-    let c : m.urgent_new ≡ n.urgent_new = eq-numbers _ _ (and-left (m.urgent_new == n.urgent_new) (m.urgent_old == n.urgent_old) h3) in
-    let d : m.urgent_old ≡ n.urgent_old = eq-numbers _ _ (and-right (m.urgent_new == n.urgent_new) (m.urgent_old == n.urgent_old) h3) in
-    ap Some (made m n a b c d)
-  where
-    made : (m n : Counts) → m.new_count ≡ n.new_count → m.old_count ≡ n.old_count → m.urgent_new ≡ n.urgent_new → m.urgent_old ≡ n.urgent_old → m ≡ n
-    made m n a b c d = let e : four m.new_count m.old_count m.urgent_new m.urgent_old ≡ four n.new_count n.old_count n.urgent_new n.urgent_old = cc in e
 
 pub same_counts-own : (o : Option Counts) → same_counts o o ≡ true
 same_counts-own None = refl
@@ -117,39 +93,6 @@ same_counts-own (Some m) = rw (own m.new_count, own m.old_count, own m.urgent_ne
   where
     own : (a : ℕ) → (a == a) ≡ true
     own a = grind (arith, nat_tests)
-
--- counts that are set to what they are
-pub with_counts-same : (k : Class) (n : Counts) (m : MailCounts) → counts_of k m ≡ Some n → with_counts k n m ≡ m
-with_counts-same Voice n m h = rw (← h) refl
-with_counts-same Fax n m h = rw (← h) refl
-with_counts-same Pager n m h = rw (← h) refl
-with_counts-same Multimedia n m h = rw (← h) refl
-with_counts-same Text n m h = rw (← h) refl
-
-mail-held : (boxes : Contents) (m : MailChange) (resource : Bytes) → held (mail_at finite_maps boxes m (held boxes m.mailbox)).1 resource ≡ (if bytes_eq resource m.mailbox then mailed m (held boxes resource) else held boxes resource)
-mail-held boxes m resource = by_place (bytes_eq resource m.mailbox) refl (held boxes m.mailbox) refl
-  where
-    at_own : (o : Option Content) → held boxes m.mailbox ≡ o → bytes_eq resource m.mailbox ≡ true → held (mail_at finite_maps boxes m o).1 resource ≡ mailed m o
-    at_own None e f = unfold mailed in rw (bytes_same resource m.mailbox f) e
-    at_own (Some (OfStatus code reason)) e f = unfold mailed in rw (bytes_same resource m.mailbox f) e
-    at_own (Some (OfMail counts)) e f = unfold mailed in by_same (same_counts (counts_of m.class counts) (Some m.counts)) refl
-      where
-        by_same : (d : Bool) → same_counts (counts_of m.class counts) (Some m.counts) ≡ d → held (if◌then◌else◌ {A = Outcome × Contents} d (Same, boxes) (Changed, with_held boxes m.mailbox (OfMail (with_counts m.class m.counts counts)))).1 resource ≡ Some (OfMail (with_counts m.class m.counts counts))
-        by_same true g = rw (bytes_same resource m.mailbox f, e, with_counts-same m.class m.counts counts (same_counts-true (counts_of m.class counts) m.counts g)) refl
-        by_same false g = held-with boxes m.mailbox (OfMail (with_counts m.class m.counts counts)) resource ∙ rw f refl
-
-    elsewhere : (o : Option Content) → bytes_eq resource m.mailbox ≡ false → held (mail_at finite_maps boxes m o).1 resource ≡ held boxes resource
-    elsewhere None f = refl
-    elsewhere (Some (OfStatus code reason)) f = refl
-    elsewhere (Some (OfMail counts)) f = by_same (same_counts (counts_of m.class counts) (Some m.counts))
-      where
-        by_same : (d : Bool) → held (if◌then◌else◌ {A = Outcome × Contents} d (Same, boxes) (Changed, with_held boxes m.mailbox (OfMail (with_counts m.class m.counts counts)))).1 resource ≡ held boxes resource
-        by_same true = refl
-        by_same false = held-with boxes m.mailbox (OfMail (with_counts m.class m.counts counts)) resource ∙ rw f refl
-
-    by_place : (d : Bool) → bytes_eq resource m.mailbox ≡ d → (o : Option Content) → held boxes m.mailbox ≡ o → held (mail_at finite_maps boxes m o).1 resource ≡ (if d then mailed m (held boxes resource) else held boxes resource)
-    by_place true f o e = at_own o e f ∙ ap (mailed m) (sym e ∙ ap (held boxes) (sym (bytes_same resource m.mailbox f)))
-    by_place false f o e = elsewhere o f
 
 pub mail-after : (boxes : List Seen) (m : MailChange) (resource : Bytes) → content_in (change_first boxes (Mail m)).1 mail_package resource ≡ (if bytes_eq resource m.mailbox then mailed m (content_in boxes mail_package resource) else content_in boxes mail_package resource)
 mail-after boxes m resource = ap (held_by resource) (change-own boxes (Mail m)) ∙ by_box (first_box mail_package boxes)
@@ -160,7 +103,7 @@ mail-after boxes m resource = ap (held_by resource) (change-own boxes (Mail m)) 
 
     by_box : (o : Option Seen) → held_by resource (box_after (Mail m) o) ≡ (if bytes_eq resource m.mailbox then mailed m (held_by resource o) else held_by resource o)
     by_box None = unfold box_after in both_none (bytes_eq resource m.mailbox)
-    by_box (Some box) = unfold box_after in mail-held box.contents m resource
+    by_box (Some box) = unfold box_after mailed in applied_held box.contents (Mail m) resource
 
 pub mail-outcome : (boxes : List Seen) (m : MailChange) → (change_first boxes (Mail m)).0 ≡ mail_outcome m (content_in boxes mail_package m.mailbox)
 mail-outcome boxes m = change-outcome boxes (Mail m) ∙ by_box (first_box mail_package boxes)
@@ -182,39 +125,12 @@ mail-outcome boxes m = change-outcome boxes (Mail m) ∙ by_box (first_box mail_
 
 -- what a step makes of how far its transfer has come
 unfoldable pub stepped : Progress → Option Content → Option Content
-stepped p None = None
-stepped p (Some (OfMail counts)) = Some (OfMail counts)
-stepped p (Some (OfStatus code reason)) = if is_final code || ((code == p.code) && bytes_eq reason p.reason) then Some (OfStatus code reason) else Some (OfStatus p.code p.reason)
+stepped p o = new_content (Step p) o
 
 unfoldable pub step_outcome : Progress → Option Content → Outcome
 step_outcome p None = Unknown
 step_outcome p (Some (OfMail counts)) = Unknown
 step_outcome p (Some (OfStatus code reason)) = if is_final code || ((code == p.code) && bytes_eq reason p.reason) then Same else Changed
-
-step-held : (boxes : Contents) (p : Progress) (resource : Bytes) → held (step_at finite_maps boxes p (held boxes p.tag)).1 resource ≡ (if bytes_eq resource p.tag then stepped p (held boxes resource) else held boxes resource)
-step-held boxes p resource = by_place (bytes_eq resource p.tag) refl (held boxes p.tag) refl
-  where
-    at_own : (o : Option Content) → held boxes p.tag ≡ o → bytes_eq resource p.tag ≡ true → held (step_at finite_maps boxes p o).1 resource ≡ stepped p o
-    at_own None e f = unfold stepped in rw (bytes_same resource p.tag f) e
-    at_own (Some (OfMail counts)) e f = unfold stepped in rw (bytes_same resource p.tag f) e
-    at_own (Some (OfStatus code reason)) e f = unfold stepped in by_same (is_final code || ((code == p.code) && bytes_eq reason p.reason))
-      where
-        by_same : (d : Bool) → held (if◌then◌else◌ {A = Outcome × Contents} d (Same, boxes) (Changed, with_held boxes p.tag (OfStatus p.code p.reason))).1 resource ≡ (if d then Some (OfStatus code reason) else Some (OfStatus p.code p.reason))
-        by_same true = rw (bytes_same resource p.tag f) e
-        by_same false = held-with boxes p.tag (OfStatus p.code p.reason) resource ∙ rw f refl
-
-    elsewhere : (o : Option Content) → bytes_eq resource p.tag ≡ false → held (step_at finite_maps boxes p o).1 resource ≡ held boxes resource
-    elsewhere None f = refl
-    elsewhere (Some (OfMail counts)) f = refl
-    elsewhere (Some (OfStatus code reason)) f = by_same (is_final code || ((code == p.code) && bytes_eq reason p.reason))
-      where
-        by_same : (d : Bool) → held (if◌then◌else◌ {A = Outcome × Contents} d (Same, boxes) (Changed, with_held boxes p.tag (OfStatus p.code p.reason))).1 resource ≡ held boxes resource
-        by_same true = refl
-        by_same false = held-with boxes p.tag (OfStatus p.code p.reason) resource ∙ rw f refl
-
-    by_place : (d : Bool) → bytes_eq resource p.tag ≡ d → (o : Option Content) → held boxes p.tag ≡ o → held (step_at finite_maps boxes p o).1 resource ≡ (if d then stepped p (held boxes resource) else held boxes resource)
-    by_place true f o e = at_own o e f ∙ ap (stepped p) (sym e ∙ ap (held boxes) (sym (bytes_same resource p.tag f)))
-    by_place false f o e = elsewhere o f
 
 pub step-after : (boxes : List Seen) (p : Progress) (resource : Bytes) → content_in (change_first boxes (Step p)).1 refer_package resource ≡ (if bytes_eq resource p.tag then stepped p (content_in boxes refer_package resource) else content_in boxes refer_package resource)
 step-after boxes p resource = ap (held_by resource) (change-own boxes (Step p)) ∙ by_box (first_box refer_package boxes)
@@ -225,7 +141,7 @@ step-after boxes p resource = ap (held_by resource) (change-own boxes (Step p)) 
 
     by_box : (o : Option Seen) → held_by resource (box_after (Step p) o) ≡ (if bytes_eq resource p.tag then stepped p (held_by resource o) else held_by resource o)
     by_box None = unfold box_after in both_none (bytes_eq resource p.tag)
-    by_box (Some box) = unfold box_after in step-held box.contents p resource
+    by_box (Some box) = unfold box_after stepped in applied_held box.contents (Step p) resource
 
 pub step-outcome : (boxes : List Seen) (p : Progress) → (change_first boxes (Step p)).0 ≡ step_outcome p (content_in boxes refer_package p.tag)
 step-outcome boxes p = change-outcome boxes (Step p) ∙ by_box (first_box refer_package boxes)
@@ -267,14 +183,6 @@ begin-elsewhere boxes tag resource f = ap (held_by resource) (change-own boxes (
     by_box (Some box) = unfold box_after in by_held box.contents (held box.contents tag)
 
 -- a transfer that is forgotten
-forget-held : (contents : Contents) (tag resource : Bytes) (o : Option Content) → held contents tag ≡ o → held (forget_at finite_maps contents tag o).1 resource ≡ (if bytes_eq resource tag then None else held contents resource)
-forget-held contents tag resource None e = by_place (bytes_eq resource tag) refl
-  where
-    by_place : (d : Bool) → bytes_eq resource tag ≡ d → held contents resource ≡ (if d then None else held contents resource)
-    by_place true f = rw (bytes_same resource tag f) e
-    by_place false f = refl
-forget-held contents tag resource (Some c) e = held-without contents tag resource
-
 pub forget-after : (boxes : List Seen) (tag resource : Bytes) → content_in (boxes_without boxes tag) refer_package resource ≡ (if bytes_eq resource tag then None else content_in boxes refer_package resource)
 forget-after boxes tag resource = ap (held_by resource) (change-own boxes (Forget tag)) ∙ by_box (first_box refer_package boxes)
   where
@@ -284,4 +192,4 @@ forget-after boxes tag resource = ap (held_by resource) (change-own boxes (Forge
 
     by_box : (o : Option Seen) → held_by resource (box_after (Forget tag) o) ≡ (if bytes_eq resource tag then None else held_by resource o)
     by_box None = unfold box_after in both_none (bytes_eq resource tag)
-    by_box (Some box) = unfold box_after in forget-held box.contents tag resource (held box.contents tag) refl
+    by_box (Some box) = unfold box_after in applied_held box.contents (Forget tag) resource

@@ -71,10 +71,6 @@ told-own : (s : State) (left : ℕ) (P : Bytes → Type 0) → P s.usage.local_t
 unfolding told
 told-own s left P p = if_is (λ (next : Step). P (usage_after next).local_tag) (s.count == s.want.max_cseq) _ _ (λ e. p) (λ e. p)
 
-stays-own : (P : Bytes → Type 0) → Own P stays
-unfolding stays
-stays-own P row p = tt
-
 counted-own : (P : Bytes → Type 0) (r : Request) → Own P (counted r)
 unfolding counted stays
 counted-own P r row p = tt

@@ -4,7 +4,7 @@ use Rattle.std.specs.Prelude.{if◌then◌else◌, ◌==◌, ◌||◌, bytes_eq}
 use Rattle.std.proofs.lemmas.Bool.Decides.{nat_tests}
 use Rattle.std.proofs.lemmas.List.{append-nil}
 use Rattle.package.specs.Content.{Content, OfStatus, refer_package, Seen, is_final}
-use Rattle.lives.proofs.Texts.{Bytes, bytes_own, bytes_same, bytes_other_way, and-left, and-right, and-false, if_is}
+use Rattle.lives.proofs.Texts.{Bytes, bytes_own, bytes_same, bytes_other_way, and-false, if_is}
 use Rattle.package.specs.Values.{Progress}
 use Rattle.package.specs.declared.change.Change.TheVariants.{Step}
 use Rattle.package.specs.declared.change.Outcome.{Outcome}
@@ -41,19 +41,9 @@ is_change Changed = true
 is_change Same = false
 is_change Unknown = false
 
-eq-numbers : (a b : ℕ) → (a == b) ≡ true → a ≡ b
-eq-numbers a b h = grind (arith, nat_tests)
-
 stepped-open : (p : Progress) (code : ℕ) (reason : Bytes) → is_final code ≡ false → stepped p (Some (OfStatus code reason)) ≡ Some (OfStatus p.code p.reason)
 unfolding stepped
-stepped-open p code reason e = rw e (by_same ((code == p.code) && bytes_eq reason p.reason) refl)
-  where
-    by_same : (d : Bool) → ((code == p.code) && bytes_eq reason p.reason) ≡ d → (if d then Some (OfStatus code reason) else Some (OfStatus p.code p.reason)) ≡ Some (OfStatus p.code p.reason)
-    by_same true f =
-        let a : code ≡ p.code = eq-numbers code p.code (and-left (code == p.code) (bytes_eq reason p.reason) f) in
-        let b : reason ≡ p.reason = bytes_same reason p.reason (and-right (code == p.code) (bytes_eq reason p.reason) f) in
-        cc
-    by_same false f = refl
+stepped-open p code reason e = rw e refl
 
 flip-tests : (a b : ℕ) (c d : Bytes) → ((a == b) && bytes_eq c d) ≡ ((b == a) && bytes_eq d c)
 flip-tests a b c d = rw (flip, same_way (bytes_eq c d) refl) refl

@@ -50,7 +50,3 @@ if_is P false x y h g = g refl
 pub when_is : {A : Type 0} (P : Option A → Type 0) (d : Bool) (x : A) → (d ≡ true → P (Some x)) → (d ≡ false → P None) → P (when d x)
 when_is P true x h g = h refl
 when_is P false x h g = g refl
-
--- a value, with that it is this value
-pub at_value : {A : Type 0} (P : A → Type 0) (x : A) → ((y : A) → x ≡ y → P y) → P x
-at_value P x h = h x refl

@@ -11,13 +11,13 @@ use Rattle.lives.specs.Laws.{IsStart}
 abbrev usual : Limits
 usual = record { min_time = 60; max_time = 86400; default_time = 3600; refer_time = 180; max_cseq = 2147483647; table = 1024; serials = 4294967295; kept = 64; inbox = 64; outbox = 64 }
 
-abbrev usual_start : Start
+abbrev pub usual_start : Start
 usual_start = record {
   place = record { limits = usual; seed = replicate 32 0; me = record { ip = 127 ∷ 0 ∷ 0 ∷ 1 ∷ []; port = 5060 }; stop = false; worker = 0 };
   boxes = record { name = codes "refer"; content_type = codes "message/sipfrag;version=2.0"; contents = empty } ∷ [];
 }
 
-is_start : IsStart usual_start
+pub is_start : IsStart usual_start
 is_start = record {
   limits = record {
     min_time = (omega arith, omega arith);

@@ -128,34 +128,6 @@ module _ {language : Language} {old now : PortSeats} {told told' : Option (List 
 
   -- ---- how it ends
 
-  pub fed_all : (count : ℕ) → seen ≡ count
-      → (log : Log) × Grows told told' (datagrams log) × IsFed language count log old now (record { seen = seen; unread = missed; end = Done })
-  fed_all count all = (
-    was.log,
-    was.given,
-    record {
-      say = was.say;
-      seen = was.seen_are;
-      few = (let s = was.seen_are in omega arith);
-      unread_are = was.missed_are;
-      ends = (was.sends, inl (sym was.seen_are ∙ all, was.unclosed));
-    },
-  )
-
-  pub fed_fault : (count : ℕ) → seen < count → (after : Option (List Datagram)) → Grows told' after []
-      → (log : Log) × Grows told after (datagrams log) × IsFed language count log old now (record { seen = seen; unread = missed; end = Fault })
-  fed_fault count low after none = (
-    was.log,
-    grows_same told told' after (datagrams was.log) was.given none,
-    record {
-      say = was.say;
-      seen = was.seen_are;
-      few = (let s = was.seen_are in omega arith);
-      unread_are = was.missed_are;
-      ends = (was.sends, was.unclosed);
-    },
-  )
-
   pub fed_close : (count : ℕ) → seen < count → (next : PortSeats) (after : Option (List Datagram)) (d : Datagram) → Grows told' after (d ∷ [])
       → Says language d heard.Close → next ≡ now
       → (log : Log) × Grows told after (datagrams log) × IsFed language count log old next (record { seen = seen + 1; unread = missed; end = Done })

@@ -120,9 +120,6 @@ pub sent_law : (r : Result (Unit {0}) SendError) (old new : PortSeats) (e : Even
 sent_law (Ok x) old new e single some k = send_one old new e single k.1
 sent_law (Err x) old new e single some k = record { reached = 0; few = some; single = λ _. refl; stands = k.0 }
 
-pub not_sent : (old new : PortSeats) (e : Event) → 0 < old.still_open → new ≡ old → Misses old e new
-not_sent old new e some same = record { reached = 0; few = some; single = λ _. refl; stands = same }
-
 missed_tick : (old new : PortSeats) (t : ℕ) (error : TickError) → 0 < old.still_open → TicksFirst old (event.Tick t) new error → Misses old (event.Tick t) new
 missed_tick old new t tick.Closed some k = absurd (let e = k.1 in omega arith)
 missed_tick old new t (tick.Gone i) some k = record { reached = i; few = k.1; single = λ e. absurd cc; stands = k.0 }

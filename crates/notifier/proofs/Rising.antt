@@ -103,13 +103,6 @@ module _ (slot : ℕ → Option Row) where
   Leads low [] = Unit {0}
   Leads low (e ∷ es) = (low ≤ e.0) × IsSomeAnd (slot e.1) (λ row. row.serial ≡ e.0) × Leads (e.0 + 1) es
 
-  pub lookup-below : (low serial : ℕ) (es : List (ℕ × ℕ)) → Leads low es → serial < low → lookup (is_at (nat_cmp serial)) es ≡ None
-  lookup-below low serial [] leads below = refl
-  lookup-below low serial (e ∷ es) leads below =
-      let apart : is_at (nat_cmp serial) e.0 ≡ false = not_at serial e.0 (omega arith) in
-      let rest = lookup-below (e.0 + 1) serial es leads.2 (omega arith) in
-      rw apart rest
-
   rises_more : (low : ℕ) (key : ℕ) (rows : List Row) (o : Option Row) → low ≤ key → IsSomeAnd o (λ row. row.serial ≡ key) → Rises (key + 1) rows → Rises low (cons_option o rows)
   rises_more low key rows None l h rises = absurd h
   rises_more low key rows (Some row) l h rises = (omega arith, rw h rises)

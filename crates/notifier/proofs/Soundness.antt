@@ -41,16 +41,3 @@ sound_ticked place a b boxes clock on fits s rows indexed same = record {
   rows_rise = subst AreRising (sym rows) (rising_left (times_out place boxes clock) (due_keeps place boxes clock) (rows_of a.rows) s.rows_rise);
   ring_fits = ap (λ r. r.capacity) same.2 ∙ s.ring_fits;
 }
-
--- a ledger without rows
-pub sound_empty : {P : Type 0} (place : Place) (ledger : Ledger P) → IsIndexed ledger.rows → rows_of ledger.rows ≡ [] → ledger.clock < 2 ^ 63 → 1 ≤ ledger.next → ledger.next ≤ 2 ^ 32 → ledger.ring.capacity ≡ place.limits.kept → IsSound place ledger
-sound_empty place ledger indexed none clock begins fits ring = record {
-  clock_fits = clock;
-  next_begins = begins;
-  next_fits = fits;
-  rows_indexed = indexed;
-  rows_live = subst (All (IsLive ledger.clock)) (sym none) (All-nil (IsLive ledger.clock));
-  rows_own = subst (All (IsOwn place ledger.next)) (sym none) (All-nil (IsOwn place ledger.next));
-  rows_rise = subst AreRising (sym none) tt;
-  ring_fits = ring;
-}

@@ -149,9 +149,6 @@ module _ (old new : Rows) (serial key : ℕ) (row : Row) (i : IsIndexed old) (fo
   pub row_there : row_at old serial ≡ Some row
   row_there = rw (found, stood) refl
 
-  pub own_timer : (due : ℕ) → sorted.contains by_time old.timers (due, serial) ≡ (alarm_of row == due)
-  own_timer due = i.timed due serial ∙ ap (is_timed_at due) row_there
-
   free_by : (s : ℕ) → s ≢ serial → tree.get nat_cmp old.order s ≢ Some key
   free_by s d h =
       let other : row.serial ≡ s = rw stood at (i.held s key h) in

@@ -7,7 +7,8 @@
 //! `notifyd script 1 alice`.
 //!
 //! What is proved of them are the contracts of the crate `serving`, of [`udp_program::run`] and of [`server::run`]. Here
-//! stand the words, the two streams and the exit status.
+//! stand the words, the two streams and the exit status. Begin with `server::run` where a script is meant, with `serving::serve`
+//! where a server is.
 #![tactic(auto)]
 
 use scripts::{Sink, Source};

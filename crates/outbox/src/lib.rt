@@ -7,7 +7,8 @@
 //! the items that it has posted, or got, so far.
 //!
 //! It is a queue of `crossbeam_queue` under the rule of `queue_rule`, which every step of every thread keeps. What it
-//! isn't: it sends nothing to anyone, and no clause says that a post finds room, or that an item is ever taken.
+//! isn't: it sends nothing to anyone, and no clause says that a post finds room, or that an item is ever taken. Begin with
+//! [`make`], then `specs/Seats`.
 #![tactic(auto)]
 
 mod ends;

@@ -100,9 +100,6 @@ module _ {starts : List Start} {crew : List Hired} {ports : List PortSeats} {tak
   pub taker_workers : taker.workers ≡ length crew
   taker_workers = ap (λ (t : TakerSeat). t.workers) is.started.takes ∙ sym is.started.len
 
-  pub has_ends : (now : TakerSeat) → now.outbox ≡ taker.outbox → AllEnded taker.workers now.got → (w : ℕ) (h : Hired) → w < length crew → HasEndOf now (get_or crew w h)
-  has_ends = started_end is.started
-
   -- its port is open, and has sent nothing
   port_is : (port : PortSeats) → ports ≡ port ∷ [] → port ≡ port_of (map (λ (h : Hired). h.reads.inbox) crew) 0
   port_is port one = sym (ap (λ (l : List PortSeats). get_or l 0 port) one) ∙ is.started.dealt.each 0 port (omega arith)

@@ -86,26 +86,6 @@ module _ (blocks : List Block) (before after : Hearing) where
         datagrams = number ∙ sym (length-append (filter_map octets_in blocks) (octets ∷ [])) ∙ ap length (sym one);
       }
 
--- the number of an error is small
-pub error_number-small : (e : ReadError) → error_number e < 2 ^ 8
-error_number-small errors.NotSip = lit< tt
-error_number-small errors.BadLine = lit< tt
-error_number-small (errors.Missing name) = lit< tt
-error_number-small (errors.Twice name) = lit< tt
-error_number-small errors.ShortBody = lit< tt
-error_number-small errors.TooLong = lit< tt
-error_number-small errors.NoMemory = lit< tt
-
--- what a reader that had memory told
-pub tells-is : {Y : Type 0} (e : ReadError) (r : Result Y ReadError) → e ≢ errors.NoMemory → Tells e r → r ≡ Err e
-tells-is errors.NotSip r other told = told
-tells-is errors.BadLine r other told = told
-tells-is (errors.Missing name) r other told = told
-tells-is (errors.Twice name) r other told = told
-tells-is errors.ShortBody r other told = told
-tells-is errors.TooLong r other told = told
-tells-is errors.NoMemory r other told = absurd (other refl)
-
 cons_option-short : {Y : Type 0} (o : Option Y) (ys : List Y) (n : ℕ) → length ys ≤ n → length (cons_option o ys) ≤ n + 1
 cons_option-short None ys n short = omega (arith, short)
 cons_option-short (Some y) ys n short = omega (arith, short)

@@ -103,9 +103,6 @@ module _ {t0 t u : TakerSeat} {left : ℕ} {is_whole : Bool} {works0 works : Lis
     kept = λ whole. kept_end t u worker works took (was.kept whole);
   }
 
-  pub gathers_none : u ≡ t → Gathers t0 u left is_whole works0 works
-  gathers_none same = subst (λ x. Gathers t0 x left is_whole works0 works) (sym same) was
-
   -- an out is of one of the workers
   pub out_below : (worker : ℕ) (out : Out) → Took t (posted.Out worker out) u → worker < length works
   out_below worker out took =

@@ -28,10 +28,6 @@ use Rattle.sip_read.proofs.Parties.{party_takes, party_again}
 
 -- ---- the values of a line
 
-map_some : {A B : Type 0} (f : A → B) (o : Option A) (y : B) → option_map f o ≡ Some y → (x : A) × (o ≡ Some x) × (y ≡ f x)
-map_some f (Some x) y e = (x, refl, sym (some_is (f x) y e))
-map_some f None y e = absurd cc
-
 alone_some : {A : Type 0} (f : A → Item) (o : Option A) (xs : List Item) → alone (option_map f o) ≡ Some xs → (x : A) × (o ≡ Some x) × (xs ≡ f x ∷ [])
 alone_some f (Some x) xs e = (x, refl, sym (some_is (f x ∷ []) xs e))
 alone_some f None xs e = absurd cc

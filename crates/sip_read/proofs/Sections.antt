@@ -102,6 +102,3 @@ pub no_lines : (t : List ℕ) → line_at t ≡ None → (n : ℕ) → lines_at 
 unfolding lines_at
 no_lines t e zero = refl
 no_lines t e (suc n) = rw e refl
-
-pub rest_short : (t : List ℕ) (lines : List (List ℕ)) (rest : List ℕ) → lines_of t ≡ Some (lines, rest) → length rest ≤ length t
-rest_short t lines rest e = let h = lines_take (length t) t lines rest e in omega (arith, ap length h.2, length-append h.0 (13 ∷ 10 ∷ rest))

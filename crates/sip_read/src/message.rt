@@ -74,29 +74,6 @@ pub struct Request {
     pub body: Octets,
 }
 
-impl Request {
-    /// Its head, of which a response to it says the same (RFC 3261 section 8.2.6.2).
-    pub fn into_head(self) -> Head
-        ensures { result ≡ self.head }
-    {
-        let Request {
-            method: _,
-            uri: _,
-            head,
-            event: _,
-            expires: _,
-            accept: _,
-            contact: _,
-            refer_to: _,
-            refer_sub: _,
-            require: _,
-            record_routes: _,
-            body: _,
-        } = self;
-        head
-    }
-}
-
 /// By hand, as a [`Head`]'s.
 impl Drop for Request {
     fn drop(self) {

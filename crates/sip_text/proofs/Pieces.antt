@@ -70,9 +70,6 @@ pub record Takes {X : Type 0} (G : List ℕ → X → Type 0) (t : List ℕ) (x 
   pub is : G text x
   pub whole : t ≡ text ++ rest
 
-abbrev pub Spells : Class → List ℕ → List ℕ → Type 0
-Spells k text x = (text ≡ x) × IsWord k x
-
 pub span_takes : (k : Class) (t x r : List ℕ) → span_at (is_in k) t ≡ Some (x, r) → (t ≡ x ++ r) × IsWord k x
 unfolding span_at
 span_takes k t x r e =
@@ -99,9 +96,6 @@ byte_taken b (x ∷ xs) r e = step (eqb x b) refl e where
   step : (q : Bool) → eqb x b ≡ q → cond q (found xs) None ≡ Some r → x ∷ xs ≡ b ∷ r
   step true same e = let h : x ≡ b = eqb-true x b same in rw h (ap (λ (l : List ℕ). b ∷ l) (some_is xs r e))
   step false other e = absurd cc
-
-pub byte_again : (b : ℕ) (r : List ℕ) → after_byte b (b ∷ r) ≡ Some r
-byte_again b r = rw (eq-eqb b b refl) refl
 
 -- ---- which bytes are of no two classes
 

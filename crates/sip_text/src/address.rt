@@ -1,6 +1,6 @@
 //! Addresses.
 ghost use Rattle.std.specs.Prelude.{◌≡◌, ℕ, Some, IfSome, IfOk, string_bytes};
-ghost use Rattle.sip_text.specs.Addresses.{ip_text, addr_text, IsAddr};
+ghost use Rattle.sip_text.specs.Addresses.{addr_text, IsAddr};
 ghost use Rattle.sip_text.specs.Bytes.{Finds};
 ghost use Rattle.sip_text.specs.Reading.{octet_at, ip_of, addr_of};
 ghost use Rattle.sip_text.specs.declared.address.Addr.{Addr as AddrSeen};
@@ -56,15 +56,6 @@ impl Addr {
         ensures only { (a : AddrSeen) → IsAddr a → text.now ≡ addr_text a → result ≡ Some a }
     {
         addr_of(text)
-    }
-
-    /// The IPv4 address alone: `a.b.c.d`.
-    pub fn ip_text(&self, alloc: Global) -> Result<String, NoMemory>
-        ensures { IfOk result (λ s. string_bytes s ≡ ip_text self.now.ip) }
-    {
-        let [a, b, c, d] = self.ip;
-        let text = format!(in alloc; "{a}.{b}.{c}.{d}")?;
-        Ok(text)
     }
 
     /// `a.b.c.d:port`.

@@ -156,10 +156,6 @@ state_same : (a b : StateValue) → IsStateValue a → IsStateValue b → state_
 state_same a b h k e =
     one_value IsState StateFits (exact IsState StateFits state_of state_fits state_takes state_again state_fit state_large) (state_text a) (state_text b) a b (state_again_read a h) (state_again_read b k) e
 
-map_length : (routes : List (List ℕ)) → length (map (header (codes "Route")) routes) ≡ length routes
-map_length [] = refl
-map_length (r ∷ routes) = ap suc (map_length routes)
-
 tails_same : (a b : NotifyText) → middle_lines a ≡ middle_lines b → tail_lines a ≡ tail_lines b
 unfolding tail_lines
 tails_same a b e =

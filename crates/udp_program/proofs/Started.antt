@@ -16,12 +16,6 @@ use Rattle.server.specs.Call.{setup_at, boxes_with, boxes_for, names_for}
 use Rattle.server.proofs.Started.{boxes-len}
 use Rattle.udp_program.specs.Call.{start_at}
 
--- a list of two, without its last, and then without its first
-pub popped_two : {A : Type 0} (old mid new : List A) (a b : A) → length old ≡ 2 → old ≡ mid ++ b ∷ [] → mid ≡ new ++ a ∷ [] → (new ≡ []) × (old ≡ a ∷ b ∷ [])
-popped_two old mid [] a b two last first = (refl, last ∙ ap (λ l. l ++ b ∷ []) first)
-popped_two old mid (x ∷ new) a b two last first =
-    absurd (let len = ap length last ∙ length-append mid (b ∷ []) in let len' = ap length first ∙ length-append (x ∷ new) (a ∷ []) in omega (arith, two, len, len'))
-
 module _ {start : ℕ → Start} {workers n : ℕ} {crew : List Hired} {ports : List PortSeats} {taker : TakerSeat} (is : IsStarted start workers n crew ports taker) where
   pub ports_len : length ports ≡ n
   ports_len = is.dealt.len

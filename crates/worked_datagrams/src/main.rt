@@ -10,6 +10,8 @@
 //! - `data/headers` has a line for each value of a header: [`headers`].
 //! - Whole messages with all their fields, and the answers and NOTIFYs, are datagrams in `data` and calls in [`whole`].
 //! - [`refused`] is for runs in which a growth is refused (`rt try --fail-alloc N`).
+//!
+//! There is nothing here that others build on. Begin with `data/lines` and [`tables`].
 #![tactic(auto)]
 
 mod cut;

@@ -181,9 +181,6 @@ pub record Draining (r0 r : ReceiverSeat) (left : ℕ) : Type 0 where
   pub rest : List (Item Event)
   pub more : r.taken ≡ r0.taken ++ rest
 
-pub draining_first : (r : ReceiverSeat) (left : ℕ) → left + count_ended r.ports r.taken ≡ r.ports → Draining r r left
-draining_first r left is = record { inbox = refl; ports = refl; among = λ all. all; left_is = is; rest = []; more = sym (append-nil r.taken) }
-
 module _ {r0 : ReceiverSeat} where
   pub draining_event : (r r' : ReceiverSeat) (left : ℕ) (e : Event) → Draining r0 r left → Took r (taken.Event e) r' → Draining r0 r' left
   draining_event r r' left e was took =
