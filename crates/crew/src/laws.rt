@@ -2,8 +2,8 @@
 ghost use Rattle.crew.specs.AtHome.{NewLaw, SendLaw, TickLaw, CloseLaw};
 ghost use Rattle.crew.specs.One.{OnePortLaw};
 
-/// In a crew with one port, a worker that ended as Closed took what the port sent, handled all of it, and the taker got the outs
-/// of just that.
+/// In a crew with one port, a worker that ended as Closed took what the port sent, handled all of it and the planned stop,
+/// where there is one, and the taker got the outs of just that.
 pub fn one_port()
     ensures { OnePortLaw }
 {}

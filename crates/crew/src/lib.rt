@@ -7,7 +7,8 @@
 //!
 //! What it isn't: it reads no bytes and opens no socket, and it promises no progress: that a call which waits comes back,
 //! or that an out is ever taken. Begin with [`Crew::start`], [`Port::send`] and [`Crew::join`], then `specs/Ports`,
-//! `specs/Started` and `specs/Joined`; [`laws`] draws what follows for crews with one port.
+//! `specs/Started` and `specs/Joined`; [`laws`] draws what follows for crews with one port, and that each event was sent
+//! to its home.
 #![tactic(auto)]
 
 mod boxed;

@@ -14,7 +14,7 @@ ghost use Rattle.crew_laws.specs.Elsewhere.{EveryPortLaw, NowhereElseLaw};
 ghost use Rattle.crew_laws.specs.Laws.{AllLaw, AloneLaw, LifeLaw};
 ghost use Rattle.crew_laws.specs.Whole.{EmittedLaw, RisingLaw, TookLaw, WholeLaw};
 
-/// A worker that ended as Closed handled all events that it took, and the planned stop.
+/// A worker that ended as Closed handled all events that it took, and the planned stop where there is one.
 pub fn all()
     ensures { AllLaw }
 {}
@@ -47,7 +47,8 @@ pub fn emitted()
     ensures { EmittedLaw }
 {}
 
-/// What the taker got of a subscription is what it would be told of its own events alone, by one worker, as its first.
+/// What the taker got of a subscription is what it would be told of its own events alone, by one worker, as its first:
+/// where its requests aren't taken for somebody else's (`isolation/specs/Apart`).
 pub fn alone()
     ensures { AloneLaw }
 {}

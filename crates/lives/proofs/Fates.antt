@@ -3,6 +3,7 @@ use Rattle.std.proofs.Common.{◌≡◌, ℕ, ◌+◌, List, [], ◌∷◌, ◌+
 use Rattle.std.specs.Prelude.{if◌then◌else◌, ◌==◌, ◌||◌, is_some, filter}
 use Rattle.std.specs.List.{list_any}
 use Rattle.std.proofs.lemmas.Bool.Decides.{nat_tests}
+use Rattle.std.proofs.lemmas.List.{append-nil}
 use Rattle.lives.proofs.Texts.{never_both, and-false}
 use Rattle.sip_text.specs.declared.address.Addr.{Addr}
 use Rattle.sip_read.specs.declared.message.Request.{Request}
@@ -76,9 +77,20 @@ made_now limits moment l MailChanged h = rw h refl
 made_now limits moment l (Progressed p) h = rw h refl
 made_now limits moment l Due h = rw h refl
 made_now limits moment l (Answered n) h = absurd (let e : false ≡ true = (unfold is_touched in h) in cc)
-made_now limits moment l Disowned h = rw h refl
-made_now limits moment l Lost h = rw h refl
+made_now limits moment l Disowned h = absurd (let e : false ≡ true = (unfold is_touched in h) in cc)
+made_now limits moment l Lost h = absurd (let e : false ≡ true = (unfold is_touched in h) in cc)
 made_now limits moment l Stopped h = rw h refl
+
+kept_so : (limits : Limits) (moment : ℕ) (l : Life) (deed : Deed) → ((n : ℕ) → deed ≡ Answered n → ⊥) → is_touched limits (Then moment deed l) ≡ false → unanswered limits (Then moment deed l) ≡ unanswered limits l
+unfolding unanswered just_made
+kept_so limits moment l (Heard source r) other h = rw h (append-nil (unanswered limits l))
+kept_so limits moment l MailChanged other h = rw h (append-nil (unanswered limits l))
+kept_so limits moment l (Progressed p) other h = rw h (append-nil (unanswered limits l))
+kept_so limits moment l Due other h = rw h (append-nil (unanswered limits l))
+kept_so limits moment l (Answered n) other h = absurd (other n refl)
+kept_so limits moment l Disowned other h = rw h (append-nil (unanswered limits l))
+kept_so limits moment l Lost other h = rw h (append-nil (unanswered limits l))
+kept_so limits moment l Stopped other h = rw h (append-nil (unanswered limits l))
 
 any-but : (n m : ℕ) (us : List Unanswered) → list_any (λ (u : Unanswered). u.number == m) (filter (λ (u : Unanswered). not (u.number == n)) us) ≡ (list_any (λ (u : Unanswered). u.number == m) us && not (m == n))
 any-but n m [] = refl
@@ -100,7 +112,11 @@ any-but n m (u ∷ us) = by_number (u.number == n) (u.number == m) (m == n) refl
     by_number false false c e h g ih = rw e ih
 
 pub unanswered_law : UnansweredLaw
-unanswered_law limits moment l = record { made = made_now limits moment l; closed = λ n m. unfold unanswered in any-but n m (unanswered limits l) }
+unanswered_law limits moment l = record {
+  made = made_now limits moment l;
+  closed = λ n m. unfold unanswered in any-but n m (unanswered limits l);
+  kept = kept_so limits moment l;
+}
 
 -- ---- what nobody watches
 

@@ -64,7 +64,7 @@ concerns tag x (Progresses p) = bytes_eq tag p.tag
 concerns tag x (Ticks t) = true
 concerns tag x Shuts = true
 
--- ---- what such an event is to it. No tag and no serial is looked at here
+-- ---- what such an event is to it. No tag and no serial is looked at up to `deed_at`
 
 -- May it hear this request, if that is fresh? Nothing stands against the request itself, and its CSeq is above all that it
 -- heard (RFC 3261 section 12.2.2).
@@ -124,7 +124,7 @@ count_alive limits life (suc n) = count_alive limits life n + one_if (is_alive l
 
 module _ {maps : Maps} where
   -- Is a subscription born of this request, which has no To tag, when so many were born before and these are their lives? It
-  -- fits, and there is a serial and a place for it.
+  -- fits, and there is a serial for it and, if it needs one, a place.
   unfoldable pub is_birth : StartBy maps → List Event → ℕ → (ℕ → Option Life) → Request → Bool
   is_birth start past births life r =
       fits start past r && not (is_full start.place.limits (births + 1) (count_alive start.place.limits life births) r)

@@ -86,7 +86,8 @@ pub record IsFreshLaw (limits : Limits) (past : List Event) (r : Request) : Type
 abbrev pub FreshLaw : Type 0
 FreshLaw = (limits : Limits) (past : List Event) (r : Request) → IsFreshLaw limits past r
 
--- ---- A subscription is born at a request that fits, has no To tag, and finds a serial and a place. It lives from then on.
+-- ---- A subscription is born at a request that fits, has no To tag, and finds a serial and, if it needs one, a place. It
+-- lives from then on.
 
 -- The request fits and is outside a dialog, the next serial is within the limit, and it is a fetch or a transfer that nobody
 -- watches, or there is a place in the table.
@@ -111,7 +112,8 @@ pub record AreBirths (start : Start) (past : List Event) : Type 0 where
 abbrev pub BirthsLaw : Type 0
 BirthsLaw = (start : Start) (past : List Event) → AreBirths start past
 
--- ---- It is gone once something makes it gone, and stays so: as it was terminated, or a 481 came. Then no NOTIFY follows.
+-- ---- It is gone once something makes it gone, and stays so: it was terminated, a 481 came, a NOTIFY stayed unanswered, or
+-- nobody watches it. Then no NOTIFY follows.
 
 abbrev pub is_gone_by : Limits → Option Life → Bool
 is_gone_by limits None = false
@@ -175,7 +177,7 @@ abbrev pub TerminatedLaw : Type 0
 TerminatedLaw = (limits : Limits) (l : Life) →
     is_some (terminated limits l) ≡ (is_touched limits l && (is_some (ended limits l) || number limits l == limits.max_cseq))
 
--- ---- A NOTIFY is unanswered from when it is made. A final answer to its number closes it, and no other.
+-- ---- A NOTIFY is unanswered from when it is made. A final answer to its number closes it and no other; nothing else does.
 
 -- is the NOTIFY with this number unanswered?
 abbrev pub is_open : Limits → Life → ℕ → Bool
@@ -185,6 +187,8 @@ pub record IsOpen (limits : Limits) (moment : ℕ) (l : Life) : Type 0 where
   pub made : (deed : Deed) → is_touched limits (Then moment deed l) ≡ true →
       unanswered limits (Then moment deed l) ≡ unanswered limits l ++ record { number = number limits (Then moment deed l); moment = moment } ∷ []
   pub closed : (n m : ℕ) → is_open limits (Then moment (Answered n) l) m ≡ (is_open limits l m && not (m == n))
+  pub kept : (deed : Deed) → ((n : ℕ) → deed ≡ Answered n → ⊥) → is_touched limits (Then moment deed l) ≡ false →
+      unanswered limits (Then moment deed l) ≡ unanswered limits l
 
 abbrev pub UnansweredLaw : Type 0
 UnansweredLaw = (limits : Limits) (moment : ℕ) (l : Life) → IsOpen limits moment l

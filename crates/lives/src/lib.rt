@@ -76,13 +76,14 @@ pub fn fresh()
     ensures { FreshLaw }
 {}
 
-/// A subscription is born where a request fits, is outside a dialog, and finds a serial and a place. Births are counted, and
-/// a subscription has a life from its birth on.
+/// A subscription is born where a request fits, is outside a dialog, and finds a serial and, unless it is a fetch or a
+/// transfer that nobody watches, a place. Births are counted, and a subscription has a life from its birth on.
 pub fn born()
     ensures { BirthsLaw }
 {}
 
-/// A subscription that is gone, as it was terminated or a 481 came, stays gone.
+/// A subscription that is gone stays gone: it was terminated, a 481 came, a NOTIFY stayed unanswered, or nobody watches
+/// it.
 pub fn gone()
     ensures { GoneLaw }
 {}

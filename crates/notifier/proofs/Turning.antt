@@ -16,7 +16,7 @@ use Rattle.std.specs.declared.result.Result.{Result}
 use Rattle.std.specs.declared.result.Result.TheVariants.{Ok, Err}
 use Rattle.std.specs.Result.{OnOk, IfOk}
 use Rattle.notifier.proofs.Times.{number_cond, unwatched}
-use Rattle.notifier.specs.Watchers.{watched}
+use Rattle.notifier.specs.Watchers.{watched, NoneIsLeft}
 use Rattle.notifier.proofs.Rising.{Rises, Leads, led, rises_led, with_serial-led, leads_from, rising_same, neq-eqb, with_serial-same, with_serial-other}
 
 -- ---- the list that is stored
@@ -40,7 +40,7 @@ rows_are r rows i rises h = rising_same 0 (rows_of r) rows (rows_rise r i) rises
 
 -- ---- a step at one serial
 
--- what the three indexes have to show
+-- what the indexes have to show
 pub record Moves (old new : Rows) (serial key : ℕ) (row : Option Row) : Type 0 where
   pub ordered : tree.IsOrdered nat_cmp new.order
   pub order : (s : ℕ) → tree.get nat_cmp new.order s ≡ cond (serial == s) (option_map (λ _. key) row) (tree.get nat_cmp old.order s)
@@ -50,6 +50,7 @@ pub record Moves (old new : Rows) (serial key : ℕ) (row : Option Row) : Type 0
   pub others : (k : ℕ) → k ≢ key → slab.get new.slab k ≡ slab.get old.slab k
   pub timers : (due s : ℕ) → sorted.contains by_time new.timers (due, s) ≡ cond (serial == s) (is_timed_at due row) (sorted.contains by_time old.timers (due, s))
   pub watchers : (q : List ℕ) (s : ℕ) → watched new.watchers q s ≡ cond (serial == s) (is_of q row) (watched old.watchers q s)
+  pub none_left : NoneIsLeft new.watchers
 
 module _ (old new : Rows) (serial key : ℕ) (row : Option Row) (i : IsIndexed old) (m : Moves old new serial key row) where
   other_at : (s : ℕ) → s ≢ serial → (o : Option ℕ) → tree.get nat_cmp old.order s ≡ o → option_and_then (slab.get new.slab) o ≡ option_and_then (slab.get old.slab) o
@@ -102,6 +103,7 @@ module _ (old new : Rows) (serial key : ℕ) (row : Option Row) (i : IsIndexed o
       | inl e ↦ rw (turns.at s, eq-eqb serial s e) refl
       | inr d ↦ rw (turns.at s, neq-eqb serial s d) (i.watching q s)
     ];
+    none_left = m.none_left;
   }
 
 -- ---- a new row
@@ -182,13 +184,15 @@ module _ (old new : Rows) (serial key : ℕ) (row : Row) (i : IsIndexed old) (fo
     others = λ k d. b.others k (λ q. d (q ∙ v)) ∙ a.others k d;
     timers = λ d s. t d s ∙ ap (λ x. cond (serial == s) (x == d) (sorted.contains by_time old.timers (d, s))) e;
     watchers = λ q s. ap (λ m. watched m q s) x ∙ same_watch q s ∙ ap (λ r. cond (serial == s) (bytes_eq r q) (watched old.watchers q s)) (sym w);
+    none_left = rw x i.none_left;
   }
 
   pub go_moves : tree.IsOrdered nat_cmp new.order → ((s : ℕ) → tree.get nat_cmp new.order s ≡ cond (tree.is_at (nat_cmp serial) s) None (tree.get nat_cmp old.order s)) → slab.Updates old.slab new.slab key None
       → ((d s : ℕ) → sorted.contains by_time new.timers (d, s) ≡ cond (serial == s) false (sorted.contains by_time old.timers (d, s)))
       → ((q : List ℕ) (s : ℕ) → watched new.watchers q s ≡ cond (bytes_eq row.sub.want.resource q && (serial == s)) false (watched old.watchers q s))
+      → (NoneIsLeft old.watchers → NoneIsLeft new.watchers)
       → Moves old new serial key None
-  go_moves w o a t x = record {
+  go_moves w o a t x n = record {
     ordered = w;
     order = λ s. number_cond serial s None (tree.get nat_cmp old.order s) (tree.get nat_cmp new.order s) (o s);
     free = free_by;
@@ -197,6 +201,7 @@ module _ (old new : Rows) (serial key : ℕ) (row : Row) (i : IsIndexed old) (fo
     others = a.others;
     timers = t;
     watchers = λ q s. unwatched (bytes_eq row.sub.want.resource q) serial s (watched old.watchers q s) (watched new.watchers q s) (x q s) (λ e. ap (watched old.watchers q) (sym e) ∙ own_watch q);
+    none_left = n i.none_left;
   }
 
 -- what is told of a row that is there

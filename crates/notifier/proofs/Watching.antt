@@ -1,5 +1,5 @@
 -- One entry of the watchers changes.
-use Rattle.std.proofs.Common.{◌≡◌, ◌∙◌, ap, refl, ℕ, Bool, true, false, cond, ◌&&◌, List, Option, ◌==◌, String, length, [], ◌∷◌, arith}
+use Rattle.std.proofs.Common.{◌≡◌, ◌≢◌, ◌∙◌, sym, ap, subst, refl, ℕ, Bool, true, false, cond, ◌&&◌, List, Option, Some, ◌==◌, eq-eqb, IfSome, String, length, [], ◌∷◌, arith}
 use Rattle.std.proofs.lemmas.Slice.Eq.{bytes_eq-Decides}
 use Rattle.std.specs.List.{list_any}
 use Rattle.std.specs.Map.{update}
@@ -9,8 +9,16 @@ use Rattle.std.specs.BTreeMap.{is_at}
 use Rattle.std.specs.BTreeSet as sorted
 use Rattle.std.specs.BTreeSet.{BTreeSet}
 use Rattle.std.specs.HashMap.{HashMap, get_by_text}
-use Rattle.notifier.specs.Watchers.{is_in, watched}
+use Rattle.notifier.specs.Watchers.{is_in, watched, NoneIsLeft}
 use Rattle.notifier.proofs.Times.{number_cond}
+
+-- where the new entry, if there is one, isn't empty, none that is empty is left
+pub left_by : {Y S : Type 0} (m n : HashMap (String Y) (BTreeSet ℕ) S) (bs : List ℕ) (w : Option (BTreeSet ℕ)) → ((cs : List ℕ) → get_by_text n cs ≡ update bytes_eq (get_by_text m) bs w cs) → IfSome w (λ set. length set.keys ≢ 0) → NoneIsLeft m → NoneIsLeft n
+left_by m n bs w h some old q set found = at_test (bytes_eq bs q) (sym (h q) ∙ found)
+  where
+    at_test : (b : Bool) → cond b w (get_by_text m q) ≡ Some set → length set.keys ≢ 0
+    at_test true e = subst (λ o. IfSome o (λ x. length x.keys ≢ 0)) e some
+    at_test false e = old q set e
 
 module _ {Y S : Type 0} (m n : HashMap (String Y) (BTreeSet ℕ) S) (bs : List ℕ) (w : Option (BTreeSet ℕ)) (h : (cs : List ℕ) → get_by_text n cs ≡ update bytes_eq (get_by_text m) bs w cs) (value : Bool) (serial : ℕ) (here : (s : ℕ) → is_in w s ≡ cond (serial == s) value (is_in (get_by_text m bs) s)) where
   at_test : (q : List ℕ) (s : ℕ) (b : Bool) → bytes_eq bs q ≡ b → is_in (cond b w (get_by_text m q)) s ≡ cond (b && (serial == s)) value (watched m q s)
@@ -40,3 +48,10 @@ empty_set set s e = none set.keys e
     none : (ks : List ℕ) → length ks ≡ 0 → list_any (is_at (nat_cmp s)) ks ≡ false
     none [] e = refl
     none (k ∷ ks) e = absurd (omega arith)
+
+-- a set with one number more isn't empty
+pub not_empty : (set new : BTreeSet ℕ) (serial : ℕ) → ((q : ℕ) → sorted.contains nat_cmp new q ≡ cond (is_at (nat_cmp serial) q) true (sorted.contains nat_cmp set q)) → length new.keys ≢ 0
+not_empty set new serial h none =
+    let there : sorted.contains nat_cmp new serial ≡ true = set_by set new serial true h serial ∙ ap (λ b. cond b true (sorted.contains nat_cmp set serial)) (eq-eqb serial serial refl) in
+    let gone : sorted.contains nat_cmp new serial ≡ false = empty_set new serial none in
+    absurd (cc)

@@ -1,4 +1,5 @@
--- The tests on one request. They look at the request, the limits and the boxes, and at nothing that is carried along.
+-- The tests on one request. They look at the request, the limits, the boxes and what they are handed: the event of its
+-- dialog, the next serial, how many subscriptions live.
 use Rattle.std.specs.Prelude.{ℕ, min, Bool, true, false, not, ◌&&◌, ◌||◌, List, [], is_none, if◌then◌else◌, nat_eq, nat_lt, nat_le, ◌==◌, Some, None, codes, bytes_eq, decimal, Option, unwrap_or}
 use Rattle.std.specs.List.{list_any, before_first, after_first, starts_with}
 use Rattle.std.specs.Str.{byte, str_eq_ignore_ascii_case}
@@ -144,8 +145,9 @@ module _ {maps : Maps} where
   abbrev pub misplaced : Limits → List (SeenBy maps) → Request → Option Refusal
   misplaced limits boxes r = misplaced_at limits r (first_box (event_of r).package boxes)
 
--- What a request makes outside a dialog: a subscription that watches a mailbox, a single look at it (a fetch, RFC 6665
--- section 4.4.3), a transfer with a subscription that watches it (RFC 3515), or a transfer that nobody watches (RFC 4488).
+-- What a request makes outside a dialog: a subscription that watches a resource, as a mailbox, a single look at one (a
+-- fetch, RFC 6665 section 4.4.3), a transfer with a subscription that watches it (RFC 3515), or a transfer that nobody
+-- watches (RFC 4488).
 unfoldable pub birth_of : Limits → Request → Birth
 birth_of limits r =
     if is_refer r then (if is_unwatched r then Unwatched else Transfer)

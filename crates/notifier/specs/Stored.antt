@@ -11,7 +11,7 @@ use Rattle.notifier.specs.declared.row.Row.{Row}
 use Rattle.notifier.specs.declared.row.Unanswered.{Unanswered}
 use Rattle.notifier.specs.declared.place.Place.{Place}
 use Rattle.notifier.specs.Start.{patience, tag_of}
-use Rattle.notifier.specs.Watchers.{watched}
+use Rattle.notifier.specs.Watchers.{watched, NoneIsLeft}
 use Rattle.notifier.specs.declared.rows.Rows.{Rows}
 
 -- the rows, by rising serial
@@ -49,12 +49,13 @@ abbrev pub is_of : List ℕ → Option Row → Bool
 is_of resource None = false
 is_of resource (Some row) = bytes_eq row.sub.want.resource resource
 
--- each serial leads to its row, and each live row has its timer
+-- each serial leads to its row, each live row has its timer, and the watchers of each resource are its rows
 pub record IsIndexed (r : Rows) : Type 0 where
   pub ordered : tree.IsOrdered nat_cmp r.order
   pub held : (serial key : ℕ) → tree.get nat_cmp r.order serial ≡ Some key → IsSomeAnd (slab.get r.slab key) (λ row. row.serial ≡ serial)
   pub timed : (due serial : ℕ) → sorted.contains by_time r.timers (due, serial) ≡ is_timed_at due (row_at r serial)
   pub watching : (resource : List ℕ) (serial : ℕ) → watched r.watchers resource serial ≡ is_of resource (row_at r serial)
+  pub none_left : NoneIsLeft r.watchers
 
 -- after a step at one serial that leaves this row there, if any
 pub record Turns (old new : Rows) (serial : ℕ) (row : Option Row) : Type 0 where

@@ -88,7 +88,7 @@ fn answer_birth(
         (answer_text (birth_text place.now incoming.entry.source incoming.entry.request.now tag.now)) ∷ []) }
 {
     let bytes = birth_answer(alloc, place, &incoming, tag)?;
-    answer(alloc, &place.limits, ring, incoming, bytes)
+    answer(alloc, ring, incoming, bytes)
 }
 
 /// The row of a new subscription goes to the others, if it stays, and its first NOTIFY behind the outs that are there.

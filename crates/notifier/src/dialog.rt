@@ -87,7 +87,7 @@ impl<P: Package> Ledger<P> {
         ensures sound { OnOk result (IsSound place.now self.new) }
     {
         let bytes = refusal_answer(alloc, place, &self.boxes, &incoming, cause)?;
-        answer(alloc, &place.limits, &mut self.ring, incoming, bytes)
+        answer(alloc, &mut self.ring, incoming, bytes)
     }
 
     /// Refuses a request in a dialog, which has heard its CSeq.
@@ -135,7 +135,7 @@ impl<P: Package> Ledger<P> {
     {
         place.limits.are_in_range();
         let bytes = renewal_answer(alloc, place, &incoming)?;
-        answer(alloc, &place.limits, &mut self.ring, incoming, bytes)
+        answer(alloc, &mut self.ring, incoming, bytes)
     }
 
     /// Accepts a SUBSCRIBE in the dialog of the row with this serial.

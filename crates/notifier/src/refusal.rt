@@ -11,7 +11,7 @@ pub enum Refusal {
     OtherMethod,
     /// 416: not a `sip` URI.
     OtherScheme,
-    /// 420: it requires an extension.
+    /// 420: it requires an extension that isn't understood.
     UnmetRequire,
     /// 400: a header is missing or can't be read, or the CSeq names another method.
     Malformed,

@@ -1,4 +1,5 @@
-//! Tests on one request. They look at the request and the limits, and at nothing that is carried along.
+//! Tests on one request. They look at the request, the limits and what they are handed: the event of its dialog, the next
+//! serial, how many subscriptions live.
 #![tactic(auto, unfolding(crate::specs::Requests::key_of_request, crate::specs::Requests::event_of, crate::specs::Requests::asked, crate::specs::Requests::granted, crate::specs::Requests::asks_nothing, crate::specs::Requests::is_unwatched, crate::specs::Requests::birth_of, crate::specs::Requests::is_malformed, crate::specs::Requests::misfit, crate::specs::Requests::is_full, crate::specs::Requests::unheard))]
 
 ghost use Rattle.std.specs.List.{list_any};
@@ -20,9 +21,9 @@ use std::alloc::Global;
 /// What a request makes outside a dialog.
 #[derive(Clone, Copy)]
 pub enum Birth {
-    /// A subscription that watches a mailbox.
+    /// A subscription that watches a resource, as a mailbox.
     Watch,
-    /// A single look at a mailbox (RFC 6665 section 4.4.3).
+    /// A single look at one (RFC 6665 section 4.4.3).
     Fetch,
     /// A transfer, with a subscription that watches it (RFC 3515).
     Transfer,

@@ -8,7 +8,7 @@ ghost use Rattle.std.specs.Ordering.{nat_cmp};
 ghost use Rattle.slab.specs.Slab.{HasRoomFor, Updates};
 ghost use Rattle.notifier.specs.Among.{has, RiseFrom};
 ghost use Rattle.notifier.specs.Stored.{rows_of, row_at, alarm_of, by_time, IsIndexed, IsTimed};
-ghost use Rattle.notifier.specs.Watchers.{watched};
+ghost use Rattle.notifier.specs.Watchers.{watched, NoneIsLeft};
 
 use crate::row::Row;
 use crate::timers::{alarm, move_timer, stop_timer, timed_out};
@@ -124,6 +124,7 @@ impl Rows {
             ≡ (if serial == s then false else sorted.contains by_time self.old.timers (d, s)) }
         ensures watchers { (q : List ℕ) (s : ℕ) → watched self.new.watchers q s
             ≡ (if bytes_eq resource q && (serial == s) then false else watched self.old.watchers q s) }
+        ensures none_left { NoneIsLeft self.old.watchers → NoneIsLeft self.new.watchers }
     {
         self.order.remove(&serial);
         stop_timer(&mut self.timers, serial, before);

@@ -6,6 +6,7 @@ ghost use Rattle.notifier.specs.Answers.{ring_with};
 ghost use Rattle.notifier.specs.Causes.{rule_of, CanTell};
 ghost use Rattle.notifier.specs.Book as book;
 ghost use Rattle.notifier.specs.Ledger.{book_of, IsStep};
+ghost use Rattle.notifier.specs.Limits.{Limits as LimitsSeen};
 ghost use Rattle.notifier.specs.Out.{Send, out_of};
 ghost use Rattle.notifier.specs.Rows as spec;
 ghost use Rattle.notifier.specs.Sound.{IsOwn};
@@ -19,7 +20,6 @@ use crate::event::Out;
 use crate::incoming::Incoming;
 use crate::kept::KeptAnswers;
 use crate::ledger::Ledger;
-use crate::limits::Limits;
 use crate::place::Place;
 use crate::rows::Rows;
 use crate::rule::Cause;
@@ -80,18 +80,15 @@ pub fn copy_bytes(alloc: Global, bytes: &Octets) -> Result<Octets, NoMemory>
 /// Answers a request, and keeps the answer where the request names a transaction.
 pub fn answer(
     alloc: Global,
-    limits: &Limits,
     ring: &mut KeptAnswers,
     incoming: Incoming<'_>,
     bytes: Octets,
 ) -> Result<Vec<Out>, NoMemory>
-    requires { ring.old.capacity ≡ limits.now.kept }
-    ensures ring { OnOk result (ring.new
-        ≡ buffer (ring_with limits.now ring.old.items (option_map key_of incoming.entry.transaction) bytes)
-        ring.old.capacity) }
+    ensures ring { OnOk result ((limits : LimitsSeen) → ring.old.capacity ≡ limits.kept
+        → ring.new ≡ buffer
+        (ring_with limits ring.old.items (option_map key_of incoming.entry.transaction) bytes) ring.old.capacity) }
     ensures outs { IfOk result (λ outs. outs.items ≡ Out.Answer incoming.entry.source bytes ∷ []) }
 {
-    let _ = limits;
     let copy = copy_bytes(alloc, &bytes)?;
     let to = incoming.source;
     ring.keep(alloc, incoming.transaction, copy)?;

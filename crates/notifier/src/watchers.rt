@@ -2,7 +2,7 @@
 
 ghost use Rattle.std.specs.Prelude.{◌≡◌, ◌==◌, ◌&&◌, ℕ, List, bytes_eq, true, false, IfOk, OnOk, if◌then◌else◌};
 ghost use Rattle.notifier.specs.Among.{has, RiseFrom};
-ghost use Rattle.notifier.specs.Watchers.{watched};
+ghost use Rattle.notifier.specs.Watchers.{watched, NoneIsLeft};
 
 use indexmap::IndexMap;
 use sip_text::{NoMemory, Text};
@@ -17,8 +17,9 @@ fn watch_first(
     serial: u32,
 ) -> Result<(), NoMemory>
     requires { (s : ℕ) → watched watchers.old resource.now s ≡ false }
-    ensures { OnOk result ((q : List ℕ) (s : ℕ) → watched watchers.new q s
+    ensures watching { OnOk result ((q : List ℕ) (s : ℕ) → watched watchers.new q s
         ≡ (if bytes_eq resource.now q && (serial == s) then true else watched watchers.old q s)) }
+    ensures none_left { OnOk result (NoneIsLeft watchers.old → NoneIsLeft watchers.new) }
 {
     let mut set = BTreeSet::new(alloc);
     set.insert(serial)?;
@@ -33,8 +34,9 @@ pub fn watch(
     resource: &str,
     serial: u32,
 ) -> Result<(), NoMemory>
-    ensures { OnOk result ((q : List ℕ) (s : ℕ) → watched watchers.new q s
+    ensures watching { OnOk result ((q : List ℕ) (s : ℕ) → watched watchers.new q s
         ≡ (if bytes_eq resource.now q && (serial == s) then true else watched watchers.old q s)) }
+    ensures none_left { OnOk result (NoneIsLeft watchers.old → NoneIsLeft watchers.new) }
 {
     if let Some(set) = watchers.get_mut(resource) {
         set.insert(serial)?;
@@ -45,8 +47,9 @@ pub fn watch(
 
 /// A serial watches a resource no more. A resource that nobody watches has no entry.
 pub fn unwatch(watchers: &mut IndexMap<String, BTreeSet<u32>>, resource: &str, serial: u32)
-    ensures { (q : List ℕ) (s : ℕ) → watched watchers.new q s
+    ensures watching { (q : List ℕ) (s : ℕ) → watched watchers.new q s
         ≡ (if bytes_eq resource.now q && (serial == s) then false else watched watchers.old q s) }
+    ensures none_left { NoneIsLeft watchers.old → NoneIsLeft watchers.new }
 {
     if let Some(set) = watchers.get_mut(resource) {
         set.remove(&serial);
@@ -58,8 +61,9 @@ pub fn unwatch(watchers: &mut IndexMap<String, BTreeSet<u32>>, resource: &str, s
 
 /// The same of the resource with this name, which goes with it.
 pub fn unwatch_text(watchers: &mut IndexMap<String, BTreeSet<u32>>, resource: Text, serial: u32)
-    ensures { (q : List ℕ) (s : ℕ) → watched watchers.new q s
+    ensures watching { (q : List ℕ) (s : ℕ) → watched watchers.new q s
         ≡ (if bytes_eq resource q && (serial == s) then false else watched watchers.old q s) }
+    ensures none_left { NoneIsLeft watchers.old → NoneIsLeft watchers.new }
 {
     unwatch(watchers, resource.as_str(), serial);
 }

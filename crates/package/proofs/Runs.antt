@@ -1,4 +1,4 @@
--- Changes one by one leave what the last of the list says.
+-- Changes one by one leave what is told by the whole list.
 use Rattle.std.proofs.Common.{◌≡◌, ℕ, List, [], ◌∷◌, Bool, true, false, cond, ◌||◌, ◌&&◌, refl, sym, ap, subst, ◌∙◌, codes, Option, None, Some, unwrap_or}
 use Rattle.std.specs.Prelude.{bytes_eq, ◌==◌, find}
 use Rattle.std.specs.List.{filter_map, cons_option, list_any, last_or, after_first, after_last}

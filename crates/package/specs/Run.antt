@@ -1,5 +1,5 @@
 -- What a package holds of a resource after a list of changes, told by the list alone: of each class the last counts, of a
--- transfer the last status. Nothing is carried from one change to the next.
+-- transfer the first final status, or without one the last. Nothing is carried from one change to the next.
 use Rattle.std.specs.Prelude.{◌≡◌, ℕ, Bool, false, ◌&&◌, ◌==◌, if◌then◌else◌, List, [], ◌∷◌, find, unwrap_or, Option, None, Some, codes, bytes_eq}
 use Rattle.std.specs.List.{filter_map, list_any, last_or, after_first, after_last}
 use Rattle.package.specs.declared.counts.Class.{Class}
@@ -116,7 +116,7 @@ abbrev pub box_after : Seen → List Change → Seen
 box_after box [] = box
 box_after box (c ∷ changes) = box_after (change_of box c).1 changes
 
--- changes one by one leave what the last of the list says
+-- changes one by one leave what is told by the whole list
 abbrev pub ContentLaw : Type 0
 ContentLaw = (box : Seen) (changes : List Change) (resource : List ℕ) → KeepsKind box →
     held (box_after box changes).contents resource ≡ content_after box resource changes

@@ -1,4 +1,4 @@
-//! Laws over the definitions alone: what changes one by one leave is what the last of the list says.
+//! Laws over the definitions alone: changes one by one leave what is told by the whole list.
 ghost use Rattle.package.specs.Run.{ContentLaw, KindLaw};
 
 /// After a list of changes a mailbox has of each class the counts of the last change to it, and a transfer has the first

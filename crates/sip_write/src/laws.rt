@@ -15,7 +15,7 @@ pub fn pieces_tell_the_names_of_their_parameters()
     ensures { TellsItsParameter }
 {}
 
-/// A written NOTIFY that fits in a datagram is read as the request with its values.
+/// A written NOTIFY whose values are in their grammars and that fits in a datagram is read as the request with its values.
 pub fn a_notify_is_read_again()
     ensures { NotifyIsReadAgain }
 {}
@@ -31,8 +31,8 @@ pub fn a_top_via_is_read_again()
     ensures { TopViaIsReadAgain }
 {}
 
-/// A written answer that fits in a datagram is read as a response with the same status and the request's head, in which the top Via says the
-/// source and a To without a tag has got one.
+/// A written answer whose values are in their grammars and that fits in a datagram is read as a response with the same status and the
+/// request's head, in which the top Via says the source and a To without a tag has the one that was given.
 pub fn an_answer_is_read_again()
     ensures { AnswerIsReadAgain }
 {}

@@ -196,7 +196,7 @@ impl Sub {
         self.due
     }
 
-    /// Its dialog, with the latest target and CSeq number of the subscriber.
+    /// Its dialog, with the latest target and the CSeq number of the latest renewal.
     pub fn usage(&self) -> &Usage
         ensures { result.now ≡ self.now.usage }
     {

@@ -20,7 +20,7 @@ pub struct Usage {
     pub target: Text,
     /// The route set, as written in the request that made the dialog.
     pub routes: Values<Text>,
-    /// The CSeq number of the subscriber's latest request.
+    /// The CSeq number of the request that made the dialog, or of the latest SUBSCRIBE that renewed it.
     pub remote_cseq: u32,
 }
 

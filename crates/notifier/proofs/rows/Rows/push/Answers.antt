@@ -17,7 +17,8 @@ moves c =
       own = refl;
       others = c.in_ok-key.ensures.updates.others;
       timers = λ d s. rw c.alarm-moment.ensures at (started c.alarm-moment.result serial d s _ _ (c.in_ok-insert-2.ensures.updates.0 (d, s)) (λ q. i.timed d s ∙ ap (is_timed_at d) (ap (row_at c.args.self.now) (sym q) ∙ vacant_at c.args.self.now c.args.self.now c.args.row i c.requires.last)));
-      watchers = λ q s. newly_watched (bytes_eq c.args.row.sub.want.resource q) serial s (watched c.args.self.now.watchers q s) _ (let name : c.as_str.result.now ≡ c.args.row.sub.want.resource = search rules in rw name at (c.in_ok-watch.ensures q s)) (λ e. i.watching q s ∙ ap (is_of q) (ap (row_at c.args.self.now) (sym e) ∙ vacant_at c.args.self.now c.args.self.now c.args.row i c.requires.last));
+      watchers = λ q s. newly_watched (bytes_eq c.args.row.sub.want.resource q) serial s (watched c.args.self.now.watchers q s) _ (let name : c.as_str.result.now ≡ c.args.row.sub.want.resource = search rules in rw name at (c.in_ok-watch.ensures.watching q s)) (λ e. i.watching q s ∙ ap (is_of q) (ap (row_at c.args.self.now) (sym e) ∙ vacant_at c.args.self.now c.args.self.now c.args.row i c.requires.last));
+      none_left = c.in_ok-watch.ensures.none_left i.none_left;
     }
 
 pub returns-clause-indexed : goal.returns-clause-indexed

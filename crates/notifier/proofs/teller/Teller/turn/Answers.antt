@@ -22,7 +22,7 @@ returns-in-None-clause-indexed g c =
     (go_moves old new c.args.serial c.in-Some.key c.in-Some-try_remove.row c.requires.indexed found (sym c.in-Some-try_remove.ensures.value)
     c.let_go.ensures.ordered c.let_go.ensures.order
     (subst (λ t. slab.Updates old.slab t c.in-Some.key None) (sym c.let_go.ensures.slab) c.in-Some-try_remove.ensures.updates) c.let_go.ensures.timers
-    (λ q s. let name : c.in_ok-resource.resource ≡ c.in-Some-try_remove.row.sub.want.resource = search rules in rw name at (c.let_go.ensures.watchers q s)))
+    (λ q s. let name : c.in_ok-resource.resource ≡ c.in-Some-try_remove.row.sub.want.resource = search rules in rw name at (c.let_go.ensures.watchers q s)) c.let_go.ensures.none_left)
 
 pub returns-in-None-clause-turns : goal.returns-in-None-clause-turns
 returns-in-None-clause-turns g c =
@@ -39,7 +39,7 @@ returns-in-None-clause-turns g c =
     (go_moves old new c.args.serial c.in-Some.key row c.requires.indexed found (sym c.in-Some-try_remove.ensures.value)
     c.let_go.ensures.ordered c.let_go.ensures.order
     (subst (λ t. slab.Updates old.slab t c.in-Some.key None) (sym c.let_go.ensures.slab) c.in-Some-try_remove.ensures.updates) c.let_go.ensures.timers
-    (λ q s. let name : c.in_ok-resource.resource ≡ row.sub.want.resource = search rules in rw name at (c.let_go.ensures.watchers q s))))
+    (λ q s. let name : c.in_ok-resource.resource ≡ row.sub.want.resource = search rules in rw name at (c.let_go.ensures.watchers q s)) c.let_go.ensures.none_left))
 
 -- ---- the row stays
 
