@@ -138,6 +138,8 @@ FORM = " (one or more characters, none of them a space)"
 
 TIMES = "times that don't go together: --min-time up to --default-time and --refer-time, and these up to --max-time"
 
+NOWHERE = "0.0.0.0 is no address for phones: --contact <a.b.c.d:port>"
+
 # Words behind `serve` that are refused, the status, and the line behind `notifyd: `.
 BAD_SERVICES = [
     (["--workers", "0"], 1, "a bad value: --workers <1 to 256>"),
@@ -148,7 +150,8 @@ BAD_SERVICES = [
     (["--port", "5060"], 1, "no such option: --port (notifyd serve --help lists them)"),
     (["two words"], 1, "no name of a mailbox: two words" + FORM),
     ([], 1, "no mailbox: name some, or a file of them with --mailboxes <file>"),
-    (["--listen", "0.0.0.0:5060", "alice"], 1, "--listen 0.0.0.0 needs an address for phones: --contact <a.b.c.d:port>"),
+    (["--listen", "0.0.0.0:5060", "alice"], 1, NOWHERE),
+    (["--contact", "0.0.0.0:5060", "alice"], 1, NOWHERE),
     (["--max-time", "600", "alice"], 1, TIMES),
     (["--mailboxes", "nowhere"], 3, "no such file, or it can't be read: nowhere"),
 ]

@@ -77,7 +77,8 @@ fn send_home<R: Wait>(rt: &R, port: &mut Port, happened: Event) -> bool
 }
 
 /// Sends an event to its home, or a tick to all workers, and waits while an inbox is full. False where a worker is gone: an
-/// event with a home has gone to none then, and a tick to the workers before that one. A stop is no port's to send.
+/// event with a home has gone to none then, and a tick to the workers before that one. A stop is no port's to send: false, and
+/// nothing is sent.
 pub fn send_event<R: Wait>(rt: &R, port: &mut Port, happened: Event) -> bool
     requires still_open { 0 < port.old.still_open }
     ensures sent { MatchBool result (Sends port.old (happened ∷ []) port.new) (Misses port.old happened port.new) }

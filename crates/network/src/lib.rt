@@ -2,8 +2,8 @@
 //!
 //! [`feed`] reads SIP datagrams (RFC 3261 section 18) and sends each message to the worker that is its home; [`control`]
 //! does the same with lines that tell what happened. They work over any [`Wire`], and promise of one that tells its
-//! datagrams: each that came is sent or counted as unread, in order, and nothing else is sent. Other engines stand on the
-//! steps: [`hear`] and [`tell`] are for one datagram.
+//! datagrams: each that came is sent or counted as unread, in order, but for a CLOSE and the last where a worker is gone, and
+//! nothing else is sent. Other engines stand on the steps: [`hear`] and [`tell`] are for one datagram.
 //!
 //! What it isn't: it starts no thread and no crew, and promises no progress. That a datagram arrives no contract can say.
 //! Begin with [`feed`], then `specs/Heard` and `specs/Fed`; for [`emit`] see the crate `emitting`.

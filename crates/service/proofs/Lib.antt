@@ -2,6 +2,7 @@ pub mod Doing
 pub mod Answering
 pub mod Closed
 pub mod Ran
+pub mod Faults
 pub mod Ticking
 pub mod Hearing
 pub mod Taking

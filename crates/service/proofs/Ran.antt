@@ -12,7 +12,9 @@ use Rattle.crew.specs.declared.report.WorkerReport.{WorkerReport}
 use Rattle.emitting.specs.declared.sending.EmitReport.{EmitReport}
 use Rattle.emitting.specs.Emitted.{Fates, WireSeen, WriterSeen, IsEmitted}
 use Rattle.network.specs.declared.feeding.FeedEnd.{FeedEnd}
+use Rattle.wires.specs.declared.udp.UdpWire.{UdpWire}
 use Rattle.service.specs.declared.feeding.Task.{Task}
+use Rattle.service.specs.declared.lines.ControlDesk.{ControlDesk}
 use Rattle.service.specs.declared.running.Feeders.{Feeders}
 use Rattle.service.specs.declared.running.Outcome.{Outcome}
 use Rattle.service.specs.Handing.{AreErrands}
@@ -54,14 +56,12 @@ leaves {crew = crew} {ports = ports} {taker = taker} is {wire = wire} {wire' = w
     }
 
 -- what each thread sent, once its errand is known
-module _ {mailboxes : List (List ℕ)} {f : Feeders} (are : AreErrands mailboxes f) (end : FeedEnd) (old new : PortSeats) where
+module _ {wire : UdpWire} {desk : ControlDesk UdpWire} {f : Feeders} (are : AreErrands wire desk f) (end : FeedEnd) (old new : PortSeats) where
   pub sent_datagrams : ThenCloses (SendsFor f.sip.promise.task.value end) old new → ThenCloses (SendsDatagrams end) old new
   sent_datagrams sends = let P : Task → Type 0 = λ t. ThenCloses (SendsFor t end) old new in subst P are.sip sends
 
-  pub sent_lines : ThenCloses (SendsFor f.lines.promise.task.value end) old new → ThenCloses (SendsLines mailboxes end) old new
-  sent_lines sends =
-      let P : Task → Type 0 = λ t. ThenCloses (SendsFor t end) old new in
-      let Q : List (List ℕ) → Type 0 = λ l. ThenCloses (SendsLines l end) old new in subst Q are.held (subst P are.lines sends)
+  pub sent_lines : ThenCloses (SendsFor f.lines.promise.task.value end) old new → ThenCloses (SendsLines desk.mailboxes.items end) old new
+  sent_lines sends = let P : Task → Type 0 = λ t. ThenCloses (SendsFor t end) old new in subst P are.lines sends
 
   pub sent_ticks : ThenCloses (SendsFor f.time.promise.task.value end) old new → ThenCloses (SendsTicks end) old new
   sent_ticks sends = let P : Task → Type 0 = λ t. ThenCloses (SendsFor t end) old new in subst P are.time sends

@@ -8,6 +8,7 @@ use Rattle.service.specs.declared.feeding.Task.TheVariants as task
 use Rattle.service.specs.declared.lines.ControlDesk.{ControlDesk}
 use Rattle.service.specs.declared.running.Feeders.{Feeders}
 use Rattle.service.specs.declared.running.Running.{Running}
+use Rattle.service.specs.Ticks.{new_stopwatch}
 
 -- it was just started with these ports, and workers with these starts
 abbrev pub IsNew : (ℕ → Start) → List PortSeats → Running → Type 0
@@ -21,11 +22,8 @@ NoneClosed ports = (k : ℕ) (p : PortSeats) → k < length ports → 0 < (get_o
 abbrev pub AreLent : List PortSeats → Feeders → Type 0
 AreLent ports f = ports ≡ f.sip.promise.port.value ∷ f.lines.promise.port.value ∷ f.time.promise.port.value ∷ []
 
--- what they are to send, with a desk for these mailboxes
-pub record AreErrands (mailboxes : List (List ℕ)) (f : Feeders) : Type 0 where
-  pub wire : UdpWire
-  pub desk : ControlDesk UdpWire
+-- what they are to send: what comes by this wire, what this desk takes, and the time
+pub record AreErrands (wire : UdpWire) (desk : ControlDesk UdpWire) (f : Feeders) : Type 0 where
   pub sip : f.sip.promise.task.value ≡ task.Datagrams wire
   pub lines : f.lines.promise.task.value ≡ task.Lines desk
-  pub held : desk.mailboxes.items ≡ mailboxes
-  pub time : f.time.promise.task.value ≡ task.Time
+  pub time : f.time.promise.task.value ≡ task.Time new_stopwatch

@@ -17,12 +17,16 @@ use Rattle.emitting.specs.declared.sending.EmitReport.{EmitReport}
 use Rattle.emitting.specs.Emitted.{Fates, WireSeen, WriterSeen, IsEmitted}
 use Rattle.network.specs.declared.feeding.FeedEnd.{FeedEnd}
 use Rattle.network.specs.declared.feeding.FeedEnd.TheVariants as ends
-use Rattle.network.specs.Fed.{Log}
+use Rattle.network.specs.Fed.{Log, failures_at}
+use Rattle.wires.specs.declared.udp.UdpWire.{UdpWire}
+use Rattle.service.specs.declared.clock.Stopwatch.{Stopwatch}
+use Rattle.service.specs.declared.feeding.Fed.{Fed}
 use Rattle.service.specs.declared.feeding.Task.{Task}
 use Rattle.service.specs.declared.feeding.Task.TheVariants as task
+use Rattle.service.specs.declared.lines.ControlDesk.{ControlDesk}
 use Rattle.service.specs.declared.running.Outcome.{Outcome}
 use Rattle.service.specs.Served.{AreServed}
-use Rattle.service.specs.Taken.{Line, AreTaken}
+use Rattle.service.specs.Taken.{Line, AreTaken, failures_then}
 use Rattle.service.specs.Ticks.{rises_from, AreTold}
 
 -- ---- what a thread sends through its port until it ends
@@ -39,7 +43,7 @@ SendsTicks end old new = (times : List ℕ) × rises_from 0 times × AreTold tim
 abbrev pub SendsFor : Task → FeedEnd → PortSeats → PortSeats → Type 0
 SendsFor (task.Datagrams wire) end old new = SendsDatagrams end old new
 SendsFor (task.Lines desk) end old new = SendsLines desk.mailboxes.items end old new
-SendsFor task.Time end old new = SendsTicks end old new
+SendsFor (task.Time stopwatch) end old new = SendsTicks end old new
 
 -- a port was sent through and then closed: each worker has its end mark then, or only some have it, and one at least has not,
 -- where a worker is gone
@@ -50,6 +54,21 @@ pub record ThenCloses (sends : PortSeats → PortSeats → Type 0) (old new : Po
   pub ends : IsShut fed_to new
   pub seats : SameSeats old new
 
+-- what a thread leaves of what it was to send: what it read by failed once more where it tells of a fault, and not else
+abbrev pub FailsFor : Task → Fed → Type 0
+FailsFor (task.Datagrams wire) fed =
+    (left : UdpWire) × (fed.left ≡ task.Datagrams left) × (left.failures ≡ failures_at fed.end wire.failures)
+FailsFor (task.Lines desk) fed =
+    (left : ControlDesk UdpWire) × (fed.left ≡ task.Lines left)
+    × (left.coming.failures ≡ failures_then fed.fails_late (failures_at fed.end desk.coming.failures))
+FailsFor (task.Time stopwatch) fed =
+    (left : Stopwatch) × (fed.left ≡ task.Time left) × (left.failures ≡ failures_at fed.end stopwatch.failures)
+
+-- a thread has sent this through its port and closed it
+pub record Keeps (task : Task) (old : PortSeats) (fed : Fed) : Type 0 where
+  pub sends : ThenCloses (SendsFor task fed.end) old fed.port
+  pub fails : FailsFor task fed
+
 -- ---- how it ended
 
 abbrev pub is_fault : FeedEnd → Bool
@@ -59,7 +78,14 @@ is_fault ends.Gone = false
 
 -- did a wire or the clock fail?
 abbrev pub is_faulty : Outcome → Bool
-is_faulty o = is_fault o.sip || is_fault o.lines || is_fault o.time
+is_faulty o = is_fault o.sip || is_fault o.lines || o.fails_late || is_fault o.time
+
+-- each fault is told, and no other: of the wire by which SIP came in and of the one by which lines did, which had failed m and n
+-- times before, and of the clock
+pub record AreFaults (m n : ℕ) (o : Outcome) : Type 0 where
+  pub sip : o.wire.failures ≡ failures_at o.sip m
+  pub lines : o.desk.coming.failures ≡ failures_then o.fails_late (failures_at o.lines n)
+  pub time : o.stopwatch.failures ≡ failures_at o.time 0
 
 -- ---- all of it
 

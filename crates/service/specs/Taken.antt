@@ -218,6 +218,11 @@ has_octets (octet ∷ octets) = true
 abbrev pub is_line : Datagram → Bool
 is_line d = has_octets d.octets
 
+-- a count of failures, after one more or none
+abbrev pub failures_then : Bool → ℕ → ℕ
+failures_then false n = n
+failures_then true n = one_more n
+
 -- the failures of a wire that gave this last, or failed where it gave none
 abbrev pub failures_by : List Datagram → ℕ → ℕ
 failures_by [] n = one_more n

@@ -6,6 +6,11 @@ use Rattle.crew.specs.Ports.{PortSeats}
 use Rattle.network.specs.declared.feeding.FeedEnd.{FeedEnd}
 use Rattle.network.specs.declared.feeding.FeedEnd.TheVariants.{Done, Fault, Gone}
 use Rattle.network.specs.Fed.{Sends, Misses}
+use Rattle.service.specs.declared.clock.Stopwatch.{Stopwatch}
+
+-- what read the time, and never failed
+abbrev pub new_stopwatch : Stopwatch
+new_stopwatch = record { failures = 0 }
 
 -- each time is later than those before it, and than this one
 abbrev pub rises_from : ℕ → List ℕ → Type 0

@@ -1,7 +1,9 @@
 //! The time, sent on.
-ghost use Rattle.std.specs.Prelude.{◌<◌, ℕ, List};
+ghost use Rattle.std.specs.Prelude.{◌≡◌, ◌<◌, ℕ, List, is_none};
 ghost use Rattle.crew.specs.Kept.{SameSeats};
-ghost use Rattle.service.specs.Ticks.{rises_from, AreTold};
+ghost use Rattle.network.specs.Fed.{failures_at};
+ghost use Rattle.service.specs.Taken.{failures_then};
+ghost use Rattle.service.specs.Ticks.{rises_from, AreTold, new_stopwatch};
 
 use crate::shared::Shared;
 use crew::Port;
@@ -17,6 +19,34 @@ const NAP: u64 = 50;
 
 /// How many seconds pass between two looks at what couldn't be read.
 const MINUTE: u64 = 60;
+
+/// What the time is read by. It counts how often the clock couldn't be read.
+#[derive(Drop)]
+pub struct Stopwatch {
+    failures: u64,
+}
+
+impl Stopwatch {
+    /// One that hasn't failed yet.
+    pub fn new() -> Stopwatch
+        ensures { result ≡ new_stopwatch }
+    {
+        Stopwatch { failures: 0 }
+    }
+
+    /// How many seconds the service is up. None where the clock can't be read.
+    fn seconds<R: Clock>(&mut self, rt: &R, shared: &Shared) -> Option<u64>
+        ensures { self.new.failures ≡ failures_then (is_none result) self.old.failures }
+    {
+        match shared.seconds(rt) {
+            Some(seconds) => Some(seconds),
+            None => {
+                self.failures = self.failures.saturating_add(1);
+                None
+            }
+        }
+    }
+}
 
 /// What couldn't be read, as it was told once a minute.
 #[derive(Clone, Copy)]
@@ -46,10 +76,16 @@ impl Complaint {
 /// Sends a tick each second of the monotonic clock, with the seconds since the service began, until it closes, the clock
 /// fails or a worker is gone. Once a minute it says on standard error how many datagrams couldn't be read, if some couldn't.
 /// The port isn't closed.
-pub fn tell_time<R: Wait + Clock + Eprint>(rt: &R, port: &mut Port, shared: &Shared) -> FeedEnd
+pub fn tell_time<R: Wait + Clock + Eprint>(
+    rt: &R,
+    stopwatch: &mut Stopwatch,
+    port: &mut Port,
+    shared: &Shared,
+) -> FeedEnd
     requires still_open { 0 < port.old.still_open }
     // Ticks are sent to all workers, each later than the one before, and nothing else.
     ensures ticks { (times : List ℕ) × rises_from 0 times × AreTold times port.old port.new result }
+    ensures failures { stopwatch.new.failures ≡ failures_at result stopwatch.old.failures }
     ensures seats { SameSeats port.old port.new }
 {
     let mut complaint = Complaint {
@@ -62,7 +98,7 @@ pub fn tell_time<R: Wait + Clock + Eprint>(rt: &R, port: &mut Port, shared: &Sha
         if shared.is_closing() {
             return FeedEnd::Done;
         }
-        let Some(now) = shared.seconds(rt) else {
+        let Some(now) = stopwatch.seconds(rt, shared) else {
             return FeedEnd::Fault;
         };
         complaint.look(rt, shared, now);

@@ -2,9 +2,10 @@
 ghost use Rattle.std.specs.Prelude.{◌≡◌, ◌<◌, ℕ, IfOk};
 ghost use Rattle.crew.specs.Kept.{SameSeats};
 ghost use Rattle.crew.specs.Ports.{IsShut};
-ghost use Rattle.service.specs.Running.{SendsDatagrams, SendsLines, SendsTicks, SendsFor, ThenCloses};
+ghost use Rattle.service.specs.declared.feeding.Task.TheVariants as tasks;
+ghost use Rattle.service.specs.Running.{Keeps};
 
-use crate::clock::tell_time;
+use crate::clock::{Stopwatch, tell_time};
 use crate::datagrams::hear_datagrams;
 use crate::lines::ControlDesk;
 use crate::shared::Shared;
@@ -26,7 +27,7 @@ pub(crate) enum Task {
     /// What control lines tell.
     Lines(ControlDesk<UdpWire>),
     /// The time.
-    Time,
+    Time(Stopwatch),
 }
 
 /// A port that was fed and closed.
@@ -34,6 +35,10 @@ pub(crate) enum Task {
 pub(crate) struct Fed {
     pub(crate) port: Port,
     pub(crate) end: FeedEnd,
+    /// Whether the wire failed behind this end, while lines were refused.
+    pub(crate) fails_late: bool,
+    /// What was to be sent, as it is left.
+    pub(crate) left: Task,
 }
 
 /// What a thread is to send, and through which port, as contracts see it.
@@ -44,9 +49,9 @@ pub(crate) struct Errand {
 }
 
 impl Promise<Fed> for Errand {
-    ghost use Rattle.service.specs.Running.{SendsFor, ThenCloses};
+    ghost use Rattle.service.specs.Running.{Keeps};
 
-    ghost kept_by = { λ errand fed. ThenCloses (SendsFor errand.task.value fed.end) errand.port.value fed.port };
+    ghost kept_by = { λ errand fed. Keeps errand.task.value errand.port.value fed };
 }
 
 /// A thread that feeds a port.
@@ -62,17 +67,16 @@ impl<F: Drop> From<SpawnError<F>> for NoThread {
     }
 }
 
-/// Closes a port that was fed until this end. The service closes too, whatever the end.
-fn shut<R: Wait>(rt: &R, mut port: Port, end: FeedEnd, shared: &Shared) -> Fed
-    ensures end { result.end ≡ end }
-    ensures shut { result.port.still_open ≡ 0 }
-    ensures ends { IsShut port result.port }
-    ensures seats { SameSeats port result.port }
+/// Closes a port that was fed. The service closes too, whatever ended the feed.
+fn shut<R: Wait>(rt: &R, mut port: Port, shared: &Shared) -> Port
+    ensures shut { result.still_open ≡ 0 }
+    ensures ends { IsShut port result }
+    ensures seats { SameSeats port result }
 {
     shared.close();
     let told = port.close(rt);
     drop(told);
-    Fed { port, end }
+    port
 }
 
 /// Sends what SIP datagrams say until the service closes, and closes the port.
@@ -84,10 +88,16 @@ fn hear_whole<R: Wait>(
     shared: &Shared,
 ) -> Fed
     requires { 0 < port.still_open }
-    ensures { ThenCloses (SendsDatagrams result.end) port result.port }
+    ensures { Keeps (tasks.Datagrams wire) port result }
 {
     let end = hear_datagrams(rt, alloc, &mut wire, &mut port, shared);
-    shut(rt, port, end, shared)
+    let port = shut(rt, port, shared);
+    Fed {
+        port,
+        end,
+        fails_late: false,
+        left: Task::Datagrams(wire),
+    }
 }
 
 /// Sends what control lines tell until the service closes, and closes the port. Lines are answered until all was sent out.
@@ -99,21 +109,37 @@ fn take_whole<R: Wait + Clock>(
     shared: &Shared,
 ) -> Fed
     requires { 0 < port.still_open }
-    ensures { ThenCloses (SendsLines desk.mailboxes.items result.end) port result.port }
+    ensures { Keeps (tasks.Lines desk) port result }
 {
     let end = desk.take_lines(rt, alloc, &mut port, shared);
-    let fed = shut(rt, port, end, shared);
-    desk.refuse_lines(rt, shared);
-    fed
+    let port = shut(rt, port, shared);
+    let fails_late = desk.refuse_lines(rt, shared);
+    Fed {
+        port,
+        end,
+        fails_late,
+        left: Task::Lines(desk),
+    }
 }
 
 /// Sends the time until the service closes, and closes the port.
-fn tell_whole<R: Wait + Clock + Eprint>(rt: &R, mut port: Port, shared: &Shared) -> Fed
+fn tell_whole<R: Wait + Clock + Eprint>(
+    rt: &R,
+    mut port: Port,
+    mut stopwatch: Stopwatch,
+    shared: &Shared,
+) -> Fed
     requires { 0 < port.still_open }
-    ensures { ThenCloses (SendsTicks result.end) port result.port }
+    ensures { Keeps (tasks.Time stopwatch) port result }
 {
-    let end = tell_time(rt, &mut port, shared);
-    shut(rt, port, end, shared)
+    let end = tell_time(rt, &mut stopwatch, &mut port, shared);
+    let port = shut(rt, port, shared);
+    Fed {
+        port,
+        end,
+        fails_late: false,
+        left: Task::Time(stopwatch),
+    }
 }
 
 /// Does a task to its end, and closes the port.
@@ -125,12 +151,12 @@ fn do_task<R: Wait + Clock + Eprint>(
     shared: &Shared,
 ) -> Fed
     requires { 0 < port.still_open }
-    ensures { ThenCloses (SendsFor task result.end) port result.port }
+    ensures { Keeps task port result }
 {
     match task {
         Task::Datagrams(wire) => hear_whole(rt, alloc, port, wire, shared),
         Task::Lines(desk) => take_whole(rt, alloc, port, desk, shared),
-        Task::Time => tell_whole(rt, port, shared),
+        Task::Time(stopwatch) => tell_whole(rt, port, stopwatch, shared),
     }
 }
 
@@ -158,7 +184,7 @@ pub(crate) fn start_feeder<R: Threads + Wait + Clock + Eprint + Copy + Send + 's
         errand,
         move || -> Fed
             requires { 0 < port.still_open }
-            ensures { ThenCloses (SendsFor task result.end) port result.port }
+            ensures { Keeps task port result }
         { do_task(&rt, alloc, port, task, &theirs) },
     )?;
     Ok(feeder)

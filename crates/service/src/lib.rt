@@ -2,8 +2,8 @@
 //!
 //! Three threads feed the ports of a crew: one with the SIP datagrams of a socket ([`hear_datagrams`]), one with control
 //! lines, each of which it answers ([`ControlDesk`]), one with the time ([`tell_time`]). The calling thread sends out what the
-//! workers post ([`send_outs`]). [`run_crew`] starts all of them, and ends at CLOSE, a fault of a socket or a worker that is
-//! gone.
+//! workers post ([`send_outs`]). [`run_crew`] starts all of them, and ends at CLOSE, a fault of a socket or of the clock, or a
+//! worker that is gone.
 //!
 //! What it isn't: what the workers do is `notifier`'s, what a port sends `crew`'s, and what a datagram says `network`'s; the
 //! counters of [`Shared`] are no part of any contract. Begin with [`run_crew`], then `specs/Ticks`, `specs/Served`,
@@ -19,7 +19,7 @@ pub mod outs;
 pub mod running;
 mod shared;
 
-pub use clock::tell_time;
+pub use clock::{Stopwatch, tell_time};
 pub use datagrams::hear_datagrams;
 pub use error::RunError;
 pub use lines::{ControlDesk, Done, take_line};

@@ -6,7 +6,7 @@ ghost use Rattle.crew.specs.Kept.{SameSeats};
 ghost use Rattle.network.specs.Fed.{failures_at};
 ghost use Rattle.telling.specs.Lines.{answer_text};
 ghost use Rattle.service.specs.Taken as spec;
-ghost use Rattle.service.specs.Taken.{Line, IsSent, IsChanged, IsDone, IsReport, Offers, IsAnswered, Gave, AreTaken, AreAnswered, AreRefused};
+ghost use Rattle.service.specs.Taken.{Line, IsSent, IsChanged, IsDone, IsReport, Offers, IsAnswered, Gave, AreTaken, AreAnswered, AreRefused, failures_then};
 
 use crate::shared::{Counter, Shared};
 use crew::Port;
@@ -237,23 +237,25 @@ impl<W: Wire> ControlDesk<W> {
         unreachable!()
     }
 
-    /// Answers `closed` to whoever asks, until all was sent out or the wire fails. An empty datagram is not answered.
-    pub fn refuse_lines<R: Wait>(&mut self, rt: &R, shared: &Shared)
+    /// Answers `closed` to whoever asks, until all was sent out or the wire fails: true then. An empty datagram is not answered.
+    /// The datagram that comes after all was sent out is dropped.
+    pub fn refuse_lines<R: Wait>(&mut self, rt: &R, shared: &Shared) -> bool
         ensures refused { AreRefused (W.given self.old.coming) (W.given self.new.coming)
             (W.failures self.old.coming) (W.failures self.new.coming)
             (W.taken self.old.going) (W.taken self.new.going)
             (W.failures self.old.going) (W.failures self.new.going) }
         ensures coming { Grows (W.taken self.old.coming) (W.taken self.new.coming) [] }
+        ensures failures { W.failures self.new.coming ≡ failures_then result (W.failures self.old.coming) }
         ensures going { Grows (W.given self.old.going) (W.given self.new.going) [] }
         ensures mailboxes { self.new.mailboxes ≡ self.old.mailboxes }
     {
         let mut octets = [0; ROOM];
         for _ in rt.forever() {
             let Ok((length, source)) = self.coming.recv(rt, &mut octets) else {
-                return;
+                return true;
             };
             if shared.is_finished() {
-                return;
+                return false;
             }
             if length > 0 {
                 self.say(rt, shared, source, Answer::Closed);

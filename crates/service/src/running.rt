@@ -6,9 +6,14 @@ ghost use Rattle.crew.specs.Ready.{start_of};
 ghost use Rattle.crew.specs.Started.{IsStarted};
 ghost use Rattle.service.specs.Handing.{IsNew, NoneClosed, AreLent, AreErrands};
 ghost use Rattle.service.specs.Running as spec;
+ghost use Rattle.service.specs.declared.clock.Stopwatch.{Stopwatch};
 ghost use Rattle.service.specs.declared.error.RunError.TheVariants as error;
-ghost use Rattle.service.specs.Running.{Runs, Leaves, is_faulty};
+ghost use Rattle.service.specs.declared.feeding.Task.TheVariants as tasks;
+ghost use Rattle.service.specs.declared.lines.ControlDesk.{ControlDesk};
+ghost use Rattle.wires.specs.declared.udp.UdpWire.{UdpWire};
+ghost use Rattle.service.specs.Running.{Runs, Leaves, AreFaults, is_faulty};
 
+use crate::clock::Stopwatch;
 use crate::error::RunError;
 use crate::feeding::{Feeder, Task, start_feeder};
 use crate::lines::ControlDesk;
@@ -47,10 +52,18 @@ pub struct Outcome {
     pub sip: FeedEnd,
     /// Why no more control lines were.
     pub lines: FeedEnd,
+    /// Whether the wire by which they come failed behind that, while lines were refused.
+    pub fails_late: bool,
     /// Why no more time was told.
     pub time: FeedEnd,
     /// What each worker did.
     pub report: Report,
+    /// Where SIP datagrams came in, as it is left.
+    pub wire: UdpWire,
+    /// What took control lines, as it is left.
+    pub desk: ControlDesk<UdpWire>,
+    /// What the time was read by, as it is left.
+    pub stopwatch: Stopwatch,
 }
 
 fn is_fault(end: FeedEnd) -> bool
@@ -67,7 +80,7 @@ impl Outcome {
     pub fn is_faulty(&self) -> bool
         ensures { result ≡ is_faulty self.now }
     {
-        is_fault(self.sip) || is_fault(self.lines) || is_fault(self.time)
+        is_fault(self.sip) || is_fault(self.lines) || self.fails_late || is_fault(self.time)
     }
 }
 
@@ -150,13 +163,13 @@ fn start_feeders<R: Threads + Wait + Clock + Eprint + Copy + Send + 'static>(
     requires three { vec_len ports.old ≡ 3 }
     requires still_open { NoneClosed ports.old.items }
     ensures ports { IfOk result (λ f. AreLent ports.old.items f) }
-    ensures errands { IfOk result (λ f. AreErrands ears.desk.mailboxes.items f) }
+    ensures errands { IfOk result (AreErrands ears.sip ears.desk) }
     ensures none { vec_len ports.new ≡ 0 }
     ensures capacity { vec_capacity ports.new ≡ vec_capacity ports.old }
 {
     let (first, second, third) = take_three(ports);
     let Ears { sip, desk } = ears;
-    let Ok(time) = start_feeder(rt, alloc, third, Task::Time, shared) else {
+    let Ok(time) = start_feeder(rt, alloc, third, Task::Time(Stopwatch::new()), shared) else {
         return Err(Begun {
             time: None,
             lines: None,
@@ -207,6 +220,39 @@ fn wind_up<R: Threads + Wait + Clock, W: Wire, F: Write>(
     drop(report);
 }
 
+/// The wire of a thread that heard by it.
+fn wire_of(task: Task) -> UdpWire
+    requires { (wire : UdpWire) × (task ≡ tasks.Datagrams wire) }
+    ensures { task ≡ tasks.Datagrams result }
+{
+    let Task::Datagrams(wire) = task else {
+        unreachable!()
+    };
+    wire
+}
+
+/// The desk of a thread that took lines by it.
+fn desk_of(task: Task) -> ControlDesk<UdpWire>
+    requires { (desk : ControlDesk UdpWire) × (task ≡ tasks.Lines desk) }
+    ensures { task ≡ tasks.Lines result }
+{
+    let Task::Lines(desk) = task else {
+        unreachable!()
+    };
+    desk
+}
+
+/// What a thread that told the time read it by.
+fn stopwatch_of(task: Task) -> Stopwatch
+    requires { (stopwatch : Stopwatch) × (task ≡ tasks.Time stopwatch) }
+    ensures { task ≡ tasks.Time result }
+{
+    let Task::Time(stopwatch) = task else {
+        unreachable!()
+    };
+    stopwatch
+}
+
 /// Sends out what the workers post until the ports have ended, and joins all threads. There is room for the ports.
 fn serve_to_end<R: Threads + Wait + Clock, W: Wire, F: Write>(
     rt: &R,
@@ -216,11 +262,13 @@ fn serve_to_end<R: Threads + Wait + Clock, W: Wire, F: Write>(
     exit: &mut Exit<W, F>,
 ) -> Outcome
     requires new { (start : ℕ → Start) × (lent : List PortSeats) × IsNew start lent running × AreLent lent feeders }
-    requires errands { (mailboxes : List (List ℕ)) × AreErrands mailboxes feeders }
+    requires errands { (wire : UdpWire) × (desk : ControlDesk UdpWire) × AreErrands wire desk feeders }
     requires room { (vec_len ports ≡ 0) × (3 ≤ vec_capacity ports) }
-    ensures { (start : ℕ → Start) (lent : List PortSeats) (mailboxes : List (List ℕ))
-        → IsNew start lent running → AreLent lent feeders → AreErrands mailboxes feeders
-        → Runs start running.workers mailboxes
+    ensures faults { (wire : UdpWire) (desk : ControlDesk UdpWire) → AreErrands wire desk feeders
+        → AreFaults wire.failures desk.coming.failures result }
+    ensures runs { (start : ℕ → Start) (lent : List PortSeats) (wire : UdpWire) (desk : ControlDesk UdpWire)
+        → IsNew start lent running → AreLent lent feeders → AreErrands wire desk feeders
+        → Runs start running.workers desk.mailboxes.items
         (record { taken = W.taken exit.old.wire; failures = W.failures exit.old.wire })
         (record { taken = W.taken exit.new.wire; failures = W.failures exit.new.wire })
         (record { contents = F.contents exit.old.sink.writer; failures = exit.old.sink.failures })
@@ -235,6 +283,8 @@ fn serve_to_end<R: Threads + Wait + Clock, W: Wire, F: Write>(
     } = running;
     send_outs(rt, exit, &mut taker, workers, &mut bell, &shared);
     shared.finish();
+    // Twice, since no later ring sends again what one fails to send.
+    bell.ring(rt);
     bell.ring(rt);
     let Feeders { sip, lines, time } = feeders;
     let sip = sip.join(rt);
@@ -247,8 +297,12 @@ fn serve_to_end<R: Threads + Wait + Clock, W: Wire, F: Write>(
     Outcome {
         sip: sip.end,
         lines: lines.end,
+        fails_late: lines.fails_late,
         time: time.end,
         report,
+        wire: wire_of(sip.left),
+        desk: desk_of(lines.left),
+        stopwatch: stopwatch_of(time.left),
     }
 }
 
@@ -274,6 +328,7 @@ where
         (record { taken = W.taken exit.new.wire; failures = W.failures exit.new.wire })
         (record { contents = F.contents exit.old.sink.writer; failures = exit.old.sink.failures })
         (record { contents = F.contents exit.new.sink.writer; failures = exit.new.sink.failures }) o) }
+    ensures faults { IfOk result (AreFaults ears.sip.failures ears.desk.coming.failures) }
     ensures refused { IfErr result (λ e. e ≡ error.NoThread) }
     ensures left { OnErr result ((start : ℕ → Start) → IsNew start ports.items running → Leaves start running.workers
         (record { taken = W.taken exit.old.wire; failures = W.failures exit.old.wire })
@@ -332,6 +387,8 @@ where
         (record { taken = W.taken exit.new.wire; failures = W.failures exit.new.wire })
         (record { contents = F.contents exit.old.sink.writer; failures = exit.old.sink.failures })
         (record { contents = F.contents exit.new.sink.writer; failures = exit.new.sink.failures }) o) }
+    // It tells of a fault exactly where a read of a socket or of the clock failed.
+    ensures faults { IfOk result (AreFaults work.sip.failures work.desk.coming.failures) }
     // Without memory nothing is started, and nothing leaves. Where a thread is refused only outs of workers with these starts do.
     ensures no_memory { result ≡ Err error.NoMemory → exit.new ≡ exit.old }
     ensures no_thread { OnErr result ((exit.new ≡ exit.old) ⊎ ((b : _)

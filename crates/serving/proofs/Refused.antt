@@ -11,6 +11,7 @@ use Rattle.serving.specs.declared.error.ServeError.TheVariants as error
 use Rattle.scripts.specs.declared.device.Sink.{Sink}
 use Rattle.service.specs.declared.running.Outcome.{Outcome}
 use Rattle.service.specs.Running.{is_faulty}
+use Rattle.service.proofs.Faults.{unfailed}
 use Rattle.udp_program.specs.Ends.{all_closed, Tells}
 use Rattle.udp_program.specs.Serving.{writer_seen}
 use Rattle.serving.specs.Serving.{Serves, EndsWell}
@@ -88,6 +89,9 @@ ended_well contents words (Ok x) before between after o served no_fault closed t
   writer = writer_seen contents before;
   writer' = writer_seen contents between;
   runs = served.ran.runs;
+  sip_failures = (unfailed o served.faults no_fault).0;
+  line_failures = (unfailed o served.faults no_fault).1;
+  clock_failures = (unfailed o served.faults no_fault).2;
   no_fault = no_fault;
   closed = closed;
   last = writer_seen contents after;

@@ -1,5 +1,6 @@
 -- A service starts as its plan asks for it.
 use Rattle.std.proofs.Common.{◌≡◌, ℕ, ◌<◌, List, Option, Some, None, length, map, get_or, Vec, sym, ap, subst, ◌∙◌, arith}
+use Rattle.std.specs.Prelude.{IfOk, Result, Ok, Err}
 use Rattle.std.specs.declared.alloc.Global.{Global}
 use Rattle.std.proofs.lemmas.List.{get_or-map}
 use Rattle.std.proofs.lemmas.List.FromFn.{get_or-map-range_with_len}
@@ -24,6 +25,11 @@ use Rattle.serving.specs.Serving.{start_at, Ran}
 pub count_is : (asked : Option ℕ) (n : ℕ) → IsCount asked n → IsWithin 1 256 n
 count_is None n is = is
 count_is (Some m) n is = is.0
+
+-- what two clauses say of an answer
+pub if_both : {T E : Type 0} {P Q R : T → Type 0} (r : Result T E) → IfOk r P → IfOk r Q → ((x : T) → P x → Q x → R x) → IfOk r R
+if_both (Ok x) p q f = f x p q
+if_both (Err e) p q f = p
 
 -- the same under other names of the starts and their number
 runs_as : {start start' : ℕ → Start} {workers workers' : ℕ} {mailboxes : List (List ℕ)} {wire wire' : WireSeen} {writer writer' : WriterSeen} {o : Outcome}

@@ -56,9 +56,14 @@ IsSeed (Some asked) seed = seed ≡ asked
 
 -- ---- all of it
 
--- phones reach a service at its contact, or where it listens, unless that is each of its addresses
+-- where a service is reached: at the address that was named for it, or else at this one
+abbrev pub reached : Option Addr → Addr → Addr
+reached (Some contact) local = contact
+reached None local = local
+
+-- phones are told an address of it, not 0.0.0.0, which is each address of a machine
 abbrev pub IsReached : Choices → Type 0
-IsReached choices = choices.contact ≡ None → choices.listen.ip ≢ 0 ∷ 0 ∷ 0 ∷ 0 ∷ []
+IsReached choices = (reached choices.contact choices.listen).ip ≢ 0 ∷ 0 ∷ 0 ∷ 0 ∷ []
 
 -- the words choose this, and name these mailboxes
 pub record AreRead (words : List (List ℕ)) (choices : Choices) (mailboxes : List (List ℕ)) : Type 0 where
@@ -76,10 +81,6 @@ pub record IsPlan (words : List (List ℕ)) (plan : Plan) : Type 0 where
   pub within : AreLimits plan.limits
   pub seed : IsSeed plan.choices.seed plan.seed
   pub workers : IsCount plan.choices.numbers.workers plan.workers
-
-abbrev pub reached : Option Addr → Addr → Addr
-reached (Some contact) local = contact
-reached None local = local
 
 -- what the desks of the workers stand on, where the socket is here
 abbrev pub setup_of : Plan → Addr → Setup

@@ -12,7 +12,7 @@ use Rattle.udp_program.specs.Serving.{writer_seen}
 use Rattle.service.specs.declared.outs.Bell.{Bell}
 use Rattle.service.specs.declared.running.Outcome.{Outcome}
 use Rattle.service.specs.declared.running.Work.{Work}
-use Rattle.service.specs.Running.{Runs, is_faulty}
+use Rattle.service.specs.Running.{Runs, AreFaults, is_faulty}
 use Rattle.options.specs.declared.choices.Choices.{Choices}
 use Rattle.wires.specs.declared.udp.UdpWire.{UdpWire}
 use Rattle.serving.specs.declared.plan.Plan.{Plan}
@@ -31,8 +31,8 @@ start_at plan local worker = record {
   boxes = boxes_with (names_for plan.workers worker plan.mailboxes.items);
 }
 
--- the sockets that were chosen: each of the two addresses has a wire that receives and one that sends, and the bell wakes what
--- receives there
+-- the sockets that were chosen: each of the two addresses has a wire that receives, which hasn't failed yet, and one that sends,
+-- and the bell wakes what receives there
 pub record AreOpen (choices : Choices) (s : Sockets) : Type 0 where
   pub at : IsAt choices.listen s.bell.sip
   pub control : IsAt choices.control s.bell.control
@@ -40,6 +40,8 @@ pub record AreOpen (choices : Choices) (s : Sockets) : Type 0 where
   pub outgoing : s.outgoing.local ≡ s.bell.sip
   pub lines : s.lines.local ≡ s.bell.control
   pub replies : s.replies.local ≡ s.bell.control
+  pub sip_failures : s.sip.failures ≡ 0
+  pub line_failures : s.lines.failures ≡ 0
 
 -- what the plan asks for, where this bell wakes it
 pub record IsWork (plan : Plan) (bell : Bell UdpWire) (work : Work) : Type 0 where
@@ -49,6 +51,8 @@ pub record IsWork (plan : Plan) (bell : Bell UdpWire) (work : Work) : Type 0 whe
   pub lines : work.desk.coming.local ≡ bell.control
   pub replies : work.desk.going.local ≡ bell.control
   pub woken_by : work.bell ≡ bell
+  pub sip_failures : work.sip.failures ≡ 0
+  pub line_failures : work.desk.coming.failures ≡ 0
 
 -- a writer that was not written to
 abbrev pub new_sink : {W : Type 0} → W → Sink W
@@ -61,16 +65,17 @@ module _ {W : Type 0} (contents : W → Option (List ℕ)) where
     pub wire' : WireSeen
     pub runs : Runs start workers mailboxes wire wire' (writer_seen contents before) (writer_seen contents after) outcome
 
-  -- the words ask for a service, which ran to its end
+  -- the words ask for a service, which ran to its end, and tells each fault of its sockets and of the clock
   pub record Serves (words : List (List ℕ)) (before after : Sink W) (outcome : Outcome) : Type 0 where
     pub plan : Plan
     pub is_plan : IsPlan words plan
     pub local : Addr
     pub is_at : IsAt plan.choices.listen local
     pub ran : Ran (start_at plan local) plan.workers plan.mailboxes.items before after outcome
+    pub faults : AreFaults 0 0 outcome
 
--- the words ask for a service, which ran to its end, and all went well: no thread tells of a fault, each worker came to the end of
--- what was sent to it, and the lines of the workers were written
+-- the words ask for a service, which ran to its end, and all went well: no read of its two sockets failed and none of the clock,
+-- no thread tells of a fault, each worker came to the end of what was sent to it, and the lines of the workers were written
 pub record EndsWell (words : List (List ℕ)) : Type 0 where
   pub plan : Plan
   pub is_plan : IsPlan words plan
@@ -82,6 +87,9 @@ pub record EndsWell (words : List (List ℕ)) : Type 0 where
   pub writer : WriterSeen
   pub writer' : WriterSeen
   pub runs : Runs (start_at plan local) plan.workers plan.mailboxes.items wire wire' writer writer' outcome
+  pub sip_failures : outcome.wire.failures ≡ 0
+  pub line_failures : outcome.desk.coming.failures ≡ 0
+  pub clock_failures : outcome.stopwatch.failures ≡ 0
   pub no_fault : is_faulty outcome ≡ false
   pub closed : all_closed outcome.report.workers.items ≡ true
   pub last : WriterSeen

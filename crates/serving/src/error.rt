@@ -18,8 +18,8 @@ pub enum ServeError {
     /// The times of the limits don't go together.
     #[error("times that don't go together: --min-time up to --default-time and --refer-time, and these up to --max-time")]
     Times,
-    /// The service listens at every address, and none is named by which phones reach it.
-    #[error("--listen 0.0.0.0 needs an address for phones: --contact <a.b.c.d:port>")]
+    /// Phones would be told 0.0.0.0: it is named for them, or the service listens there and none is.
+    #[error("0.0.0.0 is no address for phones: --contact <a.b.c.d:port>")]
     NoContact,
     /// No mailbox is named.
     #[error("no mailbox: name some, or a file of them with --mailboxes <file>")]
@@ -30,11 +30,11 @@ pub enum ServeError {
     /// A line of a file of mailboxes names none.
     #[error("{path}, line {line}: {error}", path = .0.as_str(), line = .1, error = .2)]
     Line(Text, u64, OptionsError),
-    /// The address of an option can't be had: its port is in use, or it isn't this machine's.
+    /// The address of an option can't be had: mostly its port is in use, or it isn't this machine's.
     #[error("a port in use, or an address not of this machine: {option}", option = .0.text())]
     Address(Place),
-    /// The system gave no randomness, no clock or no thread.
-    #[error("the system refused a thread, the clock or randomness")]
+    /// The system gave no thread, no socket for the bell, no clock or no randomness.
+    #[error("the system refused a thread, a socket, the clock or randomness")]
     System,
     /// A socket failed while the service ran.
     #[error("device fault")]

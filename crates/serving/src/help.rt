@@ -15,7 +15,7 @@ usage: notifyd serve [options] [<mailbox>...]
   --contact <a.b.c.d:port>   where phones reach the service (as --listen)
   --control <a.b.c.d:port>   where control lines come in (127.0.0.1:5061)
   --workers <1 to 256>       worker threads (one a processor)
-  --mailboxes <file>         a mailbox a line; # begins a comment
+  --mailboxes <file>         a mailbox a line; # in front: a comment
   --seed <64 hex digits>     for local tags (the system's randomness)
   --keep-subscriptions       no farewell at the end
   --min-time <seconds>       the shortest time granted (60)

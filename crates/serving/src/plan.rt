@@ -84,11 +84,11 @@ fn workers_of<R: Threads>(rt: &R, asked: Option<u32>) -> u32
     count.clamp(1, 256)
 }
 
-/// Whether phones are told an address where they reach the service: one that listens at all its addresses must name one.
+/// Whether phones are told an address: 0.0.0.0 is none. A service that listens at each of its addresses must name one.
 fn is_reached(choices: &Choices) -> bool
     ensures { IsTrue result ↔ IsReached choices.now }
 {
-    choices.contact.is_some() || choices.listen.ip != [0; 4]
+    choices.contact.unwrap_or(choices.listen).ip != [0; 4]
 }
 
 /// What the words ask for, but for the mailboxes of files.

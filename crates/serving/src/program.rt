@@ -3,7 +3,7 @@ ghost use Rattle.std.specs.Prelude.{◌≡◌, ◌<◌, ◌≤◌, ◌⊎◌, tr
 ghost use Rattle.crew.specs.Ready.{start_of};
 ghost use Rattle.server.specs.Boxes.{box_seen};
 ghost use Rattle.server.specs.Call as call;
-ghost use Rattle.service.specs.Running.{is_faulty};
+ghost use Rattle.service.specs.Running.{AreFaults, is_faulty};
 ghost use Rattle.udp_program.specs.Ends as ends;
 ghost use Rattle.udp_program.specs.Ends.{Tells};
 ghost use Rattle.serving.specs.Refused.{AskForText, IsOther, IsRefusal, IsStatus, status_of};
@@ -144,6 +144,7 @@ where
     ensures ran { IfOk result (λ s. (b : _)
         → Ran F.contents (λ w. start_of box_seen work.setup w (get_or boxes.items w b).items) (vec_len boxes)
         work.desk.mailboxes.items exit.sink s.sink s.outcome) }
+    ensures faults { IfOk result (λ s. AreFaults work.sip.failures work.desk.coming.failures s.outcome) }
 {
     let mut exit = exit;
     let outcome = run_crew(rt, rt.alloc(), boxes, work, &mut exit)?;
@@ -170,7 +171,8 @@ where
         + Send
         + 'static,
     F: Write + Drop,
-    // It ran as the words ask for it: what its ports sent, what its workers did with it, and what became of their outs.
+    // It ran as the words ask for it: what its ports sent, what its workers did with it, what became of their outs, and which
+    // faults of its sockets and of the clock it tells.
     ensures served { IfOk result (λ s. Serves F.contents words.now (new_sink writer) s.sink s.outcome) }
     // A cause that is in the words stands in them.
     ensures refused { IfErr result (IsRefusal words.now) }

@@ -22,10 +22,12 @@ pub(crate) struct Sockets {
     pub(crate) bell: Bell<UdpWire>,
 }
 
-/// Two wires over a socket at this address, which an option named.
+/// Two wires over a socket at this address, which an option named. Each refusal is told as that of the address, also where the
+/// system has no memory or no descriptor left.
 fn bind<R: Wait + Net>(rt: &R, place: Place, addr: Addr) -> Result<(UdpWire, UdpWire), ServeError>
     ensures at { IfOk result (λ r. IsAt addr r.0.local) }
     ensures same { IfOk result (λ r. r.1.local ≡ r.0.local) }
+    ensures failures { IfOk result (λ r. r.0.failures ≡ 0) }
     ensures refused { IfErr result (λ e. e ≡ error.Address place) }
 {
     match UdpWire::bind_at(rt, addr) {

@@ -53,11 +53,15 @@ impl UdpSpeaker {
     }
 }
 
-/// Whether this says that nobody is there, or nobody answered in time.
+/// Whether this says that nobody is there, or nobody answered in time. A wait with a limit is interrupted where the program was
+/// stopped and goes on: the time is over then as well.
 fn is_silence(kind: ErrorKind) -> bool {
     matches!(
         kind,
-        ErrorKind::WouldBlock | ErrorKind::TimedOut | ErrorKind::ConnectionRefused
+        ErrorKind::WouldBlock
+            | ErrorKind::TimedOut
+            | ErrorKind::Interrupted
+            | ErrorKind::ConnectionRefused
     )
 }
 

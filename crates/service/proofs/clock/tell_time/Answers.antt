@@ -3,7 +3,7 @@ use Rattle.service.proofs.Ticking.{ticking_none, ticking_more, told_gone}
 use Rattle.service.proofs.clock.tell_time.Goals as goal
 
 pub loop-init : goal.loop-init
-loop-init g c = record { still_open = c.requires.still_open; seats = refl; ticking = ticking_none c.args.port.now }
+loop-init g c = record { still_open = c.requires.still_open; seats = refl; ticking = ticking_none c.args.port.now; failures = refl }
 
 pub returns-then-not-send_event-clause-ticks : goal.returns-then-not-send_event-clause-ticks
 returns-then-not-send_event-clause-ticks g c =
@@ -15,4 +15,5 @@ loop-preserved g c =
       still_open = (let same = sent.still_open in let was = c.loop.invariant.still_open in omega arith);
       seats = c.send_event.ensures.seats ∙ c.loop.invariant.seats;
       ticking = ticking_more c.loop.invariant.ticking c.send_event.new.port c.in-Some-seconds.now c.if-now-second.false sent;
+      failures = c.in-Some-seconds.ensures ∙ c.loop.invariant.failures;
     }

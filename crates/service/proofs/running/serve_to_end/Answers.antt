@@ -4,6 +4,7 @@ use Rattle.crew.specs.Ports.{PortSeats}
 use Rattle.service.specs.Handing.{IsNew}
 use Rattle.service.proofs.Closed.{taker_new, taker_workers, ports_closed, pushed_three}
 use Rattle.service.proofs.Ran.{sent_datagrams, sent_lines, sent_ticks, runs_are}
+use Rattle.service.proofs.Faults.{left_wire, left_desk, left_stopwatch, wire_failed, desk_failed, clock_failed}
 use Rattle.service.proofs.running.serve_to_end.Goals as goal
 
 pub send_outs-requires-clause-workers : goal.send_outs-requires-clause-workers
@@ -20,22 +21,41 @@ join-report-requires-clause-ports g c p q low =
     let all = pushed_three c.args.ports.items one.items two.items three.items sip.result.port lines.result.port time.result.port (omega arith) c.push_reserved.ensures.items c.push_reserved-2.ensures.items c.push_reserved-3.ensures.items in
     let len = three.ok.0 in
     let P : List PortSeats → Type 0 = λ l. IsNew c.requires.new.0 l c.args.running in
-    ports_closed _ _ _ sip.result.port lines.result.port time.result.port (subst P c.requires.new.3 c.requires.new.2) three.items all sip.ensures.shut lines.ensures.shut time.ensures.shut
-    sip.ensures.seats lines.ensures.seats time.ensures.seats p q (omega arith)
+    ports_closed _ _ _ sip.result.port lines.result.port time.result.port (subst P c.requires.new.3 c.requires.new.2) three.items all sip.ensures.sends.shut lines.ensures.sends.shut time.ensures.sends.shut
+    sip.ensures.sends.seats lines.ensures.sends.seats time.ensures.sends.seats p q (omega arith)
 
 pub join-report-requires-clause-ended : goal.join-report-requires-clause-ended
 join-report-requires-clause-ended g c = started_end c.requires.new.2 c.send_outs.new.taker c.send_outs.ensures.outbox c.send_outs.ensures.ended
 
-pub returns : goal.returns
-returns g c = λ start lent mailboxes is lent_are errands.
+pub wire_of-requires : goal.wire_of-requires
+wire_of-requires g c =
+    let its = left_wire c.requires.errands.2 c.join-sip.result c.join-sip.ensures.fails in (its.0, its.1)
+
+pub desk_of-requires : goal.desk_of-requires
+desk_of-requires g c =
+    let its = left_desk c.requires.errands.2 c.join-lines.result c.join-lines.ensures.fails in (its.0, its.1)
+
+pub stopwatch_of-requires : goal.stopwatch_of-requires
+stopwatch_of-requires g c =
+    let its = left_stopwatch c.requires.errands.2 c.join-time.result c.join-time.ensures.fails in (its.0, its.1)
+
+pub returns-clause-faults : goal.returns-clause-faults
+returns-clause-faults g c = λ wire desk errands. record {
+  sip = wire_failed wire c.wire_of.result c.join-sip.result (left_wire errands c.join-sip.result c.join-sip.ensures.fails) c.wire_of.ensures;
+  lines = desk_failed desk c.desk_of.result c.join-lines.result (left_desk errands c.join-lines.result c.join-lines.ensures.fails) c.desk_of.ensures;
+  time = clock_failed c.stopwatch_of.result c.join-time.result (left_stopwatch errands c.join-time.result c.join-time.ensures.fails) c.stopwatch_of.ensures;
+}
+
+pub returns-clause-runs : goal.returns-clause-runs
+returns-clause-runs g c = λ start lent wire desk is lent_are errands.
     let sip = c.join-sip in let lines = c.join-lines in let time = c.join-time in
     let room = c.requires.room in let size = c.args.ports.ok.0 in
     let one = c.push_reserved.new.self in let two = c.push_reserved-2.new.self in let three = c.push_reserved-3.new.self in
     let all = pushed_three c.args.ports.items one.items two.items three.items sip.result.port lines.result.port time.result.port (omega arith) c.push_reserved.ensures.items c.push_reserved-2.ensures.items c.push_reserved-3.ensures.items in
     let P : List PortSeats → Type 0 = λ l. IsNew start l c.args.running in
     let emitted = c.send_outs.ensures.emitted in
-    runs_are (subst P lent_are is) mailboxes _ _ _ _ _ sip.result.port lines.result.port time.result.port three.items c.send_outs.new.taker.got emitted.0 emitted.1
-    (sent_datagrams errands sip.result.end _ sip.result.port sip.ensures)
-    (sent_lines errands lines.result.end _ lines.result.port lines.ensures)
-    (sent_ticks errands time.result.end _ time.result.port time.ensures)
+    runs_are (subst P lent_are is) desk.mailboxes.items _ _ _ _ _ sip.result.port lines.result.port time.result.port three.items c.send_outs.new.taker.got emitted.0 emitted.1
+    (sent_datagrams errands sip.result.end _ sip.result.port sip.ensures.sends)
+    (sent_lines errands lines.result.end _ lines.result.port lines.ensures.sends)
+    (sent_ticks errands time.result.end _ time.result.port time.ensures.sends)
     all c.join-report.ensures emitted.2

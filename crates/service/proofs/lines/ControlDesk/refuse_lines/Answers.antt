@@ -18,6 +18,12 @@ pub returns-in_default-clause-refused : goal.returns-in_default-clause-refused
 returns-in_default-clause-refused g c = refused_fault c.loop.invariant.refusing (g.W.Wire.given c.recv.new.self) c.in_default.ensures.given
     (g.W.Wire.failures c.args.self.now.coming) (g.W.Wire.failures c.recv.new.self) (c.in_default.ensures.counted ∙ ap one_more c.loop.invariant.failures)
 
+pub returns-in_default-clause-failures : goal.returns-in_default-clause-failures
+returns-in_default-clause-failures g c = c.in_default.ensures.counted ∙ ap one_more c.loop.invariant.failures
+
+pub returns-then-is_finished-clause-failures : goal.returns-then-is_finished-clause-failures
+returns-then-is_finished-clause-failures g c = c.in-Ok.ensures.counted ∙ c.loop.invariant.failures
+
 pub returns-then-is_finished-clause-refused : goal.returns-then-is_finished-clause-refused
 returns-then-is_finished-clause-refused g c =
     let came = datagram c.in-Ok.source (take c.in-Ok.length c.recv.new.octets) in

@@ -1,0 +1,16 @@
+use Rattle.std.proofs.Common.{refl, ap, ◌∙◌}
+use Rattle.service.specs.Taken.{failures_then}
+use Rattle.service.proofs.feeding.take_whole.Goals as goal
+
+pub returns : goal.returns
+returns g c =
+    let took = c.take_lines-end.ensures in let shut = c.shut-port.ensures in let late = c.refuse_lines-fails_late in record {
+      sends = record {
+        fed_to = c.take_lines-end.new.port;
+        fed = (took.taken.0, took.taken.2);
+        shut = shut.shut;
+        ends = shut.ends;
+        seats = shut.seats ∙ took.seats;
+      };
+      fails = (late.new.self, refl, late.ensures.failures ∙ ap (failures_then late.result) took.failures);
+    }
