@@ -244,7 +244,7 @@ pub(crate) fn emit_items<R: Wait + Clock>(
         page.say("\n");
     }
     show_emitted(alloc, emitted, page);
-    page.say(str::from_utf8(sink.writer.text.as_slice()).unwrap_or("no text\n"));
+    page.say(str::from_utf8(sink.writer().text.as_slice()).unwrap_or("no text\n"));
     Ok(())
 }
 

@@ -5,7 +5,7 @@ use Rattle.std.proofs.lemmas.List.{append-nil, map-append}
 use Rattle.std.proofs.lemmas.List.Elements.{All-nil, All-push, filter-append, filter_map-append}
 use Rattle.std.proofs.lemmas.List.Concat.{flat_map-append}
 use Rattle.std.specs.Io.KnownBytes.{Appends}
-use Rattle.scripts.specs.Devices.{one_more}
+use Rattle.scripts.specs.Devices.{one_more, rises}
 use Rattle.scripts.proofs.Devices.{appends_none, appends_more}
 use Rattle.queue_rule.specs.declared.items.Item.{Item}
 use Rattle.queue_rule.specs.Values.{value_item, end_item}
@@ -23,7 +23,7 @@ use Rattle.wires.specs.Wires.{Grows}
 use Rattle.emitting.specs.declared.sending.Fate.{Fate}
 use Rattle.emitting.specs.declared.sending.Fate.TheVariants.{Sent, Started, Failed}
 use Rattle.emitting.specs.declared.sending.EmitReport.{EmitReport}
-use Rattle.emitting.specs.Emitted.{Fates, MayMeet, Writes, WritesAll, line_of, counted, is_start, datagram_sent, sent_datagrams, lines, is_sent, is_started, is_failed, fails_to_start, fails_to_send, count, rises, AllMeet, IsCounted, WireSeen, WriterSeen, IsEmitted}
+use Rattle.emitting.specs.Emitted.{Fates, MayMeet, Writes, WritesAll, line_of, counted, is_start, datagram_sent, sent_datagrams, lines, is_sent, is_started, is_failed, fails_to_start, fails_to_send, count, AllMeet, IsCounted, WireSeen, WriterSeen, IsEmitted}
 use Rattle.emitting.proofs.Telling.{grows_none, grows_more, grows_same}
 
 abbrev pub one : Out → Fate → Fates

@@ -1,8 +1,8 @@
 -- What becomes of the outs that a taker takes.
-use Rattle.std.specs.Prelude.{◌≡◌, ◌<◌, ℕ, zero, suc, ◌+◌, Bool, true, false, not, List, [], ◌∷◌, ◌++◌, length, map, Option, Some, None}
+use Rattle.std.specs.Prelude.{◌≡◌, ◌<◌, ℕ, ◌+◌, Bool, true, false, not, List, [], ◌∷◌, ◌++◌, length, map, Option, Some, None}
 use Rattle.std.specs.List.{All, filter, filter_map, flat_map, AllByRecursion}
 use Rattle.std.specs.Io.KnownBytes.{Appends}
-use Rattle.scripts.specs.Devices.{one_more, AppendsFront}
+use Rattle.scripts.specs.Devices.{rises, AppendsFront}
 use Rattle.scripts.specs.Page.{start_text}
 use Rattle.queue_rule.specs.declared.items.Item.{Item}
 use Rattle.queue_rule.specs.Values.{values}
@@ -111,11 +111,6 @@ fails_to_start o Failed = is_start o
 
 abbrev pub count : (Out → Fate → Bool) → Fates → ℕ
 count is log = length (filter (λ (x : Out × Fate). is x.0 x.1) log)
-
--- a count of failures after n more
-abbrev pub rises : ℕ → ℕ → ℕ
-rises zero k = k
-rises (suc n) k = one_more (rises n k)
 
 abbrev pub AllMeet : Fates → Type 0
 AllMeet log = AllByRecursion (λ (x : Out × Fate). MayMeet x.0 x.1) log

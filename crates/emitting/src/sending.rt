@@ -1,8 +1,9 @@
 //! What sends out what workers post.
 ghost use Rattle.std.specs.Prelude.{◌≡◌, ◌⊎◌, ◌+◌, ◌∷◌, [], true, false};
 ghost use Rattle.queue_rule.specs.Ended.{count_ended, AllEnded};
+ghost use Rattle.scripts.specs.Devices.{rises};
 ghost use Rattle.wires.specs.Wires.{Grows};
-ghost use Rattle.emitting.specs.Emitted.{Fates, IsEmitted, MayMeet, Writes, counted, is_start, sent_datagrams, count, fails_to_send, fails_to_start, rises};
+ghost use Rattle.emitting.specs.Emitted.{Fates, IsEmitted, MayMeet, Writes, counted, is_start, sent_datagrams, count, fails_to_send, fails_to_start};
 
 use crate::writing::write_start;
 use notifier::Out;

@@ -1,10 +1,26 @@
 -- What readers and writers gave and took, and how often they failed.
-use Rattle.std.specs.Prelude.{◌≡◌, ℕ, ◌+◌, ◌-◌, ◌<◌, ◌^◌, min, List, ◌++◌, length, if◌then◌else◌, ◌==◌, ◌&&◌, not, Option, Result, Ok, Err}
+use Rattle.std.specs.Prelude.{◌≡◌, ℕ, zero, suc, ◌+◌, ◌-◌, ◌<◌, ◌^◌, min, Bool, List, ◌++◌, length, if◌then◌else◌, ◌==◌, ◌&&◌, not, Option, Result, Ok, Err}
 use Rattle.std.specs.Io.KnownBytes.{Consumes, Appends}
+
+-- a reader, with how many of its reads failed
+pub record SourceSeen (R : Type 0) : Type 0 where
+  pub reader : R
+  pub failures : ℕ
+
+-- a writer, with how many of its writes and flushes failed, and whether a flush succeeded after the last write
+pub record SinkSeen (W : Type 0) : Type 0 where
+  pub writer : W
+  pub failures : ℕ
+  pub is_flushed : Bool
 
 -- a count after one more, which stays at 2^64 - 1 once there
 abbrev pub one_more : ℕ → ℕ
 one_more n = min (n + 1) (2 ^ 64 - 1)
+
+-- the same after so many more
+abbrev pub rises : ℕ → ℕ → ℕ
+rises zero n = n
+rises (suc k) n = one_more (rises k n)
 
 -- the failures after a read or a flush: an error is one
 abbrev pub failures_after : {T E : Type 0} → Result T E → ℕ → ℕ

@@ -6,13 +6,21 @@ ghost use Rattle.scripts.specs.Devices.{failures_after, failures_after_write};
 
 use std::io;
 use std::io::{Read, Write};
+use std::marker::Model;
 
-/// A reader that counts its failures.
+/// A reader that counts its failures. Only its reads move the count.
 #[derive(Drop)]
 pub struct Source<R> {
-    pub reader: R,
-    /// How many reads failed. It stays at 2^64 - 1 once there.
-    pub failures: u64,
+    reader: R,
+    failures: u64,
+}
+
+impl<R> Model for Source<R> {
+    ghost use Rattle.scripts.specs.Devices.{SourceSeen};
+
+    ghost Value = { SourceSeen R };
+
+    ghost view = { λ s. record { reader = s.reader; failures = s.failures } };
 }
 
 impl<R> Source<R> {
@@ -24,6 +32,20 @@ impl<R> Source<R> {
             reader,
             failures: 0,
         }
+    }
+
+    /// The reader.
+    pub fn reader(&self) -> &R
+        ensures { result.now ≡ self.now.reader }
+    {
+        &self.reader
+    }
+
+    /// How many reads failed. It stays at 2^64 - 1 once there.
+    pub fn failures(&self) -> u64
+        ensures { result ≡ self.now.failures }
+    {
+        self.failures
     }
 }
 
@@ -45,14 +67,20 @@ impl<R: Read> Read for Source<R> {
     }
 }
 
-/// A writer that counts its failures, and knows whether all it took was flushed.
+/// A writer that counts its failures, and knows whether all it took was flushed. Only its writes and flushes move these.
 #[derive(Drop)]
 pub struct Sink<W> {
-    pub writer: W,
-    /// How many writes and flushes failed, with the writes that took none of some bytes. It stays at 2^64 - 1 once there.
-    pub failures: u64,
-    /// Whether a flush succeeded after the last write.
-    pub is_flushed: bool,
+    writer: W,
+    failures: u64,
+    is_flushed: bool,
+}
+
+impl<W> Model for Sink<W> {
+    ghost use Rattle.scripts.specs.Devices.{SinkSeen};
+
+    ghost Value = { SinkSeen W };
+
+    ghost view = { λ s. record { writer = s.writer; failures = s.failures; is_flushed = s.is_flushed } };
 }
 
 impl<W> Sink<W> {
@@ -66,6 +94,27 @@ impl<W> Sink<W> {
             is_flushed: false,
         }
     }
+
+    /// The writer.
+    pub fn writer(&self) -> &W
+        ensures { result.now ≡ self.now.writer }
+    {
+        &self.writer
+    }
+
+    /// How many writes and flushes failed, with the writes that took none of some bytes. It stays at 2^64 - 1 once there.
+    pub fn failures(&self) -> u64
+        ensures { result ≡ self.now.failures }
+    {
+        self.failures
+    }
+
+    /// Whether a flush succeeded after the last write.
+    pub fn is_flushed(&self) -> bool
+        ensures { result ≡ self.now.is_flushed }
+    {
+        self.is_flushed
+    }
 }
 
 impl<W: Write> Write for Sink<W> {
@@ -75,6 +124,7 @@ impl<W: Write> Write for Sink<W> {
         ensures bound { WritesAtMost result buf.now }
         ensures bytes { WriteAppends (W.contents self.old.writer) (W.contents self.new.writer) result buf.now }
         ensures counted { self.new.failures ≡ failures_after_write buf.now result self.old.failures }
+        ensures unflushed { self.new.is_flushed ≡ false }
     {
         self.is_flushed = false;
         let outcome = self.writer.write(buf);
@@ -96,13 +146,11 @@ impl<W: Write> Write for Sink<W> {
         ensures counted { self.new.failures ≡ failures_after result self.old.failures }
         ensures flushed { self.new.is_flushed ≡ is_ok result }
     {
-        match self.writer.flush() {
-            Ok(()) => {
-                self.is_flushed = true;
-                Ok(())
-            }
+        let outcome = self.writer.flush();
+        self.is_flushed = outcome.is_ok();
+        match outcome {
+            Ok(()) => Ok(()),
             Err(fault) => {
-                self.is_flushed = false;
                 self.failures = self.failures.saturating_add(1);
                 Err(fault)
             }

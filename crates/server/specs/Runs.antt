@@ -4,9 +4,7 @@ use Rattle.std.specs.List.{enumerate_from}
 use Rattle.std.specs.declared.alloc.Global.{Global}
 use Rattle.std.specs.Io.KnownBytes.{Consumes, Appends, IsAtEnd}
 use Rattle.scripts.specs.declared.script.Block.{Block}
-use Rattle.scripts.specs.declared.device.Source.{Source}
-use Rattle.scripts.specs.declared.device.Sink.{Sink}
-use Rattle.scripts.specs.Devices.{one_more, AppendsFront}
+use Rattle.scripts.specs.Devices.{SourceSeen, SinkSeen, one_more, AppendsFront}
 use Rattle.package.specs.Content.{Seen}
 use Rattle.notifier.specs.declared.place.Setup.{Setup}
 use Rattle.notifier.specs.Start.{Start, place_of}
@@ -20,14 +18,14 @@ abbrev pub starts_of : {P : Type 0} → (P → Seen) → Setup → List (Vec P G
 starts_of seen setup boxes = starts_on setup (map (λ held. map seen held.items) boxes)
 
 -- what was read is too long, or it is all there was and no script
-pub record ReadsNoScript {R : Type 0} (remaining : R → Option (List ℕ)) (before after : Source R) : Type 0 where
+pub record ReadsNoScript {R : Type 0} (remaining : R → Option (List ℕ)) (before after : SourceSeen R) : Type 0 where
   pub bytes : List ℕ
   pub was_read : Consumes (remaining before.reader) (remaining after.reader) bytes
   pub is_none : (most_bytes < length bytes) ⊎ (IsAtEnd (remaining after.reader) × ((blocks : List Block) → IsShortScript bytes blocks → ⊥))
 
 module _ {R W : Type 0} (remaining : R → Option (List ℕ)) (contents : W → Option (List ℕ)) where
   -- all was read, and what was written is its page
-  pub record WritesPage (starts : List Start) (source source' : Source R) (sink sink' : Sink W) : Type 0 where
+  pub record WritesPage (starts : List Start) (source source' : SourceSeen R) (sink sink' : SinkSeen W) : Type 0 where
     pub bytes : List ℕ
     pub page : List ℕ
     pub was_read : Consumes (remaining source.reader) (remaining source'.reader) bytes
@@ -36,7 +34,7 @@ module _ {R W : Type 0} (remaining : R → Option (List ℕ)) (contents : W → 
     pub was_written : Appends (contents sink.writer) (contents sink'.writer) page
 
   -- all was read, and what was written is a front of its page
-  pub record WritesFront (starts : List Start) (source source' : Source R) (sink sink' : Sink W) : Type 0 where
+  pub record WritesFront (starts : List Start) (source source' : SourceSeen R) (sink sink' : SinkSeen W) : Type 0 where
     pub bytes : List ℕ
     pub page : List ℕ
     pub was_read : Consumes (remaining source.reader) (remaining source'.reader) bytes
@@ -45,13 +43,13 @@ module _ {R W : Type 0} (remaining : R → Option (List ℕ)) (contents : W → 
     pub was_written : AppendsFront (contents sink.writer) (contents sink'.writer) page
 
   -- a read failed and nothing was written, or a write failed
-  abbrev pub MeetsFault : List Start → Source R → Source R → Sink W → Sink W → Type 0
+  abbrev pub MeetsFault : List Start → SourceSeen R → SourceSeen R → SinkSeen W → SinkSeen W → Type 0
   MeetsFault starts source source' sink sink' =
       ((source'.failures ≡ one_more source.failures) × (sink' ≡ sink))
       ⊎ ((source'.failures ≡ source.failures) × (sink'.failures ≡ one_more sink.failures) × WritesFront starts source source' sink sink')
 
 -- all was read and is a script, and nothing was written: no thread could be started for its workers
-pub record StartsNoThread {R W : Type 0} (remaining : R → Option (List ℕ)) (source source' : Source R) (sink sink' : Sink W) : Type 0 where
+pub record StartsNoThread {R W : Type 0} (remaining : R → Option (List ℕ)) (source source' : SourceSeen R) (sink sink' : SinkSeen W) : Type 0 where
   pub bytes : List ℕ
   pub blocks : List Block
   pub was_read : Consumes (remaining source.reader) (remaining source'.reader) bytes
@@ -61,7 +59,7 @@ pub record StartsNoThread {R W : Type 0} (remaining : R → Option (List ℕ)) (
   pub unwritten : sink' ≡ sink
 
 -- a read or a write failed, or there were several workers and no thread could be started for them
-abbrev pub IsHindered : {R W : Type 0} → (R → Option (List ℕ)) → (W → Option (List ℕ)) → List Start → Source R → Source R → Sink W → Sink W → Type 0
+abbrev pub IsHindered : {R W : Type 0} → (R → Option (List ℕ)) → (W → Option (List ℕ)) → List Start → SourceSeen R → SourceSeen R → SinkSeen W → SinkSeen W → Type 0
 IsHindered remaining contents starts source source' sink sink' =
     MeetsFault remaining contents starts source source' sink sink'
     ⊎ ((1 < length starts) × StartsNoThread remaining source source' sink sink')

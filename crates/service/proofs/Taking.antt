@@ -5,10 +5,9 @@ use Rattle.std.proofs.lemmas.List.{append-nil, map-append}
 use Rattle.std.proofs.lemmas.List.Elements.{filter-append, filter_map-append}
 use Rattle.notifier.specs.declared.event.Event.{Event}
 use Rattle.crew.specs.Ports.{PortSeats}
-use Rattle.scripts.specs.Devices.{one_more}
+use Rattle.scripts.specs.Devices.{one_more, rises}
 use Rattle.wires.specs.declared.datagram.Datagram.{Datagram}
 use Rattle.wires.specs.Wires.{Grows}
-use Rattle.emitting.specs.Emitted.{rises}
 use Rattle.emitting.proofs.Telling.{grows_none, grows_more, grows_same}
 use Rattle.network.specs.declared.feeding.FeedEnd.{FeedEnd}
 use Rattle.network.specs.declared.feeding.FeedEnd.TheVariants as ends

@@ -6,11 +6,10 @@ use Rattle.package.specs.Values.{MailChange, Progress}
 use Rattle.notifier.specs.declared.event.Event.{Event}
 use Rattle.notifier.specs.declared.event.Event.TheVariants as happened
 use Rattle.crew.specs.Ports.{PortSeats}
-use Rattle.scripts.specs.Devices.{one_more}
+use Rattle.scripts.specs.Devices.{one_more, rises}
 use Rattle.scripts.specs.Script.{lf}
 use Rattle.wires.specs.declared.datagram.Datagram.{Datagram}
 use Rattle.wires.specs.Wires.{datagram, Grows}
-use Rattle.emitting.specs.Emitted.{rises}
 use Rattle.network.specs.declared.feeding.FeedEnd.{FeedEnd}
 use Rattle.network.specs.declared.feeding.FeedEnd.TheVariants as ends
 use Rattle.network.specs.Fed.{Sends, Misses}

@@ -8,7 +8,7 @@ use Rattle.options.specs.declared.setting.Setting.TheVariants as setting
 use Rattle.options.specs.Settings.{AreSettings}
 use Rattle.serving.specs.declared.error.ServeError.{ServeError}
 use Rattle.serving.specs.declared.error.ServeError.TheVariants as error
-use Rattle.scripts.specs.declared.device.Sink.{Sink}
+use Rattle.scripts.specs.Devices.{SinkSeen}
 use Rattle.service.specs.declared.running.Outcome.{Outcome}
 use Rattle.service.specs.Running.{is_faulty}
 use Rattle.service.proofs.Faults.{unfailed}
@@ -75,7 +75,7 @@ pub of_one_is : (words : List (List ℕ)) (settings : List Setting) (e : ServeEr
 of_one_is words settings e are is = of_setting_is words settings is.0 is.1 e are is.2 is.3
 
 -- a service that ran and was closed off so ended well
-pub ended_well : {W T E : Type 0} (contents : W → Option (List ℕ)) (words : List (List ℕ)) (r : Result T E) (before between after : Sink W) (o : Outcome)
+pub ended_well : {W T E : Type 0} (contents : W → Option (List ℕ)) (words : List (List ℕ)) (r : Result T E) (before between after : SinkSeen W) (o : Outcome)
     → Serves contents words before between o → OnOk r (is_faulty o ≡ false) → OnOk r (all_closed o.report.workers.items ≡ true)
     → OnOk r (Tells contents o.report.workers.items between after) → OnOk r (EndsWell words)
 ended_well contents words (Ok x) before between after o served no_fault closed told = record {

@@ -5,7 +5,7 @@ use Rattle.std.specs.declared.alloc.Global.{Global}
 use Rattle.std.proofs.lemmas.List.{get_or-map}
 use Rattle.std.proofs.lemmas.List.FromFn.{get_or-map-range_with_len}
 use Rattle.sip_text.specs.declared.address.Addr.{Addr}
-use Rattle.scripts.specs.declared.device.Sink.{Sink}
+use Rattle.scripts.specs.Devices.{SinkSeen}
 use Rattle.package.specs.Content.{Seen}
 use Rattle.notifier.specs.declared.place.Setup.{Setup}
 use Rattle.notifier.specs.Limits.{IsWithin}
@@ -74,7 +74,7 @@ module _ {P : Type 0} (seen : P → Seen) (setup : Setup) (boxes : List (Vec P G
       ∙ ap (λ (b : List Seen). let s : Start = record { place = place_of (setup_of plan local) w; boxes = b } in s) (boxes_at w held low)
 
   -- the service that was asked for
-  pub ran_is : {W : Type 0} (contents : W → Option (List ℕ)) (n : ℕ) {mailboxes : List (List ℕ)} {before after : Sink W} {o : Outcome}
+  pub ran_is : {W : Type 0} (contents : W → Option (List ℕ)) (n : ℕ) {mailboxes : List (List ℕ)} {before after : SinkSeen W} {o : Outcome}
       → n ≡ length boxes → 0 < plan.workers → mailboxes ≡ plan.mailboxes.items
       → ((held : Vec P Global) → Ran contents (λ w. start_of seen setup w (get_or boxes w held).items) n mailboxes before after o)
       → Ran contents (start_at plan local) plan.workers plan.mailboxes.items before after o

@@ -2,7 +2,7 @@
 use Rattle.std.specs.Prelude.{◌≡◌, ◌≢◌, ℕ, true, false, List, Option}
 use Rattle.std.specs.Io.KnownBytes.{Appends}
 use Rattle.sip_text.specs.declared.address.Addr.{Addr}
-use Rattle.scripts.specs.declared.device.Sink.{Sink}
+use Rattle.scripts.specs.Devices.{SinkSeen}
 use Rattle.notifier.specs.Start.{Start, place_of}
 use Rattle.server.specs.Call.{boxes_with, names_for}
 use Rattle.emitting.specs.Emitted.{WireSeen, WriterSeen}
@@ -55,18 +55,18 @@ pub record IsWork (plan : Plan) (bell : Bell UdpWire) (work : Work) : Type 0 whe
   pub line_failures : work.desk.coming.failures ≡ 0
 
 -- a writer that was not written to
-abbrev pub new_sink : {W : Type 0} → W → Sink W
+abbrev pub new_sink : {W : Type 0} → W → SinkSeen W
 new_sink writer = record { writer = writer; failures = 0; is_flushed = false }
 
 module _ {W : Type 0} (contents : W → Option (List ℕ)) where
   -- a crew ran as a service to its end, over some wire
-  pub record Ran (start : ℕ → Start) (workers : ℕ) (mailboxes : List (List ℕ)) (before after : Sink W) (outcome : Outcome) : Type 0 where
+  pub record Ran (start : ℕ → Start) (workers : ℕ) (mailboxes : List (List ℕ)) (before after : SinkSeen W) (outcome : Outcome) : Type 0 where
     pub wire : WireSeen
     pub wire' : WireSeen
     pub runs : Runs start workers mailboxes wire wire' (writer_seen contents before) (writer_seen contents after) outcome
 
   -- the words ask for a service, which ran to its end, and tells each fault of its sockets and of the clock
-  pub record Serves (words : List (List ℕ)) (before after : Sink W) (outcome : Outcome) : Type 0 where
+  pub record Serves (words : List (List ℕ)) (before after : SinkSeen W) (outcome : Outcome) : Type 0 where
     pub plan : Plan
     pub is_plan : IsPlan words plan
     pub local : Addr

@@ -1,6 +1,6 @@
 -- How `notifyd tell` asks.
-use Rattle.std.specs.Prelude.{◌≡◌, ℕ, zero, suc, ◌≤◌, List, [], ◌∷◌, ◌++◌, length, take, replicate, Option, Some, None, Result, Ok, Err}
-use Rattle.scripts.specs.Devices.{one_more}
+use Rattle.std.specs.Prelude.{◌≡◌, ℕ, suc, ◌≤◌, List, [], ◌∷◌, ◌++◌, length, take, replicate, Option, Some, None, Result, Ok, Err}
+use Rattle.scripts.specs.Devices.{rises}
 use Rattle.wires.specs.Wires.{Grows}
 use Rattle.telling.specs.declared.asking.Outcome.{Outcome}
 use Rattle.telling.specs.declared.asking.Outcome.TheVariants as outcome
@@ -13,11 +13,6 @@ status_of (outcome.Done n) = 0
 status_of (outcome.Refused n) = 1
 status_of outcome.Silent = 3
 status_of outcome.Fault = 3
-
--- a count after so many more, which stays at 2^64 - 1 once there
-abbrev pub rises : ℕ → ℕ → ℕ
-rises zero n = n
-rises (suc k) n = one_more (rises k n)
 
 -- ---- one line, asked once
 

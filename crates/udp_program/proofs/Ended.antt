@@ -1,7 +1,7 @@
 -- How a run ends.
 use Rattle.std.proofs.Common.{◌≡◌, ℕ, List, Option, Err, subst}
 use Rattle.scripts.specs.declared.arguments.ArgumentsError.TheVariants as error
-use Rattle.scripts.specs.declared.device.Sink.{Sink}
+use Rattle.scripts.specs.Devices.{SinkSeen}
 use Rattle.scripts.specs.declared.udp_arguments.UdpArguments.{UdpArguments}
 use Rattle.scripts.specs.UdpArguments.{AreUdpArguments, AnswersUdpArguments}
 use Rattle.server.specs.declared.program.Status.{Status}
@@ -10,9 +10,9 @@ use Rattle.udp_program.specs.Call.{start_at, AsksFor, AsksForNone}
 use Rattle.udp_program.specs.Ends.{EndsAs, Runs}
 use Rattle.udp_program.specs.Serving.{Outcome, Serves}
 
-module _ {W : Type 0} (contents : W → Option (List ℕ)) (o : Outcome) (between after : Sink W) (s : Status) (ends : EndsAs contents o between after s) where
+module _ {W : Type 0} (contents : W → Option (List ℕ)) (o : Outcome) (between after : SinkSeen W) (s : Status) (ends : EndsAs contents o between after s) where
   -- a call that was served, and its lines told
-  pub ran : (words : List (List ℕ)) (before : Sink W) (other : Status) → s ≡ other
+  pub ran : (words : List (List ℕ)) (before : SinkSeen W) (other : Status) → s ≡ other
       → AsksFor words (λ call. Serves contents (start_at call) call.workers call.count before between o)
       → AsksFor words (λ call. Runs contents call before after other)
   ran words before other same asked =

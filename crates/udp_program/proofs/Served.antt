@@ -1,7 +1,7 @@
 -- A crew that served its two ports to its end.
 use Rattle.std.proofs.Common.{◌≡◌, ℕ, List, [], ◌∷◌, Option, subst}
 use Rattle.queue_rule.specs.declared.items.Item.{Item}
-use Rattle.scripts.specs.declared.device.Sink.{Sink}
+use Rattle.scripts.specs.Devices.{SinkSeen}
 use Rattle.notifier.specs.declared.event.Out.{Out}
 use Rattle.notifier.specs.Start.{Start}
 use Rattle.outbox.specs.Seats.{TakerSeat}
@@ -33,7 +33,7 @@ heard_control {control = control} are old new report hears =
 
 pub serves_are : {W : Type 0} (contents : W → Option (List ℕ)) {start : ℕ → Start} {workers : ℕ} {crew : List Hired} {sip control : PortSeats} {taker : TakerSeat}
     (is : IsStarted start workers 2 crew (sip ∷ control ∷ []) taker)
-    (count : ℕ) (before after : Sink W) (o : Outcome) (sip' control' : PortSeats) (ports : List PortSeats) (got : List (Item Out)) (fates : Fates) (wire wire' : WireSeen)
+    (count : ℕ) (before after : SinkSeen W) (o : Outcome) (sip' control' : PortSeats) (ports : List PortSeats) (got : List (Item Out)) (fates : Fates) (wire wire' : WireSeen)
     → HearsOutSocket Sip count sip sip' o.feed → HearsOutSocket Control most_lines control control' o.control
     → ports ≡ sip' ∷ control' ∷ [] → IsJoined crew ports got o.workers
     → IsEmitted taker.workers fates taker.got got wire wire' (writer_seen contents before) (writer_seen contents after) o.emitted

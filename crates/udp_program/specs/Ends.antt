@@ -8,9 +8,8 @@
 use Rattle.std.specs.Prelude.{◌≡◌, ◌⊎◌, ℕ, ◌==◌, ◌||◌, not, Bool, true, false, List, Option}
 use Rattle.std.specs.List.{list_all}
 use Rattle.std.specs.Io.KnownBytes.{Appends}
-use Rattle.scripts.specs.declared.device.Sink.{Sink}
 use Rattle.scripts.specs.declared.udp_arguments.UdpArguments.{UdpArguments}
-use Rattle.scripts.specs.Devices.{one_more, AppendsFront}
+use Rattle.scripts.specs.Devices.{SinkSeen, one_more, AppendsFront}
 use Rattle.worker.specs.declared.end.End.{End}
 use Rattle.worker.specs.declared.end.End.TheVariants.{Closed, NoMemory, Abandoned}
 use Rattle.crew.specs.declared.report.WorkerReport.{WorkerReport}
@@ -42,18 +41,18 @@ all_closed reports = list_all (λ (r : WorkerReport). is_closed r.end) reports
 
 module _ {W : Type 0} (contents : W → Option (List ℕ)) where
   -- all lines of the workers were written
-  pub record Tells (workers : List WorkerReport) (before after : Sink W) : Type 0 where
+  pub record Tells (workers : List WorkerReport) (before after : SinkSeen W) : Type 0 where
     pub written : Appends (contents before.writer) (contents after.writer) (worker_lines workers)
     pub flushed : after.is_flushed ≡ true
     pub no_failure : after.failures ≡ before.failures
 
   -- a front of them was written, and then the writer failed
-  pub record TellsFront (workers : List WorkerReport) (before after : Sink W) : Type 0 where
+  pub record TellsFront (workers : List WorkerReport) (before after : SinkSeen W) : Type 0 where
     pub front : AppendsFront (contents before.writer) (contents after.writer) (worker_lines workers)
     pub failure : after.failures ≡ one_more before.failures
 
   -- the status of what came out, where the lines were written, or a front of them, or none for want of memory
-  abbrev pub EndsAs : Outcome → Sink W → Sink W → Status → Type 0
+  abbrev pub EndsAs : Outcome → SinkSeen W → SinkSeen W → Status → Type 0
   EndsAs o before after status.Done = (has_fault o ≡ false) × (all_closed o.workers ≡ true) × Tells o.workers before after
   EndsAs o before after status.BadArguments = ⊥
   EndsAs o before after status.BadScript = ⊥
@@ -63,8 +62,8 @@ module _ {W : Type 0} (contents : W → Option (List ℕ)) where
       (has_fault o ≡ false) × (((all_closed o.workers ≡ false) × Tells o.workers before after) ⊎ (after ≡ before))
 
   -- the call was served to its end, and then the lines of the workers were written
-  pub record Runs (call : UdpArguments) (before after : Sink W) (status : Status) : Type 0 where
+  pub record Runs (call : UdpArguments) (before after : SinkSeen W) (status : Status) : Type 0 where
     pub outcome : Outcome
-    pub between : Sink W
+    pub between : SinkSeen W
     pub serves : Serves contents (start_at call) call.workers call.count before between outcome
     pub ends : EndsAs outcome between after status

@@ -5,7 +5,7 @@
 --   a control line     -> port 1 -+              +-> START <tag> <refer_to>, by the writer
 use Rattle.std.specs.Prelude.{ℕ, List, [], ◌∷◌, Option}
 use Rattle.queue_rule.specs.declared.items.Item.{Item}
-use Rattle.scripts.specs.declared.device.Sink.{Sink}
+use Rattle.scripts.specs.Devices.{SinkSeen}
 use Rattle.notifier.specs.declared.event.Out.{Out}
 use Rattle.notifier.specs.Start.{Start}
 use Rattle.outbox.specs.Seats.{TakerSeat}
@@ -30,12 +30,12 @@ pub record Outcome : Type 0 where
 abbrev pub most_lines : ℕ
 most_lines = 1048576
 
-abbrev pub writer_seen : {W : Type 0} → (W → Option (List ℕ)) → Sink W → WriterSeen
+abbrev pub writer_seen : {W : Type 0} → (W → Option (List ℕ)) → SinkSeen W → WriterSeen
 writer_seen contents sink = record { contents = contents sink.writer; failures = sink.failures }
 
 -- workers with these starts handled what the two ports sent until both were closed, and each of their outs was sent, written or
 -- counted as failed
-pub record Serves {W : Type 0} (contents : W → Option (List ℕ)) (start : ℕ → Start) (workers count : ℕ) (before after : Sink W) (outcome : Outcome) : Type 0 where
+pub record Serves {W : Type 0} (contents : W → Option (List ℕ)) (start : ℕ → Start) (workers count : ℕ) (before after : SinkSeen W) (outcome : Outcome) : Type 0 where
   -- as it was started
   pub crew : List Hired
   pub sip : PortSeats

@@ -1,5 +1,5 @@
 //! Wires in memory, for tests.
-ghost use Rattle.std.specs.Prelude.{◌≡◌, ◌≤◌, ◌++◌, ◌∷◌, [], length, Some, MatchResult};
+ghost use Rattle.std.specs.Prelude.{◌≡◌, ◌≤◌, ◌++◌, ◌∷◌, [], length, reverse, Some, MatchResult};
 ghost use Rattle.scripts.specs.Devices.{one_more};
 ghost use Rattle.wires.specs.Wires.{datagram};
 
@@ -42,6 +42,7 @@ fn is_due(left: &mut Option<u64>) -> bool {
 impl MemoryWire {
     /// A wire that is to give these datagrams.
     pub fn new(alloc: Global, mut coming: Vec<Datagram>) -> MemoryWire
+        ensures coming { result.coming.items ≡ reverse coming.items }
         ensures given { result.given.items ≡ [] }
         ensures taken { result.taken.items ≡ [] }
         ensures failures { result.failures ≡ 0 }

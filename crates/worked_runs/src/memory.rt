@@ -29,7 +29,7 @@ fn reads_script(alloc: Global, script: &[u8]) -> bool {
     let mut source = Source::new(script);
     let bytes = read_script(alloc, &mut source);
     let is_so = match &bytes {
-        Ok(bytes) => bytes.as_slice() == script && source.failures == 0,
+        Ok(bytes) => bytes.as_slice() == script && source.failures() == 0,
         Err(error) => *error == ScriptError::NoMemory,
     };
     drop(bytes);
@@ -87,7 +87,7 @@ where
         return true;
     };
     let (status, sink) = run_once(rt, words.as_slice(), script, Trial::Cut, u32::MAX);
-    let written = sink.writer.taken.as_slice();
+    let written = sink.writer().taken.as_slice();
     match status {
         Status::Done => written.starts_with(first),
         Status::OutOfMemory | Status::DeviceFault => written.is_empty(),

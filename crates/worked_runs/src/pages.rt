@@ -62,8 +62,13 @@ pub(crate) fn boxes_of(alloc: Global) -> Result<Boxes, NoMemory> {
     Ok(all.unwrap_or(Vec::new(alloc)))
 }
 
-/// The page that a worker with this setup, the mailbox alice, transfers and presence writes of this script.
-fn page_of(alloc: Global, setup: &Setup, script: &[u8]) -> Result<Vec<u8>, ScriptError> {
+/// Whether a worker with this setup, the mailbox alice, transfers and presence writes this page of this script.
+fn is_page_of(
+    alloc: Global,
+    setup: &Setup,
+    script: &[u8],
+    wanted: &[u8],
+) -> Result<bool, ScriptError> {
     let mut boxes: Vec<Box<dyn Package>> = Vec::new(alloc);
     for package in boxes_of(alloc)? {
         boxes.push(Box::new(alloc, package)?)?;
@@ -71,7 +76,7 @@ fn page_of(alloc: Global, setup: &Setup, script: &[u8]) -> Result<Vec<u8>, Scrip
     boxes.push(Box::new(alloc, Presence)?)?;
     let mut sink = Sink::new(Vec::new(alloc));
     script_one(alloc, &mut Source::new(script), &mut sink, setup, boxes)?;
-    Ok(sink.writer)
+    Ok(sink.writer().as_slice() == wanted)
 }
 
 /// Tells of a run whether the notifier writes its page.
@@ -79,7 +84,9 @@ fn tell(rt: &(impl Files + Print + AllocGlobal), name: &str, bounds: Bounds) -> 
     let script = fs::read(rt, format!(in rt.alloc(); "{name}.script")?)?;
     let wanted = fs::read(rt, format!(in rt.alloc(); "{name}.page")?)?;
     let is_page = match setup_of(bounds) {
-        Some(setup) => page_of(rt.alloc(), &setup, script.as_slice()).ok() == Some(wanted),
+        Some(setup) => {
+            is_page_of(rt.alloc(), &setup, script.as_slice(), wanted.as_slice()).unwrap_or(false)
+        }
         None => false,
     };
     let outcome = if is_page { "its page" } else { "ANOTHER PAGE" };

@@ -27,7 +27,7 @@ fn tell_length(rt: &(impl Print + AllocGlobal), reader: &str, drip: Drip<'_>) ->
     };
     drop(bytes);
     told?;
-    Ok(source.reader.left)
+    Ok(source.reader().left)
 }
 
 /// Tells of readers that end.
@@ -61,7 +61,7 @@ fn device_faults(alloc: Global) -> u32 {
     for left in 0..300 {
         let mut source = Source::new(feeds_of(left));
         let error = read_script(alloc, &mut source).err();
-        if error == Some(ScriptError::Device) && source.failures == 1 {
+        if error == Some(ScriptError::Device) && source.failures() == 1 {
             count = count.saturating_add(1);
         }
     }
@@ -92,13 +92,13 @@ fn tell_written(
         fault,
     });
     let error = write_page(&mut sink, PAGE).err();
-    let taken = sink.writer.taken.as_slice();
+    let taken = sink.writer().taken.as_slice();
     println!(rt;
         "{name} after {left} writes: done {}, device fault {}, {} failures, flushed {}, {} bytes, a front {}",
         error.is_none(),
         error == Some(ScriptError::Device),
-        sink.failures,
-        sink.is_flushed,
+        sink.failures(),
+        sink.is_flushed(),
         taken.len(),
         PAGE.starts_with(taken)
     )

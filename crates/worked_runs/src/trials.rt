@@ -107,13 +107,13 @@ where
 
 /// Whether a turn wrote what it may, and told of no more and no fewer failures than one where a write had a fault.
 fn is_right(trial: Trial, turn: u32, page: &[u8], status: Status, sink: &Sink<Drain>) -> bool {
-    let taken = sink.writer.taken.as_slice();
+    let taken = sink.writer().taken.as_slice();
     let is_done = status == Status::Done;
     match trial {
         Trial::Cut if turn == 0 => is_done && !taken.is_empty(),
         Trial::Writes(_) => {
             let length = page.len().min(7 * turn as usize);
-            let is_told = is_done == (sink.failures == 0) && sink.failures <= 1;
+            let is_told = is_done == (sink.failures() == 0) && sink.failures() <= 1;
             is_told && taken.len() == length && page.starts_with(taken)
         }
         _ if is_done => taken == page,
@@ -168,7 +168,7 @@ where
     let call = Call {
         words: words.as_slice(),
         script,
-        page: sink.writer.taken.as_slice(),
+        page: sink.writer().taken.as_slice(),
     };
     println!(rt; "a page of {} bytes", call.page.len())?;
     for (title, trial, turns) in TRIALS {
