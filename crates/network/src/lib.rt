@@ -9,12 +9,12 @@
 //! Begin with [`feed`], then `specs/Heard` and `specs/Fed`; for [`emit`] see the crate `emitting`.
 #![tactic(auto)]
 
-pub mod feeding;
-pub mod hearing;
+mod feeding;
+mod hearing;
 
 pub use emitting::{EmitReport, Fate, emit, put_out};
 pub use feeding::{
     FeedEnd, FeedReport, MOST_CONTROL_LINES, Told, control, feed, listen, send_event, tell,
 };
-pub use hearing::{Heard, Language, hear, hear_control, hear_sip};
+pub use hearing::{Heard, Language, hear, hear_sip};
 pub use wires::{Datagram, MemoryWire, UdpWire, Wire, WireFault};

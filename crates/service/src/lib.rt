@@ -1,8 +1,8 @@
 //! A service: the threads that feed a crew for as long as it runs, and the one that sends what it posts.
 //!
-//! Three threads feed the ports of a crew: one with the SIP datagrams of a socket ([`hear_datagrams`]), one with control
-//! lines, each of which it answers ([`ControlDesk`]), one with the time ([`tell_time`]). The calling thread sends out what the
-//! workers post ([`send_outs`]). [`run_crew`] starts all of them, and ends at CLOSE, a fault of a socket or of the clock, or a
+//! Three threads feed the ports of a crew: one with the SIP datagrams of a socket (`hear_datagrams`), one with control
+//! lines, each of which it answers ([`ControlDesk`]), one with the time (`tell_time`). The calling thread sends out what the
+//! workers post (`send_outs`). [`run_crew`] starts all of them, and ends at CLOSE, a fault of a socket or of the clock, or a
 //! worker that is gone.
 //!
 //! What it isn't: what the workers do is `notifier`'s, what a port sends `crew`'s, and what a datagram says `network`'s; the
@@ -10,19 +10,18 @@
 //! `specs/Taken` and `specs/Running`.
 #![tactic(auto)]
 
-pub mod clock;
-pub mod datagrams;
+mod clock;
+mod datagrams;
 mod error;
 mod feeding;
-pub mod lines;
-pub mod outs;
-pub mod running;
+mod lines;
+mod outs;
+mod running;
 mod shared;
 
-pub use clock::{Stopwatch, tell_time};
-pub use datagrams::hear_datagrams;
+pub use clock::Stopwatch;
 pub use error::RunError;
-pub use lines::{ControlDesk, Done, take_line};
-pub use outs::{Bell, Exit, send_outs};
+pub use lines::ControlDesk;
+pub use outs::{Bell, Exit};
 pub use running::{Outcome, Work, run_crew};
-pub use shared::{Counter, Shared};
+pub use shared::Shared;

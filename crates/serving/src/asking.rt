@@ -7,6 +7,7 @@ ghost use Rattle.serving.specs.Plans.{reached};
 ghost use Rattle.serving.specs.Telling.{TellsLine};
 
 use options::{TellCall, TellError, parse_tell};
+use server::Status;
 use sip_text::{Addr, Text};
 use std::io;
 use std::io::Write;
@@ -60,7 +61,7 @@ pub fn ask_by<R: Wait + Print + Eprint, S: Speaker>(rt: &R, speaker: &mut S, cal
     };
     match written {
         Ok(()) => outcome.status(),
-        Err(_) => 3,
+        Err(_) => Status::DeviceFault.code(),
     }
 }
 
@@ -70,7 +71,7 @@ fn ask<R: Wait + Net + Print + Eprint>(rt: &R, call: &TellCall) -> u8
 {
     let Ok(mut speaker) = speaker_for(rt, call) else {
         let _ = eprintln!(rt; "notifyd: device fault");
-        return 3;
+        return Status::DeviceFault.code();
     };
     ask_by(rt, &mut speaker, call)
 }
@@ -86,8 +87,8 @@ pub fn tell<R: Wait + Net + Print + Eprint + AllocGlobal>(rt: &R, words: &[Text]
         Err(error) => {
             let _ = eprintln!(rt; "notifyd: {error}");
             match error {
-                TellError::Bad => 1,
-                TellError::NoMemory => 4,
+                TellError::Bad => Status::BadArguments.code(),
+                TellError::NoMemory => Status::OutOfMemory.code(),
             }
         }
     }

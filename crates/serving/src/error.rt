@@ -4,6 +4,7 @@ ghost use Rattle.serving.specs.declared.error.ServeError.TheVariants as error;
 ghost use Rattle.serving.specs.Refused.{of_run, status_of, status_of_words};
 
 use options::{Flag, OptionsError, Place};
+use server::Status;
 use service::RunError;
 use sip_text::{NoMemory, Text};
 use std::alloc::{AllocError, AllocFailed};
@@ -49,12 +50,12 @@ fn options_status(error: &OptionsError) -> u8
     ensures { result ≡ status_of_words error.now }
 {
     match error {
-        OptionsError::NoMemory => 4,
-        OptionsError::Bad(Flag::Address(_)) => 3,
+        OptionsError::NoMemory => Status::OutOfMemory.code(),
+        OptionsError::Bad(Flag::Address(_)) => Status::DeviceFault.code(),
         OptionsError::Bad(_)
         | OptionsError::Missing(_)
         | OptionsError::Unknown(_)
-        | OptionsError::NoMailbox(_) => 1,
+        | OptionsError::NoMailbox(_) => Status::BadArguments.code(),
     }
 }
 
@@ -66,13 +67,17 @@ impl ServeError {
     {
         match self {
             ServeError::Options(error) => options_status(error),
-            ServeError::Times | ServeError::NoContact | ServeError::NoMailbox => 1,
-            ServeError::Line(_, _, OptionsError::NoMemory) | ServeError::NoMemory => 4,
+            ServeError::Times | ServeError::NoContact | ServeError::NoMailbox => {
+                Status::BadArguments.code()
+            }
+            ServeError::Line(_, _, OptionsError::NoMemory) | ServeError::NoMemory => {
+                Status::OutOfMemory.code()
+            }
             ServeError::Line(..)
             | ServeError::File(_)
             | ServeError::Address(_)
             | ServeError::System
-            | ServeError::Device => 3,
+            | ServeError::Device => Status::DeviceFault.code(),
         }
     }
 }

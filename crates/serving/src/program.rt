@@ -16,7 +16,7 @@ use crate::logging::{say_goodbye, say_hello};
 use crate::plan::{Plan, plan_of, setup_of};
 use crate::sockets::{Sockets, open};
 use scripts::{Sink, write_page};
-use server::{Boxes, boxes_for};
+use server::{Boxes, Status, boxes_for};
 use service::{ControlDesk, Exit, Outcome, Shared, Work, run_crew};
 use sip_text::Text;
 use std::alloc::Global;
@@ -243,8 +243,8 @@ fn print_text<R: Print>(rt: &R, text: &str) -> u8
     ensures status { (result ≡ 0) ⊎ (result ≡ status_of error.Device) }
 {
     match println!(rt; "{text}") {
-        Ok(()) => 0,
-        Err(_) => 3,
+        Ok(()) => Status::Done.code(),
+        Err(_) => Status::DeviceFault.code(),
     }
 }
 
@@ -281,7 +281,7 @@ where
         return print_text(&rt, text);
     }
     match attempt(rt, words) {
-        Ok(()) => 0,
+        Ok(()) => Status::Done.code(),
         Err(error) => tell_why(&rt, &error),
     }
 }
