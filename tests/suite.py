@@ -35,6 +35,16 @@ LIMIT = 120
 LONG_LIMIT = 300
 
 
+_lock = threading.Lock()
+
+
+def started(words, **how):
+    """Starts a program, while no port is looked at: until it runs, what was begun for it has the sockets of this process too, and
+    would keep a port in use that `free_port` looks at."""
+    with _lock:
+        return subprocess.Popen(words, **how)
+
+
 def run(program, words=(), given=b"", limit=LIMIT, **how):
     """Runs the program with these words, these bytes as standard input, and answers how it ended.
 
@@ -42,7 +52,7 @@ def run(program, words=(), given=b"", limit=LIMIT, **how):
     """
     how = {"stdin": subprocess.PIPE, "stdout": subprocess.PIPE, "stderr": subprocess.PIPE, **how}
     given = given if how["stdin"] == subprocess.PIPE else None
-    with subprocess.Popen([program, *words], **how) as process:
+    with started([program, *words], **how) as process:
         try:
             out, err = process.communicate(given, timeout=limit)
         except subprocess.TimeoutExpired:
@@ -62,7 +72,7 @@ class Running:
 
     def __init__(self, program, words, limit=LIMIT):
         self.limit = limit
-        self.process = subprocess.Popen(
+        self.process = started(
             # Without a buffer, so that `end` finds what `lines_until` has left.
             [program, *words], bufsize=0, stdin=subprocess.DEVNULL, stdout=subprocess.PIPE, stderr=subprocess.PIPE
         )
@@ -158,7 +168,6 @@ def in_brief(words, out):
 
 # Ports that the system gives to nobody by itself begin at 32768; those below are asked for by their number alone.
 FIRST_PORT, LAST_PORT = 10_000, 32_000
-_lock = threading.Lock()
 _next_port = FIRST_PORT + os.getpid() * 509 % (LAST_PORT - FIRST_PORT)
 
 
