@@ -4,8 +4,8 @@
 //! `plain_phones subscribe <subscriptions> <window> <port> <program>...` has so many phones subscribe, each once, at most
 //! `window` of them at a time without their NOTIFY, and answers each NOTIFY. `plain_phones echo <datagrams> <window> <port>
 //! <program>...` sends so many datagrams of a SUBSCRIBE's length, at most `window` of them at a time without their echo. The
-//! program is run with these words, and killed in the end. It prints one number: the processor time (user and system) of the
-//! program in nanoseconds.
+//! program is run with these words, and killed in the end. It prints nanoseconds of processor time (user and system) that one
+//! of these takes: of the program, and then of each of its threads, the oldest first.
 
 use std::collections::HashSet;
 use std::env;

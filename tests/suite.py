@@ -15,7 +15,7 @@ parts and runs the checks, some at a time, so a check may rely on nothing that a
 
 Whatever a check starts ends with it: `run` waits for the end of a call, `Running` is for a program that goes on beside the
 check. Both take a limit in seconds, behind which the program is killed and the check has failed. Ports are of 127.0.0.1, and
-each comes from `free_port`, which gives none twice.
+those at which a program is to listen come from `free_port`, which gives none twice.
 """
 
 import os
@@ -166,7 +166,7 @@ def in_brief(words, out):
     return f"NOTIFY {words[2]} {' '.join(states)}"
 
 
-# Ports that the system gives to nobody by itself begin at 32768; those below are asked for by their number alone.
+# Ports that the system gives by itself begin at 32768; those below are asked for by their number alone.
 FIRST_PORT, LAST_PORT = 10_000, 32_000
 _next_port = FIRST_PORT + os.getpid() * 509 % (LAST_PORT - FIRST_PORT)
 

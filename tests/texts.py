@@ -1,15 +1,16 @@
 #!/usr/bin/env python3
 """The dearest texts of each kind: one piece that stands as often as there is room for it.
 
-Each is made at its greatest length and handed to the program, in the place of a line of a good SUBSCRIBE, behind its lines, or
-as a datagram, a script or a control line of its own. What comes out says how it is read: the number of an UNREAD line, or what
-the SUBSCRIBE is answered (`docs/PROFILE.md` has the order of the refusals).
+Each is made at a datagram's greatest length and handed to the program, in the place of a line of a good SUBSCRIBE, behind its
+lines, or as a datagram, a script or a control line of its own. What comes out says how it is read: the number of an UNREAD line,
+or what the SUBSCRIBE is answered (`docs/PROFILE.md` has the order of the refusals).
 
     tests/texts.py TIMES [PROGRAM]
 
 measures instead: each text is handed in a script as often as it fits there, at half its length and at the whole, each script
-so often; one of a script is a script of half the greatest length, and of the whole. A line has the least time of one text at either length, in microseconds of processor time, and how many hundredths of the
-one the other is: 200 where the time rises as the length does, 400 where it rises as its square.
+so often; a script, and a control line that is none, stand once, a script at half its greatest length and at the whole. A line has
+the least time of one text at either length, in microseconds of processor time, and how many hundredths of the one the other is: 200
+where the time rises as the length does, 400 where it rises as its square.
 """
 
 import resource

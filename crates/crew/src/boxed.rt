@@ -1,5 +1,5 @@
 //! Crews over boxed packages.
-ghost use Rattle.std.specs.Prelude.{◌≡◌, ◌↔◌, ◌<◌, ◌≤◌, ℕ, map, get_or, vec_len, IfOk, Err};
+ghost use Rattle.std.specs.Prelude.{◌≡◌, ◌↔◌, ◌<◌, ◌≤◌, map, get_or, vec_len, IfOk, Err};
 ghost use Rattle.package.specs.Content.{Seen};
 ghost use Rattle.notifier.specs.Start.{place_of};
 ghost use Rattle.crew.specs.Started.{IsStarted};

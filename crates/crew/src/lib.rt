@@ -1,6 +1,6 @@
 //! The crew: worker threads between ports and one taker.
 //!
-//! A crew has any number of workers, each a thread with a desk of its own, and any number of ports. A [`Port`] sends each
+//! A crew has 1 to 256 workers, each a thread with a desk of its own, and 1 to 256 ports. A [`Port`] sends each
 //! event to the worker that is its home, and the time to all; the taker of the outbox gets what the workers post.
 //! [`Crew::start`] starts it, with every list empty and every port open; [`Crew::join`] waits for the workers, and promises
 //! of each what it handled and what it made, out of what the ports sent: `specs/Joined`.

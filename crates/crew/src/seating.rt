@@ -1,7 +1,7 @@
 //! What the workers of a crew are launched with.
 ghost use Rattle.std.specs.Prelude.{◌≡◌, ◌<◌, ◌≤◌, ℕ, [], length, map, get_or, vec_len, Some, IfOk};
 ghost use Rattle.outbox.specs.Seats.{PosterSeat};
-ghost use Rattle.crew.specs.Ports.{PortSeats, AreDealt, AllOpen, HaveRoom, TakeSeats};
+ghost use Rattle.crew.specs.Ports.{AreDealt, AllOpen, HaveRoom, TakeSeats};
 ghost use Rattle.inbox.specs.Seats.{new_senders, new_receiver};
 ghost use Rattle.notifier.specs.Standing.{first_standing};
 ghost use Rattle.crew.specs.Ready.{start_of, IsReady};

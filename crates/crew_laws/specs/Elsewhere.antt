@@ -1,4 +1,4 @@
--- That no other worker of a joined crew got what is a subscription's own, ticks and the planned stop apart.
+-- That no other worker of a joined crew got what concerns a subscription, ticks and the planned stop apart.
 use Rattle.std.specs.Prelude.{ℕ, ◌≡◌, ◌<◌, true, List, length, get_or}
 use Rattle.std.specs.List.{All}
 use Rattle.sip_text.specs.declared.address.Addr.{Addr}
@@ -30,7 +30,7 @@ pub record IsEveryPort (crew : List Hired) (ports : List PortSeats) : Type 0 whe
 abbrev pub AllAtHome : List Hired → List PortSeats → Type 0
 AllAtHome crew ports = (p : ℕ) (q : PortSeats) → p < length ports → AreAtHome (length crew) (get_or ports p q).seats
 
--- all events that worker w took from its inbox
+-- all events that worker w took from its inbox, and the planned stop where there is one
 abbrev pub events_taken : List Hired → List WorkerReport → ℕ → Hired → WorkerReport → List Event
 events_taken crew reports w h r =
     events_of (get_or crew w h).start.place.stop (get_or crew w h).reads.ports (get_or reports w r).receiver.taken
@@ -40,8 +40,8 @@ abbrev pub EveryPortLaw : Type 0
 EveryPortLaw = (start : ℕ → Start) (n : ℕ) (crew : List Hired) (dealt ports : List PortSeats) (taker : TakerSeat) →
     IsStarted start (length crew) n crew dealt taker → AllClosed dealt ports → IsEveryPort crew ports
 
--- Where every port was handed to `join`, a worker other than the one that a subscription has its home at took none of its own
--- events, but those that go to all.
+-- Where every port was handed to `join` and sent events to their homes, a worker other than the one that a subscription has its
+-- home at took nothing that concerns it, but what goes to all.
 abbrev pub NowhereElseLaw : Type 0
 NowhereElseLaw = (crew : List Hired) (ports : List PortSeats) (got : List (Item Out)) (reports : List WorkerReport)
     (start : Start) (serial other : ℕ) (source : Addr) (x : Request) (past : List Event) (h : Hired) (r : WorkerReport) →

@@ -40,7 +40,7 @@ pub record IsCrewRun (start : ℕ → Start) (crew : List Hired) (got : List (It
   pub joined : IsJoined crew ports got reports
 
 -- Where the taker got nothing but what its workers posted: of all that it got, from whichever worker, the NOTIFYs with a
--- subscription's tag are those of its life over the events that its worker handled. No other worker's outs have its tag.
+-- subscription's tag are those of its life over the events that its worker handled. No other worker's NOTIFYs have its tag.
 abbrev pub WholeLaw : Type 0
 WholeLaw = (start : ℕ → Start) (crew : List Hired) (got : List (Item Out)) (reports : List WorkerReport)
     (w serial : ℕ) (h : Hired) (r : WorkerReport) →

@@ -1,11 +1,12 @@
 //! Laws of a crew: what its taker got, by `Crew::join`'s report alone, is what the lives of subscriptions tell.
 //!
 //! `crew` says of the end of a crew that the outs that the taker got of a worker are those of a one-thread notifier for the
-//! events that the worker handled. [`life`] says so of each subscription in its own words, [`whole`] that nothing else with its
+//! events that the worker handled. [`life`] says so of each subscription in its own words, [`whole`] that no other NOTIFY with its
 //! tag came from any worker, and [`alone`] that neither the number of workers nor any other event shows in it; [`nowhere_else`]
-//! says that no other worker took any of its own events.
+//! says that no other worker took anything that concerns it but ticks and the planned stop.
 //! What the taker may rely on at any moment before, `worlds::world` says.
-//! No function here does anything: each is a theorem over the definitions of `crew`, `emitting`, `lives` and `isolation`.
+//! No function here does anything: each is a theorem over the definitions of `crew`, `emitting`, `lives`, `isolation`
+//! and `worlds`.
 //!
 //! Begin with `specs/Laws`, then `specs/Whole` and `specs/Elsewhere`.
 #![tactic(auto)]
@@ -31,7 +32,7 @@ pub fn took()
 {}
 
 /// The NOTIFYs with a subscription's tag among all that the taker got since the crew's start, from whichever worker, are those
-/// of its life: no other worker's outs have that tag.
+/// of its life: no other worker's NOTIFYs have that tag.
 pub fn whole()
     ensures { WholeLaw }
 {}
@@ -53,7 +54,7 @@ pub fn alone()
     ensures { AloneLaw }
 {}
 
-/// No other worker took any of a subscription's own events but ticks and the planned stop, where it was born at the home of its
+/// No other worker took anything that concerns a subscription but ticks and the planned stop, where it was born at the home of its
 /// request, every port of the crew was handed to `Crew::join`, and each sent events to their homes: whatever the number of workers,
 /// it is told by one.
 pub fn nowhere_else()

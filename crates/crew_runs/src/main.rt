@@ -1,5 +1,5 @@
 //! Crews that run, their queues, and what feeds and empties them over wires: worked runs of threads, each of which ends by itself
-//! and tells the same whatever the schedule.
+//! and tells the same whatever the schedule, unless a wait gives up (`gates`).
 //!
 //! `crew_runs` runs each of [`RUNS`] some times and prints what came of it, and whether each run told the same. `crew_runs NAME
 //! TIMES` runs one of them so many times, and `crew_runs queues EVENTS CAPACITY..` prints, for each capacity, the time that an

@@ -12,7 +12,7 @@ use crew::{End, Report, StartError};
 use package::ClosingCell;
 use std::alloc::Global;
 use std::rt::Clock;
-use std::sync::{Arc, Wait};
+use std::sync::Wait;
 use std::thread::Threads;
 
 /// A port, and no worker.

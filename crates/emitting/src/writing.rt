@@ -7,7 +7,7 @@ ghost use Rattle.scripts.specs.Page.{start_text};
 use scripts::Sink;
 use std::io::Write;
 
-/// A line was not written whole.
+/// A line was not written whole, or not flushed.
 #[derive(Clone, Copy)]
 pub(crate) struct Unwritten;
 

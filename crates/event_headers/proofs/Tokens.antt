@@ -6,8 +6,8 @@ use Rattle.std.proofs.lemmas.Bool.Decides.{nat_tests}
 use Rattle.sip_text.specs.declared.scan.Class.TheVariants as class
 use Rattle.sip_text.specs.Bytes.{is_in}
 use Rattle.sip_text.specs.Grammar.{AllPassing}
-use Rattle.sip_text.specs.Grammar.{IsToken, IsSmallToken}
-use Rattle.sip_text.specs.Tokens.{is_token, is_small_token}
+use Rattle.sip_text.specs.Grammar.{IsToken}
+use Rattle.sip_text.specs.Tokens.{is_token}
 use Rattle.sip_text.proofs.Pieces.{and_both}
 use Rattle.sip_text.proofs.Numerals.{spelled}
 

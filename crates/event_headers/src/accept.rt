@@ -1,7 +1,6 @@
 //! Accept (RFC 3261 section 20.1).
-ghost use Rattle.std.specs.Prelude.{◌≡◌, ◌≤◌, ◌++◌, ◌∷◌, ℕ, List, length, map, codes, string_bytes, Result, IfOk, IfSome, OnOk, OnErr};
+ghost use Rattle.std.specs.Prelude.{◌≡◌, ◌≤◌, ◌++◌, List, length, map, string_bytes, Result, IfOk, OnOk, OnErr};
 ghost use Rattle.std.specs.List.{position_or_len};
-ghost use Rattle.std.specs.Str.{str_to_ascii_lowercase};
 ghost use Rattle.event_headers.specs.declared.error.HeaderError.{HeaderError};
 ghost use Rattle.event_headers.specs.Headers.{IsAccept, RangesFit, Says, IsSaid, Answers};
 ghost use Rattle.event_headers.specs.Values as values;

@@ -1,5 +1,5 @@
 //! Event (RFC 6665 section 8.2.1).
-ghost use Rattle.std.specs.Prelude.{◌≡◌, ◌++◌, ℕ, List, option_map, string_bytes, Result, IfOk, OnOk, OnErr};
+ghost use Rattle.std.specs.Prelude.{◌≡◌, ◌++◌, string_bytes, Result, OnOk, OnErr};
 ghost use Rattle.event_headers.specs.declared.error.HeaderError.{HeaderError};
 ghost use Rattle.sip_text.specs.Bytes.{Gives};
 ghost use Rattle.event_headers.specs.Headers.{IsEvent, EventFits, Says, IsSaid, Answers};

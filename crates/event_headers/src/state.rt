@@ -1,8 +1,8 @@
 //! Subscription-State (RFC 6665 section 8.2.3).
-ghost use Rattle.std.specs.Prelude.{◌≡◌, ◌++◌, ℕ, List, option_map, string_bytes, Result, IfOk, OnOk, OnErr};
+ghost use Rattle.std.specs.Prelude.{◌≡◌, ◌++◌, option_map, string_bytes, Result, IfOk, OnOk, OnErr};
 ghost use Rattle.std.specs.Str.{str_to_ascii_lowercase};
 ghost use Rattle.sip_text.specs.Grammar.{number_of};
-ghost use Rattle.event_headers.specs.Headers.{IsState, StateFits, Says, IsSaid, Answers, IsStateValue};
+ghost use Rattle.event_headers.specs.Headers.{IsState, StateFits, Says, IsSaid, Answers};
 ghost use Rattle.event_headers.specs.Values as values;
 ghost use Rattle.event_headers.specs.Written.{state_text};
 ghost use Rattle.event_headers.specs.declared.error.HeaderError.{HeaderError};

@@ -1,5 +1,5 @@
 //! What the event headers say, as values.
-ghost use Rattle.std.specs.Prelude.{◌≡◌, ℕ, List, Some, decimal, option_map, string_bytes, IfOk, IfSome, IsSome, IsTrue, ◌↔◌};
+ghost use Rattle.std.specs.Prelude.{◌≡◌, Some, decimal, option_map, string_bytes, IfOk, IfSome, IsSome, IsTrue, ◌↔◌};
 ghost use Rattle.sip_text.specs.Grammar.{IsToken, IsSmallToken};
 ghost use Rattle.event_headers.specs.Headers.{IsEventValue, IsStateValue, IsRangeValue};
 ghost use Rattle.sip_text.specs.Tokens.{is_token, is_small_token};

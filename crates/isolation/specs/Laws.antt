@@ -32,7 +32,7 @@ AloneLaw = (start other : Start) (serial : ℕ) (x : Request) (past : List Event
     notices start serial past
     ≡ notices other 1 (renamed (tag_of start.place serial) (tag_of other.place 1) (own start serial x past))
 
--- The same of what goes out: all that this notifier sends with its tag are the NOTIFYs of its own events alone.
+-- The same of what goes out: all NOTIFYs that this notifier sends with its tag are those of its own events alone.
 abbrev pub OutsLaw : Type 0
 OutsLaw = (start other : Start) (serial : ℕ) (x : Request) (es : List Event) → IsStart start → serial < 2 ^ 64 →
     born_of start serial (newest_first es) ≡ Some x → IsLike start other x → are_apart start serial x (newest_first es) ≡ true →

@@ -20,7 +20,7 @@ pub fn alone()
     ensures { AloneLaw }
 {}
 
-/// All that a notifier sends with a subscription's tag are the NOTIFYs that its own events alone give.
+/// All NOTIFYs that a notifier sends with a subscription's tag are those that its own events alone give.
 pub fn outs()
     ensures { OutsLaw }
 {}
@@ -31,8 +31,8 @@ pub fn same()
     ensures { SameLaw }
 {}
 
-/// What the notifier sends is isolated: in two runs in which a subscription's own events are the same but for its tag, its
-/// watcher gets the same NOTIFYs.
+/// What the notifier sends is isolated: in two runs in which a subscription's own events are the same but for its tag, the NOTIFYs
+/// to its watcher have the same numbers, states and bodies, and go to the same addresses.
 pub fn isolated()
     ensures { IsolatedLaw }
 {}

@@ -71,7 +71,8 @@ mail_changes (Shuts ∷ past) = mail_changes past
 abbrev pub ContentsLaw : Type 0
 ContentsLaw = (mailbox : List ℕ) (past : List Event) (first : Option Content) → mail_content mailbox past first ≡ mailbox_after mailbox first (mail_changes past)
 
--- ---- A request of a transaction that no request before was of is fresh, and the same again is not (RFC 3261 section 17.2.3).
+-- ---- A request of a transaction that no request before was of is fresh, unless it is an ACK; the same again, right after it, is
+-- not (RFC 3261 section 17.2.3).
 
 -- both name a transaction, and the same one
 abbrev pub same_transaction : Option Key → Option Key → Bool
@@ -87,7 +88,7 @@ abbrev pub FreshLaw : Type 0
 FreshLaw = (limits : Limits) (past : List Event) (r : Request) → IsFreshLaw limits past r
 
 -- ---- A subscription is born at a request that fits, has no To tag, and finds a serial and, if it needs one, a place. It
--- lives from then on.
+-- has a life from then on.
 
 -- The request fits and is outside a dialog, the next serial is within the limit, and it is a fetch or a transfer that nobody
 -- watches, or there is a place in the table.
@@ -177,7 +178,7 @@ abbrev pub TerminatedLaw : Type 0
 TerminatedLaw = (limits : Limits) (l : Life) →
     is_some (terminated limits l) ≡ (is_touched limits l && (is_some (ended limits l) || number limits l == limits.max_cseq))
 
--- ---- A NOTIFY is unanswered from when it is made. A final answer to its number closes it and no other; nothing else does.
+-- ---- A NOTIFY is unanswered from when it is made. A final answer to its number but a 481 closes it and no other; nothing else does.
 
 -- is the NOTIFY with this number unanswered?
 abbrev pub is_open : Limits → Life → ℕ → Bool
@@ -212,7 +213,8 @@ rise (c ∷ before) = list_all (λ heard. nat_lt heard c) before && rise before
 abbrev pub RisingLaw : Type 0
 RisingLaw = (start : Start) (past : List Event) (serial : ℕ) (l : Life) → life start past serial ≡ Some l → rise (cseqs l) ≡ true
 
--- ---- A transfer has come as far as the last Progress of its tag since its birth says, else to `100 Trying`.
+-- ---- At each event that befalls it a transfer has come as far as the last Progress of its tag since its birth says, else to
+-- `100 Trying`.
 
 -- how far the transfer with this tag has come after an event, by how far it had come before
 abbrev pub status_after : List ℕ → Event → ℕ × List ℕ → ℕ × List ℕ

@@ -71,7 +71,7 @@ pub fn contents()
     ensures { ContentsLaw }
 {}
 
-/// A request of a transaction that no request before was of is fresh; the same again, right after it, is not.
+/// A request of a transaction that no request before was of is fresh, unless it is an ACK; the same again, right after it, is not.
 pub fn fresh()
     ensures { FreshLaw }
 {}
@@ -119,7 +119,7 @@ pub fn terminated()
     ensures { TerminatedLaw }
 {}
 
-/// A NOTIFY is unanswered from when it is made until a final answer to its number comes.
+/// A NOTIFY is unanswered from when it is made until a final answer to its number comes that is no 481.
 pub fn unanswered()
     ensures { UnansweredLaw }
 {}
@@ -129,7 +129,8 @@ pub fn unwatched()
     ensures { UnwatchedLaw }
 {}
 
-/// A transfer has come as far as the last Progress of its tag since its birth says, else to `100 Trying`.
+/// At each event that befalls it a transfer has come as far as the last Progress of its tag since its birth says, else to
+/// `100 Trying`.
 pub fn status()
     ensures { StatusLaw }
 {}

@@ -1,5 +1,5 @@
 -- What a port was fed with, datagram by datagram.
-use Rattle.std.proofs.Common.{◌≡◌, ⊎_elim, inl, inr, ℕ, ◌<◌, ◌≤◌, ◌+◌, Bool, true, false, ◌||◌, List, [], ◌∷◌, ◌++◌, length, Option, refl, ap, sym, ◌∙◌, subst, arith, length-append}
+use Rattle.std.proofs.Common.{◌≡◌, ⊎_elim, inr, ℕ, ◌<◌, ◌≤◌, ◌+◌, Bool, true, false, ◌||◌, List, [], ◌∷◌, ◌++◌, length, Option, refl, ap, sym, ◌∙◌, subst, arith, length-append}
 use Rattle.std.specs.List.{filter}
 use Rattle.std.proofs.lemmas.List.{map-append}
 use Rattle.std.proofs.lemmas.List.Elements.{filter-append, filter_map-append}
@@ -8,7 +8,7 @@ use Rattle.notifier.specs.declared.event.Event.{Event}
 use Rattle.crew.specs.Ports.{PortSeats}
 use Rattle.wires.specs.declared.datagram.Datagram.{Datagram}
 use Rattle.wires.specs.Wires.{Grows}
-use Rattle.emitting.proofs.Telling.{grows_none, grows_more, grows_same}
+use Rattle.emitting.proofs.Telling.{grows_none, grows_more}
 use Rattle.network.specs.declared.hearing.Heard.{Heard}
 use Rattle.network.specs.declared.hearing.Heard.TheVariants as heard
 use Rattle.network.specs.declared.hearing.Language.{Language}
@@ -16,7 +16,7 @@ use Rattle.network.specs.declared.hearing.Language.TheVariants as language
 use Rattle.network.specs.declared.feeding.FeedEnd.{FeedEnd}
 use Rattle.network.specs.declared.feeding.Told.TheVariants as came
 use Rattle.network.specs.declared.feeding.FeedReport.{FeedReport}
-use Rattle.network.specs.declared.feeding.FeedEnd.TheVariants.{Done, Fault, Gone}
+use Rattle.network.specs.declared.feeding.FeedEnd.TheVariants.{Done, Gone}
 use Rattle.network.specs.Heard.{Says}
 use Rattle.network.specs.Fed.{Log, datagrams, event_heard, events, is_unread, unread, is_close, closes, AllSay, Sends, Misses, IsTold, Ends, IsFed}
 use Rattle.network.proofs.Sending.{sends_none, sends_more}

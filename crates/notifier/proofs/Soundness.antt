@@ -1,6 +1,5 @@
 -- A ledger whose rows were told is sound.
-use Rattle.std.proofs.lemmas.List.Elements.{All-nil}
-use Rattle.std.proofs.Common.{◌≡◌, ℕ, ◌+◌, ◌<◌, ◌≤◌, List, [], All, sym, ap, subst, ◌∙◌, arith}
+use Rattle.std.proofs.Common.{◌≡◌, ℕ, ◌+◌, ◌<◌, ◌≤◌, List, All, sym, ap, subst, ◌∙◌, arith}
 use Rattle.std.specs.Prelude.{IfSome, ◌^◌}
 use Rattle.package.specs.Content.{Maps, SeenBy}
 use Rattle.notifier.specs.declared.place.Place.{Place}

@@ -69,7 +69,7 @@ unfoldable pub unless : Option Refusal → Verdict → Verdict
 unless (Some cause) rest = Refused cause
 unless None rest = rest
 
--- the same in the dialog of the row with this serial
+-- denied in the dialog of the row with this serial for this cause, if there is one; else renewed
 unfoldable pub unless_denied : ℕ → Option Refusal → Verdict
 unless_denied serial (Some cause) = Denied serial cause
 unless_denied serial None = Renewed serial
@@ -227,7 +227,7 @@ module _ {maps : Maps} where
   unfoldable pub replied : BookBy maps → Response → SteppedBy maps
   replied b response = all_rows b (answered response) []
 
-  -- time goes on, and never back
+  -- time goes on to this moment
   unfoldable pub ticked : Place → BookBy maps → ℕ → SteppedBy maps
   ticked place b clock = all_rows (record b { clock = clock }) (times_out place b.boxes clock) []
 

@@ -6,9 +6,9 @@ pub record Limits : Type 0 where
   pub min_time : ℕ
   -- the greatest time that is granted
   pub max_time : ℕ
-  -- the time of a SUBSCRIBE that doesn't say
+  -- the time of a SUBSCRIBE that doesn't say, but for one to `refer`
   pub default_time : ℕ
-  -- the time of a REFER
+  -- the time of a REFER, and of a SUBSCRIBE to `refer` that doesn't say
   pub refer_time : ℕ
   -- the last number of a NOTIFY
   pub max_cseq : ℕ

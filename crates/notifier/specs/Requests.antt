@@ -91,7 +91,7 @@ asks_nothing limits r = not (is_refer r) && asked limits r == 0
 abbrev pub is_too_brief : Limits → Request → Bool
 is_too_brief limits r = nat_lt 0 (asked limits r) && nat_lt (asked limits r) limits.min_time
 
--- A REFER that asks for no subscription (RFC 4488). It always gets its will.
+-- A REFER that asks for no subscription (RFC 4488). Where it isn't refused it gets its will.
 abbrev pub is_no : Option Bool → Bool
 is_no None = false
 is_no (Some wanted) = not wanted
@@ -105,7 +105,7 @@ is_strange word = not (str_eq_ignore_ascii_case word (codes "norefersub"))
 
 -- ---- a request that no state can help
 
--- a header that has to be there, or that can't be read
+-- a CSeq of another method, or a header that has to be there, or that can't be read
 unfoldable pub is_malformed : Request → Bool
 is_malformed r =
     not (bytes_eq r.head.cseq_method r.method)

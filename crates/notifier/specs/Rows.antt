@@ -138,11 +138,11 @@ is_dialog r tag row =
     bytes_eq row.sub.usage.call_id r.head.call_id
     && (bytes_eq row.sub.usage.local_tag tag && bytes_eq row.sub.usage.remote_tag (or_empty r.head.from.tag))
 
--- a refused request moves the CSeq of its dialog too (RFC 3261 section 12.2.2)
+-- a request that is denied in its dialog moves the dialog's CSeq too (RFC 3261 section 12.2.2)
 unfoldable pub counted : Request → Row → Told
 counted r row = stays (record row { last_cseq = r.head.cseq })
 
--- a SUBSCRIBE in the dialog: asked for no time it ends, else it goes on for the time granted
+-- a SUBSCRIBE in the dialog: asked for no time it ends, else it is refreshed for the time granted
 unfoldable pub renewed_sub : Place → ℕ → Addr → Request → State → Step
 renewed_sub place clock source r sub =
     if asks_nothing place.limits r then over (end sub Timeout)

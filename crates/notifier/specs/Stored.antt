@@ -29,7 +29,7 @@ with_serial serial rows = find (λ row. row.serial == serial) rows
 abbrev pub by_time : ℕ × ℕ → ℕ × ℕ → Ordering
 by_time x y = ordering_then (nat_cmp x.0 y.0) (nat_cmp x.1 y.1)
 
--- the first second in which time may end a row: its time is up, or a NOTIFY of it was unanswered for too long
+-- the first second in which this NOTIFY has been unanswered for too long
 unfoldable pub gives_up : Unanswered → ℕ
 gives_up notify = min (notify.moment + patience) (2 ^ 64 - 1)
 
@@ -38,6 +38,7 @@ abbrev pub alarm_with : ℕ → List Unanswered → ℕ
 alarm_with due [] = due
 alarm_with due (oldest ∷ newer) = min due (gives_up oldest)
 
+-- the first second in which time may end a row: its time is up, or a NOTIFY of it has been unanswered for too long
 unfoldable pub alarm_of : Row → ℕ
 alarm_of row = alarm_with row.sub.due row.unanswered
 

@@ -1,14 +1,13 @@
 //! Requests that make a dialog (RFC 3261 section 12.1.1).
 #![tactic(auto, unfolding(crate::specs::Book::new_usage, crate::specs::Book::new_want, crate::specs::Book::first_step, crate::specs::Book::first_boxes, crate::specs::Book::first_told, crate::specs::Book::new_row, crate::specs::Rows::goes, crate::specs::Requests::event_of))]
 
-ghost use Rattle.std.specs.Prelude.{false, ◌≡◌, ◌≤◌, ◌<◌, ◌^◌, ◌∷◌, [], map, if◌then◌else◌, IfOk, OnOk, option_to_list, None};
+ghost use Rattle.std.specs.Prelude.{false, ◌≡◌, ◌≤◌, ◌<◌, ◌^◌, [], map, if◌then◌else◌, IfOk, OnOk, option_to_list, None};
 ghost use Rattle.subscription.specs.Table as table;
 ghost use Rattle.notifier.specs.Book as spec;
 ghost use Rattle.notifier.specs.Fields as fields;
 ghost use Rattle.notifier.specs.Incoming.{first_told_of};
 ghost use Rattle.notifier.specs.Out.{out_of};
 ghost use Rattle.notifier.specs.Requests as requests;
-ghost use Rattle.notifier.specs.Rows as rows;
 ghost use Rattle.notifier.specs.Tellers.{boxes_of};
 
 use crate::boxes::tell_first;
@@ -27,7 +26,7 @@ use sip_text::{Field, NoMemory, Text, Values};
 use std::alloc::Global;
 use subscription::{Step, Sub, Usage, Want};
 
-/// A subscription that a request makes: what it is, its serial and its local tag.
+/// What a request makes: of which kind it is, its serial and its local tag.
 #[derive(Drop)]
 pub struct Newborn {
     pub kind: Birth,
@@ -124,7 +123,7 @@ fn new_want(
 }
 
 impl<P: Package> Teller<'_, P> {
-    /// A subscription that goes on for the time granted.
+    /// A subscription that is accepted for the time granted.
     fn first_accepted(&self, usage: Usage, want: Want, request: &Request) -> Step
         requires number { 1 ≤ want.max_cseq }
         requires clock { self.now.clock < 2 ^ 63 }

@@ -1,15 +1,14 @@
 //! A request that makes a dialog, as a step of a ledger.
 #![tactic(auto, unfolding(crate::specs::Book::keeping, crate::specs::Book::born, crate::specs::Book::born_with, crate::specs::Book::served, crate::specs::Book::first_gone, crate::specs::Book::first_word, crate::specs::Rows::forgetting, crate::specs::Out::out_of))]
 
-ghost use Rattle.std.specs.Prelude.{◌≡◌, ◌≤◌, ◌<◌, ◌++◌, ◌∷◌, [], ◌&&◌, map, if◌then◌else◌, All, IfOk, IfSome, OnOk, None, is_none, option_map, option_to_list};
+ghost use Rattle.std.specs.Prelude.{◌≡◌, ◌≤◌, ◌<◌, ◌++◌, ◌∷◌, [], map, All, IfOk, IfSome, OnOk, None, is_none, option_map, option_to_list};
 ghost use Rattle.circular_buffer.specs.Buffer.{buffer};
 ghost use Rattle.sip_write.specs.Answer.{answer_text};
 ghost use Rattle.notifier.specs.Answers.{birth_answer as birth_text, ring_with};
 ghost use Rattle.notifier.specs.Book as spec;
-ghost use Rattle.notifier.specs.Fields as fields;
 ghost use Rattle.notifier.specs.Incoming.{IsNamed, Serves, first_told_of};
-ghost use Rattle.notifier.specs.Ledger.{book_of, IsStep, IsSound};
-ghost use Rattle.notifier.specs.Out.{Answers, Starts, out_of};
+ghost use Rattle.notifier.specs.Ledger.{book_of, IsSound};
+ghost use Rattle.notifier.specs.Out.{Answers, out_of};
 ghost use Rattle.notifier.specs.Requests as requests;
 ghost use Rattle.notifier.specs.Rows as rows;
 ghost use Rattle.notifier.specs.Start.{tag_of};

@@ -1,7 +1,6 @@
 //! The boxes of a desk, of which the first of a name counts.
-ghost use Rattle.std.specs.Prelude.{◌≡◌, ◌<◌, ℕ, List, map, option_map, OnErr, OnOk, IfOk, IfSome, IsOk, IsTrue, vec_len, bytes_eq};
+ghost use Rattle.std.specs.Prelude.{◌≡◌, ◌<◌, List, map, option_map, OnOk, IfOk, IfSome, IsOk, IsTrue, vec_len, bytes_eq};
 ghost use Rattle.std.specs.List.{position_from};
-ghost use Rattle.package.specs.Content.{Seen};
 ghost use Rattle.package.specs.Changes.{is_forget};
 ghost use Rattle.package.specs.Boxes as spec;
 ghost use Rattle.package.specs.Bodies.{body_of_held};

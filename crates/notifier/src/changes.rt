@@ -1,7 +1,7 @@
 //! Events that are no requests.
 #![tactic(auto, unfolding(crate::specs::Book::nothing, crate::specs::Book::content_changed, crate::specs::Book::ticked, crate::specs::Book::shut, crate::specs::Book::replied))]
 
-ghost use Rattle.std.specs.Prelude.{◌≡◌, ◌≤◌, ◌<◌, ◌^◌, [], map, IfOk, OnOk};
+ghost use Rattle.std.specs.Prelude.{◌≤◌, ◌<◌, ◌^◌, [], map, IfOk, OnOk};
 ghost use Rattle.package.specs.Boxes.{change_first as changed_boxes};
 ghost use Rattle.notifier.specs.Book as spec;
 ghost use Rattle.notifier.specs.Rows.{tells_watcher};

@@ -1,7 +1,7 @@
 //! What one event makes of a ledger.
 #![tactic(auto, unfolding(crate::specs::Book::step, crate::specs::Book::nothing))]
 
-ghost use Rattle.std.specs.Prelude.{◌≡◌, IfOk, OnOk};
+ghost use Rattle.std.specs.Prelude.{IfOk, OnOk};
 ghost use Rattle.notifier.specs.Book.{step};
 ghost use Rattle.notifier.specs.Ledger.{book_of, IsStep, IsSound};
 

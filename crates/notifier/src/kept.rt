@@ -1,7 +1,7 @@
 //! Answers that are kept for retransmissions (RFC 3261 section 17.2.2), newest first.
 #![tactic(auto, unfolding(crate::specs::Answers::kept_answer, crate::specs::Answers::ring_with))]
 
-ghost use Rattle.std.specs.Prelude.{◌≡◌, ℕ, ◌<◌, ◌^◌, ◌-◌, ◌∷◌, [], take, find, option_map, IfOk, OnOk, Some, true, ◌↔◌};
+ghost use Rattle.std.specs.Prelude.{◌≡◌, ℕ, ◌<◌, ◌^◌, ◌-◌, [], take, find, option_map, IfOk, OnOk, Some, true, ◌↔◌};
 ghost use Rattle.circular_buffer.specs.Buffer.{buffer};
 ghost use Rattle.notifier.specs.Answers as spec;
 ghost use Rattle.notifier.specs.Limits.{Limits as LimitsSeen};
@@ -37,7 +37,7 @@ fn place_at(room: usize, newest: usize, slot: usize) -> usize
     }
 }
 
-/// The answers that are kept, newest first, each found by its transaction in constant time. When there is no room the
+/// The answers that are kept, newest first, each found by its transaction through a map. When there is no room the
 /// oldest goes.
 #[derive(Drop)]
 pub struct KeptAnswers {

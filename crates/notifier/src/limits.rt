@@ -126,7 +126,7 @@ impl Limits {
         self.max_time
     }
 
-    /// The time of a SUBSCRIBE that does not say.
+    /// The time of a SUBSCRIBE that does not say, but for one to `refer`.
     pub fn default_time(&self) -> u32
         ensures value { result ≡ self.now.default_time }
         ensures in_range { AreLimits self.now }
@@ -134,7 +134,7 @@ impl Limits {
         self.default_time
     }
 
-    /// The time of a REFER.
+    /// The time of a REFER, and of a SUBSCRIBE to `refer` that does not say.
     pub fn refer_time(&self) -> u32
         ensures value { result ≡ self.now.refer_time }
         ensures in_range { AreLimits self.now }

@@ -1,7 +1,7 @@
 //! NOTIFYs, each with the whole content (RFC 6665 section 4.2.2).
 #![tactic(auto, unfolding(crate::specs::Rows::notify, crate::specs::Out::out_of))]
 
-ghost use Rattle.std.specs.Prelude.{◌≡◌, map, IfOk};
+ghost use Rattle.std.specs.Prelude.{◌≡◌, IfOk};
 ghost use Rattle.event_headers.specs.Values.{StateValue as State};
 ghost use Rattle.subscription.specs.Written.{state_of};
 ghost use Rattle.sip_write.specs.Notify as layout;

@@ -235,7 +235,7 @@ pub fn misfit(request: &Request) -> Option<Refusal>
     }
 }
 
-/// Whether no serial is left for this request, or no place in the table.
+/// Whether no serial is left for this request, or it needs a place in the table and there is none.
 pub fn is_full(limits: &Limits, next: u64, alive: usize, request: &Request) -> bool
     ensures value { result ≡ spec.is_full limits.now next alive request.now }
     ensures room { result ≡ false → next ≤ limits.now.serials }

@@ -1,7 +1,7 @@
-//! What a request makes of a ledger, in the order in which the cases are looked for.
+//! What a request makes of a ledger. Begin with `serve`, at the end: its cases are looked for first.
 #![tactic(auto, unfolding(crate::specs::Book::nothing, crate::specs::Book::unless, crate::specs::Book::outside, crate::specs::Book::by_to_tag, crate::specs::Book::by_kept, crate::specs::Book::verdict, crate::specs::Book::served, crate::specs::Out::out_of))]
 
-ghost use Rattle.std.specs.Prelude.{◌≡◌, ◌≤◌, map, IfOk, OnOk, None};
+ghost use Rattle.std.specs.Prelude.{◌≡◌, IfOk, OnOk, None};
 ghost use Rattle.notifier.specs.Book as spec;
 ghost use Rattle.notifier.specs.Incoming.{IsNamed, Serves};
 ghost use Rattle.notifier.specs.Ledger.{book_of, IsStep, IsSound};

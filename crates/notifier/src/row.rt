@@ -17,7 +17,7 @@ pub struct Row {
     /// Its number among those of its worker, from 1.
     pub serial: u32,
     pub sub: Sub,
-    /// The last CSeq number of its dialog, also of a refused request (RFC 3261 section 12.2.2).
+    /// The last CSeq number that its dialog has heard, also of a request that was denied there (RFC 3261 section 12.2.2).
     pub last_cseq: u32,
     /// Its NOTIFYs that are unanswered, by rising number.
     pub unanswered: Values<Unanswered>,

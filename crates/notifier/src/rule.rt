@@ -25,7 +25,7 @@ use std::alloc::Global;
 pub enum Cause<'a> {
     /// A response came.
     Response(&'a Response),
-    /// A request in the dialog of the row with this serial was refused.
+    /// A request was denied in the dialog of the row with this serial.
     Refused(u32, &'a Request),
     /// A SUBSCRIBE came from this address in the dialog of the row with this serial.
     Renewal(u32, Addr, &'a Request),

@@ -157,7 +157,7 @@ pub fn take_answer(response: &Response, row: Row) -> After
     stays(closed(response.head.cseq, row))
 }
 
-/// A refused request in a dialog moves the last CSeq of the row with this serial.
+/// A request that is denied in its dialog moves the last CSeq of the row with this serial.
 pub fn count(wanted: u32, request: &Request, row: Row) -> After
     ensures { IsTold (spec.only wanted (spec.counted request.now)) row result }
 {

@@ -1,7 +1,6 @@
 //! Who watches which resource, by rising serial.
 
-ghost use Rattle.std.specs.Prelude.{◌≡◌, ◌==◌, ◌&&◌, ℕ, List, bytes_eq, true, false, IfOk, OnOk, if◌then◌else◌};
-ghost use Rattle.notifier.specs.Among.{has, RiseFrom};
+ghost use Rattle.std.specs.Prelude.{◌≡◌, ◌==◌, ◌&&◌, ℕ, List, bytes_eq, true, false, OnOk, if◌then◌else◌};
 ghost use Rattle.notifier.specs.Watchers.{watched, NoneIsLeft};
 
 use indexmap::IndexMap;

@@ -1,10 +1,10 @@
 //! Whole runs of one desk.
 #![tactic(auto, unfolding(crate::specs::Run::run, crate::specs::Run::made))]
 
-ghost use Rattle.std.specs.Prelude.{◌≡◌, List, map, IfOk, OnOk, Some};
+ghost use Rattle.std.specs.Prelude.{◌≡◌, map, IfOk, Some};
 ghost use Rattle.package.specs.Content.{Seen};
 ghost use Rattle.notifier.specs.Out.{out_of};
-ghost use Rattle.notifier.specs.Run.{made, run_from, made_from};
+ghost use Rattle.notifier.specs.Run.{made, made_from};
 ghost use Rattle.notifier.specs.Standing.{Standing};
 ghost use Rattle.notifier.specs.Start.{place_of};
 

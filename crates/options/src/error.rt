@@ -7,7 +7,7 @@ use sip_text::{NoMemory as NoRoom, Text};
 use std::alloc::{AllocError, AllocFailed};
 use thiserror::Error;
 
-/// Why the words of `notifyd serve` could not be read. The text names the option and the right form.
+/// Why the words of `notifyd serve` could not be read. The text names what is wrong, and of an option with a value the right form.
 #[derive(Debug, Drop, Error)]
 pub enum OptionsError {
     /// The last word is an option that needs a value.

@@ -1,7 +1,7 @@
 //! The arguments of `notifyd serve` and `notifyd tell`, and the file that names mailboxes.
 //!
-//! [`parse_settings`] reads what stands behind `serve`: a list of [`Setting`]s, or the first thing that is wrong, which
-//! names the option and its right form. [`Choices::of`] tells what the settings ask for, [`mailbox_in`] which mailbox a line of
+//! [`parse_settings`] reads what stands behind `serve`: a list of [`Setting`]s, or the first thing that is wrong, with
+//! the right form of an option that has a value. [`Choices::of`] tells what the settings ask for, [`mailbox_in`] which mailbox a line of
 //! a file names, and [`parse_tell`] reads what stands behind `tell`. It starts nothing and opens no file.
 //!
 //! Begin with `specs/Settings`: which words are which settings, one behind the other; then `specs/Choices`, `specs/Tell` and

@@ -1,6 +1,5 @@
 //! A file that names mailboxes, a mailbox a line.
-ghost use Rattle.std.specs.Prelude.{◌≡◌, ◌↔◌, IsTrue, IfOk, IfErr, true};
-ghost use Rattle.sip_text.specs.Reading.{begins};
+ghost use Rattle.std.specs.Prelude.{◌↔◌, IsTrue, IfOk, IfErr};
 ghost use Rattle.options.specs.Settings.{IsMailbox};
 ghost use Rattle.options.specs.MailboxFile.{IsBlank, Names, IsNoLine};
 

@@ -1,5 +1,5 @@
 //! What the words of `notifyd serve` say.
-ghost use Rattle.std.specs.Prelude.{◌≡◌, ℕ, List, None, IfOk, IfErr};
+ghost use Rattle.std.specs.Prelude.{◌≡◌, List, None, IfOk, IfErr};
 ghost use Rattle.sip_text.specs.Bytes.{Finds};
 ghost use Rattle.options.specs.declared.setting.Setting.{Setting};
 ghost use Rattle.options.specs.Settings.{AreSettings, AreWrong, Answers};

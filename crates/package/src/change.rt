@@ -36,7 +36,7 @@ impl Change {
 pub enum Outcome {
     /// The resource's content is another one now.
     Changed,
-    /// The content was so already, or a final status stands. Nothing changed.
+    /// The content was so already, a final status stands, or the transfer that is to begin is held. Nothing changed.
     Same,
     /// The package doesn't hold the resource, or the change is for another package. Nothing changed.
     Unknown,

@@ -1,5 +1,5 @@
 //! What a package leaves behind when it is dropped.
-ghost use Rattle.std.specs.Prelude.{◌≡◌, ◌+◌, ◌^◌, ◌-◌, min, if◌then◌else◌, Some, IfOk, MatchResult};
+ghost use Rattle.std.specs.Prelude.{◌≡◌, ◌-◌, min, Some, IfOk, MatchResult};
 ghost use Rattle.package.specs.Closings as spec;
 ghost use Rattle.package.specs.Closings.{counted};
 

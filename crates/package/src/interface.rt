@@ -1,5 +1,5 @@
 //! What a notifier sees of an event package.
-ghost use Rattle.std.specs.Prelude.{◌≡◌, ℕ, List, IfOk, OnErr, option_map, is_some, IsOk, IsTrue};
+ghost use Rattle.std.specs.Prelude.{◌≡◌, IfOk, OnErr, option_map, is_some, IsOk, IsTrue};
 ghost use Rattle.sip_text.specs.Tokens.{is_token};
 ghost use Rattle.package.specs.Texts.{is_printable};
 ghost use Rattle.package.specs.Content.{Seen, KeepsKind, held, is_finished};

@@ -7,7 +7,7 @@
 //! `crossbeam_channel` and to `crossbeam_queue`, and `proofs/Keeps` shows that each step keeps it.
 //!
 //! There is no code here that runs: the crate has the types of the items, and the words of the proofs. What it isn't:
-//! it makes no queue and moves no item; `inbox` and `outbox` do. Begin with [`Item`], then `specs/Items`, `specs/Rule`.
+//! it makes no queue and moves no item; `many_to_one` and `outbox` do. Begin with [`Item`], then `specs/Items`, `specs/Rule`.
 #![tactic(auto)]
 
 mod items;

@@ -7,7 +7,7 @@ use Rattle.notifier.specs.Book.{step}
 use Rattle.notifier.specs.Run.{run_from}
 use Rattle.notifier.specs.Standing.{Standing}
 
--- the desk as it was new, the events that it handled since, and the desk now: nothing where it is spent
+-- the desk as it came, the events that it handled since, and the desk now: nothing where it is spent
 pub record Recorded : Type 0 where
   pub start : Option Standing
   pub events : List Event

@@ -9,7 +9,7 @@ use std::alloc::Global;
 use std::marker::Model;
 use std::snapshot::Snapshot;
 
-/// A desk with the list of the events that it handled, and the desk as it was new, which contracts alone see.
+/// A desk with the list of the events that it handled, and the desk as it came, which contracts alone see.
 pub struct Replay<P: Package> {
     spent: bool,
     desk: Desk<P>,

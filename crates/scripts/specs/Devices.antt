@@ -7,7 +7,7 @@ pub record SourceSeen (R : Type 0) : Type 0 where
   pub reader : R
   pub failures : ℕ
 
--- a writer, with how many of its writes and flushes failed, and whether a flush succeeded after the last write
+-- a writer, with how many of its writes and flushes failed, and whether the last call of it was a flush that succeeded
 pub record SinkSeen (W : Type 0) : Type 0 where
   pub writer : W
   pub failures : ℕ

@@ -10,7 +10,7 @@ use Rattle.scripts.specs.declared.arguments.ArgumentsError.{ArgumentsError}
 use Rattle.scripts.specs.declared.arguments.ArgumentsError.TheVariants as error
 use Rattle.scripts.specs.Arguments.{IsSeed, IsStop}
 
--- a number from 1 on
+-- a number from 1 to this most
 abbrev pub IsFromOne : ℕ → ℕ → Type 0
 IsFromOne most n = (1 ≤ n) × (n ≤ most)
 

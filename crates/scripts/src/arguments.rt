@@ -1,9 +1,8 @@
 //! The program's arguments.
-ghost use Rattle.std.specs.Prelude.{◌≡◌, ℕ, List, length, IfOk, IfErr, Some};
-ghost use Rattle.hex.specs.Hex.{decode_sized};
+ghost use Rattle.std.specs.Prelude.{◌≡◌, IfOk, IfErr, Some};
 ghost use Rattle.scripts.specs.declared.arguments.Arguments.{Arguments};
 ghost use Rattle.scripts.specs.declared.arguments.ArgumentsError.TheVariants.{NoMemory};
-ghost use Rattle.scripts.specs.Arguments.{zero_seed, default_arguments, AreArguments, AnswersArguments};
+ghost use Rattle.scripts.specs.Arguments.{default_arguments, AreArguments, AnswersArguments};
 ghost use Rattle.scripts.specs.ArgumentsReading.{seed_of, workers_of, crew_at, stop_at, script_at, arguments_of, GivesArguments};
 ghost use Rattle.sip_text.specs.Bytes.{Finds};
 ghost use Rattle.sip_text.specs.Reading.{plain_up_to};

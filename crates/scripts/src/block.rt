@@ -1,5 +1,4 @@
 //! The blocks of a script.
-ghost use Rattle.std.specs.Prelude.{◌≡◌, ℕ};
 ghost use Rattle.sip_text.specs.Bytes.{Finds};
 ghost use Rattle.sip_text.specs.Reading.{plain_up_to};
 ghost use Rattle.scripts.specs.Reading.{Gives, octets_at, sip_head, sip_at, block_of, block_named, block_at, blocks_of};

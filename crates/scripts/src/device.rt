@@ -1,5 +1,5 @@
 //! Readers and writers that count their failures, so that a contract can tell when a device failed.
-ghost use Rattle.std.specs.Prelude.{◌≡◌, ℕ, Bool, true, false, IsOk, is_ok};
+ghost use Rattle.std.specs.Prelude.{◌≡◌, true, false, is_ok};
 ghost use Rattle.std.specs.Io.{ReadsAtMost, WritesAtMost};
 ghost use Rattle.std.specs.Io.KnownBytes.{ReadConsumes, WriteAppends, Keeps};
 ghost use Rattle.scripts.specs.Devices.{failures_after, failures_after_write};
@@ -67,7 +67,7 @@ impl<R: Read> Read for Source<R> {
     }
 }
 
-/// A writer that counts its failures, and knows whether all it took was flushed. Only its writes and flushes move these.
+/// A writer that counts its failures, and knows whether its last call was a flush that succeeded. Only its writes and flushes move these.
 #[derive(Drop)]
 pub struct Sink<W> {
     writer: W,
@@ -109,7 +109,7 @@ impl<W> Sink<W> {
         self.failures
     }
 
-    /// Whether a flush succeeded after the last write.
+    /// Whether the last call of it was a flush that succeeded.
     pub fn is_flushed(&self) -> bool
         ensures { result ≡ self.now.is_flushed }
     {

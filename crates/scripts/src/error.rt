@@ -1,5 +1,5 @@
 //! Why a script could not be run.
-ghost use Rattle.std.specs.Prelude.{◌≡◌, ℕ};
+ghost use Rattle.std.specs.Prelude.{◌≡◌};
 ghost use Rattle.scripts.specs.Errors.{number_of_error};
 ghost use Rattle.scripts.specs.declared.error.ScriptError.TheVariants.{NoMemory};
 
@@ -10,10 +10,10 @@ use thiserror::Error;
 /// Why a script could not be run.
 #[derive(Clone, Copy, Debug, PartialEq, Eq, Error)]
 pub enum ScriptError {
-    /// The bytes are no script, or the line is none that may control a server: the author wrote it wrongly, or it was cut.
+    /// The bytes are no script, or too many, or the line is none that may control a server: the author wrote it wrongly, or it was cut.
     #[error("bad script")]
     BadScript,
-    /// A read or a write failed, or a write took no byte: a closed pipe, a full disk.
+    /// A read, a write or a flush failed, or a write took no byte: a closed pipe, a full disk. Of a crew also: a thread was refused.
     #[error("device fault")]
     Device,
     /// A growth was refused: there is no memory.

@@ -1,5 +1,5 @@
 //! Reads a whole script.
-ghost use Rattle.std.specs.Prelude.{◌≡◌, ◌≢◌, ◌≤◌, ℕ, length, IfOk, OnOk, Err};
+ghost use Rattle.std.specs.Prelude.{◌≡◌, ◌≢◌, ◌≤◌, length, IfOk, OnOk, Err};
 ghost use Rattle.std.specs.Io.KnownBytes.{Consumes, IsAtEnd};
 ghost use Rattle.scripts.specs.Devices.{one_more, GaveMore};
 
@@ -16,7 +16,7 @@ const PIECE: usize = 4096;
 
 /// All that the reader gives up to its end, at most `MOST_BYTES` bytes. More are a bad script, and a failed read is a
 /// device fault, also one that a signal cut short. It reads at most `MOST_BYTES + 1` times. Room grows with what was read.
-/// After an error some bytes are gone from the reader.
+/// After an error some bytes may be gone from the reader.
 pub fn read_script<R: Read>(alloc: Global, source: &mut Source<R>) -> Result<Vec<u8>, ScriptError>
     // What is answered is what the reader gave, and it has no more.
     ensures whole { IfOk result (λ bytes.

@@ -6,7 +6,7 @@
 //!
 //! Begin with [`Block`] and the grammar in `specs/Script`. Each block has one text, and a script is those texts joined: what is
 //! answered is so, and what is so is answered, want of memory apart; by [`one_reading`] no bytes are a script in two ways. A
-//! [`ScriptError::Device`] comes only where a read or a write failed in that call; [`Source`] and [`Sink`] count these.
+//! [`ScriptError::Device`] comes only where a read, a write or a flush failed in that call; [`Source`] and [`Sink`] count these.
 #![tactic(auto)]
 
 pub mod arguments;

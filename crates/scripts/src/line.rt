@@ -1,5 +1,5 @@
 //! The words of a line.
-ghost use Rattle.std.specs.Prelude.{◌≡◌, ℕ, string_bytes};
+ghost use Rattle.std.specs.Prelude.{◌≡◌, string_bytes};
 ghost use Rattle.sip_text.specs.Bytes.{Finds};
 ghost use Rattle.scripts.specs.Reading.{Gives, class_of, count_at, counts_of, mail_words, mail_at, progress_words, progress_at, named_at, order_of, line_of, control_of};
 ghost use Rattle.scripts.specs.Changes.{mail_of, progress_of};
@@ -8,7 +8,7 @@ ghost use Rattle.scripts.specs.Views.{mail_seen, progress_seen};
 use crate::error::ScriptError;
 use crate::script::Control;
 use package::{Class, Counts, MailChange, Progress};
-use sip_text::{byte_of, count_of, cut_at, plain_number, short_of, text_of};
+use sip_text::{count_of, cut_at, plain_number, short_of, text_of};
 use std::alloc::Global;
 
 #[tactic(auto, unfolding(crate::specs::Reading::class_of))]

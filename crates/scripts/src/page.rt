@@ -1,5 +1,5 @@
 //! What a server prints of a run, line by line.
-ghost use Rattle.std.specs.Prelude.{◌≡◌, ℕ, List, [], ◌∷◌, ◌++◌, length, take, string_bytes, IfOk, OnOk, OnErr};
+ghost use Rattle.std.specs.Prelude.{◌≡◌, ℕ, List, [], ◌++◌, length, take, OnOk, OnErr};
 ghost use Rattle.scripts.specs.Script.{lf};
 ghost use Rattle.scripts.specs.Page.{unread_text, worker_text, answer_text, notify_text, start_text};
 

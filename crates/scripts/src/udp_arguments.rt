@@ -1,5 +1,5 @@
 //! The arguments of the program on the network.
-ghost use Rattle.std.specs.Prelude.{◌≡◌, IfOk, Some};
+ghost use Rattle.std.specs.Prelude.{IfOk, Some};
 ghost use Rattle.scripts.specs.declared.udp_arguments.UdpArguments.{UdpArguments};
 ghost use Rattle.scripts.specs.UdpArguments.{AreUdpArguments, AnswersUdpArguments};
 ghost use Rattle.scripts.specs.UdpReading.{port_of, numbers_of, udp_crew_at, udp_stop_at, udp_at, udp_arguments_of, GivesUdpArguments};

@@ -3,7 +3,6 @@ use Rattle.std.proofs.Common.{◌≡◌, ℕ, zero, suc, ◌<◌, Bool, true, Li
 use Rattle.std.proofs.lemmas.List.{get_or_default, get_or-map, length-map}
 use Rattle.std.specs.declared.alloc.Global.{Global}
 use Rattle.queue_rule.specs.Items.{items_of}
-use Rattle.queue_rule.specs.Ended.{AllEnded}
 use Rattle.queue_rule.specs.Values.{values}
 use Rattle.package.specs.Content.{Seen}
 use Rattle.notifier.specs.declared.place.Setup.{Setup}
@@ -18,11 +17,11 @@ use Rattle.crew.specs.Kept.{SameSeats}
 use Rattle.crew.specs.Ports.{PortSeats, new_seat, port_of}
 use Rattle.crew.specs.Ready.{start_of}
 use Rattle.crew.specs.Started.{Hired, IsStarted}
-use Rattle.crew.specs.Joined.{HasEndOf, IsPortOf}
+use Rattle.crew.specs.Joined.{IsPortOf}
 use Rattle.crew.specs.One.{all_events}
 use Rattle.crew.specs.declared.report.WorkerReport.{WorkerReport}
 use Rattle.crew.proofs.Starting.{element}
-use Rattle.crew.proofs.Keeping.{started_port, started_end}
+use Rattle.crew.proofs.Keeping.{started_port}
 use Rattle.crew.proofs.OnePort.{told_of_one}
 use Rattle.server.specs.declared.work.Work.{Work}
 use Rattle.server.specs.declared.gathering.Gathered.{Gathered}

@@ -1,15 +1,11 @@
 -- What one block more adds to what has been heard.
-use Rattle.std.proofs.Common.{◌≡◌, ◌≢◌, ℕ, ◌+◌, ◌-◌, ◌<◌, ◌≤◌, ◌^◌, List, [], ◌∷◌, ◌++◌, length, Option, Some, None, Result, Err, refl, sym, ap, ◌∙◌, arith, length-append, lit<}
+use Rattle.std.proofs.Common.{◌≡◌, ℕ, ◌+◌, ◌-◌, ◌<◌, ◌≤◌, ◌^◌, List, [], ◌∷◌, ◌++◌, length, Option, Some, None, refl, sym, ap, ◌∙◌, arith, length-append}
 use Rattle.std.proofs.lemmas.List.{append-nil}
 use Rattle.std.specs.Prelude.{option_to_list}
 use Rattle.std.specs.List.{flat_map, filter_map, enumerate_from, cons_option}
 use Rattle.std.proofs.lemmas.List.Concat.{flat_map-append}
 use Rattle.std.proofs.lemmas.List.Elements.{filter_map-append}
 use Rattle.sip_text.specs.declared.address.Addr.{Addr}
-use Rattle.sip_read.specs.declared.error.ReadError.{ReadError}
-use Rattle.sip_read.specs.declared.error.ReadError.TheVariants as errors
-use Rattle.sip_read.specs.Errors.{error_number}
-use Rattle.sip_read.specs.Message.{Tells}
 use Rattle.scripts.specs.declared.script.Block.{Block}
 use Rattle.scripts.specs.declared.script.Block.TheVariants as block
 use Rattle.notifier.specs.declared.event.Event.{Event}

@@ -3,7 +3,7 @@
 --   status   line on standard error     cause
 --   0        none                       done
 --   1        notifyd: bad arguments     the arguments don't ask for workers that run a script
---   2        notifyd: bad script        the bytes are no script
+--   2        notifyd: bad script        the bytes are no script, or too many
 --   3        notifyd: device fault      a read or a write failed, or a thread could not be started
 --   4        notifyd: out of memory     a growth was refused
 use Rattle.std.specs.Prelude.{ℕ, Bool, ◌%◌, ◌==◌, List, [], ◌∷◌, map, filter, codes, Option, Some, None}

@@ -48,7 +48,7 @@ module _ {R W : Type 0} (remaining : R → Option (List ℕ)) (contents : W → 
       ((source'.failures ≡ one_more source.failures) × (sink' ≡ sink))
       ⊎ ((source'.failures ≡ source.failures) × (sink'.failures ≡ one_more sink.failures) × WritesFront starts source source' sink sink')
 
--- all was read and is a script, and nothing was written: no thread could be started for its workers
+-- all was read and is a script, and nothing was written: so it is where a thread could not be started
 pub record StartsNoThread {R W : Type 0} (remaining : R → Option (List ℕ)) (source source' : SourceSeen R) (sink sink' : SinkSeen W) : Type 0 where
   pub bytes : List ℕ
   pub blocks : List Block
@@ -58,7 +58,7 @@ pub record StartsNoThread {R W : Type 0} (remaining : R → Option (List ℕ)) (
   pub no_read_failed : source'.failures ≡ source.failures
   pub unwritten : sink' ≡ sink
 
--- a read or a write failed, or there were several workers and no thread could be started for them
+-- a read or a write failed, or there were several workers and what `StartsNoThread` says
 abbrev pub IsHindered : {R W : Type 0} → (R → Option (List ℕ)) → (W → Option (List ℕ)) → List Start → SourceSeen R → SourceSeen R → SinkSeen W → SinkSeen W → Type 0
 IsHindered remaining contents starts source source' sink sink' =
     MeetsFault remaining contents starts source source' sink sink'

@@ -62,7 +62,7 @@ fn note_counts(works: &mut [Work], reports: &[WorkerReport]) -> bool
     true
 }
 
-/// Joins a crew whose ports are closed and whose taker has each end mark, and counts what the workers handled.
+/// Joins a crew by these closed ports, if any, and a taker that has each end mark, and counts what the workers handled.
 fn finish<H: Threads + Wait>(
     rt: &H,
     crew: Crew,

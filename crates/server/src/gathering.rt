@@ -1,5 +1,5 @@
 //! What the workers of a crew send, taken on a thread of its own.
-ghost use Rattle.std.specs.Prelude.{◌≡◌, ◌<◌, ◌≤◌, ℕ, true, [], length, vec_len, IfOk};
+ghost use Rattle.std.specs.Prelude.{◌≡◌, ◌<◌, ◌≤◌, true, [], length, IfOk};
 ghost use Rattle.queue_rule.specs.Ended.{AllEnded};
 ghost use Rattle.server.specs.Gathering.{AreNew, Keeps, AreKept, IsGathered};
 

@@ -6,8 +6,9 @@
 //!
 //! Begin with `specs/Page`: it says, short enough to be read aloud, which page a script has, by the reader's relation for
 //! its datagrams and the notifier's definition for its events. What is written is that page, or a front of it after a
-//! failed write; only bytes that are no script are a bad script; a device fault comes only where a read or a write failed
-//! in that call. `specs/Runs` says what is read and written, `specs/Call` what the program starts from and how it ends.
+//! failed write; only bytes that are no script, or too many, are a bad script; a device fault comes only where a read or a
+//! write failed in that call, or a thread could not be started. `specs/Runs` says what is read and written, `specs/Call`
+//! what the program starts from and how it ends.
 #![tactic(auto)]
 
 mod crew_work;

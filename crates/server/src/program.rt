@@ -1,7 +1,6 @@
 //! The program, over any reader and writer.
-ghost use Rattle.std.specs.Prelude.{◌≡◌, ◌≢◌, ◌<◌, ◌≤◌, ◌∷◌, [], ◌++◌, true, List, map, option_map, string_bytes, ◌⊎◌, IfOk, OnOk, OnErr, IfErr, Err};
+ghost use Rattle.std.specs.Prelude.{◌≡◌, ◌≢◌, ◌<◌, ◌≤◌, ◌∷◌, [], ◌++◌, true, map, option_map, string_bytes, ◌⊎◌, IfOk, OnOk, OnErr, IfErr, Err};
 ghost use Rattle.scripts.specs.declared.arguments.Arguments.{Arguments};
-ghost use Rattle.scripts.specs.declared.arguments.ArgumentsError.TheVariants as reasons;
 ghost use Rattle.server.specs.Boxes.{box_seen};
 ghost use Rattle.server.specs.Runs.{WritesPage, ReadsNoScript, MeetsFault, StartsNoThread, IsHindered};
 ghost use Rattle.server.specs.Call as spec;
@@ -28,11 +27,11 @@ pub enum Status {
     Done,
     /// The arguments ask for nothing that the program does.
     BadArguments,
-    /// Standard input is no script.
+    /// The bytes are no script, or too many.
     BadScript,
-    /// A read or a write failed, or a thread could not be started.
+    /// A read, a write or a wire failed, a port could not be bound, or a thread could not be started.
     DeviceFault,
-    /// A growth was refused.
+    /// A growth was refused, or a worker didn't come to the end of what was sent.
     OutOfMemory,
 }
 
@@ -298,7 +297,7 @@ where
     ensures bad_script { result ≡ Status.BadScript → AsksFor words.now (λ starts.
         ReadsNoScript R.remaining source.old source.new) }
 
-    // Only a read or a write that failed is a device fault, or that no thread could be started for several workers.
+    // Only a read or a write that failed is a device fault, or that a thread could not be started for several workers.
     ensures device { result ≡ Status.DeviceFault →
         AsksFor words.now (λ starts. IsHindered R.remaining W.contents starts source.old source.new sink.old sink.new) }
     ensures no_failure { result ≢ Status.DeviceFault →

@@ -106,7 +106,7 @@ pub fn script_one<R: Read, W: Write, P: Package>(
         (start_of P.seen setup.now 0 boxes.items ∷ []) source.old source.new sink.old sink.new) }
     ensures flushed { OnOk result (sink.new.is_flushed ≡ true) }
 
-    // Only bytes that are no script are a bad script.
+    // Only bytes that are no script, or too many, are a bad script.
     ensures bad_script { result ≡ Err ScriptError.BadScript → ReadsNoScript R.remaining source.old source.new }
     ensures unwritten { result ≢ Err ScriptError.Device → OnErr result (sink.new ≡ sink.old) }
 
@@ -147,11 +147,11 @@ where
         (starts_of P.seen setup.now boxes.items) source.old source.new sink.old sink.new) }
     ensures flushed { OnOk result (sink.new.is_flushed ≡ true) }
 
-    // Only bytes that are no script are a bad script.
+    // Only bytes that are no script, or too many, are a bad script.
     ensures bad_script { result ≡ Err ScriptError.BadScript → ReadsNoScript R.remaining source.old source.new }
     ensures unwritten { result ≢ Err ScriptError.Device → OnErr result (sink.new ≡ sink.old) }
 
-    // Only a read or a write that failed in this call is a device fault, or that no thread could be started for a script.
+    // Only a read or a write that failed in this call is a device fault, or that a thread could not be started for a script.
     ensures device { result ≡ Err ScriptError.Device →
         MeetsFault R.remaining W.contents (starts_of P.seen setup.now boxes.items)
         source.old source.new sink.old sink.new

@@ -76,7 +76,7 @@ is_fault ends.Done = false
 is_fault ends.Fault = true
 is_fault ends.Gone = false
 
--- did a wire or the clock fail?
+-- did a wire by which something comes in, or the clock, fail?
 abbrev pub is_faulty : Outcome → Bool
 is_faulty o = is_fault o.sip || is_fault o.lines || o.fails_late || is_fault o.time
 
@@ -89,8 +89,8 @@ pub record AreFaults (m n : ℕ) (o : Outcome) : Type 0 where
 
 -- ---- all of it
 
--- workers with these starts handled what the three ports sent until all were closed, and each of their outs was sent, written or
--- failed, in order
+-- workers with these starts handled, as their reports tell, what the three ports sent until all were closed, and each of their
+-- outs was sent, written or failed, in order
 pub record Runs (start : ℕ → Start) (workers : ℕ) (mailboxes : List (List ℕ)) (wire wire' : WireSeen) (writer writer' : WriterSeen) (outcome : Outcome) : Type 0 where
   -- as it was started
   pub crew : List Hired

@@ -53,7 +53,8 @@ IsChanged mailboxes m old new did.Counters = ⊥
 IsChanged mailboxes m old new did.Closing = ⊥
 IsChanged mailboxes m old new did.Gone = (is_held mailboxes m.mailbox ≡ true) × Misses old (happened.Mail m) new
 
--- what was done with the line: `ok` only where its event went to its worker, and nothing is sent with any other answer
+-- what was done with the line: but for a CLOSE, `ok` only where its event went to its worker, and nothing is sent with any other
+-- answer
 abbrev pub IsDone : List (List ℕ) → List ℕ → PortSeats → PortSeats → Done → Type 0
 IsDone mailboxes octets old new (did.Answered answer.Done) = (e : Event) × Tells mailboxes octets e × Sends old (e ∷ []) new
 IsDone mailboxes octets old new (did.Answered answer.BadLine) = Asks octets asked.Bad × (new ≡ old)

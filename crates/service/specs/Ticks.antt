@@ -29,7 +29,7 @@ pub record MissesTick (times : List ℕ) (old new : PortSeats) : Type 0 where
   pub sent : Sends old (ticks before) mid
   pub missed : Misses mid (event.Tick last) new
 
--- the port has sent a tick for each of these times, in order, and nothing else
+-- the port has sent a tick for each of these times, in order, and nothing else; where a worker is gone it missed the last
 abbrev pub AreTold : List ℕ → PortSeats → PortSeats → FeedEnd → Type 0
 AreTold times old new Done = Sends old (ticks times) new
 AreTold times old new Fault = Sends old (ticks times) new

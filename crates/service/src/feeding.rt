@@ -1,5 +1,5 @@
 //! The threads that feed the ports of the crew, each a port of its own.
-ghost use Rattle.std.specs.Prelude.{◌≡◌, ◌<◌, ℕ, IfOk};
+ghost use Rattle.std.specs.Prelude.{◌≡◌, ◌<◌, IfOk};
 ghost use Rattle.crew.specs.Kept.{SameSeats};
 ghost use Rattle.crew.specs.Ports.{IsShut};
 ghost use Rattle.service.specs.declared.feeding.Task.TheVariants as tasks;

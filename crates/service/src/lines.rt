@@ -1,5 +1,5 @@
 //! Control lines, each answered.
-ghost use Rattle.std.specs.Prelude.{◌≡◌, ◌<◌, ℕ, List, [], IfOk, IfSome, bytes_eq, string_bytes};
+ghost use Rattle.std.specs.Prelude.{◌≡◌, ◌<◌, List, [], IfOk, IfSome, bytes_eq, string_bytes};
 ghost use Rattle.std.specs.List.{list_any};
 ghost use Rattle.wires.specs.Wires.{Grows};
 ghost use Rattle.crew.specs.Kept.{SameSeats};
@@ -155,7 +155,7 @@ impl<W: Wire> ControlDesk<W> {
         reply(rt, &mut self.going, shared, to, answer.text().as_bytes());
     }
 
-    /// Sends the counters, or that there is no memory for them.
+    /// Sends the counters, or that they could not be told, for want of memory or of a clock.
     fn say_counters<R: Wait + Clock>(&mut self, rt: &R, alloc: Global, shared: &Shared, to: Addr)
         ensures answered { IsAnswered Done.Counters to
             (W.taken self.old.going) (W.taken self.new.going)

@@ -76,7 +76,7 @@ fn is_fault(end: FeedEnd) -> bool
 }
 
 impl Outcome {
-    /// Whether a wire or the clock failed.
+    /// Whether a wire by which something comes in, or the clock, failed.
     pub fn is_faulty(&self) -> bool
         ensures { result ≡ is_faulty self.now }
     {

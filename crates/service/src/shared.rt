@@ -37,7 +37,7 @@ pub enum Counter {
     Notify,
     /// A transfer was told to start.
     Start,
-    /// An out was not sent or written.
+    /// An out, or an answer to a control line, was not sent or written.
     Failed,
 }
 
@@ -138,7 +138,7 @@ impl Shared {
         }
     }
 
-    /// Counts the subscriptions that began, and those whose end was told, by the NOTIFY with this number.
+    /// Counts the subscriptions that began, and those whose last NOTIFY was made, by the NOTIFY with this number.
     pub fn count_notice(&self, number: u32, is_terminated: bool) {
         if number == 1 && !is_terminated {
             self.begun.fetch_add(1, Ordering::SeqCst);

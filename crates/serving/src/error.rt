@@ -37,7 +37,7 @@ pub enum ServeError {
     /// The system gave no thread, no socket for the bell, no clock or no randomness.
     #[error("the system refused a thread, a socket, the clock or randomness")]
     System,
-    /// A socket failed while the service ran.
+    /// A socket or the clock failed while the service ran, or its last lines could not be written.
     #[error("device fault")]
     Device,
     /// A growth was refused: there is no memory.

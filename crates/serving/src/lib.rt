@@ -1,11 +1,13 @@
 //! The server that an operator runs: `notifyd serve`, and `notifyd tell`, which tells it what happened.
 //!
-//! [`serve`] reads the words behind it and the files that they name, binds the sockets, runs the crate `service` until a CLOSE or
-//! a fault of a socket, writes what its workers did, and answers the exit status of the program. [`serve_words`] is all of it up
-//! to that end, over any writer. [`tell`] sends a control line to a service that runs, and prints the answer.
+//! [`serve`] reads the words behind it and the files that they name, binds the sockets, runs the crate `service` until a CLOSE, a
+//! fault of a socket or of the clock, or a worker that is gone, writes what its workers did, and answers the exit status of the
+//! program. [`serve_words`] is all of it up to that end, over any writer. [`tell`] sends a control line to a service that runs, and
+//! prints the answer.
 //!
 //! What it isn't: what the threads of a service do is `service`'s, what the words mean `options`'s, and what a control line
-//! says `telling`'s. Of what is printed no contract tells. Begin with [`serve_words`], then `specs/Plans` and `specs/Serving`.
+//! says `telling`'s. Of what is said on standard error, and of the answer that [`tell`] prints, no contract tells. Begin with
+//! [`serve_words`], then `specs/Plans` and `specs/Serving`.
 #![tactic(auto)]
 
 mod asking;

@@ -1,4 +1,5 @@
-//! What a service says on standard error: a line as it begins, and one as it ends. Where nobody reads them it goes on.
+//! What a service says on standard error: a line as it begins, a warning where others may reach the control address, and a line as it
+//! ends. Where nobody reads them it goes on.
 
 use service::{Bell, Shared};
 use sip_text::{Addr, NoMemory};

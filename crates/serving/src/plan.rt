@@ -1,11 +1,9 @@
 //! What a service begins with, by the words behind `serve`.
-ghost use Rattle.std.specs.Prelude.{◌≡◌, ◌↔◌, ◌≤◌, ℕ, not, Some, IsTrue, IfOk, IfErr, OnErr};
+ghost use Rattle.std.specs.Prelude.{◌≡◌, ◌↔◌, Some, IsTrue, IfOk, IfErr, OnErr};
 ghost use Rattle.notifier.specs.Limits.{AreLimits};
-ghost use Rattle.options.specs.Choices.{choices_of};
-ghost use Rattle.options.specs.Settings.{AreSettings};
 ghost use Rattle.serving.specs.declared.error.ServeError.TheVariants as error;
 ghost use Rattle.serving.specs.Plans as spec;
-ghost use Rattle.serving.specs.Plans.{AreNamed, IsCount, IsSeed, IsReached, IsPlan};
+ghost use Rattle.serving.specs.Plans.{IsCount, IsSeed, IsReached, IsPlan};
 ghost use Rattle.serving.specs.Refused.{IsRefusal};
 
 use crate::error::ServeError;

@@ -155,7 +155,8 @@ where
     })
 }
 
-/// Runs the service that the words behind `serve` ask for until a CLOSE or a fault, and says on standard error where it is.
+/// Runs the service that the words behind `serve` ask for until a CLOSE, a fault or a worker that is gone, and says on standard error
+/// where it is.
 #[tactic(auto, using(crate::proofs::Refused::other_is))]
 pub fn serve_words<R, F>(rt: R, words: &[Text], writer: F) -> Result<Served<F>, ServeError>
 where
@@ -258,7 +259,7 @@ fn tell_why<R: Eprint>(rt: &R, error: &ServeError) -> u8
 
 /// `notifyd serve` with these words behind it. Answers the exit status: 0 where a service ended well, or where a text was asked for
 /// and printed, 1 where the words ask for no service, 3 where an address is of another form or a socket, a file or a thread failed,
-/// 4 where memory was wanted. What went wrong is told in one line on standard error.
+/// 4 where memory was wanted. What kept a service from running, or went wrong in it, is told in one line on standard error.
 pub fn serve<R>(rt: R, words: &[Text]) -> u8
 where
     R: Threads

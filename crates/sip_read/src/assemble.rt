@@ -1,5 +1,5 @@
 //! A message of what was read.
-ghost use Rattle.std.specs.Prelude.{◌≡◌, ◌≤◌, ◌<◌, length, option_map, IfOk};
+ghost use Rattle.std.specs.Prelude.{◌≡◌, ◌<◌, option_map, IfOk};
 ghost use Rattle.sip_read.specs.MessageComputed.{doubled, top_required, head_of, body_of, accept_field, request_of, finished, message_of};
 ghost use Rattle.sip_read.specs.Message.{Answers};
 ghost use Rattle.sip_read.specs.Views.{first as first_view, fields_seen, gathered_seen};

@@ -1,7 +1,6 @@
 //! Values of Call-ID and CSeq (RFC 3261 sections 20.8 and 20.16).
-ghost use Rattle.std.specs.Prelude.{◌≡◌, ◌<◌, ◌≤◌, ◌^◌, min};
+ghost use Rattle.std.specs.Prelude.{◌≡◌, ◌<◌};
 ghost use Rattle.sip_text.specs.Bytes.{Finds};
-ghost use Rattle.sip_text.specs.Grammar.{number_of};
 ghost use Rattle.sip_read.specs.ValuesComputed.{call_id_of, sequence_of};
 ghost use Rattle.std.specs.List.{list_all};
 ghost use Rattle.sip_text.specs.Reading.{all_of};

@@ -1,6 +1,6 @@
 //! What the header lines say of the call that a message stands in (RFC 3261 section 8.1.1).
 ghost use Rattle.std.specs.Prelude.{◌≡◌, Ok};
-ghost use Rattle.sip_read.specs.MessageComputed.{◌then◌, parties_of, numbers_of, call_of};
+ghost use Rattle.sip_read.specs.MessageComputed.{parties_of, numbers_of, call_of};
 ghost use Rattle.sip_read.specs.OnceComputed.{required};
 
 use crate::call::Sequence;

@@ -1,5 +1,5 @@
 //! A datagram as a message.
-ghost use Rattle.std.specs.Prelude.{◌≡◌, ◌≤◌, ◌<◌, length, Result};
+ghost use Rattle.std.specs.Prelude.{◌<◌, Result};
 ghost use Rattle.sip_read.specs.declared.error.ReadError.{ReadError};
 ghost use Rattle.sip_read.specs.declared.message.Message.{Message};
 ghost use Rattle.sip_read.specs.Message.{Says, Answers, IsReading};

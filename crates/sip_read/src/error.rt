@@ -7,7 +7,7 @@ use sip_text::NoMemory;
 use std::fmt;
 use thiserror::Error;
 
-/// A header of which a message has one line, or at most one.
+/// A header that each message has, or of which it has at most one line.
 #[derive(Clone, Copy, Debug, PartialEq, Eq)]
 pub enum HeaderName {
     Via,
@@ -39,8 +39,8 @@ pub enum ReadError {
     /// The first line is no request line and no status line: another protocol, or a keep-alive.
     #[error("not SIP")]
     NotSip,
-    /// The header section can't be cut into lines, or a line's value isn't in the grammar of its header: a broken or hostile sender, or a
-    /// datagram that was cut off before its empty line.
+    /// The header section can't be cut into lines, or a value of Via, From, To, Call-ID, CSeq, Content-Length, Record-Route or Require
+    /// isn't in the grammar of its header: a broken or hostile sender, or a datagram that was cut off before its empty line.
     #[error("bad header line")]
     BadLine,
     /// No line of a header that each message has.

@@ -1,6 +1,5 @@
 //! What the header lines say that only a request's reader asks for.
 ghost use Rattle.std.specs.Prelude.{◌≡◌, option_map, IfOk, OnOk};
-ghost use Rattle.sip_read.specs.OnceComputed.{once_more};
 ghost use Rattle.sip_read.specs.MessageComputed.{request_of};
 ghost use Rattle.sip_read.specs.GatheredComputed.{fields_nothing, with_field, accept_more};
 ghost use Rattle.sip_read.specs.AddressesComputed.{contact_of as contact_text};

@@ -1,5 +1,5 @@
 //! The first line of a message: a request line or a status line (RFC 3261 sections 7.1 and 7.2).
-ghost use Rattle.std.specs.Prelude.{◌≡◌, ◌≤◌, ◌<◌};
+ghost use Rattle.std.specs.Prelude.{◌<◌};
 ghost use Rattle.sip_text.specs.Bytes.{Finds};
 ghost use Rattle.sip_read.specs.FirstLineComputed.{request_line, version_at, status_line, first_of, first_at};
 ghost use Rattle.sip_read.specs.Views.{first, first_pair};

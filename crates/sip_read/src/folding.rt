@@ -1,6 +1,6 @@
 //! Header lines that are continued by others (RFC 3261 section 7.3.1).
 ghost use Rattle.std.specs.Prelude.{◌≡◌, OnOk};
-ghost use Rattle.sip_text.specs.Bytes.{Finds, Gives};
+ghost use Rattle.sip_text.specs.Bytes.{Gives};
 ghost use Rattle.sip_read.specs.LinesComputed.{begins_space, joined, continued_of, unfolded_of};
 ghost use Rattle.sip_read.specs.LineViews.{line_seen, unfolded_seen};
 

@@ -1,12 +1,11 @@
 //! What the header lines say, header by header.
-ghost use Rattle.std.specs.Prelude.{◌≡◌, ◌+◌, ◌<◌, ◌≤◌, ℕ, length, option_map, IfOk, OnOk};
+ghost use Rattle.std.specs.Prelude.{◌≡◌, ◌<◌, IfOk, OnOk};
 ghost use Rattle.sip_text.specs.Bytes.{Gives};
-ghost use Rattle.sip_read.specs.OnceComputed.{once_more};
-ghost use Rattle.sip_read.specs.GatheredComputed.{nothing, fields_nothing, with_item, with_field, accept_more, Adds, gather_line, gather};
+ghost use Rattle.sip_read.specs.GatheredComputed.{nothing, with_item, Adds, gather_line, gather};
 ghost use Rattle.sip_read.specs.ItemsComputed.{element_at, line_values, line_items};
 ghost use Rattle.sip_read.specs.AddressesComputed.{contact_of as contact_text};
 ghost use Rattle.sip_text.specs.Reading.{elements_of};
-ghost use Rattle.sip_read.specs.Views.{item as item_view, party as party_view, fields_seen, gathered_seen, gathered_pair};
+ghost use Rattle.sip_read.specs.Views.{item as item_view, party as party_view, gathered_seen, gathered_pair};
 
 use crate::call::{CSeq, Sequence};
 use crate::call_lines::CallLines;

@@ -1,5 +1,4 @@
 //! What the lines of a header section say, value by value.
-ghost use Rattle.std.specs.Prelude.{◌≡◌};
 ghost use Rattle.sip_text.specs.Bytes.{Finds, Gives};
 ghost use Rattle.sip_read.specs.ItemsComputed.{token_at, route_at, element_at, single_of};
 ghost use Rattle.sip_read.specs.Views.{item};

@@ -8,8 +8,8 @@ pub fn one_reading()
 {}
 
 /// A datagram is refused as [`BadLine`](crate::ReadError::BadLine) for each of the causes that `specs/BadLines` lists: no empty line,
-/// a stray control character, a first line that continues none, a line without a name or that isn't UTF-8, and a value that isn't
-/// in its header's grammar.
+/// a stray control character, a first line that continues none, a line without a name or that isn't UTF-8, and a value of Via, From,
+/// To, Call-ID, CSeq, Content-Length, Record-Route or Require that isn't in its header's grammar.
 pub fn each_is_a_bad_line()
     ensures { EachIsABadLine }
 {}

@@ -1,5 +1,5 @@
 //! Lines, and what a header line says.
-ghost use Rattle.std.specs.Prelude.{◌≡◌, ◌<◌, ◌^◌};
+ghost use Rattle.std.specs.Prelude.{◌<◌};
 ghost use Rattle.sip_text.specs.Bytes.{Finds};
 ghost use Rattle.sip_read.specs.LinesComputed.{line_at, header_of};
 

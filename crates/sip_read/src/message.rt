@@ -1,5 +1,4 @@
 //! SIP messages as values (RFC 3261 section 7).
-ghost use Rattle.std.specs.Prelude.{◌≡◌};
 
 use event_headers::{EventValue, Range};
 use sip_text::{Field, Octets, Text, Values};

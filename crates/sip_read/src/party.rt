@@ -1,11 +1,10 @@
 //! Values that are one address: From, To, Contact and Refer-To.
-ghost use Rattle.std.specs.Prelude.{◌≡◌, IfOk};
 ghost use Rattle.sip_text.specs.Bytes.{Gives};
 ghost use Rattle.sip_read.specs.AddressesComputed.{party_of, contact_of};
 ghost use Rattle.sip_read.specs.Views.{party};
 
 use crate::address::address_at;
-use sip_text::{Class, NoMemory, Text, parameters_of, text_of, word_named};
+use sip_text::{Class, NoMemory, parameters_of, text_of, word_named};
 use std::alloc::Global;
 
 /// A From or a To, as it stands in the line.

@@ -1,7 +1,6 @@
 //! Values of the event headers, as far as a message keeps them: None where a value isn't in its grammar, or a number in it is too large.
 ghost use Rattle.std.specs.Prelude.{◌≡◌, IfOk};
 ghost use Rattle.sip_read.specs.FieldsComputed.{KeptOf, event_kept, expires_kept, accept_kept};
-ghost use Rattle.sip_text.specs.Bytes.{Gives};
 ghost use Rattle.sip_read.specs.ReferSub.{truth_of};
 ghost use Rattle.sip_read.specs.ValuesComputed.{refer_sub_of};
 

@@ -1,5 +1,5 @@
 //! Values of Via (RFC 3261 section 20.42, RFC 3581).
-ghost use Rattle.std.specs.Prelude.{◌≡◌, ◌-◌, ◌≤◌, option_map};
+ghost use Rattle.std.specs.Prelude.{◌≡◌, ◌-◌, option_map};
 ghost use Rattle.std.specs.List.{list_any};
 ghost use Rattle.sip_text.specs.Bytes.{Finds, Gives};
 ghost use Rattle.sip_text.specs.Views.{view, views};

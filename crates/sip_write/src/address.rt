@@ -1,7 +1,6 @@
 //! Addresses as texts.
-ghost use Rattle.std.specs.Prelude.{◌≡◌, ◌+◌, ◌≤◌, ◌∷◌, ◌++◌, length, drop, decimal, codes};
+ghost use Rattle.std.specs.Prelude.{◌≡◌, ◌+◌, ◌≤◌, ◌++◌, length, drop, decimal, codes};
 ghost use Rattle.sip_text.specs.Addresses.{ip_text, addr_text};
-ghost use Rattle.sip_write.specs.Lines.{contact_text};
 ghost use Rattle.sip_write.specs.Pages.{Puts};
 
 use crate::page::Page;

@@ -37,13 +37,13 @@ pub fn an_answer_is_read_again()
     ensures { AnswerIsReadAgain }
 {}
 
-/// What a request that was read says stands in header lines, each value in its grammar.
+/// What an answer or a NOTIFY copies of a request that was read stands in header lines, each value in its grammar.
 pub fn what_is_read_is_in_its_grammar()
     ensures { WhatIsReadIsInItsGrammar }
 {}
 
-/// A written answer to a request that was read is read, where it fits in a datagram, as a response with the same status
-/// and the request's head.
+/// A written answer to a request that was read is read, where it fits in a datagram and what it adds is in its grammar, as a
+/// response with the same status and the request's head, in which the top Via says the source and a To without a tag has got one.
 pub fn an_answer_to_what_was_read_is_read_again()
     ensures { AnswerToWhatWasReadIsReadAgain }
 {}

@@ -1,5 +1,5 @@
 //! Header lines, put on a page.
-ghost use Rattle.std.specs.Prelude.{◌≡◌, ◌++◌, ◌∷◌, [], map, codes, decimal, option_map};
+ghost use Rattle.std.specs.Prelude.{◌++◌, ◌∷◌, [], map, codes, decimal, option_map};
 ghost use Rattle.event_headers.specs.Written.{comma_joined, parameter_text};
 ghost use Rattle.sip_write.specs.Lines.{joined, line_end, header, contact_text, call_lines};
 ghost use Rattle.sip_write.specs.Pages.{Puts, next_texts};

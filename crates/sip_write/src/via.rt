@@ -1,7 +1,6 @@
 //! The top Via of an answer (RFC 3261 section 18.2.1, RFC 3581 section 4).
-ghost use Rattle.std.specs.Prelude.{◌≡◌, ◌≢◌, ◌++◌, ◌∷◌, [], ◌≤◌, ◌<◌, ◌&&◌, not, ℕ, List, length, take, drop, codes, bytes_eq};
-ghost use Rattle.std.specs.List.{prefix_len, suffix_len, position_or_len, flat_map};
-ghost use Rattle.sip_text.specs.Addresses.{ip_text};
+ghost use Rattle.std.specs.Prelude.{◌≡◌, ◌≢◌, ◌∷◌, [], ◌≤◌, ◌<◌, ◌&&◌, not, List, length, take, drop, codes, bytes_eq};
+ghost use Rattle.std.specs.List.{prefix_len, position_or_len, flat_map};
 ghost use Rattle.sip_write.specs.Lines.{joined, header};
 ghost use Rattle.sip_write.specs.Via.{top_via_text, marked_parts, marked_parameter, parts_of, is_lead as is_lead_byte, is_received as is_received_parameter, is_bare_rport as is_bare_rport_parameter, lead_of, behind_lead, ends_name, is_colon, host_of};
 ghost use Rattle.sip_write.specs.Cutting.{first_cut};

@@ -4,7 +4,7 @@
 //! made of the worker's number, the serial, and digits from the seed (`local_tag` of the notifier's `specs/Tag`): no clock,
 //! no counter beside the serial, and nothing of the request goes into it. How hard the digits are to guess without the seed
 //! rests on ChaCha20, and no proof speaks of it. No function here does anything: each is a theorem over the definitions of
-//! `notifier`.
+//! `notifier` and `lives`.
 //!
 //! Begin with `specs/Laws`.
 #![tactic(auto)]

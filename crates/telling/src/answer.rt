@@ -5,7 +5,7 @@ ghost use Rattle.telling.specs.Lines.{answer_text, IsYes};
 /// What a service answers to a control line, but for the counters.
 #[derive(Clone, Copy, Debug, PartialEq, Eq, Drop)]
 pub enum Answer {
-    /// The event is in its worker's inbox.
+    /// The event is in its worker's inbox, or, of a CLOSE, the service closes.
     Done,
     /// The line is none that a service takes.
     BadLine,
@@ -13,7 +13,7 @@ pub enum Answer {
     UnknownMailbox,
     /// The service takes no more.
     Closed,
-    /// There was no memory to read the line.
+    /// There was no memory to read the line or to tell the counters.
     NoMemory,
 }
 

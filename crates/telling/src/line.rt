@@ -1,5 +1,5 @@
 //! Control lines of a running service.
-ghost use Rattle.std.specs.Prelude.{◌≡◌, ◌↔◌, IsTrue};
+ghost use Rattle.std.specs.Prelude.{◌↔◌, IsTrue};
 ghost use Rattle.telling.specs.Lines.{IsStatus, Asks};
 
 use package::{MailChange, Progress};

@@ -61,7 +61,7 @@ module _ {W : Type 0} (contents : W → Option (List ℕ)) where
   EndsAs o before after status.OutOfMemory =
       (has_fault o ≡ false) × (((all_closed o.workers ≡ false) × Tells o.workers before after) ⊎ (after ≡ before))
 
-  -- the call was served to its end, and then the lines of the workers were written
+  -- the call was served to its end, and then the lines of the workers were written, as far as the status says
   pub record Runs (call : UdpArguments) (before after : SinkSeen W) (status : Status) : Type 0 where
     pub outcome : Outcome
     pub between : SinkSeen W

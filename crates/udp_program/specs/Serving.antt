@@ -33,8 +33,8 @@ most_lines = 1048576
 abbrev pub writer_seen : {W : Type 0} → (W → Option (List ℕ)) → SinkSeen W → WriterSeen
 writer_seen contents sink = record { contents = contents sink.writer; failures = sink.failures }
 
--- workers with these starts handled what the two ports sent until both were closed, and each of their outs was sent, written or
--- counted as failed
+-- workers with these starts handled what the two ports sent until both were closed, as far as their reports say, and each of
+-- their outs was sent, written or counted as failed
 pub record Serves {W : Type 0} (contents : W → Option (List ℕ)) (start : ℕ → Start) (workers count : ℕ) (before after : SinkSeen W) (outcome : Outcome) : Type 0 where
   -- as it was started
   pub crew : List Hired

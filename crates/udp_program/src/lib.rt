@@ -7,7 +7,7 @@
 //!
 //! What it isn't: it knows no other addresses than 127.0.0.1, and it tells no time: ticks come by the control port. That a
 //! datagram arrives no contract can say. Begin with [`run`], then `specs/Call`, `specs/Serving` and `specs/Ends`; what
-//! datagrams and outs are to a crew, the crate `network` says.
+//! datagrams are to a crew the crate `network` says, what becomes of outs the crate `emitting`.
 #![tactic(auto)]
 
 mod listening;

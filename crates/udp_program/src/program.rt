@@ -210,8 +210,8 @@ where
 }
 
 /// Runs the program on the network: looks at the words behind its name, binds the two ports, serves them until so many datagrams
-/// have come at the first and a CLOSE at the second, and writes a line for each transfer that starts, as it comes, and last a
-/// line for each worker. Both ports are free again then. Arguments are looked at before a port is bound.
+/// have come at the first and a CLOSE, or 1,048,576 lines, at the second, or a wire failed or a worker is gone, and writes a line
+/// for each transfer that starts, as it comes, and last a line for each worker. Both ports are free again then. Arguments are looked at before a port is bound.
 pub fn run<H, F>(rt: H, alloc: Global, words: &[Text], sink: &mut Sink<F>) -> Status
 where
     H: Threads + Wait + Net + Clock + Copy + Send + 'static,

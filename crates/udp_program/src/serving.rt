@@ -119,7 +119,7 @@ fn take_both(ports: &mut Vec<Port>) -> (Port, Port)
 }
 
 /// Has a crew that was just started serve the sockets until both its ports have ended, and joins it. Where a thread is refused
-/// nothing more is heard and nothing is written, and all that was started has ended.
+/// nothing is written, and all that was started has ended; control lines may have been heard.
 pub(crate) fn serve<H, F>(
     rt: H,
     alloc: Global,

@@ -8,7 +8,7 @@ use sip_text::Addr;
 use std::sync::Wait;
 use thiserror::Error;
 
-/// A datagram was not received, or not sent. What the device said is not told.
+/// A datagram was not received or not sent, or a socket was not bound. What the device said is not told.
 #[derive(Clone, Copy, Debug, PartialEq, Eq, Error)]
 #[error("the wire failed")]
 pub struct WireFault;

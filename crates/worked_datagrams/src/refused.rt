@@ -9,7 +9,7 @@ use sip_text::NoMemory;
 use std::alloc::Global;
 use std::io;
 
-/// A request with a value in each field.
+/// A request with a value in each field but Expires and Refer-Sub.
 const REQUEST: &str = "SUBSCRIBE sip:a@b SIP/2.0\r\n\
     v: SIP/2.0/UDP h;rport;branch=z\r\n ,SIP/2.0/UDP i\r\n\
     f: sip:a@b;tag=f\r\n\

@@ -37,7 +37,7 @@ pub(crate) enum Fault {
     FlushFails,
 }
 
-/// A writer that takes at most so many bytes a write, so often, and then has a fault.
+/// A writer that takes at most so many bytes a write, so often, and then has a fault; where flushes fail, each does.
 #[derive(Drop)]
 pub(crate) struct Drain {
     pub(crate) taken: Vec<u8>,

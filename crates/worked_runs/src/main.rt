@@ -1,7 +1,7 @@
 //! The worked runs inside one process: what a call of the program from outside can't show.
 //!
 //! There is nothing here that others build on. `desks` and `memory` are for runs in which a growth is refused; `pages` has runs with
-//! limits that no argument sets, over packages in boxes, one of them neither mailboxes nor transfers; `streams` has readers and
+//! limits that no argument of `script` sets, over packages in boxes, one of them neither mailboxes nor transfers; `streams` has readers and
 //! writers that end, fail or never end, and `trials` the program over such `devices`. Begin with `data` and `pages`: a script, and
 //! beside it the page that it must have.
 #![tactic(auto)]

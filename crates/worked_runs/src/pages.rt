@@ -1,7 +1,7 @@
-//! Runs with other limits than the program's, over packages in boxes, one of them neither mailboxes nor transfers.
+//! Runs over packages in boxes, one of them neither mailboxes nor transfers, and all but one with other limits than the program's.
 //!
-//! Each run NAME has its script in `data/NAME.script` and its page in `data/NAME.page`, both with the line ends of SIP. The
-//! pages were put together from the layouts of `docs/FORMATS.md`, and not by the program. For each run a line says
+//! Each run NAME has its script in `data/NAME.script` and its page in `data/NAME.page`, with the line ends of SIP in their datagrams
+//! alone. The pages were put together from the layouts of `docs/FORMATS.md`, and not by the program. For each run a line says
 //! whether the notifier writes its page.
 
 use crate::presence::Presence;

@@ -1,7 +1,7 @@
 //! The program over readers and writers that fail, by one worker and by several.
 //!
-//! The script of one datagram is cut at each byte, read by a reader that fails at each of its reads or never ends, and its page
-//! is written by a writer that fails, or takes nothing, at each of its writes. For each of these a line says how many runs
+//! The script of one datagram is cut at each byte, read by a reader that fails at each of its reads, and line feeds never end in its
+//! place; its page is written by a writer that fails, or takes nothing, at each of its writes. For each of these a line says how many runs
 //! ended in which way, and whether each wrote what it may: the page, a front of it, or nothing. The counts were worked out by
 //! hand: the script has 308 bytes, and its page 791, or 811 with the line of a second worker.
 
