@@ -6,8 +6,8 @@ use Rattle.std.proofs.lemmas.List.{get_or-set_other, get_or-set_same, length-set
 use Rattle.std.proofs.lemmas.List.Elements.{All-nil, All-push}
 use Rattle.std.proofs.lemmas.Bool.Decides.{eqb_tells}
 use Rattle.queue_rule.specs.Values.{values, value_item, end_item}
-use Rattle.notifier.specs.declared.event.Event.{Event}
-use Rattle.notifier.specs.Home.{home, is_for_all, comes_to}
+use Rattle.notifier_model.specs.declared.event.Event.{Event}
+use Rattle.notifier_model.specs.Home.{home, is_for_all, comes_to}
 use Rattle.inbox.specs.Seats.{Inbox, SenderSeat, with_sent}
 use Rattle.worker.proofs.Folds.{values_value, values_end}
 use Rattle.crew.specs.Ports.{PortSeats, new_seat, sent_first, Closes, ClosesSome}

@@ -6,9 +6,9 @@ use Rattle.queue_rule.specs.declared.items.Item.{Item}
 use Rattle.queue_rule.specs.Items.{items_of, has_end}
 use Rattle.queue_rule.specs.Ended.{count_ended, AllEnded}
 use Rattle.queue_rule.proofs.Ended.{ended_value, ended_more, ended_none, all_ended}
-use Rattle.notifier.specs.Start.{Start}
-use Rattle.notifier.specs.declared.event.Event.{Event}
-use Rattle.notifier.specs.declared.event.Out.{Out}
+use Rattle.notifier_model.specs.Start.{Start}
+use Rattle.notifier_model.specs.declared.event.Event.{Event}
+use Rattle.notifier_model.specs.declared.event.Out.{Out}
 use Rattle.queue_rule.specs.Values.{end_item, value_item}
 use Rattle.inbox.specs.Seats.{SenderSeat, ReceiverSeat, with_sent}
 use Rattle.outbox.specs.Seats.{TakerSeat, PosterSeat}

@@ -5,8 +5,8 @@ use Rattle.std.proofs.lemmas.Grind.{common_steps}
 use Rattle.queue_rule.specs.declared.items.Item.{Item}
 use Rattle.queue_rule.specs.Ended.{AllEnded}
 use Rattle.queue_rule.specs.Items.{items_of, has_end, StartsWith, TookInOrder}
-use Rattle.notifier.specs.declared.event.Event.{Event}
-use Rattle.notifier.specs.declared.event.Out.{Out}
+use Rattle.notifier_model.specs.declared.event.Event.{Event}
+use Rattle.notifier_model.specs.declared.event.Out.{Out}
 use Rattle.inbox.specs.Seats.{SenderSeat}
 use Rattle.outbox.specs.Seats.{TakerSeat}
 use Rattle.queue_rule.specs.Values.{values, values_by, end_item}

@@ -1,7 +1,7 @@
 -- What a port's seats have sent.
 use Rattle.std.proofs.Common.{◌≡◌, ℕ, zero, suc, ◌<◌, ◌+◌, List, [], ◌∷◌, set, length, Some, sym, ap, ◌∙◌, arith, add-one}
 use Rattle.std.specs.Prelude.{slice_get}
-use Rattle.notifier.specs.declared.event.Event.{Event}
+use Rattle.notifier_model.specs.declared.event.Event.{Event}
 use Rattle.queue_rule.specs.Values.{value_item}
 use Rattle.inbox.specs.Seats.{SenderSeat, with_sent}
 use Rattle.crew.specs.Ports.{SendsAt, sent_first}

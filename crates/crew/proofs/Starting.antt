@@ -2,7 +2,7 @@
 use Rattle.std.proofs.Common.{◌≡◌, ℕ, Bool, zero, suc, ◌<◌, List, [], ◌∷◌, ◌++◌, length, map, get_or, Option, Some, refl, ap, sym, ◌∙◌, subst, arith, below_more, length-append}
 use Rattle.std.proofs.lemmas.List.{get_or_append_left}
 use Rattle.std.proofs.Math.Seq.{get_or-append_seam}
-use Rattle.notifier.specs.Start.{Start}
+use Rattle.notifier_model.specs.Start.{Start}
 use Rattle.notifier.specs.Standing.{Standing, first_standing}
 use Rattle.inbox.specs.Seats.{ReceiverSeat}
 use Rattle.outbox.specs.Seats.{Outbox, PosterSeat, TakerSeat, new_posters}

@@ -2,8 +2,8 @@
 use Rattle.std.specs.Prelude.{◌≡◌, ◌⊎◌, ◌<◌, ℕ, true, List, length, get_or}
 use Rattle.std.specs.List.{All}
 use Rattle.queue_rule.specs.Values.{values}
-use Rattle.notifier.specs.declared.event.Event.{Event}
-use Rattle.notifier.specs.Home.{home, is_for_all, comes_to}
+use Rattle.notifier_model.specs.declared.event.Event.{Event}
+use Rattle.notifier_model.specs.Home.{home, is_for_all, comes_to}
 use Rattle.inbox.specs.Seats.{Inbox, SenderSeat}
 use Rattle.crew.specs.Ports.{PortSeats, port_of, SendsTo, sends_first, Closes, ClosesSome}
 

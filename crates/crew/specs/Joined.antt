@@ -3,8 +3,8 @@ use Rattle.std.specs.Prelude.{◌≡◌, ◌<◌, ℕ, true, List, length, get_o
 use Rattle.queue_rule.specs.declared.items.Item.{Item}
 use Rattle.queue_rule.specs.Items.{items_of, has_end, StartsWith, TookInOrder}
 use Rattle.queue_rule.specs.Values.{values}
-use Rattle.notifier.specs.declared.event.Event.{Event}
-use Rattle.notifier.specs.declared.event.Out.{Out}
+use Rattle.notifier_model.specs.declared.event.Event.{Event}
+use Rattle.notifier_model.specs.declared.event.Out.{Out}
 use Rattle.inbox.specs.Seats.{SenderSeat, ReceiverSeat}
 use Rattle.outbox.specs.Seats.{TakerSeat}
 use Rattle.worker.specs.Worked.{AllFrom, Ends, handled_of, outs_for}

@@ -3,10 +3,10 @@ use Rattle.std.specs.Prelude.{◌≡◌, List, ◌++◌, length}
 use Rattle.queue_rule.specs.declared.items.Item.{Item}
 use Rattle.queue_rule.specs.Items.{items_of}
 use Rattle.queue_rule.specs.Values.{values}
-use Rattle.notifier.specs.declared.event.Event.{Event}
-use Rattle.notifier.specs.declared.event.Out.{Out}
+use Rattle.notifier_model.specs.declared.event.Event.{Event}
+use Rattle.notifier_model.specs.declared.event.Out.{Out}
 use Rattle.inbox.specs.Seats.{SenderSeat}
-use Rattle.notifier.specs.Home.{at_the_stop}
+use Rattle.notifier_model.specs.Home.{at_the_stop}
 use Rattle.worker.specs.Worked.{outs_for}
 use Rattle.worker.specs.declared.end.End.TheVariants as end
 use Rattle.crew.specs.Started.{Hired}

@@ -1,6 +1,6 @@
 -- Why a port sends nothing.
 use Rattle.std.specs.Prelude.{◌≡◌, ◌<◌}
-use Rattle.notifier.specs.declared.event.Event.{Event}
+use Rattle.notifier_model.specs.declared.event.Event.{Event}
 use Rattle.crew.specs.Ports.{PortSeats, sends_first}
 use Rattle.crew.specs.declared.errors.SendError.{SendError}
 use Rattle.crew.specs.declared.errors.SendError.TheVariants as send

@@ -1,6 +1,6 @@
 -- What contracts see of a port of a crew.
 use Rattle.std.specs.Prelude.{◌≡◌, ◌⊎◌, ◌<◌, ◌+◌, ℕ, List, [], ◌∷◌, ◌++◌, length, map, get_or, take, drop, slice_get, slice_set, Some}
-use Rattle.notifier.specs.declared.event.Event.{Event}
+use Rattle.notifier_model.specs.declared.event.Event.{Event}
 use Rattle.queue_rule.specs.Values.{end_item, value_item}
 use Rattle.inbox.specs.Seats.{Inbox, SenderSeat, with_sent}
 

@@ -1,9 +1,9 @@
 -- What a worker is launched with.
 use Rattle.std.specs.Prelude.{◌≡◌, ℕ, Bool, List, map, Option, Some}
 use Rattle.package.specs.Content.{Seen}
-use Rattle.notifier.specs.declared.place.Setup.{Setup}
+use Rattle.notifier_model.specs.declared.place.Setup.{Setup}
 use Rattle.notifier.specs.Standing.{Standing, first_standing}
-use Rattle.notifier.specs.Start.{Start, place_of}
+use Rattle.notifier_model.specs.Start.{Start, place_of}
 use Rattle.inbox.specs.Seats.{ReceiverSeat, new_receiver}
 use Rattle.outbox.specs.Seats.{PosterSeat}
 

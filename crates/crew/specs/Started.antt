@@ -1,6 +1,6 @@
 -- How a crew stands at its start.
 use Rattle.std.specs.Prelude.{◌≡◌, ℕ, ◌<◌, Bool, List, [], length, map, get_or, Option, Some}
-use Rattle.notifier.specs.Start.{Start}
+use Rattle.notifier_model.specs.Start.{Start}
 use Rattle.notifier.specs.Standing.{Standing, first_standing}
 use Rattle.inbox.specs.Seats.{ReceiverSeat, new_receiver}
 use Rattle.outbox.specs.Seats.{PosterSeat, TakerSeat, new_taker}

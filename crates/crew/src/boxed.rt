@@ -1,13 +1,13 @@
 //! Crews over boxed packages.
 ghost use Rattle.std.specs.Prelude.{◌≡◌, ◌↔◌, ◌<◌, ◌≤◌, map, get_or, vec_len, IfOk, Err};
 ghost use Rattle.package.specs.Content.{Seen};
-ghost use Rattle.notifier.specs.Start.{place_of};
+ghost use Rattle.notifier_model.specs.Start.{place_of};
 ghost use Rattle.crew.specs.Started.{IsStarted};
 
 use crate::errors::StartError;
 use crate::port::Port;
 use crate::start::Crew;
-use notifier::Setup;
+use notifier_model::Setup;
 use outbox::Taker;
 use package::Package;
 use std::alloc::Global;

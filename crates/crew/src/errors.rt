@@ -2,7 +2,7 @@
 ghost use Rattle.std.specs.Prelude.{◌≡◌};
 ghost use Rattle.crew.specs.Numbers as numbers;
 
-use notifier::Event;
+use notifier_model::Event;
 use thiserror::Error;
 
 /// Why a crew isn't started, in the order of looking. What was started has ended then, and the boxes are dropped.

@@ -7,7 +7,7 @@ ghost use Rattle.crew.specs.Ready.{start_of, IsReady};
 use crate::port::Port;
 use crate::report::WorkerReport;
 use crate::seating::make_seats;
-use notifier::Setup;
+use notifier_model::Setup;
 use outbox::Taker;
 use package::Package;
 use sip_text::NoMemory;

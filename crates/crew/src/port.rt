@@ -1,14 +1,14 @@
 //! Ports of a crew.
 ghost use Rattle.std.specs.Prelude.{◌≡◌, ◌<◌, ◌≤◌, false, length, reverse, OnOk, OnErr, MatchBool, MatchResult, vec_len};
-ghost use Rattle.notifier.specs.declared.event.Event.TheVariants as event;
-ghost use Rattle.notifier.specs.Home as spec;
+ghost use Rattle.notifier_model.specs.declared.event.Event.TheVariants as event;
+ghost use Rattle.notifier_model.specs.Home as spec;
 ghost use Rattle.crew.specs.Ports.{no_seats, seated, AllOpen, HaveRoom, TakeSeats, Closes, ClosesSome, OneStays, SendsTo, SendsAt, sent_first, sends_first};
 ghost use Rattle.crew.specs.PortErrors.{GivesBack, TicksFirst};
 
 use crate::errors::{SendError, TickError};
 use homes::home;
 use inbox::{Gone, Left, Sender, Sent};
-use notifier::Event;
+use notifier_model::Event;
 use sip_text::NoMemory;
 use std::alloc::Global;
 use std::marker::Model;

@@ -7,7 +7,7 @@ use crate::errors::StartError;
 use crate::fitting::{Fitted, fit_out};
 use crate::port::Port;
 use crate::report::WorkerReport;
-use notifier::Setup;
+use notifier_model::Setup;
 use outbox::{Posted, Taker};
 use package::Package;
 use std::alloc::Global;

@@ -10,8 +10,8 @@ use Rattle.queue_rule.specs.declared.items.Entry.TheVariants.{Value, End}
 use Rattle.queue_rule.specs.Items.{items_of, StartsWith}
 use Rattle.queue_rule.specs.Values.{values}
 use Rattle.queue_rule.proofs.ItemLists.{items_of_first}
-use Rattle.notifier.specs.declared.event.Event.{Event}
-use Rattle.notifier.specs.Home.{comes_to, at_the_stop}
+use Rattle.notifier_model.specs.declared.event.Event.{Event}
+use Rattle.notifier_model.specs.Home.{comes_to, at_the_stop}
 use Rattle.inbox.specs.Events.{events_of, have_ended}
 use Rattle.inbox.specs.Seats.{SenderSeat, ReceiverSeat}
 use Rattle.worker.proofs.Folds.{values-append}

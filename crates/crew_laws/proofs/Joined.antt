@@ -1,7 +1,7 @@
 -- The laws of lives and of isolation, of what was got.
 use Rattle.std.proofs.Common.{List, sym, subst}
-use Rattle.notifier.specs.declared.event.Out.{Out}
-use Rattle.notifier.specs.Start.{tag_of}
+use Rattle.notifier_model.specs.declared.event.Out.{Out}
+use Rattle.notifier_model.specs.Start.{tag_of}
 use Rattle.inbox.specs.Events.{events_of}
 use Rattle.worker.specs.Worked.{Ends}
 use Rattle.worker.specs.declared.end.End.{End}

@@ -6,8 +6,8 @@ use Rattle.std.proofs.lemmas.List.Elements.{All-nil, All-head, All-tail, All-pus
 use Rattle.queue_rule.specs.declared.items.Item.{Item}
 use Rattle.queue_rule.specs.Items.{items_of}
 use Rattle.queue_rule.specs.Values.{values}
-use Rattle.notifier.specs.declared.event.Out.{Out}
-use Rattle.notifier.specs.Start.{Start}
+use Rattle.notifier_model.specs.declared.event.Out.{Out}
+use Rattle.notifier_model.specs.Start.{Start}
 use Rattle.outbox.specs.Seats.{TakerSeat, PosterSeat, new_taker}
 use Rattle.outbox.specs.Took.{posted_item}
 use Rattle.outbox.specs.declared.ends.Posted.{Posted}

@@ -4,10 +4,10 @@ use Rattle.std.specs.List.{All}
 use Rattle.sip_text.specs.declared.address.Addr.{Addr}
 use Rattle.sip_read.specs.declared.message.Request.{Request}
 use Rattle.queue_rule.specs.declared.items.Item.{Item}
-use Rattle.notifier.specs.declared.event.Event.{Event}
-use Rattle.notifier.specs.declared.event.Out.{Out}
-use Rattle.notifier.specs.Home.{is_for_all}
-use Rattle.notifier.specs.Start.{Start, tag_of}
+use Rattle.notifier_model.specs.declared.event.Event.{Event}
+use Rattle.notifier_model.specs.declared.event.Out.{Out}
+use Rattle.notifier_model.specs.Home.{is_for_all}
+use Rattle.notifier_model.specs.Start.{Start, tag_of}
 use Rattle.inbox.specs.Events.{events_of}
 use Rattle.inbox.specs.Seats.{SenderSeat}
 use Rattle.outbox.specs.Seats.{TakerSeat}

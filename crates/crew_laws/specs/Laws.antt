@@ -4,9 +4,9 @@ use Rattle.sip_read.specs.declared.message.Request.{Request}
 use Rattle.queue_rule.specs.declared.items.Item.{Item}
 use Rattle.queue_rule.specs.Items.{items_of}
 use Rattle.queue_rule.specs.Values.{values}
-use Rattle.notifier.specs.declared.event.Event.{Event}
-use Rattle.notifier.specs.declared.event.Out.{Out}
-use Rattle.notifier.specs.Start.{Start, tag_of}
+use Rattle.notifier_model.specs.declared.event.Event.{Event}
+use Rattle.notifier_model.specs.declared.event.Out.{Out}
+use Rattle.notifier_model.specs.Start.{Start, tag_of}
 use Rattle.inbox.specs.Events.{events_of}
 use Rattle.worker.specs.Worked.{handled_of}
 use Rattle.worker.specs.declared.end.End.TheVariants.{Closed}

@@ -2,8 +2,8 @@
 use Rattle.std.specs.Prelude.{ℕ, ◌≡◌, ◌<◌, ◌^◌, List, [], ◌∷◌, length, map, get_or}
 use Rattle.queue_rule.specs.declared.items.Item.{Item}
 use Rattle.queue_rule.specs.Values.{values}
-use Rattle.notifier.specs.declared.event.Out.{Out}
-use Rattle.notifier.specs.Start.{Start}
+use Rattle.notifier_model.specs.declared.event.Out.{Out}
+use Rattle.notifier_model.specs.Start.{Start}
 use Rattle.outbox.specs.Seats.{Outbox, TakerSeat, new_taker}
 use Rattle.outbox.specs.Took.{Took}
 use Rattle.outbox.specs.declared.ends.Posted.{Posted}

@@ -3,7 +3,7 @@
 use crate::error::RunError;
 use crate::page::Page;
 use network::{Heard, hear_sip};
-use notifier::Event;
+use notifier_model::Event;
 use package::{Class, MailChange};
 use sip_text::Addr;
 use std::alloc::Global;

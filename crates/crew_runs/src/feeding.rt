@@ -6,7 +6,7 @@ use crate::names::{Names, names_of};
 use crew::Port;
 use homes::is_for_all;
 use network::{FeedReport, MemoryWire, UdpWire, Wire, control, feed};
-use notifier::Event;
+use notifier_model::Event;
 use package::Class;
 use std::alloc::Global;
 use std::sync::Wait;

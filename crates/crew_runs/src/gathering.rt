@@ -3,7 +3,7 @@
 use crate::error::RunError;
 use crate::page::Page;
 use crew::{End, Report, WorkerReport};
-use notifier::Out;
+use notifier_model::Out;
 use std::alloc::Global;
 
 /// How many subscriptions a worker may have.

@@ -12,7 +12,7 @@ use crate::running::{Going, Plan, make_ready, run};
 use crate::scenes::ONE;
 use crate::vectors::{ANSWER, NOTIFY, SUBSCRIBE};
 use network::{Datagram, EmitReport, FeedEnd, MemoryWire, UdpWire, Wire, WireFault, emit};
-use notifier::Out;
+use notifier_model::Out;
 use outbox::{Poster, Taker};
 use scripts::Sink;
 use sip_text::{Addr, Octets, Text};

@@ -9,7 +9,7 @@ use crate::gates::Stage;
 use crate::gathering::Gathered;
 use crew::{Crew, Report};
 use network::{EmitReport, Wire, emit};
-use notifier::{Limits, Setup};
+use notifier_model::{Limits, Setup};
 use outbox::{Posted, Taker};
 use scripts::Sink;
 use sip_text::Addr;

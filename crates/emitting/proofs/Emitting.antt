@@ -12,8 +12,8 @@ use Rattle.queue_rule.specs.Values.{value_item, end_item}
 use Rattle.queue_rule.specs.Ended.{count_ended, AllEnded}
 use Rattle.queue_rule.proofs.Ended.{ended_value, ended_more, all_ended}
 use Rattle.worker.proofs.Folds.{values_value, values_end}
-use Rattle.notifier.specs.declared.event.Out.{Out}
-use Rattle.notifier.specs.declared.event.Out.TheVariants as out
+use Rattle.notifier_model.specs.declared.event.Out.{Out}
+use Rattle.notifier_model.specs.declared.event.Out.TheVariants as out
 use Rattle.outbox.specs.Seats.{TakerSeat}
 use Rattle.outbox.specs.Took.{Took}
 use Rattle.outbox.specs.declared.ends.Posted.{Posted}

@@ -6,8 +6,8 @@ use Rattle.scripts.specs.Devices.{rises, AppendsFront}
 use Rattle.scripts.specs.Page.{start_text}
 use Rattle.queue_rule.specs.declared.items.Item.{Item}
 use Rattle.queue_rule.specs.Values.{values}
-use Rattle.notifier.specs.declared.event.Out.{Out}
-use Rattle.notifier.specs.declared.event.Out.TheVariants as out
+use Rattle.notifier_model.specs.declared.event.Out.{Out}
+use Rattle.notifier_model.specs.declared.event.Out.TheVariants as out
 use Rattle.wires.specs.declared.datagram.Datagram.{Datagram}
 use Rattle.emitting.specs.declared.sending.Fate.{Fate}
 use Rattle.emitting.specs.declared.sending.Fate.TheVariants.{Sent, Started, Failed}

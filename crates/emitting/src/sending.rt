@@ -6,7 +6,7 @@ ghost use Rattle.wires.specs.Wires.{Grows};
 ghost use Rattle.emitting.specs.Emitted.{Fates, IsEmitted, MayMeet, Writes, counted, is_start, sent_datagrams, count, fails_to_send, fails_to_start};
 
 use crate::writing::write_start;
-use notifier::Out;
+use notifier_model::Out;
 use outbox::{Posted, Taker};
 use scripts::Sink;
 use std::io::Write;

@@ -1,11 +1,11 @@
 -- Homes of some events, worked out by computing.
 use Rattle.std.specs.Fmt
 use Rattle.std.specs.Prelude.{refl, ◌≡◌, codes}
-use Rattle.notifier.specs.declared.event.Event.{Event}
-use Rattle.notifier.specs.declared.event.Event.TheVariants.{Progress as Progresses}
-use Rattle.notifier.specs.Requests.{user_part}
-use Rattle.notifier.specs.Home.{home, worker_named, key_hash}
-use Rattle.notifier.proofs.Examples.{Bytes, subscribe_1, refer_1, to_uri, within, comes, reply_from, voice, mail_for}
+use Rattle.notifier_model.specs.declared.event.Event.{Event}
+use Rattle.notifier_model.specs.declared.event.Event.TheVariants.{Progress as Progresses}
+use Rattle.notifier_model.specs.Requests.{user_part}
+use Rattle.notifier_model.specs.Home.{home, worker_named, key_hash}
+use Rattle.notifier_model.proofs.Examples.{Bytes, subscribe_1, refer_1, to_uri, within, comes, reply_from, voice, mail_for}
 use Rattle.package.specs.declared.counts.Class.TheVariants.{Voice}
 
 abbrev progress_of : Bytes → Event

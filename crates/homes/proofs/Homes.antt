@@ -4,11 +4,11 @@ use Rattle.std.proofs.Math.Nat.{mod-lt}
 use Rattle.std.proofs.lemmas.Bool.{eq-eqb}
 use Rattle.std.specs.Prelude.{decimal, codes, unwrap_or, ◌==◌}
 use Rattle.hex.specs.Hex.{encode_lower}
-use Rattle.notifier.specs.declared.place.Place.{Place}
-use Rattle.notifier.specs.declared.event.Event.{Event}
-use Rattle.notifier.specs.Start.{tag_of}
-use Rattle.notifier.specs.Tag.{local_tag, tag_bytes}
-use Rattle.notifier.specs.Home.{worker_named, worker_in, key_hash, key_of, tag_in, home, is_for_all, events_for}
+use Rattle.notifier_model.specs.declared.place.Place.{Place}
+use Rattle.notifier_model.specs.declared.event.Event.{Event}
+use Rattle.notifier_model.specs.Start.{tag_of}
+use Rattle.notifier_model.specs.Tag.{local_tag, tag_bytes}
+use Rattle.notifier_model.specs.Home.{worker_named, worker_in, key_hash, key_of, tag_in, home, is_for_all, events_for}
 use Rattle.homes.specs.Laws.{NamedLaw, MailboxLaw, BelowLaw, OneLaw}
 use Rattle.homes.proofs.Names.{Names, some_named, IsBelow, named_below}
 

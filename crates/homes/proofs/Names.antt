@@ -10,7 +10,7 @@ use Rattle.std.specs.Str.Pattern.{FindsCharPrefix, StripsPrefix}
 use Rattle.std.proofs.lemmas.Slice.Eq.{starts_is}
 use Rattle.std.proofs.lemmas.Str.Pattern.{drop_at_char}
 use Rattle.std.proofs.lemmas.Fmt.{decimal_is_IsNumeral, decimal_injective}
-use Rattle.notifier.specs.Home.{names, worker_named}
+use Rattle.notifier_model.specs.Home.{names, worker_named}
 
 -- ---- what stands before a dash
 

@@ -3,12 +3,12 @@ use Rattle.std.specs.Prelude.{◌≡◌, ℕ, ◌<◌, ◌≤◌, ◌^◌, true,
 use Rattle.sip_text.specs.declared.address.Addr.{Addr}
 use Rattle.sip_read.specs.declared.message.Request.{Request}
 use Rattle.package.specs.Values.{MailChange}
-use Rattle.notifier.specs.declared.place.Place.{Place}
-use Rattle.notifier.specs.declared.event.Event.{Event}
-use Rattle.notifier.specs.declared.event.Event.TheVariants.{Request as Comes, Mail}
-use Rattle.notifier.specs.Start.{tag_of}
-use Rattle.notifier.specs.Requests.{is_subscribe, user_part}
-use Rattle.notifier.specs.Home.{home, tag_in, events_for}
+use Rattle.notifier_model.specs.declared.place.Place.{Place}
+use Rattle.notifier_model.specs.declared.event.Event.{Event}
+use Rattle.notifier_model.specs.declared.event.Event.TheVariants.{Request as Comes, Mail}
+use Rattle.notifier_model.specs.Start.{tag_of}
+use Rattle.notifier_model.specs.Requests.{is_subscribe, user_part}
+use Rattle.notifier_model.specs.Home.{home, tag_in, events_for}
 
 -- what names a subscription by its local tag goes to the worker that gave the tag
 abbrev pub NamedLaw : Type 0

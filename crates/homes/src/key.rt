@@ -1,8 +1,8 @@
 //! The key of an event: what it goes by where no tag names a worker.
 ghost use Rattle.std.specs.Prelude.{◌≡◌};
-ghost use Rattle.notifier.specs.Home as spec;
+ghost use Rattle.notifier_model.specs.Home as spec;
 
-use notifier::{Event, user_part};
+use notifier_model::{Event, user_part};
 use sip_read::Request;
 
 /// The hash of a key: from 0, for each byte 31 times as much and the byte, modulo 2^32.

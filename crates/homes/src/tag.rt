@@ -1,8 +1,8 @@
 //! The worker that a tag names.
 ghost use Rattle.std.specs.Prelude.{◌≡◌, ◌≢◌, ◌<◌, ◌^◌, ℕ, decimal, option_map, IfSome, MatchOption};
-ghost use Rattle.notifier.specs.Home as spec;
+ghost use Rattle.notifier_model.specs.Home as spec;
 
-use notifier::Event;
+use notifier_model::Event;
 use sip_text::{Text, plain_number};
 
 /// The number that the word is in decimal, without leading zeros.

@@ -1,12 +1,12 @@
 //! The home of an event.
-#![tactic(auto, unfolding(notifier::specs::Home::home))]
+#![tactic(auto, unfolding(notifier_model::specs::Home::home))]
 
 ghost use Rattle.std.specs.Prelude.{◌≡◌, ◌<◌, false};
-ghost use Rattle.notifier.specs.Home as spec;
+ghost use Rattle.notifier_model.specs.Home as spec;
 
 use crate::key::{key_hash, key_of};
 use crate::tag::{tag_in, worker_named};
-use notifier::Event;
+use notifier_model::Event;
 
 /// Whether the event has no home, but goes to every worker.
 pub fn is_for_all(event: &Event) -> bool

@@ -7,8 +7,8 @@ use Rattle.queue_rule.specs.declared.items.Item.{Item}
 use Rattle.queue_rule.specs.Items.{items_of, has_end}
 use Rattle.queue_rule.specs.Ended.{AllEnded}
 use Rattle.queue_rule.specs.Values.{values}
-use Rattle.notifier.specs.declared.event.Event.{Event}
-use Rattle.notifier.specs.Home.{at_the_stop}
+use Rattle.notifier_model.specs.declared.event.Event.{Event}
+use Rattle.notifier_model.specs.Home.{at_the_stop}
 use Rattle.inbox.specs.Events.{have_ended, events_of}
 
 pub have_ended_all : (n : ℕ) (xs : List (Item Event)) → AllEnded n xs → have_ended n xs ≡ true

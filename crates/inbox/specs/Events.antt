@@ -3,8 +3,8 @@ use Rattle.std.specs.Prelude.{ℕ, zero, suc, Bool, true, ◌&&◌, List, [], �
 use Rattle.queue_rule.specs.declared.items.Item.{Item}
 use Rattle.queue_rule.specs.Items.{items_of, has_end}
 use Rattle.queue_rule.specs.Values.{values}
-use Rattle.notifier.specs.declared.event.Event.{Event}
-use Rattle.notifier.specs.Home.{at_the_stop}
+use Rattle.notifier_model.specs.declared.event.Event.{Event}
+use Rattle.notifier_model.specs.Home.{at_the_stop}
 
 -- the end marks of all of the first n ports stand here
 abbrev pub have_ended : ℕ → List (Item Event) → Bool

@@ -2,7 +2,7 @@
 use Rattle.std.specs.Prelude.{ℕ, List}
 use Rattle.queue_rule.specs.declared.items.Item.{Item}
 use Rattle.many_to_one.specs.Seats as ends
-use Rattle.notifier.specs.declared.event.Event.{Event}
+use Rattle.notifier_model.specs.declared.event.Event.{Event}
 
 -- which inbox it is
 abbrev pub Inbox : Type 0

@@ -1,7 +1,7 @@
 -- What a take tells: the worker's seat before, what it answers, the seat after.
 use Rattle.many_to_one.specs.Took as ends
 use Rattle.many_to_one.specs.declared.ends.Taken.{Taken}
-use Rattle.notifier.specs.declared.event.Event.{Event}
+use Rattle.notifier_model.specs.declared.event.Event.{Event}
 use Rattle.inbox.specs.Seats.{ReceiverSeat}
 
 -- what was taken grew by just what is answered: an event of some open port, or the end mark of one

@@ -4,7 +4,7 @@
 ghost use Rattle.std.specs.Prelude.{◌≡◌, ◌<◌, IfOk};
 ghost use Rattle.inbox.specs.Seats.{new_senders, new_receiver};
 
-use notifier::Event;
+use notifier_model::Event;
 use sip_text::NoMemory;
 use std::alloc::Global;
 

@@ -6,12 +6,12 @@ use Rattle.sip_read.specs.declared.message.Response.{Response}
 use Rattle.package.specs.Content.{is_final, mail_package}
 use Rattle.package.specs.Values.{MailChange}
 use Rattle.subscription.specs.Table.{is_tag}
-use Rattle.notifier.specs.declared.event.Event.{Event}
-use Rattle.notifier.specs.declared.event.Event.TheVariants.{Request as Comes, Reply as Replies, Mail as Mails, Progress as Progresses, Tick as Ticks, Shut as Shuts}
-use Rattle.notifier.specs.Fields.{or_empty, same_text}
-use Rattle.notifier.specs.Limits.{Limits}
-use Rattle.notifier.specs.Start.{Start, tag_of}
-use Rattle.notifier.specs.Requests.{is_refer, user_part, event_of, key_of_request}
+use Rattle.notifier_model.specs.declared.event.Event.{Event}
+use Rattle.notifier_model.specs.declared.event.Event.TheVariants.{Request as Comes, Reply as Replies, Mail as Mails, Progress as Progresses, Tick as Ticks, Shut as Shuts}
+use Rattle.notifier_model.specs.Fields.{or_empty, same_text}
+use Rattle.notifier_model.specs.Limits.{Limits}
+use Rattle.notifier_model.specs.Start.{Start, tag_of}
+use Rattle.notifier_model.specs.Requests.{is_refer, user_part, event_of, key_of_request}
 use Rattle.lives.specs.Past.{now, content, is_new, is_fresh}
 use Rattle.lives.specs.Life.{Deed, Life, Then, Heard, MailChanged, Progressed, Due, Answered, Disowned, Lost, birth, end_of_grant, is_gone, is_overdue, number}
 use Rattle.lives.specs.Lives.{when, is_in_dialog, is_answer_in_dialog, concerns, may_hear, is_to_notify, answer_deed, is_due, tick_deed, is_changed, deed_at, lived}

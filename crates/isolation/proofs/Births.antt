@@ -6,12 +6,12 @@ use Rattle.sip_text.specs.declared.address.Addr.{Addr}
 use Rattle.sip_read.specs.declared.message.Request.{Request}
 use Rattle.package.specs.Content.{Seen}
 use Rattle.package.specs.Boxes.{first_box, held_by}
-use Rattle.notifier.specs.declared.event.Event.{Event}
-use Rattle.notifier.specs.declared.event.Event.TheVariants.{Request as Comes, Reply as Replies, Mail as Mails, Progress as Progresses, Tick as Ticks, Shut as Shuts}
-use Rattle.notifier.specs.Limits.{Limits}
-use Rattle.notifier.specs.Fields.{same_text}
-use Rattle.notifier.specs.Start.{Start, tag_of}
-use Rattle.notifier.specs.Requests.{is_ack, misfit, misplaced_at, is_full, user_part, event_of, key_of_request, asked, birth_of as kind_of, needs_place}
+use Rattle.notifier_model.specs.declared.event.Event.{Event}
+use Rattle.notifier_model.specs.declared.event.Event.TheVariants.{Request as Comes, Reply as Replies, Mail as Mails, Progress as Progresses, Tick as Ticks, Shut as Shuts}
+use Rattle.notifier_model.specs.Limits.{Limits}
+use Rattle.notifier_model.specs.Fields.{same_text}
+use Rattle.notifier_model.specs.Start.{Start, tag_of}
+use Rattle.notifier_model.specs.Requests.{is_ack, misfit, misplaced_at, is_full, user_part, event_of, key_of_request, asked, birth_of as kind_of, needs_place}
 use Rattle.lives.specs.Past.{now, is_new, is_fresh, is_placed, fits}
 use Rattle.lives.specs.Life.{Life, Born}
 use Rattle.lives.specs.Lives.{when, count_alive, is_birth, birth_of, birth_here, births, life, birth_at, is_in_dialog, concerns}

@@ -6,12 +6,12 @@ use Rattle.sip_text.specs.declared.address.Addr.{Addr}
 use Rattle.sip_read.specs.declared.message.Request.{Request}
 use Rattle.package.specs.Content.{mail_package, refer_package}
 use Rattle.subscription.specs.Table.{is_tag}
-use Rattle.notifier.specs.declared.event.Event.{Event}
-use Rattle.notifier.specs.declared.event.Event.TheVariants.{Request as Comes, Reply as Replies, Mail as Mails, Progress as Progresses, Tick as Ticks, Shut as Shuts}
-use Rattle.notifier.specs.Fields.{or_empty, same_text}
-use Rattle.notifier.specs.Home.{comes_to, home, is_for_all}
-use Rattle.notifier.specs.Start.{Start, tag_of}
-use Rattle.notifier.specs.Requests.{is_subscribe, is_refer, misfit, user_part, event_of}
+use Rattle.notifier_model.specs.declared.event.Event.{Event}
+use Rattle.notifier_model.specs.declared.event.Event.TheVariants.{Request as Comes, Reply as Replies, Mail as Mails, Progress as Progresses, Tick as Ticks, Shut as Shuts}
+use Rattle.notifier_model.specs.Fields.{or_empty, same_text}
+use Rattle.notifier_model.specs.Home.{comes_to, home, is_for_all}
+use Rattle.notifier_model.specs.Start.{Start, tag_of}
+use Rattle.notifier_model.specs.Requests.{is_subscribe, is_refer, misfit, user_part, event_of}
 use Rattle.homes.proofs.Homes.{named_law, mailbox_law}
 use Rattle.lives.specs.Past.{is_fresh, is_placed, fits}
 use Rattle.lives.specs.Life.{Life, birth, is_gone}

@@ -7,13 +7,13 @@ use Rattle.sip_text.specs.declared.address.Addr.{Addr}
 use Rattle.sip_read.specs.declared.message.Request.{Request}
 use Rattle.subscription.specs.declared.notify.Reason.{Reason}
 use Rattle.subscription.specs.declared.notify.Phase.TheVariants.{Active}
-use Rattle.notifier.specs.declared.event.Event.{Event}
-use Rattle.notifier.specs.declared.event.Event.TheVariants.{Request as Comes, Reply as Replies, Mail as Mails, Progress as Progresses, Tick as Ticks, Shut as Shuts}
-use Rattle.notifier.specs.Fields.{or_empty, same_text}
-use Rattle.notifier.specs.Limits.{Limits}
-use Rattle.notifier.specs.Out.{Notification}
-use Rattle.notifier.specs.Start.{Start, tag_of}
-use Rattle.notifier.specs.Requests.{event_of}
+use Rattle.notifier_model.specs.declared.event.Event.{Event}
+use Rattle.notifier_model.specs.declared.event.Event.TheVariants.{Request as Comes, Reply as Replies, Mail as Mails, Progress as Progresses, Tick as Ticks, Shut as Shuts}
+use Rattle.notifier_model.specs.Fields.{or_empty, same_text}
+use Rattle.notifier_model.specs.Limits.{Limits}
+use Rattle.notifier_model.specs.Out.{Notification}
+use Rattle.notifier_model.specs.Start.{Start, tag_of}
+use Rattle.notifier_model.specs.Requests.{event_of}
 use Rattle.lives.specs.Past.{now}
 use Rattle.lives.specs.Life.{Life, Born, birth, is_gone, is_touched, number, terminated, one_if, end_of_grant, address}
 use Rattle.lives.specs.Lives.{or_before, is_in_dialog, concerns, lived, births, life, birth_at, birth_here, befalls, befell}

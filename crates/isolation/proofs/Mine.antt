@@ -10,12 +10,12 @@ use Rattle.package.specs.declared.counts.Counts.{Counts}
 use Rattle.package.specs.Content.{Content, OfMail, OfStatus, mail_package}
 use Rattle.package.specs.Boxes.{content_in}
 use Rattle.package.specs.Values.{MailChange}
-use Rattle.notifier.specs.declared.event.Event.{Event}
-use Rattle.notifier.specs.declared.event.Event.TheVariants.{Request as Comes, Reply as Replies, Mail as Mails, Progress as Progresses, Tick as Ticks, Shut as Shuts}
-use Rattle.notifier.specs.declared.row.Key.{Key}
-use Rattle.notifier.specs.Limits.{Limits}
-use Rattle.notifier.specs.Start.{Start, tag_of}
-use Rattle.notifier.specs.Requests.{is_ack, same_key, key_of_request, user_part, event_of}
+use Rattle.notifier_model.specs.declared.event.Event.{Event}
+use Rattle.notifier_model.specs.declared.event.Event.TheVariants.{Request as Comes, Reply as Replies, Mail as Mails, Progress as Progresses, Tick as Ticks, Shut as Shuts}
+use Rattle.notifier_model.specs.declared.row.Key.{Key}
+use Rattle.notifier_model.specs.Limits.{Limits}
+use Rattle.notifier_model.specs.Start.{Start, tag_of}
+use Rattle.notifier_model.specs.Requests.{is_ack, same_key, key_of_request, user_part, event_of}
 use Rattle.lives.specs.Past.{now, same_class, last_counts, mail_content, content, is_among, is_new, with_key, keys_with, keys, is_fresh}
 use Rattle.lives.proofs.Texts.{bytes_other_way}
 use Rattle.lives.specs.Lives.{concerns}

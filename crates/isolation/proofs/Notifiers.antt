@@ -2,16 +2,16 @@
 use Rattle.std.proofs.Common.{◌≡◌, ℕ, List, [], ◌∷◌, refl, sym, ◌∙◌, ap, arith}
 use Rattle.std.specs.Prelude.{map, codes}
 use Rattle.sip_read.specs.declared.message.Request.{Request}
-use Rattle.notifier.specs.declared.event.Event.{Event}
-use Rattle.notifier.specs.Run.{made}
-use Rattle.notifier.proofs.Examples.{refer, refer_1, of_call, comes}
-use Rattle.notifier.specs.Tag
-use Rattle.notifier.specs.Requests
-use Rattle.notifier.specs.Answers
-use Rattle.notifier.specs.Out
-use Rattle.notifier.specs.Rows
-use Rattle.notifier.specs.Book
-use Rattle.notifier.specs.Run
+use Rattle.notifier_model.specs.declared.event.Event.{Event}
+use Rattle.notifier_model.specs.Run.{made}
+use Rattle.notifier_model.proofs.Examples.{refer, refer_1, of_call, comes}
+use Rattle.notifier_model.specs.Tag
+use Rattle.notifier_model.specs.Requests
+use Rattle.notifier_model.specs.Answers
+use Rattle.notifier_model.specs.Out
+use Rattle.notifier_model.specs.Rows
+use Rattle.notifier_model.specs.Book
+use Rattle.notifier_model.specs.Run
 use Rattle.subscription.specs.Table
 use Rattle.lives.specs.Past
 use Rattle.lives.specs.Life

@@ -2,8 +2,8 @@
 use Rattle.std.proofs.Common.{◌≡◌, ℕ, ◌+◌, List, Option, Some, None, Bool, true, false, ◌&&◌, refl, ◌∙◌, ap}
 use Rattle.std.specs.Prelude.{if◌then◌else◌, ◌==◌, is_some}
 use Rattle.sip_read.specs.declared.message.Request.{Request}
-use Rattle.notifier.specs.declared.event.Event.{Event}
-use Rattle.notifier.specs.Start.{Start, tag_of}
+use Rattle.notifier_model.specs.declared.event.Event.{Event}
+use Rattle.notifier_model.specs.Start.{Start, tag_of}
 use Rattle.lives.specs.Life.{Life, birth, is_gone}
 use Rattle.lives.specs.Lives.{concerns, lived, befalls, births, life, birth_at, befell}
 use Rattle.isolation.specs.Own.{is_born_here, is_own}

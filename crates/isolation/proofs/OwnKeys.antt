@@ -2,10 +2,10 @@
 use Rattle.std.proofs.Common.{◌≡◌, ℕ, List, [], ◌∷◌, ◌++◌, Bool, true, false, not, ◌&&◌, refl}
 use Rattle.std.specs.Prelude.{◌||◌}
 use Rattle.sip_read.specs.declared.message.Request.{Request}
-use Rattle.notifier.specs.declared.event.Event.{Event}
-use Rattle.notifier.specs.declared.event.Event.TheVariants.{Request as Comes, Reply as Replies, Mail as Mails, Progress as Progresses, Tick as Ticks, Shut as Shuts}
-use Rattle.notifier.specs.declared.row.Key.{Key}
-use Rattle.notifier.specs.Start.{Start, tag_of}
+use Rattle.notifier_model.specs.declared.event.Event.{Event}
+use Rattle.notifier_model.specs.declared.event.Event.TheVariants.{Request as Comes, Reply as Replies, Mail as Mails, Progress as Progresses, Tick as Ticks, Shut as Shuts}
+use Rattle.notifier_model.specs.declared.row.Key.{Key}
+use Rattle.notifier_model.specs.Start.{Start, tag_of}
 use Rattle.lives.specs.Lives.{life, concerns}
 use Rattle.lives.proofs.Texts.{and-right}
 use Rattle.isolation.specs.Own.{is_born_here, is_own, own}

@@ -3,9 +3,9 @@ use Rattle.std.proofs.Common.{◌≡◌, ℕ, ◌+◌, List, ◌∷◌, ◌++◌
 use Rattle.std.specs.Prelude.{if◌then◌else◌, nat_lt, is_none, filter, ◌==◌}
 use Rattle.std.specs.List.{list_all}
 use Rattle.sip_read.specs.declared.message.Request.{Request}
-use Rattle.notifier.specs.Limits.{Limits}
-use Rattle.notifier.specs.Requests.{event_of, asked, granted, asks_nothing, unheard, is_unwatched, birth_of as kind_of, is_malformed, misfit, key_of_request}
-use Rattle.notifier.specs.declared.row.Unanswered.{Unanswered}
+use Rattle.notifier_model.specs.Limits.{Limits}
+use Rattle.notifier_model.specs.Requests.{event_of, asked, granted, asks_nothing, unheard, is_unwatched, birth_of as kind_of, is_malformed, misfit, key_of_request}
+use Rattle.notifier_model.specs.declared.row.Unanswered.{Unanswered}
 use Rattle.lives.specs.Life.{Deed, Life, Hearing, Born, Then, Heard, MailChanged, Progressed, Due, Answered, Disowned, Lost, Stopped, hearing, birth, last_heard, cseqs, is_accepted, is_grant, is_above, end_of, end_of_grant, address, status, is_touched, one_if, number, just_made, unanswered, is_overdue, ended, terminated, is_removed, is_gone}
 use Rattle.isolation.specs.Renaming.{renamed_request, renamed_tag, other_tag}
 

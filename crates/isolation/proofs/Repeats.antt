@@ -4,11 +4,11 @@ use Rattle.std.specs.Prelude.{if◌then◌else◌, ◌||◌, nat_lt, is_none, op
 use Rattle.std.proofs.lemmas.Bool.Decides.{nat_tests}
 use Rattle.sip_text.specs.declared.address.Addr.{Addr}
 use Rattle.sip_read.specs.declared.message.Request.{Request}
-use Rattle.notifier.specs.declared.event.Event.{Event}
-use Rattle.notifier.specs.declared.event.Event.TheVariants.{Request as Comes}
-use Rattle.notifier.specs.Limits.{Limits}
-use Rattle.notifier.specs.Requests.{is_ack, is_subscribe, is_refer, misfit, key_of_request}
-use Rattle.notifier.specs.Start.{Start, tag_of}
+use Rattle.notifier_model.specs.declared.event.Event.{Event}
+use Rattle.notifier_model.specs.declared.event.Event.TheVariants.{Request as Comes}
+use Rattle.notifier_model.specs.Limits.{Limits}
+use Rattle.notifier_model.specs.Requests.{is_ack, is_subscribe, is_refer, misfit, key_of_request}
+use Rattle.notifier_model.specs.Start.{Start, tag_of}
 use Rattle.lives.specs.Past.{now, is_new}
 use Rattle.lives.specs.Life.{Deed, Life, Then, Heard, MailChanged, Progressed, Due, Answered, Disowned, Lost, Stopped, birth, cseqs, is_above, is_gone}
 use Rattle.lives.specs.Lives.{or_before, is_in_dialog, concerns, may_hear, lived, life, befalls, befell}

@@ -1,7 +1,7 @@
 -- What goes out with a subscription's tag, by its own events alone.
 use Rattle.std.proofs.Common.{List, subst}
-use Rattle.notifier.specs.Out.{Notification}
-use Rattle.notifier.specs.Start.{tag_of}
+use Rattle.notifier_model.specs.Out.{Notification}
+use Rattle.notifier_model.specs.Start.{tag_of}
 use Rattle.lives.specs.Notices.{newest_first}
 use Rattle.lives.specs.Laws.{notifies_with, AreNotifies, outs}
 use Rattle.lives.proofs.Outs.{life_law}

@@ -5,14 +5,14 @@ use Rattle.sip_read.specs.declared.message.Request.{Request}
 use Rattle.package.specs.declared.counts.Class.TheVariants.{Voice, Fax}
 use Rattle.package.specs.Content.{OfMail}
 use Rattle.package.specs.Changes.{unset}
-use Rattle.notifier.specs.declared.event.Event.{Event}
-use Rattle.notifier.specs.declared.event.Event.TheVariants.{Request as Comes, Progress as Progresses, Tick as Ticks}
-use Rattle.notifier.specs.Limits.{Limits}
-use Rattle.notifier.specs.Out.{Notification}
-use Rattle.notifier.specs.Start.{tag_of}
-use Rattle.notifier.proofs.Examples.{Start, Seen, Bytes, port, usual, mail_box, refer_box, presence_box, start, tag_1, tag_2, subscribe, subscribe_1, subscribe_2, subscribe_3, refer, refer_1, for_time, to_uri, of_call, within, comes, reply_from, reply, mail_for, voice, progress}
-use Rattle.notifier.specs.Tag
-use Rattle.notifier.specs.Requests
+use Rattle.notifier_model.specs.declared.event.Event.{Event}
+use Rattle.notifier_model.specs.declared.event.Event.TheVariants.{Request as Comes, Progress as Progresses, Tick as Ticks}
+use Rattle.notifier_model.specs.Limits.{Limits}
+use Rattle.notifier_model.specs.Out.{Notification}
+use Rattle.notifier_model.specs.Start.{tag_of}
+use Rattle.notifier_model.proofs.Examples.{Start, Seen, Bytes, port, usual, mail_box, refer_box, presence_box, start, tag_1, tag_2, subscribe, subscribe_1, subscribe_2, subscribe_3, refer, refer_1, for_time, to_uri, of_call, within, comes, reply_from, reply, mail_for, voice, progress}
+use Rattle.notifier_model.specs.Tag
+use Rattle.notifier_model.specs.Requests
 use Rattle.subscription.specs.Table
 use Rattle.lives.specs.Past
 use Rattle.lives.specs.Life

@@ -2,12 +2,12 @@
 use Rattle.std.specs.Prelude.{ℕ, Bool, true, false, not, ◌&&◌, ◌||◌, List, [], ◌∷◌, ◌++◌, Some, None, Option}
 use Rattle.sip_read.specs.declared.message.Request.{Request}
 use Rattle.package.specs.Content.{Maps}
-use Rattle.notifier.specs.declared.event.Event.{Event}
-use Rattle.notifier.specs.declared.event.Event.TheVariants.{Request as Comes, Reply as Replies, Mail as Mails, Progress as Progresses, Tick as Ticks, Shut as Shuts}
-use Rattle.notifier.specs.declared.row.Key.{Key}
-use Rattle.notifier.specs.Limits.{Limits}
-use Rattle.notifier.specs.Start.{StartBy}
-use Rattle.notifier.specs.Requests.{key_of_request}
+use Rattle.notifier_model.specs.declared.event.Event.{Event}
+use Rattle.notifier_model.specs.declared.event.Event.TheVariants.{Request as Comes, Reply as Replies, Mail as Mails, Progress as Progresses, Tick as Ticks, Shut as Shuts}
+use Rattle.notifier_model.specs.declared.row.Key.{Key}
+use Rattle.notifier_model.specs.Limits.{Limits}
+use Rattle.notifier_model.specs.Start.{StartBy}
+use Rattle.notifier_model.specs.Requests.{key_of_request}
 use Rattle.lives.specs.Past.{is_new, with_key}
 use Rattle.lives.specs.Life.{Life, is_gone}
 use Rattle.lives.specs.Lives.{may_hear, life}

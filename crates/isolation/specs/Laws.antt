@@ -3,10 +3,10 @@ use Rattle.std.specs.Prelude.{ℕ, ◌≡◌, ◌<◌, ◌^◌, true, false, Lis
 use Rattle.sip_text.specs.declared.address.Addr.{Addr}
 use Rattle.sip_read.specs.declared.message.Request.{Request}
 use Rattle.package.specs.Boxes.{first_box, content_in}
-use Rattle.notifier.specs.declared.event.Event.{Event}
-use Rattle.notifier.specs.declared.event.Event.TheVariants.{Request as Comes}
-use Rattle.notifier.specs.Start.{Start, tag_of}
-use Rattle.notifier.specs.Requests.{user_part, event_of}
+use Rattle.notifier_model.specs.declared.event.Event.{Event}
+use Rattle.notifier_model.specs.declared.event.Event.TheVariants.{Request as Comes}
+use Rattle.notifier_model.specs.Start.{Start, tag_of}
+use Rattle.notifier_model.specs.Requests.{user_part, event_of}
 use Rattle.lives.specs.Notices.{newest_first, notices}
 use Rattle.lives.specs.Laws.{IsStart, notifies_with, AreNotifies, outs}
 use Rattle.isolation.specs.Own.{is_own, own, born_of}

@@ -1,10 +1,10 @@
 -- The law of isolation asked of any notifier, whether it keeps it or not.
 use Rattle.std.specs.Prelude.{ℕ, ◌+◌, ◌≡◌, ◌<◌, ◌^◌, List, [], ◌∷◌}
 use Rattle.sip_read.specs.declared.message.Request.{Request}
-use Rattle.notifier.specs.declared.event.Event.{Event}
-use Rattle.notifier.specs.Start.{Start, tag_of}
-use Rattle.notifier.specs.Out.{Send, Answers, Notifies, Starts, Notification, notifications}
-use Rattle.notifier.specs.Run.{made}
+use Rattle.notifier_model.specs.declared.event.Event.{Event}
+use Rattle.notifier_model.specs.Start.{Start, tag_of}
+use Rattle.notifier_model.specs.Out.{Send, Answers, Notifies, Starts, Notification, notifications}
+use Rattle.notifier_model.specs.Run.{made}
 use Rattle.lives.specs.Notices.{newest_first}
 use Rattle.lives.specs.Laws.{IsStart}
 use Rattle.isolation.specs.Laws.{HasSameOwn}

@@ -2,8 +2,8 @@
 use Rattle.std.specs.Prelude.{ℕ, ◌+◌, Bool, ◌&&◌, ◌||◌, List, [], ◌∷◌, is_some, if◌then◌else◌, ◌==◌, Option, option_map}
 use Rattle.sip_read.specs.declared.message.Request.{Request}
 use Rattle.package.specs.Content.{Maps}
-use Rattle.notifier.specs.declared.event.Event.{Event}
-use Rattle.notifier.specs.Start.{StartBy, tag_of}
+use Rattle.notifier_model.specs.declared.event.Event.{Event}
+use Rattle.notifier_model.specs.Start.{StartBy, tag_of}
 use Rattle.lives.specs.Life.{birth}
 use Rattle.lives.specs.Lives.{births, concerns, life, birth_at}
 

@@ -2,11 +2,11 @@
 use Rattle.std.proofs.Common.{◌≡◌, ℕ, ◌+◌, ◌<◌, ◌≤◌, ◌^◌, List, [], ◌∷◌, Option, Some, None, Bool, true, false, refl, sym, ◌∙◌, ap, arith}
 use Rattle.std.specs.Prelude.{if◌then◌else◌, ◌==◌, bytes_eq}
 use Rattle.lives.proofs.Texts.{Bytes, bytes_not}
-use Rattle.notifier.specs.Start.{Start, tag_of}
-use Rattle.notifier.specs.declared.event.Event.{Event}
-use Rattle.notifier.specs.declared.row.Row.{Row}
-use Rattle.notifier.specs.Rows.{Told, stays, left, said}
-use Rattle.notifier.specs.Out.{notifications}
+use Rattle.notifier_model.specs.Start.{Start, tag_of}
+use Rattle.notifier_model.specs.declared.event.Event.{Event}
+use Rattle.notifier_model.specs.declared.row.Row.{Row}
+use Rattle.notifier_model.specs.Rows.{Told, stays, left, said}
+use Rattle.notifier_model.specs.Out.{notifications}
 use Rattle.lives.specs.Life.{Life, is_gone}
 use Rattle.lives.specs.Lives.{lived, or_before, life, births, birth_at, befalls, befell}
 use Rattle.lives.specs.Notices.{notices_at}

@@ -6,11 +6,11 @@ use Rattle.sip_read.specs.declared.message.Request.{Request}
 use Rattle.sip_read.specs.declared.message.Response.{Response}
 use Rattle.package.specs.Content.{mail_package}
 use Rattle.package.specs.Values.{MailChange, Progress}
-use Rattle.notifier.specs.Start.{Start, tag_of}
-use Rattle.notifier.specs.declared.event.Event.{Event}
-use Rattle.notifier.specs.declared.event.Event.TheVariants.{Request as Comes, Reply as Replies, Mail as Mails, Progress as Progresses, Tick as Ticks, Shut as Shuts}
-use Rattle.notifier.specs.Limits.{Limits}
-use Rattle.notifier.specs.Requests.{is_refer, event_of, user_part, granted}
+use Rattle.notifier_model.specs.Start.{Start, tag_of}
+use Rattle.notifier_model.specs.declared.event.Event.{Event}
+use Rattle.notifier_model.specs.declared.event.Event.TheVariants.{Request as Comes, Reply as Replies, Mail as Mails, Progress as Progresses, Tick as Ticks, Shut as Shuts}
+use Rattle.notifier_model.specs.Limits.{Limits}
+use Rattle.notifier_model.specs.Requests.{is_refer, event_of, user_part, granted}
 use Rattle.lives.specs.Past.{now, is_fresh}
 use Rattle.lives.specs.Life.{Deed, Life, Then, Heard, MailChanged, Progressed, Stopped, hearing, last_heard, birth, is_accepted, is_grant, address, end_of, end_of_grant}
 use Rattle.lives.specs.Lives.{when, is_in_dialog, is_answer_in_dialog, concerns, may_hear, is_to_notify, answer_deed, tick_deed, is_changed, deed_at, lived}

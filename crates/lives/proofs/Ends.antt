@@ -3,10 +3,10 @@ use Rattle.std.proofs.Common.{◌≡◌, ℕ, ◌+◌, List, [], ◌∷◌, ◌+
 use Rattle.std.specs.Prelude.{if◌then◌else◌, ◌==◌, ◌||◌, is_some}
 use Rattle.std.proofs.lemmas.List.{append-nil}
 use Rattle.subscription.specs.declared.notify.Reason.{Reason}
-use Rattle.notifier.specs.Limits.{Limits}
-use Rattle.notifier.specs.Start.{Start}
-use Rattle.notifier.specs.declared.event.Event.{Event}
-use Rattle.notifier.specs.Out.{Notification, is_last}
+use Rattle.notifier_model.specs.Limits.{Limits}
+use Rattle.notifier_model.specs.Start.{Start}
+use Rattle.notifier_model.specs.declared.event.Event.{Event}
+use Rattle.notifier_model.specs.Out.{Notification, is_last}
 use Rattle.lives.specs.Life.{Life, is_touched, terminated, is_removed, is_gone}
 use Rattle.lives.specs.Lives.{lived, befalls, or_before, births, life, birth_at, befell}
 use Rattle.lives.specs.Notices.{phase, notice_of, notices_at, notices}

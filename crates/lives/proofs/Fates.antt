@@ -10,12 +10,12 @@ use Rattle.sip_read.specs.declared.message.Request.{Request}
 use Rattle.lives.specs.Past.{now}
 use Rattle.subscription.specs.declared.notify.Reason.{Reason}
 use Rattle.subscription.specs.declared.notify.Reason.TheVariants.{Deactivated}
-use Rattle.notifier.specs.Limits.{Limits}
-use Rattle.notifier.specs.Start.{Start}
-use Rattle.notifier.specs.Requests.{is_unwatched}
-use Rattle.notifier.specs.Out.{Notification}
-use Rattle.notifier.specs.declared.event.Event.{Event}
-use Rattle.notifier.specs.declared.row.Unanswered.{Unanswered}
+use Rattle.notifier_model.specs.Limits.{Limits}
+use Rattle.notifier_model.specs.Start.{Start}
+use Rattle.notifier_model.specs.Requests.{is_unwatched}
+use Rattle.notifier_model.specs.Out.{Notification}
+use Rattle.notifier_model.specs.declared.event.Event.{Event}
+use Rattle.notifier_model.specs.declared.row.Unanswered.{Unanswered}
 use Rattle.lives.specs.Life.{Deed, Life, Born, Then, Heard, MailChanged, Progressed, Due, Answered, Disowned, Lost, Stopped, birth, address, end_of_grant, last_heard, is_touched, number, just_made, unanswered, ended, terminated, is_removed, is_gone}
 use Rattle.lives.specs.Lives.{lived, befalls, or_before, births, life, birth_at, befell}
 use Rattle.lives.specs.Notices.{notices}

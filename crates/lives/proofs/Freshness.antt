@@ -5,11 +5,11 @@ use Rattle.std.specs.Prelude.{if◌then◌else◌, ◌||◌, take, is_some}
 use Rattle.lives.proofs.Texts.{bytes_own}
 use Rattle.sip_text.specs.declared.address.Addr.{Addr}
 use Rattle.sip_read.specs.declared.message.Request.{Request}
-use Rattle.notifier.specs.Limits.{Limits}
-use Rattle.notifier.specs.declared.event.Event.{Event}
-use Rattle.notifier.specs.declared.event.Event.TheVariants.{Request as Comes, Reply as Replies, Mail as Mails, Progress as Progresses, Tick as Ticks, Shut as Shuts}
-use Rattle.notifier.specs.declared.row.Key.{Key}
-use Rattle.notifier.specs.Requests.{is_ack, same_key, key_of_request}
+use Rattle.notifier_model.specs.Limits.{Limits}
+use Rattle.notifier_model.specs.declared.event.Event.{Event}
+use Rattle.notifier_model.specs.declared.event.Event.TheVariants.{Request as Comes, Reply as Replies, Mail as Mails, Progress as Progresses, Tick as Ticks, Shut as Shuts}
+use Rattle.notifier_model.specs.declared.row.Key.{Key}
+use Rattle.notifier_model.specs.Requests.{is_ack, same_key, key_of_request}
 use Rattle.lives.specs.Past.{is_among, is_new, with_key, keys_with, keys, is_fresh}
 use Rattle.lives.specs.Sentences.{Came, same_transaction, FreshLaw}
 

@@ -6,26 +6,26 @@ use Rattle.std.proofs.lemmas.List.{append-nil}
 use Rattle.lives.proofs.Texts.{Bytes, not_true, and-false, if_is}
 use Rattle.sip_text.specs.declared.address.Addr.{Addr}
 use Rattle.sip_read.specs.declared.message.Request.{Request}
-use Rattle.notifier.specs.Fields.{value_of, same_event}
+use Rattle.notifier_model.specs.Fields.{value_of, same_event}
 use Rattle.package.specs.Content.{Seen}
 use Rattle.package.specs.Boxes.{content_in}
 use Rattle.package.specs.Bodies.{body_of_held}
 use Rattle.subscription.specs.declared.notify.Reason.TheVariants.{Timeout}
 use Rattle.subscription.specs.declared.life.Step.{Step as Turn}
 use Rattle.subscription.specs.Table.{end, over, refresh}
-use Rattle.notifier.specs.Limits.{Limits}
-use Rattle.notifier.specs.Start.{Start}
-use Rattle.notifier.specs.declared.event.Event.{Event}
-use Rattle.notifier.specs.declared.event.Event.TheVariants.{Request as Comes}
-use Rattle.notifier.specs.declared.refusal.Refusal.{Refusal}
-use Rattle.notifier.specs.declared.refusal.Refusal.TheVariants.{NoDialog, OldCseq, ReferInDialog, OtherEvent, TooBrief}
-use Rattle.notifier.specs.Requests.{is_refer, event_of, asked, granted, asks_nothing, is_too_brief, misfit, unheard}
+use Rattle.notifier_model.specs.Limits.{Limits}
+use Rattle.notifier_model.specs.Start.{Start}
+use Rattle.notifier_model.specs.declared.event.Event.{Event}
+use Rattle.notifier_model.specs.declared.event.Event.TheVariants.{Request as Comes}
+use Rattle.notifier_model.specs.declared.refusal.Refusal.{Refusal}
+use Rattle.notifier_model.specs.declared.refusal.Refusal.TheVariants.{NoDialog, OldCseq, ReferInDialog, OtherEvent, TooBrief}
+use Rattle.notifier_model.specs.Requests.{is_refer, event_of, asked, granted, asks_nothing, is_too_brief, misfit, unheard}
 use Rattle.sip_write.specs.Answer.{answer_text}
-use Rattle.notifier.specs.declared.row.Row.{Row}
-use Rattle.notifier.specs.Book.{Book, Refused, keeping, refused, denied, accepted, served, unless_denied, in_dialog}
-use Rattle.notifier.specs.Rows.{renewed_sub, stays, opened, with_sub, turned, only, is_dialog, counted, renewed}
-use Rattle.notifier.specs.Answers.{refusal_answer, renewal_answer}
-use Rattle.notifier.specs.Out.{Answers, notifications}
+use Rattle.notifier_model.specs.declared.row.Row.{Row}
+use Rattle.notifier_model.specs.Book.{Book, Refused, keeping, refused, denied, accepted, served, unless_denied, in_dialog}
+use Rattle.notifier_model.specs.Rows.{renewed_sub, stays, opened, with_sub, turned, only, is_dialog, counted, renewed}
+use Rattle.notifier_model.specs.Answers.{refusal_answer, renewal_answer}
+use Rattle.notifier_model.specs.Out.{Answers, notifications}
 use Rattle.lives.specs.Past.{now, is_fresh}
 use Rattle.lives.specs.Life.{Life, Then, Heard, birth, last_heard, is_accepted, is_above, end_of_grant, address, status, is_touched, number, just_made, unanswered, ended, terminated, is_removed, is_gone}
 use Rattle.lives.specs.Lives.{births, life, birth_at}

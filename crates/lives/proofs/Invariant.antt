@@ -6,15 +6,15 @@ use Rattle.package.specs.Content.{finite_maps, Content, OfStatus, refer_package,
 use Rattle.lives.proofs.Texts.{Bytes, bytes_other_way, if_is}
 use Rattle.package.specs.declared.change.Change.TheVariants.{Forget}
 use Rattle.package.specs.Boxes.{first_box, content_in}
-use Rattle.notifier.specs.Start.{Start, tag_of}
-use Rattle.notifier.specs.declared.event.Event.{Event}
-use Rattle.notifier.specs.declared.row.Key.{Key}
-use Rattle.notifier.specs.Requests.{is_refer, event_of, is_of_refer}
-use Rattle.notifier.specs.declared.row.Row.{Row}
-use Rattle.notifier.specs.declared.row.Kept.{Kept}
-use Rattle.notifier.specs.Book.{SteppedBy, Book}
-use Rattle.notifier.specs.Rows.{gone, gone_at, Told, forgetting}
-use Rattle.notifier.specs.Out.{notifications}
+use Rattle.notifier_model.specs.Start.{Start, tag_of}
+use Rattle.notifier_model.specs.declared.event.Event.{Event}
+use Rattle.notifier_model.specs.declared.row.Key.{Key}
+use Rattle.notifier_model.specs.Requests.{is_refer, event_of, is_of_refer}
+use Rattle.notifier_model.specs.declared.row.Row.{Row}
+use Rattle.notifier_model.specs.declared.row.Kept.{Kept}
+use Rattle.notifier_model.specs.Book.{SteppedBy, Book}
+use Rattle.notifier_model.specs.Rows.{gone, gone_at, Told, forgetting}
+use Rattle.notifier_model.specs.Out.{notifications}
 use Rattle.lives.specs.Past.{now, content, keys}
 use Rattle.lives.specs.Life.{Life, birth, status, is_gone}
 use Rattle.lives.specs.Lives.{births, life, birth_at, befell}

@@ -14,16 +14,16 @@ use Rattle.lives.proofs.Texts.{Bytes, and-false, if_is}
 use Rattle.sip_text.specs.declared.address.Addr.{Addr}
 use Rattle.sip_read.specs.declared.message.Request.{Request}
 use Rattle.package.specs.Boxes.{content_in}
-use Rattle.notifier.specs.Start.{Start, tag_of}
-use Rattle.notifier.specs.declared.event.Event.{Event}
-use Rattle.notifier.specs.declared.event.Event.TheVariants.{Request as Comes, Reply as Replies, Mail as Mails, Progress as Progresses, Tick as Ticks, Shut as Shuts}
-use Rattle.notifier.specs.declared.refusal.Refusal.{Refusal}
-use Rattle.notifier.specs.Requests.{is_ack, key_of_request, misfit}
-use Rattle.notifier.specs.declared.row.Key.{Key}
-use Rattle.notifier.specs.Book.{Book, Silent, nothing, step, served, unless, by_kept as by_kept_answer, by_to_tag, verdict, refused}
-use Rattle.notifier.specs.Answers.{kept_answer}
-use Rattle.notifier.specs.Out.{Answers, notifications}
-use Rattle.notifier.specs.Run.{made, made_from, empty}
+use Rattle.notifier_model.specs.Start.{Start, tag_of}
+use Rattle.notifier_model.specs.declared.event.Event.{Event}
+use Rattle.notifier_model.specs.declared.event.Event.TheVariants.{Request as Comes, Reply as Replies, Mail as Mails, Progress as Progresses, Tick as Ticks, Shut as Shuts}
+use Rattle.notifier_model.specs.declared.refusal.Refusal.{Refusal}
+use Rattle.notifier_model.specs.Requests.{is_ack, key_of_request, misfit}
+use Rattle.notifier_model.specs.declared.row.Key.{Key}
+use Rattle.notifier_model.specs.Book.{Book, Silent, nothing, step, served, unless, by_kept as by_kept_answer, by_to_tag, verdict, refused}
+use Rattle.notifier_model.specs.Answers.{kept_answer}
+use Rattle.notifier_model.specs.Out.{Answers, notifications}
+use Rattle.notifier_model.specs.Run.{made, made_from, empty}
 use Rattle.lives.specs.Past.{now, content, mail_content, last_counts, is_fresh, is_placed, fits, keys}
 use Rattle.lives.specs.Lives.{life, births, befell}
 use Rattle.lives.specs.Notices.{notices_at, notices, onto}

@@ -17,14 +17,14 @@ use Rattle.package.specs.Changes.{counts_of, with_counts, same_counts}
 use Rattle.package.specs.Boxes.{change_first, content_in}
 use Rattle.package.specs.Bodies.{body_of_held}
 use Rattle.subscription.specs.Table.{changed}
-use Rattle.notifier.specs.Start.{Start, tag_of}
-use Rattle.notifier.specs.declared.event.Event.{Event}
-use Rattle.notifier.specs.declared.event.Event.TheVariants.{Mail as Mails}
-use Rattle.notifier.specs.Requests.{is_refer, user_part, event_of}
-use Rattle.notifier.specs.declared.row.Row.{Row}
-use Rattle.notifier.specs.Book.{Book, nothing, content_changed, step}
-use Rattle.notifier.specs.Rows.{stays, wherever, opened, with_sub, tells, tells_change, tells_watcher}
-use Rattle.notifier.specs.Out.{notifications}
+use Rattle.notifier_model.specs.Start.{Start, tag_of}
+use Rattle.notifier_model.specs.declared.event.Event.{Event}
+use Rattle.notifier_model.specs.declared.event.Event.TheVariants.{Mail as Mails}
+use Rattle.notifier_model.specs.Requests.{is_refer, user_part, event_of}
+use Rattle.notifier_model.specs.declared.row.Row.{Row}
+use Rattle.notifier_model.specs.Book.{Book, nothing, content_changed, step}
+use Rattle.notifier_model.specs.Rows.{stays, wherever, opened, with_sub, tells, tells_change, tells_watcher}
+use Rattle.notifier_model.specs.Out.{notifications}
 use Rattle.lives.specs.Past.{now, same_class, last_counts, mail_content, content, keys}
 use Rattle.lives.specs.Life.{Life, Then, MailChanged, birth, last_heard, address, number, end_of_grant, status, is_touched, just_made, unanswered, ended, is_removed, is_gone}
 use Rattle.lives.specs.Lives.{same_content, is_changed, when, life, birth_at, birth_here}

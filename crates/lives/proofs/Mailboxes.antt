@@ -10,8 +10,8 @@ use Rattle.package.specs.declared.counts.Counts.{Counts}
 use Rattle.package.specs.declared.change.Change.TheVariants.{Mail as MailTo}
 use Rattle.package.specs.Content.{OfMail, OfStatus}
 use Rattle.package.specs.Run.{place, counts_for, last_counts as last_counts_of}
-use Rattle.notifier.specs.declared.event.Event.{Event}
-use Rattle.notifier.specs.declared.event.Event.TheVariants.{Request as Comes, Reply as Replies, Mail as Mails, Progress as Progresses, Tick as Ticks, Shut as Shuts}
+use Rattle.notifier_model.specs.declared.event.Event.{Event}
+use Rattle.notifier_model.specs.declared.event.Event.TheVariants.{Request as Comes, Reply as Replies, Mail as Mails, Progress as Progresses, Tick as Ticks, Shut as Shuts}
 use Rattle.lives.specs.Past.{last_counts, mail_content}
 use Rattle.lives.specs.Sentences.{mail_changes, ContentsLaw}
 use Rattle.lives.proofs.MailChanges.{same_way}

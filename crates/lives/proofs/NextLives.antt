@@ -5,11 +5,11 @@ use Rattle.std.proofs.lemmas.Bool.Decides.{nat_tests}
 use Rattle.lives.proofs.Texts.{Bytes}
 use Rattle.sip_text.specs.declared.address.Addr.{Addr}
 use Rattle.sip_read.specs.declared.message.Request.{Request}
-use Rattle.notifier.specs.Limits.{Limits, AreLimits}
-use Rattle.notifier.specs.Start.{Start}
-use Rattle.notifier.specs.declared.event.Event.{Event}
-use Rattle.notifier.specs.declared.event.Event.TheVariants.{Request as Comes, Reply as Replies, Mail as Mails, Progress as Progresses, Tick as Ticks, Shut as Shuts}
-use Rattle.notifier.specs.Requests.{birth_of as birth_of_request, needs_place, is_full}
+use Rattle.notifier_model.specs.Limits.{Limits, AreLimits}
+use Rattle.notifier_model.specs.Start.{Start}
+use Rattle.notifier_model.specs.declared.event.Event.{Event}
+use Rattle.notifier_model.specs.declared.event.Event.TheVariants.{Request as Comes, Reply as Replies, Mail as Mails, Progress as Progresses, Tick as Ticks, Shut as Shuts}
+use Rattle.notifier_model.specs.Requests.{birth_of as birth_of_request, needs_place, is_full}
 use Rattle.lives.specs.Past.{now, fits}
 use Rattle.lives.specs.Life.{Life, Born, one_if}
 use Rattle.lives.specs.Lives.{when, count_alive, is_birth, birth_of, birth_here, befalls, or_before, lives_on, births, life, birth_at, befell}

@@ -3,10 +3,10 @@ use Rattle.std.proofs.Common.{◌≡◌, ℕ, ◌+◌, List, [], ◌∷◌, ◌+
 use Prim.Native.Nat.{zero, suc}
 use Rattle.std.specs.Prelude.{if◌then◌else◌, ◌==◌}
 use Rattle.std.proofs.lemmas.List.{append-nil}
-use Rattle.notifier.specs.Limits.{Limits}
-use Rattle.notifier.specs.Start.{Start}
-use Rattle.notifier.specs.declared.event.Event.{Event}
-use Rattle.notifier.specs.Out.{Notification}
+use Rattle.notifier_model.specs.Limits.{Limits}
+use Rattle.notifier_model.specs.Start.{Start}
+use Rattle.notifier_model.specs.declared.event.Event.{Event}
+use Rattle.notifier_model.specs.Out.{Notification}
 use Rattle.lives.specs.Life.{Life, is_touched, one_if, number, is_gone}
 use Rattle.lives.specs.Lives.{lived, befalls, or_before, births, life, birth_at, befell}
 use Rattle.lives.specs.Notices.{notice_of, notices_at, notices}

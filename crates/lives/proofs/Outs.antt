@@ -3,10 +3,10 @@ use Rattle.std.proofs.Common.{◌≡◌, List, [], ◌∷◌, map, Bool, true, f
 use Rattle.std.specs.Prelude.{if◌then◌else◌, bytes_eq}
 use Rattle.sip_text.specs.declared.address.Addr.{Addr}
 use Rattle.sip_write.specs.Notify.{NotifyText, notify_text}
-use Rattle.notifier.specs.declared.event.Out.TheVariants.{Notify}
-use Rattle.notifier.specs.Start.{tag_of}
-use Rattle.notifier.specs.Out.{Send, Answers, Notifies, Starts, out_of, is_last, Notification, notification, notifications}
-use Rattle.notifier.specs.Run.{made}
+use Rattle.notifier_model.specs.declared.event.Out.TheVariants.{Notify}
+use Rattle.notifier_model.specs.Start.{tag_of}
+use Rattle.notifier_model.specs.Out.{Send, Answers, Notifies, Starts, out_of, is_last, Notification, notification, notifications}
+use Rattle.notifier_model.specs.Run.{made}
 use Rattle.lives.specs.Laws.{notifies_with, outs, IsNotify, AreNotifies, LifeLaw}
 use Rattle.lives.proofs.Texts.{Bytes, bytes_same}
 use Rattle.lives.proofs.Law.{notices_law}

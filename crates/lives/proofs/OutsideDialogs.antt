@@ -8,27 +8,27 @@ use Rattle.package.specs.Content.{Content, OfMail, OfStatus, held, mail_package,
 use Rattle.lives.proofs.Texts.{Bytes, never_both, bytes_other_way, and-false, if_is}
 use Rattle.sip_text.specs.declared.address.Addr.{Addr}
 use Rattle.sip_read.specs.declared.message.Request.{Request}
-use Rattle.notifier.specs.Fields.{value_of, or_empty, same_text}
+use Rattle.notifier_model.specs.Fields.{value_of, or_empty, same_text}
 use Rattle.package.specs.declared.change.Change.TheVariants.{Begin, Forget}
 use Rattle.package.specs.Boxes.{first_box, held_by, content_in}
 use Rattle.package.specs.Bodies.{body_of_held}
 use Rattle.subscription.specs.declared.notify.Reason.TheVariants.{Timeout}
 use Rattle.subscription.specs.Table.{accept, fetch, over}
-use Rattle.notifier.specs.Limits.{Limits}
-use Rattle.notifier.specs.Start.{Start, tag_of}
-use Rattle.notifier.specs.declared.event.Event.{Event}
-use Rattle.notifier.specs.declared.event.Event.TheVariants.{Request as Comes}
-use Rattle.notifier.specs.declared.refusal.Refusal.{Refusal}
-use Rattle.notifier.specs.declared.refusal.Refusal.TheVariants.{OnlyByRefer, NotAcceptable, NoResource, TooBrief, Full}
-use Rattle.notifier.specs.Requests.{is_refer, user_part, event_of, is_of_refer, is_acceptable, granted, asks_nothing, is_too_brief, misfit, misplaced, misplaced_at, is_unwatched, birth_of as birth_of_request, is_full}
+use Rattle.notifier_model.specs.Limits.{Limits}
+use Rattle.notifier_model.specs.Start.{Start, tag_of}
+use Rattle.notifier_model.specs.declared.event.Event.{Event}
+use Rattle.notifier_model.specs.declared.event.Event.TheVariants.{Request as Comes}
+use Rattle.notifier_model.specs.declared.refusal.Refusal.{Refusal}
+use Rattle.notifier_model.specs.declared.refusal.Refusal.TheVariants.{OnlyByRefer, NotAcceptable, NoResource, TooBrief, Full}
+use Rattle.notifier_model.specs.Requests.{is_refer, user_part, event_of, is_of_refer, is_acceptable, granted, asks_nothing, is_too_brief, misfit, misplaced, misplaced_at, is_unwatched, birth_of as birth_of_request, is_full}
 use Rattle.sip_write.specs.Answer.{answer_text}
-use Rattle.notifier.specs.declared.row.Row.{Row}
-use Rattle.notifier.specs.declared.request.Birth.{Birth}
-use Rattle.notifier.specs.declared.request.Birth.TheVariants.{Watch, Fetch, Transfer, Unwatched}
-use Rattle.notifier.specs.Book.{born_with, first_gone, first_step, first_word, Book, Born as Makes, Refused, keeping, new_row, new_usage, new_want, first_boxes, first_told, refused, born, served, unless, outside}
-use Rattle.notifier.specs.Rows.{Told, opened, forgetting, turned}
-use Rattle.notifier.specs.Out.{Notification, Send, Starts, notifications}
-use Rattle.notifier.specs.Answers.{birth_answer}
+use Rattle.notifier_model.specs.declared.row.Row.{Row}
+use Rattle.notifier_model.specs.declared.birth.Birth.{Birth}
+use Rattle.notifier_model.specs.declared.birth.Birth.TheVariants.{Watch, Fetch, Transfer, Unwatched}
+use Rattle.notifier_model.specs.Book.{born_with, first_gone, first_step, first_word, Book, Born as Makes, Refused, keeping, new_row, new_usage, new_want, first_boxes, first_told, refused, born, served, unless, outside}
+use Rattle.notifier_model.specs.Rows.{Told, opened, forgetting, turned}
+use Rattle.notifier_model.specs.Out.{Notification, Send, Starts, notifications}
+use Rattle.notifier_model.specs.Answers.{birth_answer}
 use Rattle.lives.specs.Past.{now, content, mail_content, is_fresh, is_placed, fits}
 use Rattle.lives.specs.Life.{Life, Born, birth, last_heard, end_of_grant, address, status, is_touched, number, just_made, unanswered, ended, terminated, is_removed, is_gone}
 use Rattle.lives.specs.Lives.{when, is_in_dialog, may_hear, is_birth, birth_of, birth_here, befalls, or_before, births, life, birth_at, befell}

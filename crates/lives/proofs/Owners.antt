@@ -20,19 +20,19 @@ use Rattle.package.specs.declared.change.Outcome.TheVariants.{Changed, Same, Unk
 use Rattle.package.specs.Content.{Seen, is_final, mail_package, refer_package}
 use Rattle.package.specs.Boxes.{change_first}
 use Rattle.package.specs.declared.change.Change.TheVariants.{Mail as MailTo, Step as StepOf}
-use Rattle.notifier.specs.declared.place.Place.{Place}
-use Rattle.notifier.specs.declared.event.Event.{Event}
-use Rattle.notifier.specs.declared.event.Event.TheVariants.{Request as Comes, Reply as Replies, Mail as Mails, Progress as Progresses, Tick as Ticks, Shut as Shuts}
-use Rattle.notifier.specs.declared.row.Row.{Row}
-use Rattle.notifier.specs.Start.{Start, tag_of, last_moment}
-use Rattle.notifier.specs.Requests.{is_refer, asks_nothing}
-use Rattle.notifier.specs.Fields.{value_of, or_empty}
-use Rattle.notifier.specs.Out.{Send, Answers, Notifies, Starts, out_of, notification, notifications}
-use Rattle.notifier.specs.Rows.{Told, notify, stays, goes, wherever, with_sub, turned, tells, ends, usage_after, said, has_serial, only, counted, renewed, renewed_sub, watches, tells_change, tells_watcher, is_due, is_overdue, times_out, stops, is_answered_by, takes_answer, answered}
-use Rattle.notifier.specs.declared.request.Birth.{Birth}
-use Rattle.notifier.specs.declared.request.Birth.TheVariants.{Watch, Fetch, Transfer, Unwatched}
-use Rattle.notifier.specs.Book.{Book, Verdict, Silent, Repeated, Refused, Denied, Renewed, Born as Makes, new_usage, new_want, new_row, first_step, first_word, nothing, keeping, refused, denied, accepted, all_rows, first_boxes, first_told, born_with, born, verdict, served, content_changed, replied, ticked, shut, step}
-use Rattle.notifier.specs.Run.{made, made_from, empty}
+use Rattle.notifier_model.specs.declared.place.Place.{Place}
+use Rattle.notifier_model.specs.declared.event.Event.{Event}
+use Rattle.notifier_model.specs.declared.event.Event.TheVariants.{Request as Comes, Reply as Replies, Mail as Mails, Progress as Progresses, Tick as Ticks, Shut as Shuts}
+use Rattle.notifier_model.specs.declared.row.Row.{Row}
+use Rattle.notifier_model.specs.Start.{Start, tag_of, last_moment}
+use Rattle.notifier_model.specs.Requests.{is_refer, asks_nothing}
+use Rattle.notifier_model.specs.Fields.{value_of, or_empty}
+use Rattle.notifier_model.specs.Out.{Send, Answers, Notifies, Starts, out_of, notification, notifications}
+use Rattle.notifier_model.specs.Rows.{Told, notify, stays, goes, wherever, with_sub, turned, tells, ends, usage_after, said, has_serial, only, counted, renewed, renewed_sub, watches, tells_change, tells_watcher, is_due, is_overdue, times_out, stops, is_answered_by, takes_answer, answered}
+use Rattle.notifier_model.specs.declared.birth.Birth.{Birth}
+use Rattle.notifier_model.specs.declared.birth.Birth.TheVariants.{Watch, Fetch, Transfer, Unwatched}
+use Rattle.notifier_model.specs.Book.{Book, Verdict, Silent, Repeated, Refused, Denied, Renewed, Born as Makes, new_usage, new_want, new_row, first_step, first_word, nothing, keeping, refused, denied, accepted, all_rows, first_boxes, first_told, born_with, born, verdict, served, content_changed, replied, ticked, shut, step}
+use Rattle.notifier_model.specs.Run.{made, made_from, empty}
 use Rattle.lives.specs.Life.{Life, is_gone}
 use Rattle.lives.specs.Lives.{births}
 use Rattle.lives.specs.Laws.{IsStart, IsOfALife, AreOfLives, NoOtherLaw}

@@ -13,13 +13,13 @@ use Rattle.package.specs.Boxes.{change_first, content_in}
 use Rattle.package.specs.Bodies.{body_of_held}
 use Rattle.subscription.specs.declared.notify.Reason.TheVariants.{Noresource}
 use Rattle.subscription.specs.Table.{changed, told}
-use Rattle.notifier.specs.Start.{Start, tag_of}
-use Rattle.notifier.specs.declared.event.Event.{Event}
-use Rattle.notifier.specs.declared.event.Event.TheVariants.{Progress as Progresses}
-use Rattle.notifier.specs.Requests.{is_refer, user_part, event_of}
-use Rattle.notifier.specs.Book.{Book, nothing, content_changed, step}
-use Rattle.notifier.specs.Rows.{stays, wherever, opened, with_sub, tells, tells_change, tells_watcher}
-use Rattle.notifier.specs.Out.{notifications}
+use Rattle.notifier_model.specs.Start.{Start, tag_of}
+use Rattle.notifier_model.specs.declared.event.Event.{Event}
+use Rattle.notifier_model.specs.declared.event.Event.TheVariants.{Progress as Progresses}
+use Rattle.notifier_model.specs.Requests.{is_refer, user_part, event_of}
+use Rattle.notifier_model.specs.Book.{Book, nothing, content_changed, step}
+use Rattle.notifier_model.specs.Rows.{stays, wherever, opened, with_sub, tells, tells_change, tells_watcher}
+use Rattle.notifier_model.specs.Out.{notifications}
 use Rattle.lives.specs.Past.{now, content, last_counts, keys}
 use Rattle.lives.specs.Life.{Life, Then, Progressed, birth, last_heard, address, number, end_of_grant, status, is_news, is_touched, just_made, unanswered, ended, terminated, is_removed, is_gone}
 use Rattle.lives.specs.Lives.{when, lived, or_before, life, birth_at, birth_here}

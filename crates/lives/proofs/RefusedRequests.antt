@@ -7,20 +7,20 @@ use Rattle.std.proofs.lemmas.List.Folds.{find-append}
 use Rattle.lives.proofs.Texts.{Bytes, never_both, bytes_same, and-left, and-right, and-false}
 use Rattle.sip_text.specs.declared.address.Addr.{Addr}
 use Rattle.sip_read.specs.declared.message.Request.{Request}
-use Rattle.notifier.specs.Fields.{or_empty, same_text}
-use Rattle.notifier.specs.Start.{Start, tag_of}
-use Rattle.notifier.specs.declared.event.Event.{Event}
-use Rattle.notifier.specs.declared.event.Event.TheVariants.{Request as Comes}
-use Rattle.notifier.specs.declared.refusal.Refusal.{Refusal}
-use Rattle.notifier.specs.declared.row.Key.{Key}
-use Rattle.notifier.specs.Requests.{same_key, key_of_request, is_ack, misfit}
+use Rattle.notifier_model.specs.Fields.{or_empty, same_text}
+use Rattle.notifier_model.specs.Start.{Start, tag_of}
+use Rattle.notifier_model.specs.declared.event.Event.{Event}
+use Rattle.notifier_model.specs.declared.event.Event.TheVariants.{Request as Comes}
+use Rattle.notifier_model.specs.declared.refusal.Refusal.{Refusal}
+use Rattle.notifier_model.specs.declared.row.Key.{Key}
+use Rattle.notifier_model.specs.Requests.{same_key, key_of_request, is_ack, misfit}
 use Rattle.sip_write.specs.Answer.{answer_text}
-use Rattle.notifier.specs.declared.row.Row.{Row}
-use Rattle.notifier.specs.declared.row.Kept.{Kept}
-use Rattle.notifier.specs.Book.{Book, keeping, refused}
-use Rattle.notifier.specs.Rows.{Told, stays, wherever, only, is_dialog}
-use Rattle.notifier.specs.Answers.{has_key, kept_answer, ring_with, refusal_answer}
-use Rattle.notifier.specs.Out.{Send, Answers, notifications}
+use Rattle.notifier_model.specs.declared.row.Row.{Row}
+use Rattle.notifier_model.specs.declared.row.Kept.{Kept}
+use Rattle.notifier_model.specs.Book.{Book, keeping, refused}
+use Rattle.notifier_model.specs.Rows.{Told, stays, wherever, only, is_dialog}
+use Rattle.notifier_model.specs.Answers.{has_key, kept_answer, ring_with, refusal_answer}
+use Rattle.notifier_model.specs.Out.{Send, Answers, notifications}
 use Rattle.lives.specs.Past.{now, is_among, is_new, with_key, keys_with, keys, is_fresh, fits}
 use Rattle.lives.specs.Life.{Life, Then, Heard, birth, is_above, is_gone}
 use Rattle.lives.specs.Lives.{when, is_in_dialog, may_hear, is_birth, birth_of, birth_here, births, life, birth_at}

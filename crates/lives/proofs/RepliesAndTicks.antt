@@ -14,15 +14,15 @@ use Rattle.package.specs.Bodies.{body_of_held, status_body}
 use Rattle.subscription.specs.declared.notify.Reason.{Reason}
 use Rattle.subscription.specs.declared.notify.Reason.TheVariants.{Timeout, Deactivated}
 use Rattle.subscription.specs.Table.{end, over, is_answer_to, refuses, is_tag}
-use Rattle.notifier.specs.Start.{Start, tag_of, last_moment, patience}
-use Rattle.notifier.specs.declared.event.Event.{Event}
-use Rattle.notifier.specs.declared.event.Event.TheVariants.{Request as Comes, Reply as Replies, Mail as Mails, Progress as Progresses, Tick as Ticks, Shut as Shuts}
-use Rattle.notifier.specs.Requests.{is_refer, user_part, event_of, is_of_refer}
-use Rattle.notifier.specs.declared.row.Row.{Row}
-use Rattle.notifier.specs.declared.row.Unanswered.{Unanswered}
-use Rattle.notifier.specs.Book.{Book, nothing, all_rows, replied, ticked, shut, step}
-use Rattle.notifier.specs.Rows.{Told, stays, goes, wherever, with_sub, tells, ends, left, said, closed, takes_answer, answered, is_overdue as is_overdue_row, times_out, stops}
-use Rattle.notifier.specs.Out.{Send, notifications}
+use Rattle.notifier_model.specs.Start.{Start, tag_of, last_moment, patience}
+use Rattle.notifier_model.specs.declared.event.Event.{Event}
+use Rattle.notifier_model.specs.declared.event.Event.TheVariants.{Request as Comes, Reply as Replies, Mail as Mails, Progress as Progresses, Tick as Ticks, Shut as Shuts}
+use Rattle.notifier_model.specs.Requests.{is_refer, user_part, event_of, is_of_refer}
+use Rattle.notifier_model.specs.declared.row.Row.{Row}
+use Rattle.notifier_model.specs.declared.row.Unanswered.{Unanswered}
+use Rattle.notifier_model.specs.Book.{Book, nothing, all_rows, replied, ticked, shut, step}
+use Rattle.notifier_model.specs.Rows.{Told, stays, goes, wherever, with_sub, tells, ends, left, said, closed, takes_answer, answered, is_overdue as is_overdue_row, times_out, stops}
+use Rattle.notifier_model.specs.Out.{Send, notifications}
 use Rattle.lives.specs.Past.{now, content, mail_content, last_counts, keys}
 use Rattle.lives.specs.Life.{Deed, Life, Then, Due, Answered, Disowned, Lost, Stopped, birth, last_heard, address, number, end_of_grant, status, is_touched, unanswered, is_overdue, ended, terminated, is_removed, is_gone}
 use Rattle.lives.specs.Lives.{is_answer_in_dialog, is_to_notify, answer_deed, tick_deed, is_due, when, lived, births, life, birth_at, birth_here}

@@ -5,16 +5,16 @@ use Rattle.std.specs.Prelude.{if◌then◌else◌, ◌==◌, nat_lt, nat_le, opt
 use Rattle.std.proofs.lemmas.List.{append-nil}
 use Rattle.std.proofs.lemmas.Bool.Decides.{nat_tests}
 use Rattle.lives.proofs.Texts.{Bytes}
-use Rattle.notifier.specs.Fields.{value_of, or_empty}
+use Rattle.notifier_model.specs.Fields.{value_of, or_empty}
 use Rattle.subscription.specs.declared.terms.Usage.{Usage}
 use Rattle.subscription.specs.declared.terms.Want.{Want}
 use Rattle.subscription.specs.State.{State}
-use Rattle.notifier.specs.Limits.{Limits}
-use Rattle.notifier.specs.Start.{Start, tag_of}
-use Rattle.notifier.specs.Requests.{is_refer, user_part, event_of}
-use Rattle.notifier.specs.declared.row.Row.{Row}
-use Rattle.notifier.specs.Rows.{Told, left, said}
-use Rattle.notifier.specs.Out.{Send, Answers, Notifies, Starts, Notification, notification, notifications}
+use Rattle.notifier_model.specs.Limits.{Limits}
+use Rattle.notifier_model.specs.Start.{Start, tag_of}
+use Rattle.notifier_model.specs.Requests.{is_refer, user_part, event_of}
+use Rattle.notifier_model.specs.declared.row.Row.{Row}
+use Rattle.notifier_model.specs.Rows.{Told, left, said}
+use Rattle.notifier_model.specs.Out.{Send, Answers, Notifies, Starts, Notification, notification, notifications}
 use Rattle.lives.specs.Life.{Life, Born, Then, Heard, birth, address, number, end_of_grant, is_accepted, is_gone, last_heard, one_if, unanswered}
 use Rattle.lives.specs.Lives.{is_alive, count_alive}
 

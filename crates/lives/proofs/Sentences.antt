@@ -9,16 +9,16 @@ use Rattle.sip_text.specs.declared.address.Addr.{Addr}
 use Rattle.sip_read.specs.declared.message.Request.{Request}
 use Rattle.package.specs.declared.counts.Class.{Class}
 use Rattle.package.specs.Values.{MailChange}
-use Rattle.notifier.specs.Limits.{Limits}
-use Rattle.notifier.specs.Start.{Start, tag_of, last_moment}
-use Rattle.notifier.specs.declared.event.Event.{Event}
-use Rattle.notifier.specs.declared.event.Event.TheVariants.{Request as Comes, Reply as Replies, Mail as Mails, Progress as Progresses, Tick as Ticks, Shut as Shuts}
-use Rattle.notifier.specs.declared.request.Birth.TheVariants.{Watch, Fetch, Transfer, Unwatched}
-use Rattle.notifier.specs.Fields.{value_of}
+use Rattle.notifier_model.specs.Limits.{Limits}
+use Rattle.notifier_model.specs.Start.{Start, tag_of, last_moment}
+use Rattle.notifier_model.specs.declared.event.Event.{Event}
+use Rattle.notifier_model.specs.declared.event.Event.TheVariants.{Request as Comes, Reply as Replies, Mail as Mails, Progress as Progresses, Tick as Ticks, Shut as Shuts}
+use Rattle.notifier_model.specs.declared.birth.Birth.TheVariants.{Watch, Fetch, Transfer, Unwatched}
+use Rattle.notifier_model.specs.Fields.{value_of}
 use Rattle.subscription.specs.Table.{refuses}
 use Rattle.package.specs.Content.{is_final}
 use Rattle.sip_read.specs.declared.message.Response.{Response}
-use Rattle.notifier.specs.Requests.{is_refer, is_no, is_unwatched, asked, asks_nothing, birth_of as birth_of_request, needs_place, is_full}
+use Rattle.notifier_model.specs.Requests.{is_refer, is_no, is_unwatched, asked, asks_nothing, birth_of as birth_of_request, needs_place, is_full}
 use Rattle.lives.specs.Past.{now, last_counts, is_fresh}
 use Rattle.lives.specs.Life.{Life, Then, Heard, MailChanged, Progressed, Due, Answered, Disowned, Lost, is_overdue, birth, status, cseqs, is_above, is_gone}
 use Rattle.lives.specs.Lives.{when, is_answer_in_dialog, is_to_notify, answer_deed, tick_deed, is_due, may_hear, lived, count_alive, is_birth, birth_of, birth_here, befalls, or_before, births, life, birth_at, befell}

@@ -8,20 +8,20 @@ use Rattle.lives.proofs.Texts.{Bytes, never_both, not_true, and-right, if_is, wh
 use Rattle.sip_text.specs.declared.address.Addr.{Addr}
 use Rattle.sip_read.specs.declared.message.Request.{Request}
 use Rattle.sip_read.specs.declared.message.Response.{Response}
-use Rattle.notifier.specs.Fields.{value_of}
+use Rattle.notifier_model.specs.Fields.{value_of}
 use Rattle.package.specs.Content.{Seen, is_final, held}
 use Rattle.package.specs.Values.{MailChange, Progress}
 use Rattle.package.specs.Boxes.{first_box}
 use Rattle.subscription.specs.declared.notify.Reason.{Reason}
 use Rattle.subscription.specs.declared.notify.Reason.TheVariants.{Timeout, Noresource, Deactivated}
-use Rattle.notifier.specs.Limits.{Limits}
-use Rattle.notifier.specs.Start.{Start, tag_of, patience}
-use Rattle.notifier.specs.declared.row.Unanswered.{Unanswered}
+use Rattle.notifier_model.specs.Limits.{Limits}
+use Rattle.notifier_model.specs.Start.{Start, tag_of, patience}
+use Rattle.notifier_model.specs.declared.row.Unanswered.{Unanswered}
 use Rattle.subscription.specs.Table.{refuses}
-use Rattle.notifier.specs.declared.event.Event.{Event}
-use Rattle.notifier.specs.declared.event.Event.TheVariants.{Request as Comes, Reply as Replies, Mail as Mails, Progress as Progresses, Tick as Ticks, Shut as Shuts}
-use Rattle.notifier.specs.Requests.{is_refer, event_of, is_of_refer, asked, granted, asks_nothing, is_unwatched, is_no, misfit, misplaced_at, is_acceptable, is_too_brief, user_part}
-use Rattle.notifier.specs.declared.refusal.Refusal.TheVariants.{OnlyByRefer, NotAcceptable, NoResource, TooBrief}
+use Rattle.notifier_model.specs.declared.event.Event.{Event}
+use Rattle.notifier_model.specs.declared.event.Event.TheVariants.{Request as Comes, Reply as Replies, Mail as Mails, Progress as Progresses, Tick as Ticks, Shut as Shuts}
+use Rattle.notifier_model.specs.Requests.{is_refer, event_of, is_of_refer, asked, granted, asks_nothing, is_unwatched, is_no, misfit, misplaced_at, is_acceptable, is_too_brief, user_part}
+use Rattle.notifier_model.specs.declared.refusal.Refusal.TheVariants.{OnlyByRefer, NotAcceptable, NoResource, TooBrief}
 use Rattle.lives.specs.Past.{now, is_placed, is_fresh, fits}
 use Rattle.lives.specs.Life.{Deed, Life, Born, Then, Heard, MailChanged, Progressed, Due, Answered, Disowned, Lost, Stopped, Hearing, hearing, last_heard, cseqs, birth, is_accepted, is_above, is_grant, is_news, end_of, end_of_grant, status, is_touched, number, just_made, unanswered, is_overdue, ended, terminated, is_removed, is_gone}
 use Rattle.lives.specs.Lives.{when, is_answer_in_dialog, is_to_notify, answer_deed, tick_deed, is_due, may_hear, lived, befalls, or_before, births, life, birth_at, befell}

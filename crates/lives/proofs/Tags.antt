@@ -6,9 +6,9 @@ use Rattle.std.specs.Str.Parse.{AllDigits}
 use Rattle.std.proofs.lemmas.Fmt.{decimal_is_IsNumeral, decimal_injective}
 use Rattle.std.proofs.lemmas.List.{append_cancel_left}
 use Rattle.hex.specs.Hex.{encode_lower}
-use Rattle.notifier.specs.Tag.{local_tag, tag_bytes}
-use Rattle.notifier.specs.declared.place.Place.{Place}
-use Rattle.notifier.specs.Start.{Start, tag_of}
+use Rattle.notifier_model.specs.Tag.{local_tag, tag_bytes}
+use Rattle.notifier_model.specs.declared.place.Place.{Place}
+use Rattle.notifier_model.specs.Start.{Start, tag_of}
 
 -- a dash is no digit
 no_dash : digit_value 45 < 10 → ⊥

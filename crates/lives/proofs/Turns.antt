@@ -16,13 +16,13 @@ use Rattle.subscription.specs.declared.notify.Phase.TheVariants.{Active, Termina
 use Rattle.subscription.specs.declared.life.Step.TheVariants.{Live, Over}
 use Rattle.subscription.specs.Table.{told}
 use Rattle.subscription.specs.Written.{state_of}
-use Rattle.notifier.specs.Limits.{Limits}
-use Rattle.notifier.specs.Start.{Start, tag_of}
-use Rattle.notifier.specs.declared.event.Event.{Event}
+use Rattle.notifier_model.specs.Limits.{Limits}
+use Rattle.notifier_model.specs.Start.{Start, tag_of}
+use Rattle.notifier_model.specs.declared.event.Event.{Event}
 use Rattle.sip_write.specs.Notify.{NotifyText}
-use Rattle.notifier.specs.declared.row.Row.{Row}
-use Rattle.notifier.specs.Rows.{Told, opened, turned, notify}
-use Rattle.notifier.specs.Out.{Notifies, Notification, notification, notifications}
+use Rattle.notifier_model.specs.declared.row.Row.{Row}
+use Rattle.notifier_model.specs.Rows.{Told, opened, turned, notify}
+use Rattle.notifier_model.specs.Out.{Notifies, Notification, notification, notifications}
 use Rattle.lives.specs.Past.{now}
 use Rattle.lives.specs.Life.{Life, address, number, end_of_grant, is_touched, ended, terminated, is_removed, is_gone}
 use Rattle.lives.specs.Notices.{phase, body, notice_of, notices_at}

@@ -4,8 +4,8 @@ use Rattle.std.specs.Prelude.{codes, replicate}
 use Rattle.std.specs.FinMap.{empty, get-empty}
 use Rattle.std.specs.Ordering.{nat_cmp}
 use Rattle.std.specs.Cmp.Lexicographic.{slice_cmp}
-use Rattle.notifier.specs.Limits.{Limits}
-use Rattle.notifier.specs.Start.{Start}
+use Rattle.notifier_model.specs.Limits.{Limits}
+use Rattle.notifier_model.specs.Start.{Start}
 use Rattle.lives.specs.Laws.{IsStart}
 
 abbrev usual : Limits

@@ -4,9 +4,9 @@ use Rattle.std.specs.Prelude.{if◌then◌else◌, ◌==◌, find, unwrap_or}
 use Rattle.std.proofs.lemmas.List.Folds.{find-append}
 use Rattle.package.specs.Content.{is_final}
 use Rattle.package.specs.Run.{Status, last_status, trying}
-use Rattle.notifier.specs.Limits.{Limits}
-use Rattle.notifier.specs.Start.{Start}
-use Rattle.notifier.specs.declared.event.Event.{Event}
+use Rattle.notifier_model.specs.Limits.{Limits}
+use Rattle.notifier_model.specs.Start.{Start}
+use Rattle.notifier_model.specs.declared.event.Event.{Event}
 use Rattle.lives.specs.Past.{now}
 use Rattle.lives.specs.Life.{Deed, Life, Born, Then, Heard, MailChanged, Progressed, Due, Answered, Disowned, Lost, Stopped, status, is_gone}
 use Rattle.lives.specs.Lives.{lived, befalls, or_before, births, life, birth_at, befell}

@@ -4,12 +4,12 @@ use Rattle.sip_text.specs.declared.field.Field.TheVariants.{Absent, Bad, Value}
 use Rattle.event_headers.specs.Written.{state_text}
 use Rattle.sip_read.specs.declared.message.Request.{Request}
 use Rattle.package.specs.declared.counts.Class.TheVariants.{Voice, Fax, Text as TextMessages}
-use Rattle.notifier.specs.declared.event.Event.{Event}
-use Rattle.notifier.specs.declared.event.Event.TheVariants.{Request as Comes, Tick as Ticks, Shut}
-use Rattle.notifier.specs.Out.{Notification}
-use Rattle.notifier.proofs.Examples.{Start, Bytes, port, usual, mail_box, refer_box, presence_box, start_with, start, tag_1, tag_2, subscribe, subscribe_1, subscribe_2, subscribe_3, refer, refer_1, unwatched, for_time, for_event, to_uri, of_call, with_method, within, comes, reply_from, reply, mail_for, mail, voice, progress}
-use Rattle.notifier.specs.Tag
-use Rattle.notifier.specs.Requests
+use Rattle.notifier_model.specs.declared.event.Event.{Event}
+use Rattle.notifier_model.specs.declared.event.Event.TheVariants.{Request as Comes, Tick as Ticks, Shut}
+use Rattle.notifier_model.specs.Out.{Notification}
+use Rattle.notifier_model.proofs.Examples.{Start, Bytes, port, usual, mail_box, refer_box, presence_box, start_with, start, tag_1, tag_2, subscribe, subscribe_1, subscribe_2, subscribe_3, refer, refer_1, unwatched, for_time, for_event, to_uri, of_call, with_method, within, comes, reply_from, reply, mail_for, mail, voice, progress}
+use Rattle.notifier_model.specs.Tag
+use Rattle.notifier_model.specs.Requests
 use Rattle.subscription.specs.Table
 use Rattle.lives.specs.Past
 use Rattle.lives.specs.Life

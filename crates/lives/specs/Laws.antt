@@ -3,14 +3,14 @@ use Rattle.std.specs.Prelude.{ℕ, ◌≡◌, ◌<◌, zero, suc, ◌^◌, Bool,
 use Rattle.std.specs.List.{Contains}
 use Rattle.package.specs.Content.{refer_package}
 use Rattle.package.specs.Boxes.{content_in}
-use Rattle.notifier.specs.declared.event.Event.{Event}
-use Rattle.notifier.specs.Limits.{AreLimits}
-use Rattle.notifier.specs.Start.{Start, tag_of}
-use Rattle.notifier.specs.Out.{is_last, Notification, notifications, out_of}
-use Rattle.notifier.specs.Run.{made}
+use Rattle.notifier_model.specs.declared.event.Event.{Event}
+use Rattle.notifier_model.specs.Limits.{AreLimits}
+use Rattle.notifier_model.specs.Start.{Start, tag_of}
+use Rattle.notifier_model.specs.Out.{is_last, Notification, notifications, out_of}
+use Rattle.notifier_model.specs.Run.{made}
 use Rattle.sip_write.specs.Notify.{NotifyText, notify_text}
-use Rattle.notifier.specs.declared.event.Out.{Out}
-use Rattle.notifier.specs.declared.event.Out.TheVariants.{Answer, Notify, Start as Begins}
+use Rattle.notifier_model.specs.declared.event.Out.{Out}
+use Rattle.notifier_model.specs.declared.event.Out.TheVariants.{Answer, Notify, Start as Begins}
 use Rattle.lives.specs.Notices.{newest_first, notices}
 
 -- ---- of which starts they speak

@@ -9,10 +9,10 @@ use Rattle.package.specs.Content.{is_final}
 use Rattle.package.specs.Values.{Progress}
 use Rattle.subscription.specs.declared.notify.Reason.{Reason}
 use Rattle.subscription.specs.declared.notify.Reason.TheVariants.{Timeout, Noresource, Deactivated}
-use Rattle.notifier.specs.Limits.{Limits}
-use Rattle.notifier.specs.Start.{patience}
-use Rattle.notifier.specs.declared.row.Unanswered.{Unanswered}
-use Rattle.notifier.specs.Requests.{event_of, asked, granted, asks_nothing, is_unwatched, unheard}
+use Rattle.notifier_model.specs.Limits.{Limits}
+use Rattle.notifier_model.specs.Start.{patience}
+use Rattle.notifier_model.specs.declared.row.Unanswered.{Unanswered}
+use Rattle.notifier_model.specs.Requests.{event_of, asked, granted, asks_nothing, is_unwatched, unheard}
 
 -- What may befall it once it is born: it hears a request in its dialog; what its mailbox holds changes; there is word of its
 -- transfer; its time is up; the NOTIFY with this number is answered; a 481 to a NOTIFY disowns it; a NOTIFY stays unanswered

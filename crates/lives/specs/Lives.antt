@@ -7,12 +7,12 @@ use Rattle.sip_read.specs.declared.message.Response.{Response}
 use Rattle.package.specs.Content.{Content, OfMail, OfStatus, Maps, is_final, mail_package}
 use Rattle.package.specs.Values.{MailChange}
 use Rattle.package.specs.Changes.{same_counts}
-use Rattle.notifier.specs.declared.event.Event.{Event}
-use Rattle.notifier.specs.declared.event.Event.TheVariants.{Request as Comes, Reply as Replies, Mail as Mails, Progress as Progresses, Tick as Ticks, Shut as Shuts}
-use Rattle.notifier.specs.Limits.{Limits}
-use Rattle.notifier.specs.Fields.{or_empty, same_text}
-use Rattle.notifier.specs.Start.{StartBy, tag_of}
-use Rattle.notifier.specs.Requests.{event_of, is_refer, user_part, misfit, is_full}
+use Rattle.notifier_model.specs.declared.event.Event.{Event}
+use Rattle.notifier_model.specs.declared.event.Event.TheVariants.{Request as Comes, Reply as Replies, Mail as Mails, Progress as Progresses, Tick as Ticks, Shut as Shuts}
+use Rattle.notifier_model.specs.Limits.{Limits}
+use Rattle.notifier_model.specs.Fields.{or_empty, same_text}
+use Rattle.notifier_model.specs.Start.{StartBy, tag_of}
+use Rattle.notifier_model.specs.Requests.{event_of, is_refer, user_part, misfit, is_full}
 use Rattle.subscription.specs.Table.{is_tag, refuses}
 use Rattle.lives.specs.Life.{Deed, Answered, Born, Disowned, Due, Heard, Life, Lost, MailChanged, Progressed, Stopped, Then, birth, end_of_grant, is_above, is_gone, is_overdue, number, one_if}
 use Rattle.lives.specs.Past.{content, fits, is_fresh, now}

@@ -6,11 +6,11 @@ use Rattle.subscription.specs.declared.notify.Phase.{Phase}
 use Rattle.subscription.specs.declared.notify.Phase.TheVariants.{Active, Terminated}
 use Rattle.subscription.specs.declared.notify.Reason.{Reason}
 use Rattle.subscription.specs.Written.{state_of}
-use Rattle.notifier.specs.declared.event.Event.{Event}
-use Rattle.notifier.specs.Limits.{Limits}
-use Rattle.notifier.specs.Start.{StartBy}
-use Rattle.notifier.specs.Requests.{is_refer, user_part}
-use Rattle.notifier.specs.Out.{Notification}
+use Rattle.notifier_model.specs.declared.event.Event.{Event}
+use Rattle.notifier_model.specs.Limits.{Limits}
+use Rattle.notifier_model.specs.Start.{StartBy}
+use Rattle.notifier_model.specs.Requests.{is_refer, user_part}
+use Rattle.notifier_model.specs.Out.{Notification}
 use Rattle.lives.specs.Life.{Life, address, birth, end_of_grant, event_of_life, is_touched, number, status, terminated}
 use Rattle.lives.specs.Lives.{befell}
 use Rattle.lives.specs.Past.{content, now}

@@ -10,12 +10,12 @@ use Rattle.package.specs.declared.counts.Counts.{Counts}
 use Rattle.package.specs.Content.{Content, OfMail, OfStatus, Maps, mail_package}
 use Rattle.package.specs.Boxes.{content_in}
 use Rattle.package.specs.Run.{place}
-use Rattle.notifier.specs.declared.event.Event.{Event}
-use Rattle.notifier.specs.declared.event.Event.TheVariants.{Request as Comes, Reply as Replies, Mail as Mails, Progress as Progresses, Tick as Ticks, Shut as Shuts}
-use Rattle.notifier.specs.declared.row.Key.{Key}
-use Rattle.notifier.specs.Limits.{Limits}
-use Rattle.notifier.specs.Start.{StartBy, last_moment}
-use Rattle.notifier.specs.Requests.{is_ack, same_key, key_of_request, misfit, misplaced}
+use Rattle.notifier_model.specs.declared.event.Event.{Event}
+use Rattle.notifier_model.specs.declared.event.Event.TheVariants.{Request as Comes, Reply as Replies, Mail as Mails, Progress as Progresses, Tick as Ticks, Shut as Shuts}
+use Rattle.notifier_model.specs.declared.row.Key.{Key}
+use Rattle.notifier_model.specs.Limits.{Limits}
+use Rattle.notifier_model.specs.Start.{StartBy, last_moment}
+use Rattle.notifier_model.specs.Requests.{is_ack, same_key, key_of_request, misfit, misplaced}
 
 -- ---- the moment
 

@@ -10,12 +10,12 @@ use Rattle.package.specs.declared.change.Change.TheVariants.{Mail as MailTo}
 use Rattle.package.specs.Content.{Content}
 use Rattle.package.specs.Run.{mailbox_after, Status, furthest, trying}
 use Rattle.package.specs.Values.{MailChange}
-use Rattle.notifier.specs.declared.event.Event.{Event}
-use Rattle.notifier.specs.declared.event.Event.TheVariants.{Request as Comes, Reply as Replies, Mail as Mails, Progress as Progresses, Tick as Ticks, Shut as Shuts}
-use Rattle.notifier.specs.Limits.{Limits}
-use Rattle.notifier.specs.Start.{Start, tag_of, last_moment}
-use Rattle.notifier.specs.Requests.{is_ack, is_refer, same_key, key_of_request, granted, asks_nothing, is_unwatched}
-use Rattle.notifier.specs.declared.row.Key.{Key}
+use Rattle.notifier_model.specs.declared.event.Event.{Event}
+use Rattle.notifier_model.specs.declared.event.Event.TheVariants.{Request as Comes, Reply as Replies, Mail as Mails, Progress as Progresses, Tick as Ticks, Shut as Shuts}
+use Rattle.notifier_model.specs.Limits.{Limits}
+use Rattle.notifier_model.specs.Start.{Start, tag_of, last_moment}
+use Rattle.notifier_model.specs.Requests.{is_ack, is_refer, same_key, key_of_request, granted, asks_nothing, is_unwatched}
+use Rattle.notifier_model.specs.declared.row.Key.{Key}
 use Rattle.std.specs.List.{list_all, list_any}
 use Rattle.lives.specs.Life.{Answered, Born, Deed, Heard, Life, Progressed, Then, address, birth, cseqs, end_of_grant, ended, is_accepted, is_gone, is_grant, is_overdue, is_touched, number, one_if, status, terminated, unanswered}
 use Rattle.lives.specs.Lives.{befell, birth_at, births, count_alive, life}

@@ -4,7 +4,7 @@ use Rattle.std.specs.List.{filter}
 use Rattle.std.proofs.lemmas.List.{map-append}
 use Rattle.std.proofs.lemmas.List.Elements.{filter-append, filter_map-append}
 use Rattle.std.proofs.lemmas.List.Folds.{list_any-append}
-use Rattle.notifier.specs.declared.event.Event.{Event}
+use Rattle.notifier_model.specs.declared.event.Event.{Event}
 use Rattle.crew.specs.Ports.{PortSeats}
 use Rattle.wires.specs.declared.datagram.Datagram.{Datagram}
 use Rattle.wires.specs.Wires.{Grows}

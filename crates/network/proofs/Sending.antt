@@ -5,10 +5,10 @@ use Rattle.std.proofs.lemmas.List.{append-nil, map-append}
 use Rattle.std.proofs.lemmas.List.Elements.{filter-append}
 use Rattle.std.proofs.lemmas.Bool.Decides.{eqb_tells}
 use Rattle.queue_rule.specs.Values.{value_item, values_by}
-use Rattle.notifier.specs.declared.event.Event.{Event}
-use Rattle.notifier.specs.Home.{home, is_for_all, comes_to, events_for}
+use Rattle.notifier_model.specs.declared.event.Event.{Event}
+use Rattle.notifier_model.specs.Home.{home, is_for_all, comes_to, events_for}
 use Rattle.inbox.specs.Seats.{SenderSeat, with_sent}
-use Rattle.notifier.specs.declared.event.Event.TheVariants as event
+use Rattle.notifier_model.specs.declared.event.Event.TheVariants as event
 use Rattle.crew.specs.Ports.{PortSeats, SendsTo, sent_first, sends_first}
 use Rattle.crew.specs.PortErrors.{GivesBack, TicksFirst}
 use Rattle.crew.specs.declared.errors.SendError.{SendError}

@@ -2,8 +2,8 @@
 use Rattle.std.specs.Prelude.{◌≡◌, ◌⊎◌, ◌<◌, ◌≤◌, ℕ, Bool, true, false, List, [], ◌∷◌, ◌++◌, length, map, slice_get, Option, Some, None}
 use Rattle.std.specs.List.{filter, filter_map, list_any, AllByRecursion}
 use Rattle.queue_rule.specs.Values.{values_by}
-use Rattle.notifier.specs.declared.event.Event.{Event}
-use Rattle.notifier.specs.Home.{is_for_all, events_for}
+use Rattle.notifier_model.specs.declared.event.Event.{Event}
+use Rattle.notifier_model.specs.Home.{is_for_all, events_for}
 use Rattle.inbox.specs.Seats.{SenderSeat}
 use Rattle.crew.specs.Ports.{PortSeats, sends_first}
 use Rattle.scripts.specs.Devices.{one_more}

@@ -14,8 +14,8 @@ use Rattle.scripts.specs.declared.script.Control.TheVariants as control
 use Rattle.scripts.specs.declared.error.ScriptError.{ScriptError}
 use Rattle.scripts.specs.declared.error.ScriptError.TheVariants as error
 use Rattle.scripts.specs.Script.{IsControlLine}
-use Rattle.notifier.specs.declared.event.Event.{Event}
-use Rattle.notifier.specs.declared.event.Event.TheVariants as event
+use Rattle.notifier_model.specs.declared.event.Event.{Event}
+use Rattle.notifier_model.specs.declared.event.Event.TheVariants as event
 use Rattle.wires.specs.declared.datagram.Datagram.{Datagram}
 use Rattle.network.specs.declared.hearing.Heard.{Heard}
 use Rattle.network.specs.declared.hearing.Heard.TheVariants as heard

@@ -7,7 +7,7 @@ ghost use Rattle.network.specs.Fed.{Sends, Misses, IsTold, Log, datagrams, IsFed
 use crate::hearing::{Heard, Language, hear};
 use crew::Port;
 use homes::is_for_all;
-use notifier::Event;
+use notifier_model::Event;
 use std::alloc::Global;
 use std::sync::Wait;
 use wires::Wire;

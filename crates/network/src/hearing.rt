@@ -2,7 +2,7 @@
 ghost use Rattle.wires.specs.Wires.{datagram};
 ghost use Rattle.network.specs.Heard.{SipSays, ControlSays, Says};
 
-use notifier::Event;
+use notifier_model::Event;
 use scripts::{Control, parse_control};
 use sip_read::{Message, read};
 use sip_text::Addr;

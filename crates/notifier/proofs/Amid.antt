@@ -2,10 +2,10 @@
 use Rattle.std.proofs.Common.{◌≡◌, ◌≢◌, ◌⊎◌, ◌∙◌, sym, ap, refl, inl, inr, ℕ, ◌+◌, ◌<◌, ◌≤◌, Bool, true, false, ◌||◌, List, [], ◌∷◌, ◌++◌, Option, Some, None, is_none, ◌&&◌, arith, ◌==◌, eq-eqb, append_assoc, if◌then◌else◌, option_to_list, IfSome}
 use Rattle.std.proofs.lemmas.Bool.{cases_eq}
 use Rattle.std.proofs.lemmas.List.{append-nil}
-use Rattle.notifier.specs.declared.row.Row.{Row}
-use Rattle.notifier.specs.Out.{Send}
-use Rattle.notifier.specs.Requests.{is_of_refer}
-use Rattle.notifier.specs.Rows.{Told, stays, left, said, gone, gone_at, only}
+use Rattle.notifier_model.specs.declared.row.Row.{Row}
+use Rattle.notifier_model.specs.Out.{Send}
+use Rattle.notifier_model.specs.Requests.{is_of_refer}
+use Rattle.notifier_model.specs.Rows.{Told, stays, left, said, gone, gone_at, only}
 use Rattle.notifier.specs.Stored.{with_serial}
 use Rattle.notifier.specs.Among.{has, among, Cover, said_at, gone_with}
 use Rattle.notifier.proofs.Rising.{Rises, neq-eqb, with_serial-same, with_serial-other, with_serial-below}

@@ -1,10 +1,10 @@
 -- What a request makes tells what it asks for.
 use Rattle.std.proofs.Common.{◌≡◌, Bool, true, false, not, ◌&&◌, ◌==◌, if◌then◌else◌, refl}
 use Rattle.sip_read.specs.declared.message.Request.{Request}
-use Rattle.notifier.specs.declared.request.Birth.{Birth}
-use Rattle.notifier.specs.declared.request.Birth.TheVariants.{Watch, Fetch, Transfer, Unwatched}
-use Rattle.notifier.specs.Limits.{Limits}
-use Rattle.notifier.specs.Requests.{is_refer, is_unwatched, asked, asks_nothing, birth_of}
+use Rattle.notifier_model.specs.declared.birth.Birth.{Birth}
+use Rattle.notifier_model.specs.declared.birth.Birth.TheVariants.{Watch, Fetch, Transfer, Unwatched}
+use Rattle.notifier_model.specs.Limits.{Limits}
+use Rattle.notifier_model.specs.Requests.{is_refer, is_unwatched, asked, asks_nothing, birth_of}
 
 -- by a REFER, one that nobody watches, no time asked for
 by_tests : (a b c : Bool) (kind : Birth) → kind ≡ (if a then (if b then Unwatched else Transfer) else if not a && c then Fetch else Watch) → (kind ≡ Fetch → ⊥) → (not a && c) ≡ false

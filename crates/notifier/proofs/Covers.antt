@@ -7,11 +7,11 @@ use Rattle.std.specs.BTreeSet as sorted
 use Rattle.sip_read.specs.declared.message.Response.{Response}
 use Rattle.subscription.specs.Table.{is_answer_to, is_tag}
 use Rattle.package.specs.Content.{Maps, SeenBy}
-use Rattle.notifier.specs.declared.place.Place.{Place}
-use Rattle.notifier.specs.declared.row.Row.{Row}
-use Rattle.notifier.specs.declared.row.Unanswered.{Unanswered}
+use Rattle.notifier_model.specs.declared.place.Place.{Place}
+use Rattle.notifier_model.specs.declared.row.Row.{Row}
+use Rattle.notifier_model.specs.declared.row.Unanswered.{Unanswered}
 use Rattle.notifier.specs.declared.rows.Rows.{Rows}
-use Rattle.notifier.specs.Rows.{Told, wherever, stays, only, answered, takes_answer, is_answered_by, watches, tells_change, tells_watcher, is_due, is_late, is_overdue, ends, times_out}
+use Rattle.notifier_model.specs.Rows.{Told, wherever, stays, only, answered, takes_answer, is_answered_by, watches, tells_change, tells_watcher, is_due, is_late, is_overdue, ends, times_out}
 use Rattle.subscription.specs.declared.notify.Reason.TheVariants.{Timeout}
 use Rattle.notifier.specs.Among.{has, Cover}
 use Rattle.notifier.specs.Stored.{rows_of, row_at, with_serial, by_time, gives_up, alarm_with, alarm_of, is_timed_at, is_of, IsIndexed, IsTimed}

@@ -4,10 +4,10 @@ use Rattle.std.proofs.lemmas.List.Elements.{All-nil, All-cons, All-head, All-tai
 use Rattle.std.proofs.lemmas.Slice.Eq.{bytes_eq-Decides}
 use Rattle.sip_read.specs.declared.message.Request.{Request}
 use Rattle.sip_read.specs.declared.message.Response.{Response}
-use Rattle.notifier.specs.declared.place.Place.{Place}
-use Rattle.notifier.specs.declared.row.Row.{Row}
+use Rattle.notifier_model.specs.declared.place.Place.{Place}
+use Rattle.notifier_model.specs.declared.row.Row.{Row}
 use Rattle.notifier.specs.declared.rows.Rows.{Rows}
-use Rattle.notifier.specs.Rows.{is_dialog}
+use Rattle.notifier_model.specs.Rows.{is_dialog}
 use Rattle.notifier.specs.Sound.{IsOwn}
 use Rattle.notifier.specs.Stored.{rows_of, row_at, IsIndexed, Gives}
 use Rattle.notifier.proofs.Covers.{Leads}

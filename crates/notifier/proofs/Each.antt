@@ -2,10 +2,10 @@
 use Rattle.std.proofs.Common.{◌≡◌, ◌∙◌, sym, ap, refl, ℕ, ◌+◌, ◌<◌, ◌≤◌, Bool, true, false, ◌==◌, List, [], ◌∷◌, ◌++◌, take, length, get_or, zero, suc, arith, map, append_assoc}
 use Rattle.std.proofs.lemmas.List.{take_more, append-nil, map-append}
 use Rattle.std.proofs.lemmas.Bool.Decides.{nat_tests}
-use Rattle.notifier.specs.declared.event.Out.{Out}
-use Rattle.notifier.specs.declared.row.Row.{Row}
-use Rattle.notifier.specs.Out.{out_of}
-use Rattle.notifier.specs.Rows.{Told, left, said, gone, only}
+use Rattle.notifier_model.specs.declared.event.Out.{Out}
+use Rattle.notifier_model.specs.declared.row.Row.{Row}
+use Rattle.notifier_model.specs.Out.{out_of}
+use Rattle.notifier_model.specs.Rows.{Told, left, said, gone, only}
 use Rattle.notifier.specs.Among.{has, among, RiseFrom}
 use Rattle.notifier.proofs.Rising.{Rises}
 use Rattle.notifier.proofs.Passes.{KeepsSerials, left-stays}

@@ -7,13 +7,13 @@ use Rattle.subscription.specs.declared.life.Step.{Step}
 use Rattle.subscription.specs.declared.terms.Want.{Want}
 use Rattle.subscription.specs.State.{State}
 use Rattle.package.specs.Content.{Maps, SeenBy}
-use Rattle.notifier.specs.declared.place.Place.{Place}
-use Rattle.notifier.specs.declared.row.Row.{Row}
-use Rattle.notifier.specs.declared.row.Unanswered.{Unanswered}
+use Rattle.notifier_model.specs.declared.place.Place.{Place}
+use Rattle.notifier_model.specs.declared.row.Row.{Row}
+use Rattle.notifier_model.specs.declared.row.Unanswered.{Unanswered}
 use Rattle.notifier.specs.declared.rules.After.{After}
-use Rattle.notifier.specs.Rows.{Told, turned}
+use Rattle.notifier_model.specs.Rows.{Told, turned}
 use Rattle.notifier.specs.Told.{row_with}
-use Rattle.notifier.specs.Book.{new_want, new_row, first_told}
+use Rattle.notifier_model.specs.Book.{new_want, new_row, first_told}
 
 -- no NOTIFY was sent yet
 pub first_row : (serial : ℕ) (r : Request) (unanswered : List Unanswered) → unanswered ≡ []

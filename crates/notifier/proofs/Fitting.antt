@@ -7,10 +7,10 @@ use Rattle.sip_text.specs.declared.field.Field.TheVariants.{Absent, Bad, Value}
 use Rattle.event_headers.specs.Values.{EventValue}
 use Rattle.event_headers.specs.declared.values.EventValue.{EventValue as Stored}
 use Rattle.sip_read.specs.declared.message.Request.{Request}
-use Rattle.notifier.specs.declared.refusal.Refusal.{Refusal}
-use Rattle.notifier.specs.declared.refusal.Refusal.TheVariants.{OtherMethod, OtherScheme, UnmetRequire, Malformed}
-use Rattle.notifier.specs.Fields.{is_absent, is_bad, value_of}
-use Rattle.notifier.specs.Requests.{is_subscribe, is_refer, is_sip_uri, is_strange, is_malformed, misfit, event_of, refer_event, no_event}
+use Rattle.notifier_model.specs.declared.refusal.Refusal.{Refusal}
+use Rattle.notifier_model.specs.declared.refusal.Refusal.TheVariants.{OtherMethod, OtherScheme, UnmetRequire, Malformed}
+use Rattle.notifier_model.specs.Fields.{is_absent, is_bad, value_of}
+use Rattle.notifier_model.specs.Requests.{is_subscribe, is_refer, is_sip_uri, is_strange, is_malformed, misfit, event_of, refer_event, no_event}
 
 -- by the tests of a misfit: a method, a scheme, a demand, the same method again, an Event that isn't there or is bad
 by_tests : (s f u q m a b c d : Bool)

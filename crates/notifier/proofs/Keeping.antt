@@ -12,14 +12,14 @@ use Rattle.subscription.specs.declared.life.Step.TheVariants.{Live, Over}
 use Rattle.subscription.specs.State.{State}
 use Rattle.subscription.specs.Table.{told, refresh, end, over, changed, refuses}
 use Rattle.package.specs.Content.{Maps, SeenBy, is_final}
-use Rattle.notifier.specs.declared.place.Place.{Place}
-use Rattle.notifier.specs.declared.row.Row.{Row}
+use Rattle.notifier_model.specs.declared.place.Place.{Place}
+use Rattle.notifier_model.specs.declared.row.Row.{Row}
 use Rattle.notifier.specs.declared.rule.Cause.{Cause}
 use Rattle.notifier.specs.declared.rule.Cause.TheVariants.{Response as Answer, Refused, Renewal, Change, Time, Stop}
 use Rattle.notifier.specs.Causes.{rule_of, CanTell}
-use Rattle.notifier.specs.Fields.{value_of}
-use Rattle.notifier.specs.Requests.{asks_nothing, granted}
-use Rattle.notifier.specs.Rows.{Told, wherever, has_serial, opened, with_sub, turned, tells, stays, goes, left, only, counted, closed, takes_answer, is_answered_by, answered, renewed, renewed_sub, watches, tells_change, tells_watcher, is_due, is_overdue, ends, times_out, stops}
+use Rattle.notifier_model.specs.Fields.{value_of}
+use Rattle.notifier_model.specs.Requests.{asks_nothing, granted}
+use Rattle.notifier_model.specs.Rows.{Told, wherever, has_serial, opened, with_sub, turned, tells, stays, goes, left, only, counted, closed, takes_answer, is_answered_by, answered, renewed, renewed_sub, watches, tells_change, tells_watcher, is_due, is_overdue, ends, times_out, stops}
 use Rattle.notifier.proofs.Lives.{all_left, only_keeps, watcher_lives, due_in_order}
 use Rattle.notifier.proofs.Owned.{Keeps, IsStill, some_weaker, answered_keeps, counted_keeps, renewed_keeps, watcher_keeps, due_keeps, stops_keeps}
 use Rattle.notifier.proofs.Passes.{KeepsSerials}

@@ -1,6 +1,3 @@
-pub mod Examples
-pub mod WorkedRuns
-pub mod Texts
 pub mod FirstBox
 pub mod Fitting
 pub mod Births
@@ -25,5 +22,4 @@ pub mod Covers
 pub mod Dialogs
 pub mod Soundness
 pub mod Steps
-pub mod Runs
 pub mod Slots

@@ -15,16 +15,16 @@ use Rattle.subscription.specs.declared.life.Step.TheVariants.{Live, Over}
 use Rattle.subscription.specs.State.{State}
 use Rattle.subscription.specs.Table.{told, accept, fetch, refresh, end, over, changed, is_answer_to, refuses}
 use Rattle.package.specs.Content.{Maps, SeenBy, is_final}
-use Rattle.notifier.specs.declared.place.Place.{Place}
-use Rattle.notifier.specs.declared.row.Row.{Row}
-use Rattle.notifier.specs.Limits.{Limits, AreLimits}
-use Rattle.notifier.specs.Requests.{is_refer, asked, granted, asks_nothing, birth_of}
-use Rattle.notifier.specs.declared.request.Birth.{Birth}
-use Rattle.notifier.specs.declared.request.Birth.TheVariants.{Watch, Fetch, Transfer, Unwatched}
+use Rattle.notifier_model.specs.declared.place.Place.{Place}
+use Rattle.notifier_model.specs.declared.row.Row.{Row}
+use Rattle.notifier_model.specs.Limits.{Limits, AreLimits}
+use Rattle.notifier_model.specs.Requests.{is_refer, asked, granted, asks_nothing, birth_of}
+use Rattle.notifier_model.specs.declared.birth.Birth.{Birth}
+use Rattle.notifier_model.specs.declared.birth.Birth.TheVariants.{Watch, Fetch, Transfer, Unwatched}
 use Rattle.notifier.proofs.Births.{watch_asks, transfer_asks}
-use Rattle.notifier.specs.Rows.{Told, wherever, opened, with_sub, turned, tells, stays, goes, left, only, counted, closed, takes_answer, answered, renewed, renewed_sub, watches, tells_change, tells_watcher, is_overdue, ends, times_out, stops}
-use Rattle.notifier.specs.Fields.{value_of}
-use Rattle.notifier.specs.Book.{new_usage, new_want, new_row, first_step, first_told}
+use Rattle.notifier_model.specs.Rows.{Told, wherever, opened, with_sub, turned, tells, stays, goes, left, only, counted, closed, takes_answer, answered, renewed, renewed_sub, watches, tells_change, tells_watcher, is_overdue, ends, times_out, stops}
+use Rattle.notifier_model.specs.Fields.{value_of}
+use Rattle.notifier_model.specs.Book.{new_usage, new_want, new_row, first_step, first_told}
 use Rattle.notifier.specs.Sound.{IsLive, AreTimely, AreInOrder}
 use Rattle.notifier.proofs.Timely.{timely_none, timely_push, timely_filter}
 

@@ -15,14 +15,14 @@ use Rattle.subscription.specs.declared.life.Step.TheVariants.{Live, Over}
 use Rattle.subscription.specs.State.{State}
 use Rattle.subscription.specs.Table.{accept, fetch, end, over, changed, refuses}
 use Rattle.package.specs.Content.{Maps, SeenBy, is_final}
-use Rattle.notifier.specs.declared.place.Place.{Place}
-use Rattle.notifier.specs.declared.row.Row.{Row}
-use Rattle.notifier.specs.declared.request.Birth.{Birth}
-use Rattle.notifier.specs.declared.request.Birth.TheVariants.{Watch, Fetch, Transfer, Unwatched}
-use Rattle.notifier.specs.Limits.{Limits}
-use Rattle.notifier.specs.Start.{tag_of}
-use Rattle.notifier.specs.Rows.{Told, wherever, has_serial, opened, with_sub, turned, tells, stays, goes, left, only, counted, closed, takes_answer, is_answered_by, answered, renewed, watches, tells_change, tells_watcher, is_due, is_overdue, ends, times_out, stops, usage_after}
-use Rattle.notifier.specs.Book.{new_usage, new_want, new_row, first_step, first_told}
+use Rattle.notifier_model.specs.declared.place.Place.{Place}
+use Rattle.notifier_model.specs.declared.row.Row.{Row}
+use Rattle.notifier_model.specs.declared.birth.Birth.{Birth}
+use Rattle.notifier_model.specs.declared.birth.Birth.TheVariants.{Watch, Fetch, Transfer, Unwatched}
+use Rattle.notifier_model.specs.Limits.{Limits}
+use Rattle.notifier_model.specs.Start.{tag_of}
+use Rattle.notifier_model.specs.Rows.{Told, wherever, has_serial, opened, with_sub, turned, tells, stays, goes, left, only, counted, closed, takes_answer, is_answered_by, answered, renewed, watches, tells_change, tells_watcher, is_due, is_overdue, ends, times_out, stops, usage_after}
+use Rattle.notifier_model.specs.Book.{new_usage, new_want, new_row, first_step, first_told}
 use Rattle.notifier.specs.Sound.{IsOwn, AreRising}
 use Rattle.notifier.proofs.Lives.{all_left, all_more}
 use Rattle.notifier.proofs.Renewal.{tag_told, tag_renewed}

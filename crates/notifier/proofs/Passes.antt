@@ -2,8 +2,8 @@
 use Rattle.std.proofs.Common.{◌≡◌, ◌≢◌, ◌∙◌, sym, ap, refl, inl, inr, ℕ, ◌+◌, ◌<◌, ◌≤◌, Bool, true, false, cond, List, [], ◌∷◌, ◌++◌, Option, Some, None, arith, ◌==◌, eq-eqb, option_to_list, IfSome}
 use Rattle.std.proofs.lemmas.Bool.{cases_eq}
 use Rattle.std.specs.Option.{option_and_then}
-use Rattle.notifier.specs.declared.row.Row.{Row}
-use Rattle.notifier.specs.Rows.{Told, wherever, stays, left, only}
+use Rattle.notifier_model.specs.declared.row.Row.{Row}
+use Rattle.notifier_model.specs.Rows.{Told, wherever, stays, left, only}
 use Rattle.notifier.specs.declared.rows.Rows.{Rows}
 use Rattle.notifier.specs.Stored.{rows_of, row_at, with_serial, IsIndexed, Turns}
 use Rattle.notifier.proofs.Rising.{Rises, neq-eqb, with_serial-same, with_serial-other, with_serial-below}

@@ -6,14 +6,14 @@ use Rattle.sip_read.specs.declared.message.Request.{Request}
 use Rattle.subscription.specs.declared.life.Step.{Step}
 use Rattle.subscription.specs.State.{State}
 use Rattle.subscription.specs.Table.{told, refresh, end}
-use Rattle.notifier.specs.declared.place.Place.{Place}
+use Rattle.notifier_model.specs.declared.place.Place.{Place}
 use Rattle.subscription.specs.declared.terms.Want.{Want}
 use Rattle.package.specs.Content.{Maps, SeenBy}
-use Rattle.notifier.specs.declared.row.Row.{Row}
+use Rattle.notifier_model.specs.declared.row.Row.{Row}
 use Rattle.notifier.specs.declared.rules.After.{After}
-use Rattle.notifier.specs.Requests.{asks_nothing, is_of_refer}
-use Rattle.notifier.specs.Out.{out_of}
-use Rattle.notifier.specs.Rows.{Told, with_sub, turned, usage_after, renewed, renewed_sub, gone_at}
+use Rattle.notifier_model.specs.Requests.{asks_nothing, is_of_refer}
+use Rattle.notifier_model.specs.Out.{out_of}
+use Rattle.notifier_model.specs.Rows.{Told, with_sub, turned, usage_after, renewed, renewed_sub, gone_at}
 use Rattle.notifier.specs.Told.{IsTold}
 
 by_if : (b : Bool) (x y : Step) (tag : List ℕ) → (usage_after x).local_tag ≡ tag → (usage_after y).local_tag ≡ tag → (usage_after (if b then x else y)).local_tag ≡ tag

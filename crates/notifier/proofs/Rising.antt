@@ -9,7 +9,7 @@ use Rattle.std.specs.Option.{IsSomeAnd, option_and_then}
 use Rattle.std.specs.Ordering.{nat_cmp}
 use Rattle.std.specs.declared.cmp.Ordering.TheVariants.{Less}
 use Rattle.std.specs.BTreeMap.{is_at}
-use Rattle.notifier.specs.declared.row.Row.{Row}
+use Rattle.notifier_model.specs.declared.row.Row.{Row}
 use Rattle.notifier.specs.Stored.{with_serial}
 
 -- serials rise, from low on

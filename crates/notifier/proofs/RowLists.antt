@@ -1,11 +1,11 @@
 -- One row more, at the end of the rows that were told so far.
 use Rattle.std.proofs.Common.{◌≡◌, List, [], ◌∷◌, ◌++◌, refl, sym, ap, ◌∙◌, append_assoc, option_to_list, ℕ}
 use Rattle.std.proofs.lemmas.List.{append-nil}
-use Rattle.notifier.specs.declared.row.Row.{Row}
+use Rattle.notifier_model.specs.declared.row.Row.{Row}
 use Rattle.package.specs.declared.change.Change.TheVariants.{Forget}
 use Rattle.package.specs.Content.{Maps, SeenBy}
 use Rattle.package.specs.Boxes.{change_first}
-use Rattle.notifier.specs.Rows.{Told, left, forgetting}
+use Rattle.notifier_model.specs.Rows.{Told, left, forgetting}
 
 module _ (rule : Row → Told) where
   pub left-push : (rows : List Row) (row : Row) → left rule (rows ++ row ∷ []) ≡ left rule rows ++ option_to_list (rule row).row

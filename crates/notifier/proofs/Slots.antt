@@ -8,11 +8,11 @@ use Rattle.std.proofs.lemmas.Option.{get_or_from_slice_get}
 use Rattle.circular_buffer.specs.Buffer.{Buffer, buffer}
 use Rattle.std.proofs.lemmas.Slice.Eq.{bytes_eq-Decides}
 use Rattle.std.proofs.lemmas.Bool.Decides.{nat_tests}
-use Rattle.notifier.specs.declared.row.Key.{Key}
-use Rattle.notifier.specs.declared.row.Kept.{Kept}
+use Rattle.notifier_model.specs.declared.row.Key.{Key}
+use Rattle.notifier_model.specs.declared.row.Kept.{Kept}
 use Rattle.notifier.specs.declared.transaction.Transaction.{Transaction}
 use Rattle.notifier.specs.contracts.transaction.TransactionPartialEq.TheImpl as equality
-use Rattle.notifier.specs.Answers.{has_key}
+use Rattle.notifier_model.specs.Answers.{has_key}
 use Rattle.notifier.specs.Transactions.{key_of}
 use Rattle.notifier.specs.Slots.{after, slot_at, answers, place_of, slot_in, IsIndexed}
 

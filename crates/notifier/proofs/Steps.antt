@@ -2,11 +2,11 @@
 use Rattle.std.proofs.Common.{◌≡◌, List, ◌++◌, map, sym, ap, subst, ◌∙◌}
 use Rattle.std.proofs.lemmas.List.{map-append}
 use Rattle.package.specs.Content.{Seen}
-use Rattle.notifier.specs.declared.event.Out.{Out}
-use Rattle.notifier.specs.declared.row.Row.{Row}
-use Rattle.notifier.specs.Out.{Send, out_of}
-use Rattle.notifier.specs.Rows.{Told, left, said, gone, forgetting}
-use Rattle.notifier.specs.Book.{Book, all_rows}
+use Rattle.notifier_model.specs.declared.event.Out.{Out}
+use Rattle.notifier_model.specs.declared.row.Row.{Row}
+use Rattle.notifier_model.specs.Out.{Send, out_of}
+use Rattle.notifier_model.specs.Rows.{Told, left, said, gone, forgetting}
+use Rattle.notifier_model.specs.Book.{Book, all_rows}
 use Rattle.notifier.specs.Ledger.{IsStep}
 
 pub all_rows_step : (b : Book) (rule : Row → Told) (sends : List Send) (rows : List Row) (boxes : List Seen) (outs made : List Out)

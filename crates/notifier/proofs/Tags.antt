@@ -5,9 +5,9 @@ use Rattle.std.proofs.lemmas.List.Elements.{All-nil, All-cons, All-push, All-get
 use Rattle.std.proofs.lemmas.Str.Pattern.{IsSplitOnceResult, split_after}
 use Rattle.std.specs.Option.{MatchOption}
 use Rattle.hex.specs.Hex.{encode_lower}
-use Rattle.notifier.specs.declared.place.Place.{Place}
-use Rattle.notifier.specs.Start.{tag_of}
-use Rattle.notifier.specs.Tag.{local_tag, tag_bytes}
+use Rattle.notifier_model.specs.declared.place.Place.{Place}
+use Rattle.notifier_model.specs.Start.{tag_of}
+use Rattle.notifier_model.specs.Tag.{local_tag, tag_bytes}
 
 abbrev NoDash : List ℕ → Type 0
 NoDash bs = All (λ b. b ≢ 45) bs

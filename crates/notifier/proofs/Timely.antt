@@ -3,7 +3,7 @@ use Rattle.std.proofs.Common.{◌≡◌, ℕ, zero, suc, ◌≤◌, Bool, List, 
 use Rattle.std.proofs.lemmas.List.Elements.{All-nil, All-push, All-filter, All-weaker}
 use Rattle.std.proofs.lemmas.List.Kept.{AllPairs-filter}
 use Rattle.std.proofs.lemmas.List.Quantifiers.{all_pairs_push}
-use Rattle.notifier.specs.declared.row.Unanswered.{Unanswered}
+use Rattle.notifier_model.specs.declared.row.Unanswered.{Unanswered}
 use Rattle.notifier.specs.Sound.{AreInOrder, AreTimely}
 
 pub timely_none : (clock : ℕ) → AreTimely clock []

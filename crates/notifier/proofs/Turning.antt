@@ -9,7 +9,7 @@ use Rattle.std.specs.Ordering.{nat_cmp}
 use Rattle.std.specs.BTreeMap as tree
 use Rattle.std.specs.BTreeSet as sorted
 use Rattle.slab.specs.Slab as slab
-use Rattle.notifier.specs.declared.row.Row.{Row}
+use Rattle.notifier_model.specs.declared.row.Row.{Row}
 use Rattle.notifier.specs.declared.rows.Rows.{Rows}
 use Rattle.notifier.specs.Stored.{rows_of, row_at, with_serial, by_time, alarm_of, is_timed_at, is_of, IsIndexed, Turns}
 use Rattle.std.specs.declared.result.Result.{Result}

@@ -1,8 +1,8 @@
 -- A rule for the rows with some serials alone.
 use Rattle.std.specs.Prelude.{◌≡◌, ◌⊎◌, ℕ, Bool, true, false, ◌||◌, ◌==◌, ◌+◌, ◌≤◌, List, [], ◌∷◌, Option, Some, None, if◌then◌else◌}
-use Rattle.notifier.specs.declared.row.Row.{Row}
-use Rattle.notifier.specs.Out.{Send}
-use Rattle.notifier.specs.Rows.{Told, stays, gone_at}
+use Rattle.notifier_model.specs.declared.row.Row.{Row}
+use Rattle.notifier_model.specs.Out.{Send}
+use Rattle.notifier_model.specs.Rows.{Told, stays, gone_at}
 use Rattle.notifier.specs.Stored.{with_serial}
 
 abbrev pub has : ℕ → List ℕ → Bool

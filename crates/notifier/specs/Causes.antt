@@ -1,12 +1,12 @@
 -- The rule by which each cause tells the live subscriptions.
 use Rattle.std.specs.Prelude.{ℕ, List}
 use Rattle.package.specs.Content.{Maps, SeenBy}
-use Rattle.notifier.specs.declared.place.Place.{Place}
-use Rattle.notifier.specs.declared.row.Row.{Row}
+use Rattle.notifier_model.specs.declared.place.Place.{Place}
+use Rattle.notifier_model.specs.declared.row.Row.{Row}
 use Rattle.notifier.specs.declared.rule.Cause.{Cause}
 use Rattle.notifier.specs.declared.rule.Cause.TheVariants.{Response, Refused, Renewal, Change, Time, Stop}
 use Rattle.notifier.specs.Sound.{IsLive, AreInOrder}
-use Rattle.notifier.specs.Rows.{Told, only, answered, counted, renewed, tells_watcher, times_out, stops}
+use Rattle.notifier_model.specs.Rows.{Told, only, answered, counted, renewed, tells_watcher, times_out, stops}
 
 module _ {maps : Maps} where
   abbrev pub rule_of : Place → List (SeenBy maps) → ℕ → Cause → Row → Told

@@ -1,15 +1,15 @@
 -- A request that came in, and what serving it makes of a ledger.
 use Rattle.std.specs.Prelude.{◌≡◌, ℕ, List, option_map}
 use Rattle.package.specs.Content.{Seen, SeenBy, finite_maps}
-use Rattle.notifier.specs.declared.event.Out.{Out}
+use Rattle.notifier_model.specs.declared.event.Out.{Out}
 use Rattle.notifier.specs.declared.incoming.Incoming.{Incoming}
 use Rattle.notifier.specs.declared.ledger.Ledger.{Ledger}
-use Rattle.notifier.specs.declared.place.Place.{Place}
+use Rattle.notifier_model.specs.declared.place.Place.{Place}
 use Rattle.notifier.specs.declared.birth.Newborn.{Newborn}
-use Rattle.notifier.specs.Book.{Verdict, served, new_usage, new_want, first_step, first_told}
+use Rattle.notifier_model.specs.Book.{Verdict, served, new_usage, new_want, first_step, first_told}
 use Rattle.notifier.specs.Ledger.{book_of, IsStep}
-use Rattle.notifier.specs.Requests.{key_of_request}
-use Rattle.notifier.specs.Rows.{Told}
+use Rattle.notifier_model.specs.Requests.{key_of_request}
+use Rattle.notifier_model.specs.Rows.{Told}
 use Rattle.notifier.specs.Transactions.{key_of}
 
 -- its texts name the transaction of its request

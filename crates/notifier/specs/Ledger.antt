@@ -2,10 +2,10 @@
 use Rattle.std.specs.Prelude.{◌≡◌, ◌<◌, ◌≤◌, ◌^◌, List, map, All}
 use Rattle.package.specs.Content.{Seen, finite_maps}
 use Rattle.notifier.specs.declared.ledger.Ledger.{Ledger}
-use Rattle.notifier.specs.declared.event.Out.{Out}
-use Rattle.notifier.specs.declared.place.Place.{Place}
-use Rattle.notifier.specs.Out.{out_of}
-use Rattle.notifier.specs.Book.{Book, SteppedBy}
+use Rattle.notifier_model.specs.declared.event.Out.{Out}
+use Rattle.notifier_model.specs.declared.place.Place.{Place}
+use Rattle.notifier_model.specs.Out.{out_of}
+use Rattle.notifier_model.specs.Book.{Book, SteppedBy}
 use Rattle.notifier.specs.Stored.{rows_of, IsIndexed}
 use Rattle.notifier.specs.Sound.{IsLive, IsOwn, AreRising}
 

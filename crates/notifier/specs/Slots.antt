@@ -5,10 +5,10 @@
 use Rattle.std.specs.Prelude.{◌≡◌, ℕ, suc, ◌+◌, ◌-◌, ◌<◌, ◌≤◌, Bool, List, [], ◌∷◌, length, take, Option, Some, None, option_map, if◌then◌else◌, nat_le, ◌==◌}
 use Rattle.std.specs.HashMap.{HashMap, get}
 use Rattle.circular_buffer.specs.Buffer.{Buffer, buffer}
-use Rattle.notifier.specs.declared.row.Kept.{Kept}
+use Rattle.notifier_model.specs.declared.row.Kept.{Kept}
 use Rattle.notifier.specs.declared.transaction.Transaction.{Transaction}
 use Rattle.notifier.specs.contracts.transaction.TransactionPartialEq.TheImpl as equality
-use Rattle.notifier.specs.Answers.{has_key}
+use Rattle.notifier_model.specs.Answers.{has_key}
 use Rattle.notifier.specs.Transactions.{key_of}
 
 -- the slot after this one

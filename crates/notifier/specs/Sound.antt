@@ -1,10 +1,10 @@
 -- What holds of every live row, so that no number leaves its type, and of all rows.
 use Rattle.std.specs.Prelude.{◌≡◌, ℕ, ◌+◌, ◌<◌, ◌≤◌, List, [], ◌∷◌, All}
 use Rattle.std.specs.List.{AllPairs}
-use Rattle.notifier.specs.declared.place.Place.{Place}
-use Rattle.notifier.specs.declared.row.Row.{Row}
-use Rattle.notifier.specs.declared.row.Unanswered.{Unanswered}
-use Rattle.notifier.specs.Start.{tag_of}
+use Rattle.notifier_model.specs.declared.place.Place.{Place}
+use Rattle.notifier_model.specs.declared.row.Row.{Row}
+use Rattle.notifier_model.specs.declared.row.Unanswered.{Unanswered}
+use Rattle.notifier_model.specs.Start.{tag_of}
 
 -- NOTIFYs in the order in which they were made
 abbrev pub AreInOrder : List Unanswered → Type 0

@@ -1,12 +1,12 @@
 -- What a desk that isn't spent is seen as, and what an event makes of it.
 use Rattle.std.specs.Prelude.{◌≡◌, List, map, Option, Some}
-use Rattle.notifier.specs.declared.place.Place.{Place}
-use Rattle.notifier.specs.declared.event.Event.{Event}
-use Rattle.notifier.specs.declared.event.Out.{Out}
-use Rattle.notifier.specs.Start.{Start}
-use Rattle.notifier.specs.Out.{out_of}
-use Rattle.notifier.specs.Book.{Book, step}
-use Rattle.notifier.specs.Run.{empty}
+use Rattle.notifier_model.specs.declared.place.Place.{Place}
+use Rattle.notifier_model.specs.declared.event.Event.{Event}
+use Rattle.notifier_model.specs.declared.event.Out.{Out}
+use Rattle.notifier_model.specs.Start.{Start}
+use Rattle.notifier_model.specs.Out.{out_of}
+use Rattle.notifier_model.specs.Book.{Book, step}
+use Rattle.notifier_model.specs.Run.{empty}
 
 pub record Standing : Type 0 where
   pub place : Place

@@ -7,10 +7,10 @@ use Rattle.std.specs.BTreeMap as tree
 use Rattle.std.specs.BTreeSet as sorted
 use Rattle.std.specs.BTreeSet.{BTreeSet}
 use Rattle.slab.specs.Slab as slab
-use Rattle.notifier.specs.declared.row.Row.{Row}
-use Rattle.notifier.specs.declared.row.Unanswered.{Unanswered}
-use Rattle.notifier.specs.declared.place.Place.{Place}
-use Rattle.notifier.specs.Start.{patience, tag_of}
+use Rattle.notifier_model.specs.declared.row.Row.{Row}
+use Rattle.notifier_model.specs.declared.row.Unanswered.{Unanswered}
+use Rattle.notifier_model.specs.declared.place.Place.{Place}
+use Rattle.notifier_model.specs.Start.{patience, tag_of}
 use Rattle.notifier.specs.Watchers.{watched, NoneIsLeft}
 use Rattle.notifier.specs.declared.rows.Rows.{Rows}
 

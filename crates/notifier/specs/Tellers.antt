@@ -1,11 +1,11 @@
 -- The rule of a cause, from what the subscriptions of a desk are told from.
 use Rattle.std.specs.Prelude.{List, map}
 use Rattle.package.specs.Content.{Seen, SeenBy, finite_maps}
-use Rattle.notifier.specs.declared.row.Row.{Row}
+use Rattle.notifier_model.specs.declared.row.Row.{Row}
 use Rattle.notifier.specs.declared.rule.Cause.{Cause}
 use Rattle.notifier.specs.declared.teller.Teller.{Teller}
 use Rattle.notifier.specs.Causes.{rule_of}
-use Rattle.notifier.specs.Rows.{Told}
+use Rattle.notifier_model.specs.Rows.{Told}
 
 module _ {P : Type 0} (seen : P → Seen) where
   abbrev pub boxes_of : Teller P → List (SeenBy finite_maps)

@@ -1,11 +1,11 @@
 -- What the code tells of a row is what the rule says.
 use Rattle.std.specs.Prelude.{◌≡◌, map, option_to_list}
-use Rattle.notifier.specs.declared.row.Row.{Row}
+use Rattle.notifier_model.specs.declared.row.Row.{Row}
 use Rattle.notifier.specs.declared.rules.After.{After}
 use Rattle.notifier.specs.declared.rules.Stub.{Stub}
 use Rattle.subscription.specs.State.{State}
-use Rattle.notifier.specs.Out.{out_of}
-use Rattle.notifier.specs.Rows.{Told, gone_at}
+use Rattle.notifier_model.specs.Out.{out_of}
+use Rattle.notifier_model.specs.Rows.{Told, gone_at}
 
 -- the row of this stub and subscription
 abbrev pub row_with : Stub → State → Row

@@ -1,6 +1,6 @@
 -- The key that the texts of a transaction stand for.
 use Rattle.std.specs.Prelude.{string_bytes}
-use Rattle.notifier.specs.declared.row.Key.{Key}
+use Rattle.notifier_model.specs.declared.row.Key.{Key}
 use Rattle.notifier.specs.declared.transaction.Transaction.{Transaction}
 
 abbrev pub key_of : Transaction → Key

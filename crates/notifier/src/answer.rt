@@ -1,18 +1,18 @@
 //! The answers of a desk, as bytes.
-#![tactic(auto, unfolding(crate::specs::Answers::refusal_answer, crate::specs::Answers::refusal_text, crate::specs::Answers::renewal_answer, crate::specs::Answers::birth_answer))]
+#![tactic(auto, unfolding(notifier_model::specs::Answers::refusal_answer, notifier_model::specs::Answers::refusal_text, notifier_model::specs::Answers::renewal_answer, notifier_model::specs::Answers::birth_answer))]
 
 ghost use Rattle.std.specs.Prelude.{◌≡◌, ◌++◌, ◌∷◌, [], map, option_map, filter, IfOk, OnOk};
 ghost use Rattle.sip_write.specs.Answer.{answer_text};
 ghost use Rattle.sip_write.specs.Views.{answer_view};
-ghost use Rattle.notifier.specs.Answers as spec;
-ghost use Rattle.notifier.specs.Requests.{is_strange as is_strange_word};
+ghost use Rattle.notifier_model.specs.Answers as spec;
+ghost use Rattle.notifier_model.specs.Requests.{is_strange as is_strange_word};
 
 use crate::incoming::Incoming;
-use crate::limits::Limits;
-use crate::place::Place;
-use crate::refusal::Refusal;
 use crate::request::{granted, is_refer, is_strange, is_unwatched};
 use crate::tag::refusal_tag;
+use notifier_model::limits::Limits;
+use notifier_model::place::Place;
+use notifier_model::refusal::Refusal;
 use package::Package;
 use sip_text::{NoMemory, Octets, Text};
 use sip_write::{Answer, Status, write_response};

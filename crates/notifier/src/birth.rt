@@ -1,25 +1,26 @@
 //! Requests that make a dialog (RFC 3261 section 12.1.1).
-#![tactic(auto, unfolding(crate::specs::Book::new_usage, crate::specs::Book::new_want, crate::specs::Book::first_step, crate::specs::Book::first_boxes, crate::specs::Book::first_told, crate::specs::Book::new_row, crate::specs::Rows::goes, crate::specs::Requests::event_of))]
+#![tactic(auto, unfolding(notifier_model::specs::Book::new_usage, notifier_model::specs::Book::new_want, notifier_model::specs::Book::first_step, notifier_model::specs::Book::first_boxes, notifier_model::specs::Book::first_told, notifier_model::specs::Book::new_row, notifier_model::specs::Rows::goes, notifier_model::specs::Requests::event_of))]
 
 ghost use Rattle.std.specs.Prelude.{false, ◌≡◌, ◌≤◌, ◌<◌, ◌^◌, [], map, if◌then◌else◌, IfOk, OnOk, option_to_list, None};
 ghost use Rattle.subscription.specs.Table as table;
-ghost use Rattle.notifier.specs.Book as spec;
-ghost use Rattle.notifier.specs.Fields as fields;
+ghost use Rattle.notifier_model.specs.Book as spec;
+ghost use Rattle.notifier_model.specs.Fields as fields;
 ghost use Rattle.notifier.specs.Incoming.{first_told_of};
-ghost use Rattle.notifier.specs.Out.{out_of};
-ghost use Rattle.notifier.specs.Requests as requests;
+ghost use Rattle.notifier_model.specs.Out.{out_of};
+ghost use Rattle.notifier_model.specs.Requests as requests;
 ghost use Rattle.notifier.specs.Tellers.{boxes_of};
 
 use crate::boxes::tell_first;
 use crate::dialog::tag_or_empty;
 use crate::incoming::Incoming;
 use crate::notice::copy_want;
-use crate::place::Place;
-use crate::request::{Birth, granted, is_refer};
+use crate::request::{granted, is_refer};
 use crate::rules::{After, Stub};
 use crate::teller::Teller;
-use crate::uri::user_part;
 use event_headers::EventValue;
+use notifier_model::birth::Birth;
+use notifier_model::place::Place;
+use notifier_model::uri::user_part;
 use package::{Change, Package};
 use sip_read::{Addr, Request};
 use sip_text::{Field, NoMemory, Text, Values};

@@ -1,34 +1,35 @@
 //! A request that makes a dialog, as a step of a ledger.
-#![tactic(auto, unfolding(crate::specs::Book::keeping, crate::specs::Book::born, crate::specs::Book::born_with, crate::specs::Book::served, crate::specs::Book::first_gone, crate::specs::Book::first_word, crate::specs::Rows::forgetting, crate::specs::Out::out_of))]
+#![tactic(auto, unfolding(notifier_model::specs::Book::keeping, notifier_model::specs::Book::born, notifier_model::specs::Book::born_with, notifier_model::specs::Book::served, notifier_model::specs::Book::first_gone, notifier_model::specs::Book::first_word, notifier_model::specs::Rows::forgetting, notifier_model::specs::Out::out_of))]
 
 ghost use Rattle.std.specs.Prelude.{◌≡◌, ◌≤◌, ◌<◌, ◌++◌, ◌∷◌, [], map, All, IfOk, IfSome, OnOk, None, is_none, option_map, option_to_list};
 ghost use Rattle.circular_buffer.specs.Buffer.{buffer};
 ghost use Rattle.sip_write.specs.Answer.{answer_text};
-ghost use Rattle.notifier.specs.Answers.{birth_answer as birth_text, ring_with};
-ghost use Rattle.notifier.specs.Book as spec;
+ghost use Rattle.notifier_model.specs.Answers.{birth_answer as birth_text, ring_with};
+ghost use Rattle.notifier_model.specs.Book as spec;
 ghost use Rattle.notifier.specs.Incoming.{IsNamed, Serves, first_told_of};
 ghost use Rattle.notifier.specs.Ledger.{book_of, IsSound};
-ghost use Rattle.notifier.specs.Out.{Answers, out_of};
-ghost use Rattle.notifier.specs.Requests as requests;
-ghost use Rattle.notifier.specs.Rows as rows;
-ghost use Rattle.notifier.specs.Start.{tag_of};
+ghost use Rattle.notifier_model.specs.Out.{Answers, out_of};
+ghost use Rattle.notifier_model.specs.Requests as requests;
+ghost use Rattle.notifier_model.specs.Rows as rows;
+ghost use Rattle.notifier_model.specs.Start.{tag_of};
 ghost use Rattle.notifier.specs.Stored.{rows_of, IsIndexed};
 ghost use Rattle.notifier.specs.Transactions.{key_of};
 
 use crate::answer::birth_answer;
 use crate::birth::{Newborn, establish, value_or_empty};
 use crate::boxes::tell_first;
-use crate::event::Out;
 use crate::incoming::Incoming;
 use crate::kept::KeptAnswers;
 use crate::ledger::Ledger;
-use crate::place::Place;
-use crate::request::{Birth, is_refer};
+use crate::request::is_refer;
 use crate::rows::Rows;
 use crate::rule::push_some;
 use crate::rules::After;
 use crate::tag::local_tag;
 use crate::telling::answer;
+use notifier_model::birth::Birth;
+use notifier_model::event::Out;
+use notifier_model::place::Place;
 use package::{Change, Package};
 use sip_read::Request;
 use sip_text::{NoMemory, Text};

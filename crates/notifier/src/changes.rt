@@ -1,17 +1,17 @@
 //! Events that are no requests.
-#![tactic(auto, unfolding(crate::specs::Book::nothing, crate::specs::Book::content_changed, crate::specs::Book::ticked, crate::specs::Book::shut, crate::specs::Book::replied))]
+#![tactic(auto, unfolding(notifier_model::specs::Book::nothing, notifier_model::specs::Book::content_changed, notifier_model::specs::Book::ticked, notifier_model::specs::Book::shut, notifier_model::specs::Book::replied))]
 
 ghost use Rattle.std.specs.Prelude.{◌≤◌, ◌<◌, ◌^◌, [], map, IfOk, OnOk};
 ghost use Rattle.package.specs.Boxes.{change_first as changed_boxes};
-ghost use Rattle.notifier.specs.Book as spec;
-ghost use Rattle.notifier.specs.Rows.{tells_watcher};
+ghost use Rattle.notifier_model.specs.Book as spec;
+ghost use Rattle.notifier_model.specs.Rows.{tells_watcher};
 ghost use Rattle.notifier.specs.Ledger.{book_of, IsStep, IsSound};
 
 use crate::boxes::change_first;
-use crate::event::Out;
 use crate::ledger::Ledger;
-use crate::place::Place;
 use crate::rule::Cause;
+use notifier_model::event::Out;
+use notifier_model::place::Place;
 use package::{Change, Outcome, Package};
 use sip_read::Response;
 use sip_text::NoMemory;

@@ -1,16 +1,16 @@
 //! The desk.
-#![tactic(auto, unfolding(crate::specs::Run::empty))]
+#![tactic(auto, unfolding(notifier_model::specs::Run::empty))]
 
 ghost use Rattle.std.specs.Prelude.{◌≡◌, ◌↔◌, map, is_none, IfOk, OnErr, Some, None};
 ghost use Rattle.notifier.specs.Standing.{Standing, first_standing, IsHandled};
 ghost use Rattle.notifier.specs.Errors.{number_of};
-ghost use Rattle.notifier.specs.Start.{place_of};
+ghost use Rattle.notifier_model.specs.Start.{place_of};
 
-use crate::event::{Event, Out};
 use crate::kept::KeptAnswers;
 use crate::ledger::Ledger;
-use crate::place::{Place, Setup};
 use crate::rows::Rows;
+use notifier_model::event::{Event, Out};
+use notifier_model::place::{Place, Setup};
 use package::Package;
 use sip_text::NoMemory;
 use std::alloc::Global;

@@ -1,31 +1,31 @@
 //! Requests in a dialog (RFC 3261 section 12.2.2), and refusals.
-#![tactic(auto, unfolding(crate::specs::Book::refused, crate::specs::Book::keeping, crate::specs::Book::all_rows, crate::specs::Book::in_dialog, crate::specs::Book::unless_denied, crate::specs::Book::served, crate::specs::Out::out_of, crate::specs::Rows::is_dialog))]
+#![tactic(auto, unfolding(notifier_model::specs::Book::refused, notifier_model::specs::Book::keeping, notifier_model::specs::Book::all_rows, notifier_model::specs::Book::in_dialog, notifier_model::specs::Book::unless_denied, notifier_model::specs::Book::served, notifier_model::specs::Out::out_of, notifier_model::specs::Rows::is_dialog))]
 
 ghost use Rattle.std.specs.Prelude.{◌≡◌, ◌^◌, ◌∷◌, [], All, map, option_map, find, IfOk, OnOk};
-ghost use Rattle.notifier.specs.Book as spec;
-ghost use Rattle.notifier.specs.Answers as answers;
-ghost use Rattle.notifier.specs.Limits.{AreLimits};
-ghost use Rattle.notifier.specs.Out.{Answers, out_of};
+ghost use Rattle.notifier_model.specs.Book as spec;
+ghost use Rattle.notifier_model.specs.Answers as answers;
+ghost use Rattle.notifier_model.specs.Limits.{AreLimits};
+ghost use Rattle.notifier_model.specs.Out.{Answers, out_of};
 ghost use Rattle.sip_write.specs.Answer.{answer_text};
-ghost use Rattle.notifier.specs.Fields as fields;
+ghost use Rattle.notifier_model.specs.Fields as fields;
 ghost use Rattle.notifier.specs.Incoming.{IsNamed, Serves};
 ghost use Rattle.notifier.specs.Ledger.{book_of, IsSound};
-ghost use Rattle.notifier.specs.Rows as rows;
+ghost use Rattle.notifier_model.specs.Rows as rows;
 ghost use Rattle.notifier.specs.Sound.{IsOwn};
 ghost use Rattle.notifier.specs.Stored.{rows_of, IsIndexed};
 
 use crate::answer::{refusal_answer, renewal_answer};
-use crate::event::Out;
 use crate::incoming::Incoming;
 use crate::ledger::Ledger;
-use crate::place::Place;
-use crate::refusal::Refusal;
 use crate::request::unheard;
-use crate::row::Row;
 use crate::rows::Rows;
 use crate::rule::Cause;
 use crate::telling::answer;
 use crate::touched::serial_in;
+use notifier_model::event::Out;
+use notifier_model::place::Place;
+use notifier_model::refusal::Refusal;
+use notifier_model::row::Row;
 use package::Package;
 use sip_read::Request;
 use sip_text::{NoMemory, Text};

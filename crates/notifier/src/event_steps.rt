@@ -1,14 +1,14 @@
 //! What one event makes of a ledger.
-#![tactic(auto, unfolding(crate::specs::Book::step, crate::specs::Book::nothing))]
+#![tactic(auto, unfolding(notifier_model::specs::Book::step, notifier_model::specs::Book::nothing))]
 
 ghost use Rattle.std.specs.Prelude.{IfOk, OnOk};
-ghost use Rattle.notifier.specs.Book.{step};
+ghost use Rattle.notifier_model.specs.Book.{step};
 ghost use Rattle.notifier.specs.Ledger.{book_of, IsStep, IsSound};
 
 use crate::changes::News;
-use crate::event::{Event, Out};
 use crate::ledger::Ledger;
-use crate::place::Place;
+use notifier_model::event::{Event, Out};
+use notifier_model::place::Place;
 use package::{Change, MailChange, Package, Progress};
 use sip_text::NoMemory;
 use std::alloc::Global;

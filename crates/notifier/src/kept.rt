@@ -1,17 +1,17 @@
 //! Answers that are kept for retransmissions (RFC 3261 section 17.2.2), newest first.
-#![tactic(auto, unfolding(crate::specs::Answers::kept_answer, crate::specs::Answers::ring_with))]
+#![tactic(auto, unfolding(notifier_model::specs::Answers::kept_answer, notifier_model::specs::Answers::ring_with))]
 
 ghost use Rattle.std.specs.Prelude.{◌≡◌, ℕ, ◌<◌, ◌^◌, ◌-◌, [], take, find, option_map, IfOk, OnOk, Some, true, ◌↔◌};
 ghost use Rattle.circular_buffer.specs.Buffer.{buffer};
-ghost use Rattle.notifier.specs.Answers as spec;
-ghost use Rattle.notifier.specs.Limits.{Limits as LimitsSeen};
+ghost use Rattle.notifier_model.specs.Answers as spec;
+ghost use Rattle.notifier_model.specs.Limits.{Limits as LimitsSeen};
 ghost use Rattle.notifier.specs.Slots as slots;
 ghost use Rattle.notifier.specs.Transactions.{key_of};
 
-use crate::row::Kept;
 use crate::transaction::Transaction;
 use circular_buffer::HeapCircularBuffer;
 use indexmap::IndexMap;
+use notifier_model::row::Kept;
 use sip_text::{NoMemory, Octets};
 use std::alloc::Global;
 use std::marker::Model;
@@ -50,7 +50,7 @@ pub struct KeptAnswers {
 }
 
 impl Model for KeptAnswers {
-    ghost use Rattle.notifier.specs.declared.row.Kept.{Kept};
+    ghost use Rattle.notifier_model.specs.declared.row.Kept.{Kept};
     ghost use Rattle.circular_buffer.specs.Buffer.{Buffer};
     ghost use Rattle.notifier.specs.Slots.{IsIndexed};
 

@@ -1,15 +1,7 @@
-//! Laws of runs, over the definitions alone.
-ghost use Rattle.std.specs.Prelude.{◌≡◌, List, ◌∷◌, [], ◌++◌};
-ghost use Rattle.notifier.specs.Book.{step};
-ghost use Rattle.notifier.specs.Run.{run, made};
-ghost use Rattle.notifier.specs.Start.{Start};
+//! Laws of runs, over the definitions alone: how they grow, and what the watcher of each subscription is told.
 
-use crate::event::Event;
-
-/// One event more is one step more.
-pub fn run_grows()
-    ensures book { (start : Start) (es : List Event) (e : Event) → run start (es ++ e ∷ [])
-        ≡ (step start.place (run start es) e).book }
-    ensures outs { (start : Start) (es : List Event) (e : Event) → made start (es ++ e ∷ []) ≡ made start es
-        ++ (step start.place (run start es) e).outs }
-{}
+pub use lives::{
+    born, contents, counts, ends_once, fresh, gone, in_time, life, moments, moved, no_other,
+    numbered, rising, silent, status, terminated, told, touched, transfer, unanswered, unwatched,
+};
+pub use notifier_model::laws::run_grows;

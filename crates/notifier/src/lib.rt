@@ -1,12 +1,11 @@
 //! The desk: one thread's notifier (RFC 6665), without input, output, threads or time of its own.
 //!
 //! A [`Desk`] is made of a [`Setup`], the number of its worker and its packages. Each [`Event`] that it handles gives the
-//! [`Out`]s to be sent. It promises that they, and what it keeps, are those of the definition `step` of `specs/Book`, which
-//! reads as a table of cases; `specs/Run` joins steps to whole runs, and [`laws`] says how runs grow. Whole worked runs are
-//! computed in `proofs/WorkedRuns`. Where a growth is refused the event gives no outs and the desk is spent.
+//! [`Out`]s to be sent. It promises that they, and what it keeps, are those of the definition `step` of the crate
+//! `notifier_model`, which reads as a table of cases; its `specs/Run` joins steps to whole runs, and [`laws`] says what is so
+//! of whole runs. Where a growth is refused the event gives no outs and the desk is spent.
 //!
-//! Begin with [`Desk::handle`], then `specs/Book`, `specs/Rows` (what an event makes of each subscription) and
-//! `specs/Requests` (the tests on one request, in the order in which they are looked for).
+//! Begin with [`Desk::handle`], then `notifier_model`.
 #![tactic(auto)]
 
 mod answer;
@@ -16,20 +15,15 @@ mod boxes;
 mod changes;
 pub mod desk;
 mod dialog;
-pub mod event;
 mod event_steps;
 mod incoming;
 mod kept;
 pub mod laws;
 mod ledger;
-pub mod limits;
 mod notice;
-pub mod place;
 mod placing;
-pub mod refusal;
 mod request;
 mod request_steps;
-pub mod row;
 mod rows;
 mod rule;
 mod rules;
@@ -39,14 +33,9 @@ mod telling;
 mod timers;
 mod touched;
 mod transaction;
-mod uri;
 mod watchers;
 pub mod whole_run;
 
 pub use desk::{Desk, DeskError};
-pub use event::{Event, Out};
-pub use limits::Limits;
-pub use place::{Place, Setup};
-pub use refusal::Refusal;
-pub use uri::user_part;
+pub use notifier_model::{Event, Limits, Out, Place, Refusal, Setup, user_part};
 pub use whole_run::{play, play_boxes};

@@ -1,19 +1,19 @@
 //! NOTIFYs, each with the whole content (RFC 6665 section 4.2.2).
-#![tactic(auto, unfolding(crate::specs::Rows::notify, crate::specs::Out::out_of))]
+#![tactic(auto, unfolding(notifier_model::specs::Rows::notify, notifier_model::specs::Out::out_of))]
 
 ghost use Rattle.std.specs.Prelude.{◌≡◌, IfOk};
 ghost use Rattle.event_headers.specs.Values.{StateValue as State};
 ghost use Rattle.subscription.specs.Written.{state_of};
 ghost use Rattle.sip_write.specs.Notify as layout;
 ghost use Rattle.sip_write.specs.Views.{notify_view};
-ghost use Rattle.notifier.specs.Out.{Notifies, out_of, is_last as is_last_state};
-ghost use Rattle.notifier.specs.Rows as spec;
+ghost use Rattle.notifier_model.specs.Out.{Notifies, out_of, is_last as is_last_state};
+ghost use Rattle.notifier_model.specs.Rows as spec;
 ghost use Rattle.notifier.specs.Tellers.{boxes_of};
 
 use crate::boxes::{body_of, type_of};
-use crate::event::Out;
 use crate::teller::Teller;
 use event_headers::StateValue;
+use notifier_model::event::Out;
 use package::Package;
 use sip_read::Addr;
 use sip_text::{NoMemory, Octets};

@@ -1,18 +1,18 @@
 //! Requests outside a dialog that no package takes.
-#![tactic(auto, unfolding(crate::specs::Requests::misplaced_at, crate::specs::Requests::event_of))]
+#![tactic(auto, unfolding(notifier_model::specs::Requests::misplaced_at, notifier_model::specs::Requests::event_of))]
 
 ghost use Rattle.std.specs.Prelude.{◌≡◌, map, Some};
 ghost use Rattle.std.specs.List.{list_any};
 ghost use Rattle.event_headers.specs.Covering.{covers as covers_type};
-ghost use Rattle.notifier.specs.Fields.{value_of};
-ghost use Rattle.notifier.specs.Requests as spec;
+ghost use Rattle.notifier_model.specs.Fields.{value_of};
+ghost use Rattle.notifier_model.specs.Requests as spec;
 
 use crate::boxes::first_box;
-use crate::limits::Limits;
-use crate::refusal::Refusal;
 use crate::request::{is_refer, is_too_brief, package_of};
-use crate::uri::user_part;
 use event_headers::{Range, covers};
+use notifier_model::limits::Limits;
+use notifier_model::refusal::Refusal;
+use notifier_model::uri::user_part;
 use package::Package;
 use sip_read::Request;
 use sip_text::{Field, Values};

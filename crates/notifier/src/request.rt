@@ -1,35 +1,23 @@
 //! Tests on one request. They look at the request, the limits and what they are handed: the event of its dialog, the next
 //! serial, how many subscriptions live.
-#![tactic(auto, unfolding(crate::specs::Requests::key_of_request, crate::specs::Requests::event_of, crate::specs::Requests::asked, crate::specs::Requests::granted, crate::specs::Requests::asks_nothing, crate::specs::Requests::is_unwatched, crate::specs::Requests::birth_of, crate::specs::Requests::is_malformed, crate::specs::Requests::misfit, crate::specs::Requests::is_full, crate::specs::Requests::unheard))]
+#![tactic(auto, unfolding(notifier_model::specs::Requests::key_of_request, notifier_model::specs::Requests::event_of, notifier_model::specs::Requests::asked, notifier_model::specs::Requests::granted, notifier_model::specs::Requests::asks_nothing, notifier_model::specs::Requests::is_unwatched, notifier_model::specs::Requests::birth_of, notifier_model::specs::Requests::is_malformed, notifier_model::specs::Requests::misfit, notifier_model::specs::Requests::is_full, notifier_model::specs::Requests::unheard))]
 
 ghost use Rattle.std.specs.List.{list_any};
 ghost use Rattle.std.specs.Prelude.{◌≡◌, ◌≤◌, false, option_map, IfOk};
 ghost use Rattle.event_headers.specs.Values.{EventValue as Value};
-ghost use Rattle.notifier.specs.Fields as fields;
-ghost use Rattle.notifier.specs.Requests as spec;
+ghost use Rattle.notifier_model.specs.Fields as fields;
+ghost use Rattle.notifier_model.specs.Requests as spec;
 ghost use Rattle.notifier.specs.Transactions.{key_of};
 
-use crate::limits::Limits;
-use crate::refusal::Refusal;
 use crate::transaction::Transaction;
-use crate::uri::is_sip_uri;
 use event_headers::EventValue;
+use notifier_model::birth::Birth;
+use notifier_model::limits::Limits;
+use notifier_model::refusal::Refusal;
+use notifier_model::uri::is_sip_uri;
 use sip_read::Request;
 use sip_text::{Field, NoMemory, Text};
 use std::alloc::Global;
-
-/// What a request makes outside a dialog.
-#[derive(Clone, Copy)]
-pub enum Birth {
-    /// A subscription that watches a resource, as a mailbox.
-    Watch,
-    /// A single look at one (RFC 6665 section 4.4.3).
-    Fetch,
-    /// A transfer, with a subscription that watches it (RFC 3515).
-    Transfer,
-    /// A transfer without a subscription (RFC 4488).
-    Unwatched,
-}
 
 pub fn is_ack(request: &Request) -> bool
     ensures { result ≡ spec.is_ack request.now }

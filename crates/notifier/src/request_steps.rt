@@ -1,20 +1,20 @@
 //! What a request makes of a ledger. Begin with `serve`, at the end: its cases are looked for first.
-#![tactic(auto, unfolding(crate::specs::Book::nothing, crate::specs::Book::unless, crate::specs::Book::outside, crate::specs::Book::by_to_tag, crate::specs::Book::by_kept, crate::specs::Book::verdict, crate::specs::Book::served, crate::specs::Out::out_of))]
+#![tactic(auto, unfolding(notifier_model::specs::Book::nothing, notifier_model::specs::Book::unless, notifier_model::specs::Book::outside, notifier_model::specs::Book::by_to_tag, notifier_model::specs::Book::by_kept, notifier_model::specs::Book::verdict, notifier_model::specs::Book::served, notifier_model::specs::Out::out_of))]
 
 ghost use Rattle.std.specs.Prelude.{◌≡◌, IfOk, OnOk, None};
-ghost use Rattle.notifier.specs.Book as spec;
+ghost use Rattle.notifier_model.specs.Book as spec;
 ghost use Rattle.notifier.specs.Incoming.{IsNamed, Serves};
 ghost use Rattle.notifier.specs.Ledger.{book_of, IsStep, IsSound};
-ghost use Rattle.notifier.specs.Requests as requests;
+ghost use Rattle.notifier_model.specs.Requests as requests;
 
-use crate::event::Out;
 use crate::incoming::Incoming;
 use crate::ledger::Ledger;
-use crate::place::Place;
 use crate::placing::misplaced;
-use crate::refusal::Refusal;
 use crate::request::{birth_of, is_ack, is_full, misfit, transaction_of};
 use crate::telling::copy_bytes;
+use notifier_model::event::Out;
+use notifier_model::place::Place;
+use notifier_model::refusal::Refusal;
 use package::Package;
 use sip_read::{Addr, Request};
 use sip_text::NoMemory;

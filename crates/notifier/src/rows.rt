@@ -10,10 +10,10 @@ ghost use Rattle.notifier.specs.Among.{has, RiseFrom};
 ghost use Rattle.notifier.specs.Stored.{rows_of, row_at, alarm_of, by_time, IsIndexed, IsTimed};
 ghost use Rattle.notifier.specs.Watchers.{watched, NoneIsLeft};
 
-use crate::row::Row;
 use crate::timers::{alarm, move_timer, stop_timer, timed_out};
 use crate::watchers::{unwatch_text, watch};
 use indexmap::IndexMap;
+use notifier_model::row::Row;
 use sip_text::{NoMemory, Text};
 use slab::Slab;
 use std::alloc::Global;

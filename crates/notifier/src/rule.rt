@@ -3,18 +3,18 @@ ghost use Rattle.std.specs.Prelude.{◌≡◌, ◌++◌, [], ◌<◌, ◌^◌, m
 ghost use Rattle.std.specs.Option.{option_and_then};
 ghost use Rattle.notifier.specs.Among.{among, said_at, gone_with, RiseFrom};
 ghost use Rattle.notifier.specs.Causes.{CanTell};
-ghost use Rattle.notifier.specs.Out.{out_of};
-ghost use Rattle.notifier.specs.Rows as spec;
+ghost use Rattle.notifier_model.specs.Out.{out_of};
+ghost use Rattle.notifier_model.specs.Rows as spec;
 ghost use Rattle.notifier.specs.Stored.{rows_of, row_at, IsIndexed, Turns};
 ghost use Rattle.notifier.specs.Tellers.{rule_by};
 ghost use Rattle.notifier.specs.Told.{IsTold};
 
-use crate::event::Out;
-use crate::row::Row;
 use crate::rows::Rows;
 use crate::rules::{After, count, take_answer};
 use crate::teller::Teller;
 use crate::timers::alarm;
+use notifier_model::event::Out;
+use notifier_model::row::Row;
 use package::Package;
 use sip_read::{Addr, Request, Response};
 use sip_text::{NoMemory, Text};

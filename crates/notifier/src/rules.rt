@@ -1,20 +1,20 @@
 //! The rule of each event for one row.
-#![tactic(auto, unfolding(crate::specs::Rows::stays, crate::specs::Rows::goes, crate::specs::Rows::gone_at, crate::specs::Rows::wherever, crate::specs::Rows::opened, crate::specs::Rows::closed, crate::specs::Rows::only, crate::specs::Rows::takes_answer, crate::specs::Rows::answered, crate::specs::Rows::is_overdue, crate::specs::Rows::counted, crate::specs::Rows::turned, crate::specs::Rows::tells, crate::specs::Rows::ends, crate::specs::Rows::times_out, crate::specs::Rows::stops, crate::specs::Rows::tells_change, crate::specs::Rows::tells_watcher, crate::specs::Rows::renewed, crate::specs::Rows::renewed_sub, subscription::specs::Table::told, subscription::specs::Table::end, subscription::specs::Table::changed, subscription::specs::Table::refresh, subscription::specs::Table::is_refusal_of, subscription::specs::Table::refused_by, subscription::specs::Table::lost))]
+#![tactic(auto, unfolding(notifier_model::specs::Rows::stays, notifier_model::specs::Rows::goes, notifier_model::specs::Rows::gone_at, notifier_model::specs::Rows::wherever, notifier_model::specs::Rows::opened, notifier_model::specs::Rows::closed, notifier_model::specs::Rows::only, notifier_model::specs::Rows::takes_answer, notifier_model::specs::Rows::answered, notifier_model::specs::Rows::is_overdue, notifier_model::specs::Rows::counted, notifier_model::specs::Rows::turned, notifier_model::specs::Rows::tells, notifier_model::specs::Rows::ends, notifier_model::specs::Rows::times_out, notifier_model::specs::Rows::stops, notifier_model::specs::Rows::tells_change, notifier_model::specs::Rows::tells_watcher, notifier_model::specs::Rows::renewed, notifier_model::specs::Rows::renewed_sub, subscription::specs::Table::told, subscription::specs::Table::end, subscription::specs::Table::changed, subscription::specs::Table::refresh, subscription::specs::Table::is_refusal_of, subscription::specs::Table::refused_by, subscription::specs::Table::lost))]
 
 ghost use Rattle.std.specs.Prelude.{◌≡◌, ◌<◌, ◌^◌, ◌&&◌, ◌∷◌, [], map, filter, not, if◌then◌else◌, is_none, IfOk, option_to_list};
-ghost use Rattle.notifier.specs.Requests.{is_of_refer as is_of_refer_event};
-ghost use Rattle.notifier.specs.Rows as spec;
-ghost use Rattle.notifier.specs.Fields.{value_of};
-ghost use Rattle.notifier.specs.Out.{out_of};
+ghost use Rattle.notifier_model.specs.Requests.{is_of_refer as is_of_refer_event};
+ghost use Rattle.notifier_model.specs.Rows as spec;
+ghost use Rattle.notifier_model.specs.Fields.{value_of};
+ghost use Rattle.notifier_model.specs.Out.{out_of};
 ghost use Rattle.notifier.specs.Sound.{IsLive};
 ghost use Rattle.notifier.specs.Tellers.{boxes_of};
 ghost use Rattle.notifier.specs.Told.{IsTold, row_with};
 
-use crate::event::Out;
 use crate::notice::copy_want;
 use crate::request::{asks_nothing, granted};
-use crate::row::{Row, Unanswered};
 use crate::teller::Teller;
+use notifier_model::event::Out;
+use notifier_model::row::{Row, Unanswered};
 use package::Package;
 use sip_read::{Addr, Request, Response};
 use sip_text::{Field, NoMemory, Text, Values};

@@ -1,11 +1,11 @@
 //! Local tags.
-#![tactic(auto, unfolding(crate::specs::Tag::local_tag, crate::specs::Tag::refusal_tag))]
+#![tactic(auto, unfolding(notifier_model::specs::Tag::local_tag, notifier_model::specs::Tag::refusal_tag))]
 
 ghost use Rattle.std.specs.Prelude.{◌≡◌, ◌≤◌, IfOk};
-ghost use Rattle.notifier.specs.Start.{tag_of};
-ghost use Rattle.notifier.specs.Tag.{tag_bytes, refusal_tag as refusal_tag_of};
+ghost use Rattle.notifier_model.specs.Start.{tag_of};
+ghost use Rattle.notifier_model.specs.Tag.{tag_bytes, refusal_tag as refusal_tag_of};
 
-use crate::place::Place;
+use notifier_model::place::Place;
 use rand_chacha::ChaCha20Rng;
 use rand_core::SeedableRng;
 use rand_core::utils::NextWord;

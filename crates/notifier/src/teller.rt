@@ -1,6 +1,6 @@
 //! From what the subscriptions of a desk are told.
 
-use crate::place::Place;
+use notifier_model::place::Place;
 use package::Package;
 
 /// What a NOTIFY is written from: the place of the desk, what its boxes hold, and the moment.

@@ -1,14 +1,14 @@
 //! What is done with all rows of a ledger at once, and answers.
-#![tactic(auto, unfolding(crate::specs::Rows::forgetting))]
+#![tactic(auto, unfolding(notifier_model::specs::Rows::forgetting))]
 
 ghost use Rattle.std.specs.Prelude.{◌≡◌, ◌++◌, ◌∷◌, [], ◌<◌, ◌≤◌, ◌^◌, List, map, option_map, All, IfOk, OnOk};
-ghost use Rattle.notifier.specs.Answers.{ring_with};
+ghost use Rattle.notifier_model.specs.Answers.{ring_with};
 ghost use Rattle.notifier.specs.Causes.{rule_of, CanTell};
-ghost use Rattle.notifier.specs.Book as book;
+ghost use Rattle.notifier_model.specs.Book as book;
 ghost use Rattle.notifier.specs.Ledger.{book_of, IsStep};
-ghost use Rattle.notifier.specs.Limits.{Limits as LimitsSeen};
-ghost use Rattle.notifier.specs.Out.{Send, out_of};
-ghost use Rattle.notifier.specs.Rows as spec;
+ghost use Rattle.notifier_model.specs.Limits.{Limits as LimitsSeen};
+ghost use Rattle.notifier_model.specs.Out.{Send, out_of};
+ghost use Rattle.notifier_model.specs.Rows as spec;
 ghost use Rattle.notifier.specs.Sound.{IsOwn};
 ghost use Rattle.notifier.specs.Stored.{rows_of, IsIndexed};
 ghost use Rattle.notifier.specs.Tellers.{rule_by};
@@ -16,15 +16,15 @@ ghost use Rattle.notifier.specs.Transactions.{key_of};
 ghost use Rattle.circular_buffer.specs.Buffer.{buffer};
 
 use crate::boxes::tell_first;
-use crate::event::Out;
 use crate::incoming::Incoming;
 use crate::kept::KeptAnswers;
 use crate::ledger::Ledger;
-use crate::place::Place;
 use crate::rows::Rows;
 use crate::rule::Cause;
 use crate::teller::Teller;
 use crate::touched::touched;
+use notifier_model::event::Out;
+use notifier_model::place::Place;
 use package::{Change, Package};
 use sip_text::{NoMemory, Octets, Text};
 use std::alloc::Global;

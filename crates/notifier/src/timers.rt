@@ -5,7 +5,7 @@ ghost use Rattle.std.specs.BTreeSet as sorted;
 ghost use Rattle.std.specs.Ordering.{nat_cmp};
 ghost use Rattle.notifier.specs.Stored.{alarm_of, by_time};
 
-use crate::row::Row;
+use notifier_model::row::Row;
 use sip_text::NoMemory;
 use std::alloc::Global;
 use std::collections::BTreeSet;

@@ -2,7 +2,7 @@
 
 ghost use Rattle.std.specs.Prelude.{◌≡◌, ◌<◌, ◌^◌, ◌++◌, ℕ, List, codes, decimal, All, IfOk, Some, option_to_list};
 ghost use Rattle.package.specs.Content.{Seen};
-ghost use Rattle.notifier.specs.declared.place.Place.{Place as AnyPlace};
+ghost use Rattle.notifier_model.specs.declared.place.Place.{Place as AnyPlace};
 ghost use Rattle.notifier.specs.Among.{Cover, RiseFrom};
 ghost use Rattle.notifier.specs.Causes.{rule_of, CanTell};
 ghost use Rattle.notifier.specs.Sound.{IsOwn};

@@ -3,7 +3,7 @@
 ghost use Rattle.std.specs.Prelude.{◌≡◌, IfOk};
 ghost use Rattle.notifier.specs.Transactions.{key_of};
 
-use crate::row::Key;
+use notifier_model::row::Key;
 use sip_text::{NoMemory, Text};
 use std::alloc::Global;
 

@@ -1,16 +1,16 @@
 //! Whole runs of one desk.
-#![tactic(auto, unfolding(crate::specs::Run::run, crate::specs::Run::made))]
+#![tactic(auto, unfolding(notifier_model::specs::Run::run, notifier_model::specs::Run::made))]
 
 ghost use Rattle.std.specs.Prelude.{◌≡◌, map, IfOk, Some};
 ghost use Rattle.package.specs.Content.{Seen};
-ghost use Rattle.notifier.specs.Out.{out_of};
-ghost use Rattle.notifier.specs.Run.{made, made_from};
+ghost use Rattle.notifier_model.specs.Out.{out_of};
+ghost use Rattle.notifier_model.specs.Run.{made, made_from};
 ghost use Rattle.notifier.specs.Standing.{Standing};
-ghost use Rattle.notifier.specs.Start.{place_of};
+ghost use Rattle.notifier_model.specs.Start.{place_of};
 
 use crate::desk::Desk;
-use crate::event::{Event, Out};
-use crate::place::Setup;
+use notifier_model::event::{Event, Out};
+use notifier_model::place::Setup;
 use package::Package;
 use sip_text::NoMemory;
 use std::alloc::Global;

@@ -3,7 +3,7 @@ use Rattle.std.specs.Prelude.{ℕ, zero, suc, List, [], ◌∷◌, ◌++◌}
 use Rattle.atomic_table.specs.Seated.{TableId}
 use Rattle.crossbeam_queue.specs.declared.array_queue.Slotted.{Slotted}
 use Rattle.queue_rule.specs.declared.items.Item.{Item}
-use Rattle.notifier.specs.declared.event.Out.{Out}
+use Rattle.notifier_model.specs.declared.event.Out.{Out}
 
 -- which outbox it is, and how many items it holds at most
 pub record Outbox : Type 0 where

@@ -2,7 +2,7 @@
 use Rattle.std.specs.Prelude.{◌≡◌, ◌<◌, ℕ, false}
 use Rattle.outbox.specs.declared.ends.Posted.{Posted}
 use Rattle.outbox.specs.declared.ends.Posted.TheVariants.{Out, Ended}
-use Rattle.notifier.specs.declared.event.Out.{Out as Sent}
+use Rattle.notifier_model.specs.declared.event.Out.{Out as Sent}
 use Rattle.queue_rule.specs.declared.items.Item.{Item}
 use Rattle.queue_rule.specs.Items.{items_of, has_end}
 use Rattle.queue_rule.specs.Values.{value_item, end_item}

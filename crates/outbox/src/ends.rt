@@ -10,7 +10,7 @@ ghost use Rattle.outbox.specs.Seats.{with_posted, new_posters, new_taker};
 ghost use Rattle.outbox.specs.Took.{Took, posted_item};
 
 use crossbeam_queue::{Pass, RuledArrayQueue};
-use notifier::Out;
+use notifier_model::Out;
 use queue_rule::{Compares, Entry, InOrder, Item, Roles, Sends, Takes, View};
 use sip_text::NoMemory;
 use std::alloc::Global;

@@ -1,12 +1,12 @@
 -- The run of a replay, after one event more, and the outs of that event.
 use Rattle.std.proofs.Common.{◌≡◌, List, [], ◌∷◌, ◌++◌, ◌↔◌, Option, Some, None, Result, Ok, Err, IfOk, OnOk, map, refl, sym, ap, subst, ◌∙◌}
-use Rattle.notifier.specs.Book.{Book, step}
-use Rattle.notifier.specs.Run.{run_from}
+use Rattle.notifier_model.specs.Book.{Book, step}
+use Rattle.notifier_model.specs.Run.{run_from}
 use Rattle.notifier.specs.Standing.{Standing, IsHandled}
-use Rattle.notifier.specs.declared.event.Event.{Event}
-use Rattle.notifier.specs.declared.event.Out.{Out}
-use Rattle.notifier.proofs.Runs.{run_from-push}
-use Rattle.notifier.specs.Out.{out_of}
+use Rattle.notifier_model.specs.declared.event.Event.{Event}
+use Rattle.notifier_model.specs.declared.event.Out.{Out}
+use Rattle.notifier_model.proofs.Runs.{run_from-push}
+use Rattle.notifier_model.specs.Out.{out_of}
 use Rattle.replays.specs.Recorded.{IsRun, AreOutsOf}
 
 pub grown : (start old new : Option Standing) (events : List Event) (e : Event) (outs : List Out) → IsRun start events old → (old ≡ None → ⊥)

@@ -5,7 +5,7 @@ use denote.Param.SendFields.{declared_send, declared_sync}
 use Rattle.std.proofs.Crossing.{crosses, Vec-send}
 use Rattle.package.specs.declared.interface.Package.{Ghosts}
 use Rattle.notifier.proofs.desk.Desk.TheSendSync as desk
-use Rattle.notifier.proofs.event.Event.TheSendSync as event
+use Rattle.notifier_model.proofs.event.Event.TheSendSync as event
 use Rattle.replays.specs.contracts.replay.Replay as Replay
 use Rattle.replays.specs.contracts.replay.Replay.TheInside as inside
 use Rattle.replays.specs.contracts.shared.SharedDesk as Shared

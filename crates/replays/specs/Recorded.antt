@@ -1,10 +1,10 @@
 -- What a replay is seen as.
 use Rattle.std.specs.Prelude.{◌≡◌, List, map, Option, None, Some}
-use Rattle.notifier.specs.declared.event.Event.{Event}
-use Rattle.notifier.specs.declared.event.Out.{Out}
-use Rattle.notifier.specs.Out.{out_of}
-use Rattle.notifier.specs.Book.{step}
-use Rattle.notifier.specs.Run.{run_from}
+use Rattle.notifier_model.specs.declared.event.Event.{Event}
+use Rattle.notifier_model.specs.declared.event.Out.{Out}
+use Rattle.notifier_model.specs.Out.{out_of}
+use Rattle.notifier_model.specs.Book.{step}
+use Rattle.notifier_model.specs.Run.{run_from}
 use Rattle.notifier.specs.Standing.{Standing}
 
 -- the desk as it came, the events that it handled since, and the desk now: nothing where it is spent

@@ -5,11 +5,11 @@ use Rattle.std.specs.declared.alloc.Global.{Global}
 use Rattle.queue_rule.specs.Items.{items_of}
 use Rattle.queue_rule.specs.Values.{values}
 use Rattle.package.specs.Content.{Seen}
-use Rattle.notifier.specs.declared.place.Setup.{Setup}
-use Rattle.notifier.specs.declared.event.Event.{Event}
-use Rattle.notifier.specs.declared.event.Out.{Out}
-use Rattle.notifier.specs.Home.{at_the_stop, events_for}
-use Rattle.notifier.specs.Start.{Start}
+use Rattle.notifier_model.specs.declared.place.Setup.{Setup}
+use Rattle.notifier_model.specs.declared.event.Event.{Event}
+use Rattle.notifier_model.specs.declared.event.Out.{Out}
+use Rattle.notifier_model.specs.Home.{at_the_stop, events_for}
+use Rattle.notifier_model.specs.Start.{Start}
 use Rattle.inbox.specs.Seats.{Inbox, SenderSeat, ReceiverSeat}
 use Rattle.outbox.specs.Seats.{TakerSeat, PosterSeat, new_taker}
 use Rattle.worker.specs.Worked.{outs_for}

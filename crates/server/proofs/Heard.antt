@@ -8,7 +8,7 @@ use Rattle.std.proofs.lemmas.List.Elements.{filter_map-append}
 use Rattle.sip_text.specs.declared.address.Addr.{Addr}
 use Rattle.scripts.specs.declared.script.Block.{Block}
 use Rattle.scripts.specs.declared.script.Block.TheVariants as block
-use Rattle.notifier.specs.declared.event.Event.{Event}
+use Rattle.notifier_model.specs.declared.event.Event.{Event}
 use Rattle.server.specs.declared.hearing.Hearing.{Hearing}
 use Rattle.server.specs.Page.{Readings, AreReadings, event_of, unread_line, octets_in, event_in, events_of, unread_lines}
 use Rattle.server.specs.Hearing.{HasHeard}

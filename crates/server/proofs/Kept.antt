@@ -8,7 +8,7 @@ use Rattle.queue_rule.specs.declared.items.Item.{Item}
 use Rattle.queue_rule.specs.Items.{items_of}
 use Rattle.queue_rule.specs.Values.{values, value_item, end_item}
 use Rattle.queue_rule.proofs.ItemLists.{items_of-append, items_of_same, items_of_other}
-use Rattle.notifier.specs.declared.event.Out.{Out}
+use Rattle.notifier_model.specs.declared.event.Out.{Out}
 use Rattle.outbox.specs.Seats.{TakerSeat}
 use Rattle.outbox.specs.Took.{Took}
 use Rattle.outbox.specs.declared.ends.Posted.TheVariants as posted

@@ -2,8 +2,8 @@
 use Rattle.std.proofs.Common.{◌≡◌, ℕ, List, ◌++◌, length, ap, ◌∙◌}
 use Rattle.std.specs.List.{flat_map}
 use Rattle.sip_read.specs.Message.{IsExact}
-use Rattle.notifier.specs.declared.event.Event.{Event}
-use Rattle.notifier.specs.Start.{Start}
+use Rattle.notifier_model.specs.declared.event.Event.{Event}
+use Rattle.notifier_model.specs.Start.{Start}
 use Rattle.server.specs.declared.hearing.Hearing.{Hearing}
 use Rattle.server.specs.declared.work.Work.{Work}
 use Rattle.server.specs.Page.{Readings, AreReadings, events_of, events_at, worker_page, IsPage}

@@ -13,8 +13,8 @@ use Rattle.package.specs.Content.{Content, OfMail, Seen, mail_package}
 use Rattle.package.specs.Changes.{unset}
 use Rattle.message_summary.specs.Mailboxes.{mail_type, new_mailboxes}
 use Rattle.refer.specs.Transfers.{new_transfers}
-use Rattle.notifier.specs.declared.place.Setup.{Setup}
-use Rattle.notifier.specs.Home.{key_hash}
+use Rattle.notifier_model.specs.declared.place.Setup.{Setup}
+use Rattle.notifier_model.specs.Home.{key_hash}
 use Rattle.server.specs.declared.either.EitherPackage.{EitherPackage}
 use Rattle.server.specs.declared.either.EitherPackage.TheVariants.{First, Second}
 use Rattle.server.specs.Either.{seen_as}

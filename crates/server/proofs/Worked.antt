@@ -8,13 +8,13 @@ use Rattle.std.specs.List.{flat_map, enumerate_from}
 use Rattle.std.specs.declared.alloc.Global.{Global}
 use Rattle.scripts.specs.Page.{worker_text}
 use Rattle.package.specs.Content.{Seen}
-use Rattle.notifier.specs.declared.place.Setup.{Setup}
-use Rattle.notifier.specs.declared.event.Event.{Event}
-use Rattle.notifier.specs.declared.event.Out.{Out}
-use Rattle.notifier.specs.Start.{Start, place_of}
-use Rattle.notifier.specs.Out.{out_of}
-use Rattle.notifier.specs.Run.{made}
-use Rattle.notifier.specs.Home.{at_the_stop}
+use Rattle.notifier_model.specs.declared.place.Setup.{Setup}
+use Rattle.notifier_model.specs.declared.event.Event.{Event}
+use Rattle.notifier_model.specs.declared.event.Out.{Out}
+use Rattle.notifier_model.specs.Start.{Start, place_of}
+use Rattle.notifier_model.specs.Out.{out_of}
+use Rattle.notifier_model.specs.Run.{made}
+use Rattle.notifier_model.specs.Home.{at_the_stop}
 use Rattle.homes.proofs.Homes.{one_law}
 use Rattle.server.specs.declared.work.Work.{Work}
 use Rattle.server.specs.Page.{out_text, worker_lines, events_at, worker_page}

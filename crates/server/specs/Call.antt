@@ -16,10 +16,10 @@ use Rattle.package.specs.Content.{Content, OfMail, Seen, mail_package}
 use Rattle.package.specs.Changes.{unset}
 use Rattle.message_summary.specs.Mailboxes.{mail_type}
 use Rattle.refer.specs.Transfers.{new_transfers}
-use Rattle.notifier.specs.Limits.{Limits}
-use Rattle.notifier.specs.declared.place.Setup.{Setup}
-use Rattle.notifier.specs.Home.{key_hash}
-use Rattle.notifier.specs.Start.{Start}
+use Rattle.notifier_model.specs.Limits.{Limits}
+use Rattle.notifier_model.specs.declared.place.Setup.{Setup}
+use Rattle.notifier_model.specs.Home.{key_hash}
+use Rattle.notifier_model.specs.Start.{Start}
 use Rattle.server.specs.declared.program.Status.{Status}
 use Rattle.server.specs.declared.program.Status.TheVariants as status
 use Rattle.server.specs.Runs.{starts_on}

@@ -2,7 +2,7 @@
 use Rattle.std.specs.Prelude.{◌≡◌, ℕ, ◌<◌, Bool, true, List, length, get_or}
 use Rattle.scripts.specs.declared.error.ScriptError.{ScriptError}
 use Rattle.scripts.specs.declared.error.ScriptError.TheVariants as error
-use Rattle.notifier.specs.Start.{Start}
+use Rattle.notifier_model.specs.Start.{Start}
 use Rattle.worker.specs.declared.end.End.TheVariants.{Closed}
 use Rattle.outbox.specs.Seats.{TakerSeat}
 use Rattle.crew.specs.declared.errors.StartError.{StartError}

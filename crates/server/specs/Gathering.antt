@@ -4,7 +4,7 @@ use Rattle.queue_rule.specs.declared.items.Item.{Item}
 use Rattle.queue_rule.specs.Items.{items_of}
 use Rattle.queue_rule.specs.Ended.{AllEnded}
 use Rattle.queue_rule.specs.Values.{values}
-use Rattle.notifier.specs.declared.event.Out.{Out}
+use Rattle.notifier_model.specs.declared.event.Out.{Out}
 use Rattle.outbox.specs.Seats.{TakerSeat}
 use Rattle.server.specs.declared.work.Work.{Work}
 use Rattle.server.specs.declared.gathering.Gathered.{Gathered}

@@ -17,14 +17,14 @@ use Rattle.scripts.specs.declared.script.Block.TheVariants as block
 use Rattle.scripts.specs.Script.{IsScript}
 use Rattle.scripts.specs.Page.{unread_text, worker_text, answer_text, notify_text, start_text}
 use Rattle.package.specs.Content.{Maps}
-use Rattle.notifier.specs.declared.event.Event.{Event}
-use Rattle.notifier.specs.declared.event.Event.TheVariants as event
-use Rattle.notifier.specs.declared.event.Out.{Out}
-use Rattle.notifier.specs.declared.event.Out.TheVariants as out
-use Rattle.notifier.specs.Start.{StartBy, Start}
-use Rattle.notifier.specs.Out.{out_of}
-use Rattle.notifier.specs.Run.{made}
-use Rattle.notifier.specs.Home.{events_for, at_the_stop}
+use Rattle.notifier_model.specs.declared.event.Event.{Event}
+use Rattle.notifier_model.specs.declared.event.Event.TheVariants as event
+use Rattle.notifier_model.specs.declared.event.Out.{Out}
+use Rattle.notifier_model.specs.declared.event.Out.TheVariants as out
+use Rattle.notifier_model.specs.Start.{StartBy, Start}
+use Rattle.notifier_model.specs.Out.{out_of}
+use Rattle.notifier_model.specs.Run.{made}
+use Rattle.notifier_model.specs.Home.{events_for, at_the_stop}
 
 -- ---- what the datagrams are
 

@@ -6,8 +6,8 @@ use Rattle.std.specs.Io.KnownBytes.{Consumes, Appends, IsAtEnd}
 use Rattle.scripts.specs.declared.script.Block.{Block}
 use Rattle.scripts.specs.Devices.{SourceSeen, SinkSeen, one_more, AppendsFront}
 use Rattle.package.specs.Content.{Seen}
-use Rattle.notifier.specs.declared.place.Setup.{Setup}
-use Rattle.notifier.specs.Start.{Start, place_of}
+use Rattle.notifier_model.specs.declared.place.Setup.{Setup}
+use Rattle.notifier_model.specs.Start.{Start, place_of}
 use Rattle.server.specs.Page.{most_bytes, IsShortScript, IsPage}
 
 -- workers numbered from 0, each with its boxes

@@ -2,10 +2,10 @@
 use Rattle.std.specs.Prelude.{◌≡◌, ℕ, ◌<◌, List, ◌++◌, length, map, get_or}
 use Rattle.std.specs.List.{flat_map}
 use Rattle.scripts.specs.Page.{worker_text}
-use Rattle.notifier.specs.declared.event.Event.{Event}
-use Rattle.notifier.specs.Start.{Start}
-use Rattle.notifier.specs.Out.{out_of}
-use Rattle.notifier.specs.Run.{made}
+use Rattle.notifier_model.specs.declared.event.Event.{Event}
+use Rattle.notifier_model.specs.Start.{Start}
+use Rattle.notifier_model.specs.Out.{out_of}
+use Rattle.notifier_model.specs.Run.{made}
 use Rattle.server.specs.declared.work.Work.{Work}
 use Rattle.server.specs.Page.{out_text}
 

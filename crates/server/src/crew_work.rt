@@ -1,6 +1,6 @@
 //! A crew that handles a script: one port, whose events the caller's thread sends, and a thread for the taker.
 ghost use Rattle.std.specs.Prelude.{◌≡◌, ◌≢◌, ◌<◌, ◌≤◌, ℕ, true, List, [], length, get_or, vec_len, IfOk, IfErr};
-ghost use Rattle.notifier.specs.Start.{Start};
+ghost use Rattle.notifier_model.specs.Start.{Start};
 ghost use Rattle.crew.specs.Ports.{PortSeats};
 ghost use Rattle.crew.specs.Started.{Hired};
 ghost use Rattle.crew.specs.Joined.{HasEndOf, IsPortOf};
@@ -14,7 +14,7 @@ use crate::gathering::{Gathered, Lent, gather_all, new_works};
 use crate::sending::send_script;
 use crate::work::Work;
 use crew::{Crew, End, Open, Port, StartError, WorkerReport};
-use notifier::{Event, Setup};
+use notifier_model::{Event, Setup};
 use outbox::Taker;
 use package::Package;
 use scripts::ScriptError;

@@ -4,7 +4,7 @@ ghost use Rattle.queue_rule.specs.Ended.{AllEnded};
 ghost use Rattle.server.specs.Gathering.{AreNew, Keeps, AreKept, IsGathered};
 
 use crate::work::Work;
-use notifier::Out;
+use notifier_model::Out;
 use outbox::{Posted, Taker};
 use sip_text::NoMemory;
 use std::alloc::Global;

@@ -4,7 +4,7 @@ ghost use Rattle.scripts.specs.declared.script.Block.{Block};
 ghost use Rattle.server.specs.Page.{Readings, AreReadings, event_of, unread_line};
 ghost use Rattle.server.specs.Hearing.{HasHeard};
 
-use notifier::Event;
+use notifier_model::Event;
 use scripts::{Block, Page};
 use sip_read::{Addr, Message, ReadError, read};
 use sip_text::NoMemory;

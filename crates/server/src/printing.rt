@@ -5,7 +5,7 @@ ghost use Rattle.server.specs.Page.{out_text};
 ghost use Rattle.server.specs.Working.{printed};
 
 use crate::work::Work;
-use notifier::Out;
+use notifier_model::Out;
 use scripts::Page;
 use sip_text::NoMemory;
 use std::alloc::Global;

@@ -10,7 +10,7 @@ use crate::either::EitherPackage;
 use crate::script::{script_many, script_one};
 use homes::key_hash;
 use message_summary::Mailboxes;
-use notifier::{Limits, Setup};
+use notifier_model::{Limits, Setup};
 use package::ClosingCell;
 use refer::Transfers;
 use scripts::{Arguments, ArgumentsError, ScriptError, Sink, Source, parse_arguments};

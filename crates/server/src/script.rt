@@ -12,7 +12,7 @@ use crate::crew_work::work_together;
 use crate::hearing::{Hearing, hear};
 use crate::printing::print_works;
 use crate::work::{Work, work_alone};
-use notifier::Setup;
+use notifier_model::Setup;
 use package::Package;
 use scripts::{Page, ScriptError, Sink, Source, parse_script, read_script, write_page};
 use sip_read::laws::one_reading;

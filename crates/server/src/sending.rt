@@ -1,12 +1,12 @@
 //! What the port of a crew sends of a script.
 ghost use Rattle.std.specs.Prelude.{◌≡◌, true, [], length, IfSome};
-ghost use Rattle.notifier.specs.declared.event.Event.TheVariants as variants;
+ghost use Rattle.notifier_model.specs.declared.event.Event.TheVariants as variants;
 ghost use Rattle.crew.specs.Kept.{SameSeats};
 ghost use Rattle.server.specs.Sending.{Reaches, HasSent};
 
 use crew::Port;
 use homes::is_for_all;
-use notifier::Event;
+use notifier_model::Event;
 use std::sync::Wait;
 
 /// The time that an event tells, if it tells one.

@@ -1,6 +1,6 @@
 //! What a worker does with the events of a script.
 ghost use Rattle.std.specs.Prelude.{◌++◌, IfOk};
-ghost use Rattle.notifier.specs.Home.{at_the_stop};
+ghost use Rattle.notifier_model.specs.Home.{at_the_stop};
 ghost use Rattle.crew.specs.Ready.{start_of};
 ghost use Rattle.server.specs.Working.{IsWork};
 

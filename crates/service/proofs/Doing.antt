@@ -1,7 +1,7 @@
 -- What was done with one control line.
 use Rattle.std.proofs.Common.{◌≡◌, ℕ, true, List, refl, inl, inr}
 use Rattle.package.specs.Values.{MailChange, Progress}
-use Rattle.notifier.specs.declared.event.Event.TheVariants as happened
+use Rattle.notifier_model.specs.declared.event.Event.TheVariants as happened
 use Rattle.crew.specs.Ports.{PortSeats}
 use Rattle.telling.specs.declared.answer.Answer.TheVariants as answer
 use Rattle.telling.specs.declared.line.Asked.TheVariants as asked

@@ -2,8 +2,8 @@
 use Rattle.std.proofs.Common.{◌≡◌, ℕ, List, [], ◌∷◌, sym, subst}
 use Rattle.std.specs.Prelude.{IfOk, IfErr, OnErr, Result, Ok, Err}
 use Rattle.queue_rule.specs.declared.items.Item.{Item}
-use Rattle.notifier.specs.declared.event.Out.{Out}
-use Rattle.notifier.specs.Start.{Start}
+use Rattle.notifier_model.specs.declared.event.Out.{Out}
+use Rattle.notifier_model.specs.Start.{Start}
 use Rattle.outbox.specs.Seats.{TakerSeat}
 use Rattle.crew.specs.Ports.{PortSeats}
 use Rattle.crew.specs.Started.{Hired, IsStarted}

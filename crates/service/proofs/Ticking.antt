@@ -1,8 +1,8 @@
 -- The ticks that a port has sent so far.
 use Rattle.std.proofs.Common.{◌≡◌, ℕ, ◌<◌, List, [], ◌∷◌, ◌++◌, refl, sym, subst}
 use Rattle.std.proofs.lemmas.List.{map-append}
-use Rattle.notifier.specs.declared.event.Event.{Event}
-use Rattle.notifier.specs.declared.event.Event.TheVariants as event
+use Rattle.notifier_model.specs.declared.event.Event.{Event}
+use Rattle.notifier_model.specs.declared.event.Event.TheVariants as event
 use Rattle.crew.specs.Ports.{PortSeats}
 use Rattle.network.specs.declared.feeding.FeedEnd.TheVariants.{Gone}
 use Rattle.network.specs.Fed.{Sends, Misses}

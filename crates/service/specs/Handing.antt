@@ -1,6 +1,6 @@
 -- A service as its functions hand it on. No public contract cites this.
 use Rattle.std.specs.Prelude.{◌≡◌, ◌<◌, ℕ, List, [], ◌∷◌, length, get_or}
-use Rattle.notifier.specs.Start.{Start}
+use Rattle.notifier_model.specs.Start.{Start}
 use Rattle.crew.specs.Ports.{PortSeats}
 use Rattle.crew.specs.Started.{IsStarted}
 use Rattle.wires.specs.declared.udp.UdpWire.{UdpWire}

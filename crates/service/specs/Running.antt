@@ -5,8 +5,8 @@
 --   a tick         -> port 2 -+              +-> START <tag> <refer_to>, by the writer
 use Rattle.std.specs.Prelude.{◌≡◌, ◌||◌, ℕ, Bool, true, false, List, [], ◌∷◌}
 use Rattle.queue_rule.specs.declared.items.Item.{Item}
-use Rattle.notifier.specs.declared.event.Out.{Out}
-use Rattle.notifier.specs.Start.{Start}
+use Rattle.notifier_model.specs.declared.event.Out.{Out}
+use Rattle.notifier_model.specs.Start.{Start}
 use Rattle.outbox.specs.Seats.{TakerSeat}
 use Rattle.crew.specs.Ports.{PortSeats, IsShut}
 use Rattle.crew.specs.Kept.{SameSeats}

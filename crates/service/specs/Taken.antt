@@ -3,8 +3,8 @@ use Rattle.std.specs.Prelude.{◌≡◌, ◌≤◌, ℕ, Bool, true, false, List
 use Rattle.std.specs.List.{filter, filter_map, list_any, AllByRecursion}
 use Rattle.sip_text.specs.declared.address.Addr.{Addr}
 use Rattle.package.specs.Values.{MailChange, Progress}
-use Rattle.notifier.specs.declared.event.Event.{Event}
-use Rattle.notifier.specs.declared.event.Event.TheVariants as happened
+use Rattle.notifier_model.specs.declared.event.Event.{Event}
+use Rattle.notifier_model.specs.declared.event.Event.TheVariants as happened
 use Rattle.crew.specs.Ports.{PortSeats}
 use Rattle.scripts.specs.Devices.{one_more, rises}
 use Rattle.scripts.specs.Script.{lf}

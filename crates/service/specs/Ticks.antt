@@ -1,7 +1,7 @@
 -- The time, as it is told to the workers.
 use Rattle.std.specs.Prelude.{◌≡◌, ◌<◌, ℕ, List, [], ◌∷◌, ◌++◌, map}
-use Rattle.notifier.specs.declared.event.Event.{Event}
-use Rattle.notifier.specs.declared.event.Event.TheVariants as event
+use Rattle.notifier_model.specs.declared.event.Event.{Event}
+use Rattle.notifier_model.specs.declared.event.Event.TheVariants as event
 use Rattle.crew.specs.Ports.{PortSeats}
 use Rattle.network.specs.declared.feeding.FeedEnd.{FeedEnd}
 use Rattle.network.specs.declared.feeding.FeedEnd.TheVariants.{Done, Fault, Gone}

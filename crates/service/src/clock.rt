@@ -8,7 +8,7 @@ ghost use Rattle.service.specs.Ticks.{rises_from, AreTold, new_stopwatch};
 use crate::shared::Shared;
 use crew::Port;
 use network::{FeedEnd, send_event};
-use notifier::Event;
+use notifier_model::Event;
 use std::rt::Clock;
 use std::sync::Wait;
 use std::thread;

@@ -11,7 +11,7 @@ ghost use Rattle.service.specs.Taken.{Line, IsSent, IsChanged, IsDone, IsReport,
 use crate::shared::{Counter, Shared};
 use crew::Port;
 use network::{FeedEnd, send_event};
-use notifier::Event;
+use notifier_model::Event;
 use package::MailChange;
 use sip_text::{Addr, NoMemory, Text};
 use std::alloc::Global;

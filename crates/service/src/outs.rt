@@ -10,7 +10,7 @@ ghost use Rattle.service.specs.Rung.{Rings};
 
 use crate::shared::{Counter, Shared};
 use network::{Fate, put_out};
-use notifier::Out;
+use notifier_model::Out;
 use outbox::{Posted, Taker};
 use scripts::Sink;
 use sip_text::Addr;

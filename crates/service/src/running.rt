@@ -1,6 +1,6 @@
 //! A crew that runs as a service, to its end.
 ghost use Rattle.std.specs.Prelude.{◌≡◌, ◌<◌, ◌≤◌, ◌⊎◌, ◌∷◌, [], ℕ, List, get_or, vec_len, vec_capacity, Err, IfOk, IfErr, OnErr};
-ghost use Rattle.notifier.specs.Start.{Start};
+ghost use Rattle.notifier_model.specs.Start.{Start};
 ghost use Rattle.crew.specs.Ports.{PortSeats};
 ghost use Rattle.crew.specs.Ready.{start_of};
 ghost use Rattle.crew.specs.Started.{IsStarted};
@@ -21,7 +21,7 @@ use crate::outs::{Bell, Exit, send_outs};
 use crate::shared::Shared;
 use crew::{Crew, Port, Report};
 use network::FeedEnd;
-use notifier::Setup;
+use notifier_model::Setup;
 use outbox::Taker;
 use package::Package;
 use std::alloc::Global;

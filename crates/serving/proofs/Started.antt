@@ -7,9 +7,9 @@ use Rattle.std.proofs.lemmas.List.FromFn.{get_or-map-range_with_len}
 use Rattle.sip_text.specs.declared.address.Addr.{Addr}
 use Rattle.scripts.specs.Devices.{SinkSeen}
 use Rattle.package.specs.Content.{Seen}
-use Rattle.notifier.specs.declared.place.Setup.{Setup}
-use Rattle.notifier.specs.Limits.{IsWithin}
-use Rattle.notifier.specs.Start.{Start, place_of}
+use Rattle.notifier_model.specs.declared.place.Setup.{Setup}
+use Rattle.notifier_model.specs.Limits.{IsWithin}
+use Rattle.notifier_model.specs.Start.{Start, place_of}
 use Rattle.crew.specs.Ready.{start_of}
 use Rattle.crew.proofs.Starting.{element}
 use Rattle.emitting.specs.Emitted.{WireSeen, WriterSeen}

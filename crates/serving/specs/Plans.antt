@@ -2,8 +2,8 @@
 use Rattle.std.specs.Prelude.{◌≡◌, ◌≢◌, ℕ, not, List, [], ◌∷◌, ◌++◌, Option, Some, None}
 use Rattle.std.specs.List.{All}
 use Rattle.sip_text.specs.declared.address.Addr.{Addr}
-use Rattle.notifier.specs.Limits.{Limits, AreLimits, IsWithin}
-use Rattle.notifier.specs.declared.place.Setup.{Setup}
+use Rattle.notifier_model.specs.Limits.{Limits, AreLimits, IsWithin}
+use Rattle.notifier_model.specs.declared.place.Setup.{Setup}
 use Rattle.options.specs.declared.choices.Choices.{Choices}
 use Rattle.options.specs.declared.choices.Numbers.{Numbers}
 use Rattle.options.specs.declared.setting.Setting.{Setting}

@@ -6,7 +6,7 @@
 --   3        an address, a file, a thread or a socket can't be had, or one failed
 --   4        memory was wanting
 use Rattle.std.specs.Prelude.{◌≡◌, ◌⊎◌, ℕ, List, [], ◌∷◌, Some, slice_get, codes}
-use Rattle.notifier.specs.Limits.{AreLimits}
+use Rattle.notifier_model.specs.Limits.{AreLimits}
 use Rattle.options.specs.declared.choices.Choices.{Choices}
 use Rattle.options.specs.declared.error.OptionsError.{OptionsError}
 use Rattle.options.specs.declared.error.OptionsError.TheVariants as wrong

@@ -3,7 +3,7 @@ use Rattle.std.specs.Prelude.{◌≡◌, ◌≢◌, ℕ, true, false, List, Opti
 use Rattle.std.specs.Io.KnownBytes.{Appends}
 use Rattle.sip_text.specs.declared.address.Addr.{Addr}
 use Rattle.scripts.specs.Devices.{SinkSeen}
-use Rattle.notifier.specs.Start.{Start, place_of}
+use Rattle.notifier_model.specs.Start.{Start, place_of}
 use Rattle.server.specs.Call.{boxes_with, names_for}
 use Rattle.emitting.specs.Emitted.{WireSeen, WriterSeen}
 use Rattle.udp_program.specs.Ends.{all_closed}

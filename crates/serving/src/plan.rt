@@ -1,6 +1,6 @@
 //! What a service begins with, by the words behind `serve`.
 ghost use Rattle.std.specs.Prelude.{◌≡◌, ◌↔◌, Some, IsTrue, IfOk, IfErr, OnErr};
-ghost use Rattle.notifier.specs.Limits.{AreLimits};
+ghost use Rattle.notifier_model.specs.Limits.{AreLimits};
 ghost use Rattle.serving.specs.declared.error.ServeError.TheVariants as error;
 ghost use Rattle.serving.specs.Plans as spec;
 ghost use Rattle.serving.specs.Plans.{IsCount, IsSeed, IsReached, IsPlan};
@@ -8,7 +8,7 @@ ghost use Rattle.serving.specs.Refused.{IsRefusal};
 
 use crate::error::ServeError;
 use crate::mailboxes::mailboxes_of;
-use notifier::{Limits, Setup};
+use notifier_model::{Limits, Setup};
 use options::{Choices, Numbers, parse_settings};
 use sip_text::{Addr, Text};
 use std::random::RandomSource;

@@ -5,11 +5,11 @@ use Rattle.std.specs.Prelude.{if◌then◌else◌, option_to_list, IfSome}
 use Rattle.std.proofs.lemmas.List.{append-nil}
 use Rattle.std.proofs.lemmas.List.Elements.{All-nil, All-head, All-tail, All-push, All-weaker}
 use Rattle.std.proofs.lemmas.List.Kept.{AllPairs-cons}
-use Rattle.notifier.specs.declared.event.Event.{Event}
-use Rattle.notifier.specs.declared.row.Row.{Row}
-use Rattle.notifier.specs.Start.{Start, tag_of}
-use Rattle.notifier.specs.Book.{Book, step}
-use Rattle.notifier.specs.Run.{empty, run, run_from}
+use Rattle.notifier_model.specs.declared.event.Event.{Event}
+use Rattle.notifier_model.specs.declared.row.Row.{Row}
+use Rattle.notifier_model.specs.Start.{Start, tag_of}
+use Rattle.notifier_model.specs.Book.{Book, step}
+use Rattle.notifier_model.specs.Run.{empty, run, run_from}
 use Rattle.lives.specs.Laws.{IsStart}
 use Rattle.lives.specs.Life.{Life, is_gone}
 use Rattle.lives.specs.Lives.{births, life}

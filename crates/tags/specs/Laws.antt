@@ -1,10 +1,10 @@
 -- What a local tag tells apart.
 use Rattle.std.specs.Prelude.{ℕ, ◌≡◌, ◌≢◌, ◌<◌, ◌^◌, List, All, AllPairs}
-use Rattle.notifier.specs.declared.event.Event.{Event}
-use Rattle.notifier.specs.declared.place.Place.{Place}
-use Rattle.notifier.specs.declared.row.Row.{Row}
-use Rattle.notifier.specs.Start.{Start, tag_of}
-use Rattle.notifier.specs.Run.{run}
+use Rattle.notifier_model.specs.declared.event.Event.{Event}
+use Rattle.notifier_model.specs.declared.place.Place.{Place}
+use Rattle.notifier_model.specs.declared.row.Row.{Row}
+use Rattle.notifier_model.specs.Start.{Start, tag_of}
+use Rattle.notifier_model.specs.Run.{run}
 use Rattle.lives.specs.Laws.{IsStart}
 
 -- One tag, one worker and one serial. Both numbers are below 2^32, so the bounds leave none out.

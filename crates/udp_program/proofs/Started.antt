@@ -5,8 +5,8 @@ use Rattle.std.proofs.lemmas.List.{get_or-map, length-map}
 use Rattle.std.proofs.lemmas.List.FromFn.{get_or-map-range_with_len}
 use Rattle.scripts.specs.declared.udp_arguments.UdpArguments.{UdpArguments}
 use Rattle.package.specs.Content.{Seen}
-use Rattle.notifier.specs.declared.place.Setup.{Setup}
-use Rattle.notifier.specs.Start.{Start, place_of}
+use Rattle.notifier_model.specs.declared.place.Setup.{Setup}
+use Rattle.notifier_model.specs.Start.{Start, place_of}
 use Rattle.outbox.specs.Seats.{TakerSeat, new_taker}
 use Rattle.crew.specs.Ports.{PortSeats}
 use Rattle.crew.specs.Ready.{start_of}

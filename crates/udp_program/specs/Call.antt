@@ -2,7 +2,7 @@
 use Rattle.std.specs.Prelude.{ℕ, List}
 use Rattle.scripts.specs.declared.udp_arguments.UdpArguments.{UdpArguments}
 use Rattle.scripts.specs.UdpArguments.{AreUdpArguments}
-use Rattle.notifier.specs.Start.{Start, place_of}
+use Rattle.notifier_model.specs.Start.{Start, place_of}
 use Rattle.server.specs.Call.{setup_at, boxes_with, names_for}
 
 -- a worker: at the first port, with the mailboxes whose keys go to it, each with no class set, and no transfer

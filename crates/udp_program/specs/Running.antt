@@ -1,6 +1,6 @@
 -- A run as its functions hand it on. No public contract cites this.
 use Rattle.std.specs.Prelude.{◌≡◌, ℕ, List}
-use Rattle.notifier.specs.Start.{Start}
+use Rattle.notifier_model.specs.Start.{Start}
 use Rattle.crew.specs.declared.errors.StartError.{StartError}
 use Rattle.crew.specs.declared.errors.StartError.TheVariants as start
 use Rattle.crew.specs.Ports.{PortSeats}

@@ -1,6 +1,6 @@
 //! A crew that serves two sockets to its end.
 ghost use Rattle.std.specs.Prelude.{◌≡◌, ◌<◌, ◌≤◌, ◌∷◌, [], ℕ, List, vec_len, vec_capacity, IfOk, OnErr};
-ghost use Rattle.notifier.specs.Start.{Start};
+ghost use Rattle.notifier_model.specs.Start.{Start};
 ghost use Rattle.crew.specs.Ports.{PortSeats};
 ghost use Rattle.udp_program.specs.Serving.{Serves};
 ghost use Rattle.udp_program.specs.Running.{IsNew, AreErrands, outcome_of};

@@ -6,7 +6,7 @@
 
 use crate::presence::Presence;
 use crate::trials::words_of;
-use notifier::{Limits, Setup};
+use notifier_model::{Limits, Setup};
 use package::Package;
 use scripts::{ScriptError, Sink, Source};
 use server::{Boxes, boxes_for, script_one, setup_at};

@@ -4,12 +4,12 @@ use Rattle.std.proofs.lemmas.List.{append-nil, map-append}
 use Rattle.std.proofs.lemmas.List.Elements.{filter_map-append}
 use Rattle.std.proofs.lemmas.Grind.{common_steps}
 use Rattle.queue_rule.specs.declared.items.Item.{Item}
-use Rattle.notifier.specs.declared.event.Event.{Event}
-use Rattle.notifier.specs.Book.{step}
-use Rattle.notifier.specs.Out.{Send, out_of}
-use Rattle.notifier.specs.Run.{run, made, empty}
-use Rattle.notifier.specs.Start.{Start}
-use Rattle.notifier.proofs.Runs.{run_from-push, made_from-push}
+use Rattle.notifier_model.specs.declared.event.Event.{Event}
+use Rattle.notifier_model.specs.Book.{step}
+use Rattle.notifier_model.specs.Out.{Send, out_of}
+use Rattle.notifier_model.specs.Run.{run, made, empty}
+use Rattle.notifier_model.specs.Start.{Start}
+use Rattle.notifier_model.proofs.Runs.{run_from-push, made_from-push}
 use Rattle.queue_rule.specs.Values.{values, values_by, value_in, value_item, end_item}
 use Rattle.worker.specs.Worked.{outs_for}
 

@@ -3,12 +3,12 @@ use Rattle.std.proofs.Common.{◌≡◌, ℕ, ◌+◌, ◌<◌, true, false, Lis
 use Rattle.queue_rule.specs.declared.items.Item.{Item}
 use Rattle.queue_rule.specs.Ended.{AllEnded}
 use Rattle.queue_rule.specs.Values.{values, end_item}
-use Rattle.notifier.specs.declared.event.Event.{Event}
-use Rattle.notifier.specs.declared.event.Event.TheVariants.{Shut}
-use Rattle.notifier.specs.declared.event.Out.{Out}
+use Rattle.notifier_model.specs.declared.event.Event.{Event}
+use Rattle.notifier_model.specs.declared.event.Event.TheVariants.{Shut}
+use Rattle.notifier_model.specs.declared.event.Out.{Out}
 use Rattle.notifier.specs.Standing.{Standing}
-use Rattle.notifier.specs.Start.{Start}
-use Rattle.notifier.specs.Home.{at_the_stop}
+use Rattle.notifier_model.specs.Start.{Start}
+use Rattle.notifier_model.specs.Home.{at_the_stop}
 use Rattle.inbox.specs.Events.{events_of}
 use Rattle.inbox.specs.Seats.{ReceiverSeat}
 use Rattle.inbox.proofs.Events.{events_ended, events_open}

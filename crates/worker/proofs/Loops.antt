@@ -4,13 +4,13 @@ use Rattle.std.proofs.lemmas.List.Elements.{All-nil, All-same, All-push}
 use Rattle.queue_rule.specs.declared.items.Item.{Item}
 use Rattle.queue_rule.specs.Ended.{count_ended, AllEnded}
 use Rattle.queue_rule.proofs.Ended.{ended_value, ended_more, ended_none, all_ended, ended_all}
-use Rattle.notifier.specs.declared.event.Event.{Event}
-use Rattle.notifier.specs.declared.event.Out.{Out}
-use Rattle.notifier.specs.Book.{Book, step}
-use Rattle.notifier.specs.Out.{out_of}
-use Rattle.notifier.specs.Run.{run, made, run_from, made_from}
+use Rattle.notifier_model.specs.declared.event.Event.{Event}
+use Rattle.notifier_model.specs.declared.event.Out.{Out}
+use Rattle.notifier_model.specs.Book.{Book, step}
+use Rattle.notifier_model.specs.Out.{out_of}
+use Rattle.notifier_model.specs.Run.{run, made, run_from, made_from}
 use Rattle.notifier.specs.Standing.{Standing, first_standing}
-use Rattle.notifier.specs.Start.{Start}
+use Rattle.notifier_model.specs.Start.{Start}
 use Rattle.inbox.specs.Seats.{ReceiverSeat}
 use Rattle.inbox.specs.Took.{Took}
 use Rattle.many_to_one.specs.declared.ends.Taken.{Taken}

@@ -4,11 +4,11 @@ use Rattle.std.specs.List.{All}
 use Rattle.queue_rule.specs.declared.items.Item.{Item}
 use Rattle.queue_rule.specs.Ended.{AllEnded}
 use Rattle.queue_rule.specs.Values.{values_by, end_item}
-use Rattle.notifier.specs.declared.event.Event.{Event}
-use Rattle.notifier.specs.declared.event.Out.{Out}
-use Rattle.notifier.specs.Out.{out_of}
-use Rattle.notifier.specs.Run.{made}
-use Rattle.notifier.specs.Start.{Start}
+use Rattle.notifier_model.specs.declared.event.Event.{Event}
+use Rattle.notifier_model.specs.declared.event.Out.{Out}
+use Rattle.notifier_model.specs.Out.{out_of}
+use Rattle.notifier_model.specs.Run.{made}
+use Rattle.notifier_model.specs.Start.{Start}
 use Rattle.inbox.specs.Seats.{ReceiverSeat}
 use Rattle.inbox.specs.Events.{events_of}
 use Rattle.outbox.specs.Seats.{PosterSeat}

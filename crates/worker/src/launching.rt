@@ -1,7 +1,7 @@
 //! How one worker is started.
 ghost use Rattle.std.specs.Prelude.{◌≡◌, [], Some, IfOk};
 ghost use Rattle.notifier.specs.Standing.{first_standing};
-ghost use Rattle.notifier.specs.Start.{Start};
+ghost use Rattle.notifier_model.specs.Start.{Start};
 ghost use Rattle.worker.specs.Worked.{IsWorked};
 
 use crate::end::Done;

@@ -2,7 +2,7 @@
 ghost use Rattle.std.specs.Prelude.{◌≡◌, ◌+◌, [], Some};
 ghost use Rattle.queue_rule.specs.Ended.{count_ended};
 ghost use Rattle.notifier.specs.Standing.{first_standing};
-ghost use Rattle.notifier.specs.Start.{Start};
+ghost use Rattle.notifier_model.specs.Start.{Start};
 ghost use Rattle.worker.specs.Worked.{AllFrom, KeepsQueues};
 ghost use Rattle.worker.specs.Loop.{Halted};
 

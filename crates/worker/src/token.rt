@@ -3,9 +3,9 @@ ghost use Rattle.std.specs.Prelude.{◌≡◌, map};
 ghost use Rattle.std.specs.Borrow.{ftrue};
 ghost use Rattle.std.specs.Coded.{codes};
 ghost use Rattle.package.specs.Code.{coded_contents};
-ghost use Rattle.notifier.specs.Start.{Start, place_of};
+ghost use Rattle.notifier_model.specs.Start.{Start, place_of};
 
-use notifier::Setup;
+use notifier_model::Setup;
 use package::Package;
 use std::marker::Model;
 

@@ -6,14 +6,14 @@ use Rattle.std.proofs.lemmas.List.Elements.{filter_map-append}
 use Rattle.std.proofs.lemmas.Bool.Decides.{eqb_tells}
 use Rattle.queue_rule.specs.declared.items.Item.{Item}
 use Rattle.queue_rule.specs.Items.{items_of, has_end}
-use Rattle.notifier.specs.declared.place.Place.{Place}
-use Rattle.notifier.specs.declared.event.Event.{Event}
-use Rattle.notifier.specs.Start.{Start}
-use Rattle.notifier.specs.Out.{Send, out_of}
-use Rattle.notifier.specs.Book.{Book, step}
-use Rattle.notifier.specs.Run.{empty, run_from, made_from, made}
+use Rattle.notifier_model.specs.declared.place.Place.{Place}
+use Rattle.notifier_model.specs.declared.event.Event.{Event}
+use Rattle.notifier_model.specs.Start.{Start}
+use Rattle.notifier_model.specs.Out.{Send, out_of}
+use Rattle.notifier_model.specs.Book.{Book, step}
+use Rattle.notifier_model.specs.Run.{empty, run_from, made_from, made}
 use Rattle.queue_rule.specs.Values.{values, value_in}
-use Rattle.notifier.specs.Home.{at_the_stop}
+use Rattle.notifier_model.specs.Home.{at_the_stop}
 use Rattle.inbox.specs.Events.{have_ended, events_of}
 use Rattle.worlds.specs.Laws.{AreFirst}
 

@@ -4,10 +4,10 @@ use Rattle.std.proofs.lemmas.List.{take-append-le, map-append, length-map}
 use Rattle.std.proofs.Math.Seq.{take-append_seam}
 use Rattle.std.proofs.Math.Nat.{eq-or-lt_of_le}
 use Rattle.std.proofs.lemmas.Grind.{common_steps}
-use Rattle.notifier.specs.declared.event.Event.{Event}
-use Rattle.notifier.specs.declared.event.Out.{Out}
-use Rattle.notifier.specs.Out.{Notification, is_last}
-use Rattle.notifier.specs.Start.{Start}
+use Rattle.notifier_model.specs.declared.event.Event.{Event}
+use Rattle.notifier_model.specs.declared.event.Out.{Out}
+use Rattle.notifier_model.specs.Out.{Notification, is_last}
+use Rattle.notifier_model.specs.Start.{Start}
 use Rattle.lives.specs.Notices.{newest_first, notices}
 use Rattle.lives.specs.Laws.{notifies_with, AreNotifies, up_to, ends_once}
 use Rattle.lives.proofs.Numbers.{numbers_law}

@@ -8,11 +8,11 @@ use Rattle.queue_rule.specs.declared.items.Entry.TheVariants.{Value, End}
 use Rattle.queue_rule.specs.Items.{items_of}
 use Rattle.queue_rule.proofs.ItemLists.{items_of_first}
 use Rattle.queue_rule.specs.Values.{values}
-use Rattle.notifier.specs.declared.place.Place.{Place}
-use Rattle.notifier.specs.declared.event.Event.{Event}
-use Rattle.notifier.specs.declared.event.Out.{Out}
-use Rattle.notifier.specs.declared.event.Out.TheVariants.{Answer, Notify, Start as Begins}
-use Rattle.notifier.specs.Start.{Start, tag_of}
+use Rattle.notifier_model.specs.declared.place.Place.{Place}
+use Rattle.notifier_model.specs.declared.event.Event.{Event}
+use Rattle.notifier_model.specs.declared.event.Out.{Out}
+use Rattle.notifier_model.specs.declared.event.Out.TheVariants.{Answer, Notify, Start as Begins}
+use Rattle.notifier_model.specs.Start.{Start, tag_of}
 use Rattle.lives.specs.Laws.{IsStart, notifies_with, IsOfALife, AreOfLives, outs}
 use Rattle.lives.proofs.Owners.{no_other_law}
 use Rattle.lives.proofs.Tags.{worker_of_tag}

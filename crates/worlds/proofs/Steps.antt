@@ -6,10 +6,10 @@ use Rattle.std.proofs.lemmas.Bool.Decides.{nat_tests}
 use Rattle.queue_rule.specs.declared.items.Item.{Item}
 use Rattle.queue_rule.specs.Items.{items_of, has_end, NothingAfterEnd}
 use Rattle.queue_rule.proofs.ItemLists.{items_of-append, items_of_first, items_of_more, items_of_same, ends_snoc, ends_front, not_nil}
-use Rattle.notifier.specs.declared.event.Event.{Event}
-use Rattle.notifier.specs.declared.event.Out.{Out}
-use Rattle.notifier.specs.Out.{out_of}
-use Rattle.notifier.specs.Run.{made}
+use Rattle.notifier_model.specs.declared.event.Event.{Event}
+use Rattle.notifier_model.specs.declared.event.Out.{Out}
+use Rattle.notifier_model.specs.Out.{out_of}
+use Rattle.notifier_model.specs.Run.{made}
 use Rattle.queue_rule.specs.Values.{values, value_item, end_item}
 use Rattle.inbox.specs.Events.{have_ended}
 use Rattle.worlds.specs.World.{Crew, Step, Send, Take, Post, Get, Quit, Worker, World, new_worker, new_world, sends, takes_first, takes, posts, quits, its_events, all_outs, lacking, first_or_end, next_post, at, posted_to, got_first, is_step_of, stepped, after, world}

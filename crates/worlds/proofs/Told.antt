@@ -4,9 +4,9 @@ use Rattle.std.specs.Prelude.{nat_lt, ◌==◌}
 use Rattle.queue_rule.specs.Items.{items_of}
 use Rattle.queue_rule.specs.Values.{values}
 use Rattle.queue_rule.proofs.ItemLists.{items_of-append}
-use Rattle.notifier.specs.declared.event.Event.{Event}
-use Rattle.notifier.specs.declared.event.Out.{Out}
-use Rattle.notifier.specs.Out.{Notification}
+use Rattle.notifier_model.specs.declared.event.Event.{Event}
+use Rattle.notifier_model.specs.declared.event.Out.{Out}
+use Rattle.notifier_model.specs.Out.{Notification}
 use Rattle.lives.specs.Laws.{notifies_with, AreNotifies, outs}
 use Rattle.lives.proofs.Outs.{life_law}
 use Rattle.worlds.specs.World.{Crew, Step, its_events, all_outs, world}

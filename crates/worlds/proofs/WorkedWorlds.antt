@@ -1,11 +1,11 @@
 -- Worlds worked out by computing: two workers and two ports, and what the taker gets.
-use Rattle.notifier.specs.Tag
-use Rattle.notifier.specs.Requests
-use Rattle.notifier.specs.Answers
-use Rattle.notifier.specs.Out
-use Rattle.notifier.specs.Rows
-use Rattle.notifier.specs.Book
-use Rattle.notifier.specs.Run
+use Rattle.notifier_model.specs.Tag
+use Rattle.notifier_model.specs.Requests
+use Rattle.notifier_model.specs.Answers
+use Rattle.notifier_model.specs.Out
+use Rattle.notifier_model.specs.Rows
+use Rattle.notifier_model.specs.Book
+use Rattle.notifier_model.specs.Run
 use Rattle.subscription.specs.Table
 use Rattle.sip_write.specs.Answer as AnswerLayout
 use Rattle.sip_write.specs.Notify as NotifyLayout
@@ -22,9 +22,9 @@ use Rattle.queue_rule.specs.declared.items.Entry.TheVariants.{Value, End}
 use Rattle.package.specs.Content.{OfMail}
 use Rattle.package.specs.Changes.{unset}
 use Rattle.sip_read.specs.declared.message.Request.{Request}
-use Rattle.notifier.specs.declared.event.Out.{Out}
-use Rattle.notifier.specs.declared.event.Out.TheVariants.{Answer, Notify, Start as Begins}
-use Rattle.notifier.proofs.Examples.{Start, Seen, lists, mail_box, refer_box, start, subscribe, subscribe_1, to_uri, of_call, comes, voice}
+use Rattle.notifier_model.specs.declared.event.Out.{Out}
+use Rattle.notifier_model.specs.declared.event.Out.TheVariants.{Answer, Notify, Start as Begins}
+use Rattle.notifier_model.proofs.Examples.{Start, Seen, lists, mail_box, refer_box, start, subscribe, subscribe_1, to_uri, of_call, comes, voice}
 use Rattle.worlds.specs.World.{CrewBy, Step, Send, Take, Post, Get, Quit, world}
 
 -- ---- what is shown of an item that the taker got

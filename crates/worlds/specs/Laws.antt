@@ -1,10 +1,10 @@
 -- The laws of a crew's world: what stands in its lists, whatever the order of the steps.
 use Rattle.std.specs.Prelude.{ℕ, ◌≡◌, ◌<◌, ◌≤◌, ◌^◌, Bool, true, false, not, ◌&&◌, List, [], ◌∷◌, ◌++◌, map, length}
 use Rattle.queue_rule.specs.Items.{items_of, NothingAfterEnd}
-use Rattle.notifier.specs.declared.event.Out.{Out}
-use Rattle.notifier.specs.declared.event.Out.TheVariants.{Answer, Notify, Start as Begins}
-use Rattle.notifier.specs.Start.{tag_of}
-use Rattle.notifier.specs.Out.{Notification}
+use Rattle.notifier_model.specs.declared.event.Out.{Out}
+use Rattle.notifier_model.specs.declared.event.Out.TheVariants.{Answer, Notify, Start as Begins}
+use Rattle.notifier_model.specs.Start.{tag_of}
+use Rattle.notifier_model.specs.Out.{Notification}
 use Rattle.lives.specs.Notices.{newest_first, notices}
 use Rattle.lives.specs.Laws.{IsStart, notifies_with, AreNotifies, up_to}
 use Rattle.queue_rule.specs.Values.{values}

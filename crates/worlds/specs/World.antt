@@ -8,11 +8,11 @@ use Rattle.queue_rule.specs.declared.items.Item.{Item}
 use Rattle.queue_rule.specs.declared.items.Entry.{Entry}
 use Rattle.queue_rule.specs.Items.{has_end}
 use Rattle.package.specs.Content.{Maps, finite_maps}
-use Rattle.notifier.specs.declared.event.Event.{Event}
-use Rattle.notifier.specs.declared.event.Out.{Out}
-use Rattle.notifier.specs.Start.{StartBy}
-use Rattle.notifier.specs.Out.{out_of}
-use Rattle.notifier.specs.Run.{made}
+use Rattle.notifier_model.specs.declared.event.Event.{Event}
+use Rattle.notifier_model.specs.declared.event.Out.{Out}
+use Rattle.notifier_model.specs.Start.{StartBy}
+use Rattle.notifier_model.specs.Out.{out_of}
+use Rattle.notifier_model.specs.Run.{made}
 use Rattle.queue_rule.specs.Values.{values, value_item, end_item}
 use Rattle.inbox.specs.Events.{have_ended, events_of}
 

@@ -2,7 +2,7 @@
 ghost use Rattle.std.specs.Prelude.{◌≡◌, ◌<◌, IfSome};
 
 use inbox::{Receiver, Sender};
-use notifier::{Event, Out};
+use notifier_model::{Event, Out};
 use outbox::{Posted, Poster, Taker};
 use sip_text::Text;
 use std::alloc::Global;

@@ -1,7 +1,7 @@
 //! What an event takes on its way through both queues.
 
 use crate::queues::pipeline::hand_over;
-use notifier::{Event, Out};
+use notifier_model::{Event, Out};
 use std::alloc::Global;
 use std::rt::Runtime;
 use std::sync::Wait;

@@ -4,7 +4,7 @@
 ghost use Rattle.std.specs.Prelude.{◌≡◌, ◌<◌, IfOk};
 
 use inbox::{Receiver, Sender, Sent, Taken};
-use notifier::{Event, Out};
+use notifier_model::{Event, Out};
 use outbox::{Posted, Poster, PosterDone, Taker};
 use package::{Class, MailChange};
 use sip_text::{NoMemory, Text};

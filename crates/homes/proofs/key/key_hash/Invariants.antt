@@ -1,5 +1,5 @@
 use Rattle.std.proofs.Common.{◌≡◌, ◌<◌, ◌^◌, drop}
-use Rattle.notifier.specs.Home.{hash_from, key_hash}
+use Rattle.notifier_model.specs.Home.{hash_from, key_hash}
 use Rattle.homes.proofs.key.key_hash.Given as goal
 
 abbrev pub invariant-loop-byte : goal.invariant-loop-byte

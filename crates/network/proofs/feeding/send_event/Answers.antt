@@ -1,6 +1,6 @@
 use Rattle.std.proofs.Common.{◌≡◌, ◌∷◌, [], MatchBool, Bool, sym, subst}
-use Rattle.notifier.specs.declared.event.Event.{Event}
-use Rattle.notifier.specs.declared.event.Event.TheVariants as event
+use Rattle.notifier_model.specs.declared.event.Event.{Event}
+use Rattle.notifier_model.specs.declared.event.Event.TheVariants as event
 use Rattle.crew.proofs.Keeping.{ticked_keeps}
 use Rattle.network.specs.Fed.{Sends, Misses}
 use Rattle.network.proofs.Sending.{ticked_law}

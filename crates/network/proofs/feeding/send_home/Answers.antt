@@ -1,5 +1,5 @@
 use Rattle.std.proofs.Common.{◌≡◌, ◌∷◌, [], MatchBool, Bool, false, sym, subst, ◌∙◌}
-use Rattle.notifier.specs.Home.{home, is_for_all}
+use Rattle.notifier_model.specs.Home.{home, is_for_all}
 use Rattle.crew.proofs.Keeping.{sent_keeps}
 use Rattle.network.specs.Fed.{Sends, Misses}
 use Rattle.network.proofs.Sending.{sent_law}

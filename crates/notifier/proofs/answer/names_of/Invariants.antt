@@ -1,5 +1,5 @@
 use Rattle.std.proofs.Common.{◌≡◌, map, take}
-use Rattle.notifier.specs.Answers.{names_of}
+use Rattle.notifier_model.specs.Answers.{names_of}
 use Rattle.notifier.proofs.answer.names_of.Given as goal
 
 abbrev pub invariant-loop-found : goal.invariant-loop-found

@@ -1,7 +1,7 @@
 use Rattle.std.proofs.Common.{◌∷◌, ◌++◌, [], ap, sym, ◌∙◌, filter, take}
 use Rattle.std.proofs.lemmas.List.{take_more, take_all}
 use Rattle.std.proofs.lemmas.List.Elements.{filter-append}
-use Rattle.notifier.specs.Requests.{is_strange}
+use Rattle.notifier_model.specs.Requests.{is_strange}
 use Rattle.notifier.proofs.answer.strange_of.Goals as goal
 
 pub loop-word-preserved : goal.loop-word-preserved

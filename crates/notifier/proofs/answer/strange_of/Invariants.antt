@@ -1,5 +1,5 @@
 use Rattle.std.proofs.Common.{◌≡◌, map, filter, take}
-use Rattle.notifier.specs.Requests.{is_strange}
+use Rattle.notifier_model.specs.Requests.{is_strange}
 use Rattle.notifier.proofs.answer.strange_of.Given as goal
 
 abbrev pub invariant-loop-word : goal.invariant-loop-word

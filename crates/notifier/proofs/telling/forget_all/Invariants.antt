@@ -1,5 +1,5 @@
 use Rattle.std.proofs.Common.{◌≡◌, map}
-use Rattle.notifier.specs.Rows.{forgetting}
+use Rattle.notifier_model.specs.Rows.{forgetting}
 use Rattle.notifier.proofs.telling.forget_all.Given as goal
 
 abbrev pub invariant-loop-tag : goal.invariant-loop-tag

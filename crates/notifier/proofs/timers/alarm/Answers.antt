@@ -1,6 +1,6 @@
 use Rattle.std.proofs.Common.{◌≡◌, ◌∙◌, ap, refl, rules, ℕ, min, List, [], ◌∷◌, Some, None}
 use Rattle.std.specs.List.{slice_get}
-use Rattle.notifier.specs.declared.row.Unanswered.{Unanswered}
+use Rattle.notifier_model.specs.declared.row.Unanswered.{Unanswered}
 use Rattle.notifier.specs.Stored.{gives_up, alarm_with, alarm_of}
 use Rattle.notifier.proofs.timers.alarm.Goals as goal
 

@@ -2,7 +2,7 @@ use Rattle.std.proofs.Common.{◌≡◌, ◌∙◌, sym, subst, All}
 use Rattle.notifier.specs.declared.rule.Cause.TheVariants.{Response as Answer, Refused, Renewal, Change, Time}
 use Rattle.notifier.specs.Among.{Cover}
 use Rattle.notifier.specs.Causes.{rule_of, CanTell}
-use Rattle.notifier.specs.Rows.{counted, renewed}
+use Rattle.notifier_model.specs.Rows.{counted, renewed}
 use Rattle.notifier.specs.Stored.{rows_of}
 use Rattle.notifier.proofs.Covers.{only_covers, answered_covers, change_covers, time_covers, stop_covers}
 use Rattle.notifier.proofs.Dialogs.{of_answer}

@@ -1,9 +1,9 @@
 use Rattle.std.proofs.Common.{◌≡◌, ◌+◌, ◌∷◌, ◌++◌, [], ap, sym, ◌∙◌, take, map, Some}
 use Rattle.std.proofs.lemmas.List.{take_more, take_all, map-append}
-use Rattle.notifier.specs.Book.{Book, step}
-use Rattle.notifier.specs.Out.{out_of}
-use Rattle.notifier.specs.Run.{run_from, made_from}
-use Rattle.notifier.proofs.Runs.{run_from-push, made_from-push}
+use Rattle.notifier_model.specs.Book.{Book, step}
+use Rattle.notifier_model.specs.Out.{out_of}
+use Rattle.notifier_model.specs.Run.{run_from, made_from}
+use Rattle.notifier_model.proofs.Runs.{run_from-push, made_from-push}
 use Rattle.notifier.proofs.whole_run.handle_all.Goals as goal
 
 pub loop-event-init : goal.loop-event-init

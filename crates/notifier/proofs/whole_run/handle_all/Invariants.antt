@@ -1,6 +1,6 @@
 use Rattle.std.proofs.Common.{◌≡◌, Some, map, take}
-use Rattle.notifier.specs.Out.{out_of}
-use Rattle.notifier.specs.Run.{run_from, made_from}
+use Rattle.notifier_model.specs.Out.{out_of}
+use Rattle.notifier_model.specs.Run.{run_from, made_from}
 use Rattle.notifier.specs.Standing.{Standing}
 use Rattle.notifier.proofs.whole_run.handle_all.Given as goal
 

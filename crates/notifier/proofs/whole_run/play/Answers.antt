@@ -1,6 +1,6 @@
 use Rattle.std.proofs.Common.{Result, Ok, Err}
 use Rattle.std.specs.Prelude.{IfOk}
-use Rattle.notifier.specs.Run.{made}
+use Rattle.notifier_model.specs.Run.{made}
 use Rattle.notifier.proofs.whole_run.play.Goals as goal
 
 if_ok_then : {T E : Type 0} {P Q : T → Type 0} (r : Result T E) → ((x : T) → P x → Q x) → IfOk r P → IfOk r Q

@@ -1,5 +1,5 @@
 use Rattle.std.proofs.Common.{List, OnOk, map, subst}
-use Rattle.notifier.specs.Start.{Start}
+use Rattle.notifier_model.specs.Start.{Start}
 use Rattle.server.specs.Boxes.{box_seen}
 use Rattle.server.specs.Runs.{WritesPage, MeetsFault}
 use Rattle.server.proofs.Started.{one_start_is}

@@ -1,6 +1,6 @@
 use Rattle.std.proofs.Common.{sym, ◌∙◌, refl, subst}
-use Rattle.notifier.specs.declared.event.Event.{Event}
-use Rattle.notifier.specs.declared.event.Event.TheVariants.{Tick}
+use Rattle.notifier_model.specs.declared.event.Event.{Event}
+use Rattle.notifier_model.specs.declared.event.Event.TheVariants.{Tick}
 use Rattle.crew.proofs.Keeping.{sent_keeps, ticked_keeps}
 use Rattle.server.specs.Sending.{Reaches}
 use Rattle.server.proofs.Sent.{reaches_all, reaches_home, where_ok}

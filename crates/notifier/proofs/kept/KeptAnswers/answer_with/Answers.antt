@@ -1,6 +1,6 @@
 use Rattle.std.proofs.Common.{◌≡◌, ◌∙◌, ℕ, ◌<◌, sym, ap, subst, None, Some, find}
 use Rattle.circular_buffer.specs.Buffer.{Buffer}
-use Rattle.notifier.specs.declared.row.Kept.{Kept}
+use Rattle.notifier_model.specs.declared.row.Kept.{Kept}
 use Rattle.notifier.specs.Slots.{answers, slot_at, slot_in}
 use Rattle.notifier.proofs.Slots.{no_answer, its_answer}
 use Rattle.notifier.proofs.kept.KeptAnswers.answer_with.Goals as goal

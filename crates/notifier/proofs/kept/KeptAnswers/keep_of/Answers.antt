@@ -1,7 +1,7 @@
 use Rattle.std.proofs.Common.{◌≡◌, ◌∙◌, ℕ, ◌-◌, ◌<◌, List, ap, arith, length, take}
 use Rattle.circular_buffer.specs.Buffer.{Buffer, buffer}
-use Rattle.notifier.specs.declared.row.Key.{Key}
-use Rattle.notifier.specs.declared.row.Kept.{Kept}
+use Rattle.notifier_model.specs.declared.row.Key.{Key}
+use Rattle.notifier_model.specs.declared.row.Kept.{Kept}
 use Rattle.notifier.specs.Slots.{after, with_newest}
 use Rattle.notifier.proofs.Slots.{indexed_more, kept_less, has_room}
 use Rattle.notifier.proofs.kept.KeptAnswers.keep_of.Goals as goal

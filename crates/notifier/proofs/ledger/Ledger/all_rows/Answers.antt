@@ -1,7 +1,7 @@
 use Rattle.std.proofs.Common.{◌^◌, ◌∙◌, ap, map}
 use Rattle.notifier.specs.Causes.{rule_of}
 use Rattle.notifier.specs.Ledger.{book_of}
-use Rattle.notifier.specs.Rows.{forgetting}
+use Rattle.notifier_model.specs.Rows.{forgetting}
 use Rattle.notifier.specs.Stored.{rows_of}
 use Rattle.notifier.proofs.Dialogs.{own_upto}
 use Rattle.notifier.proofs.Turning.{on_ok, on_ok_all}

@@ -1,8 +1,8 @@
 use Rattle.std.proofs.Common.{◌+◌, ◌<◌, ap, sym, subst, ◌∙◌, map, arith, All}
 use Rattle.std.specs.Prelude.{IfSome}
-use Rattle.notifier.specs.Book.{first_boxes}
+use Rattle.notifier_model.specs.Book.{first_boxes}
 use Rattle.notifier.specs.Sound.{IsLive, IsOwn, AreRising}
-use Rattle.notifier.specs.Start.{tag_of}
+use Rattle.notifier_model.specs.Start.{tag_of}
 use Rattle.notifier.specs.Stored.{rows_of}
 use Rattle.notifier.proofs.Lives.{all_more, born_lives}
 use Rattle.notifier.proofs.Owned.{IsStill, some_weaker, all_below, born_keeps, own_more, rising_more}

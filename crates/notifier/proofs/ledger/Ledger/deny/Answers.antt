@@ -1,6 +1,6 @@
 use Rattle.notifier.specs.Ledger.{book_of}
-use Rattle.notifier.specs.Rows.{only, counted}
-use Rattle.notifier.specs.Book.{served, denied, refused}
+use Rattle.notifier_model.specs.Rows.{only, counted}
+use Rattle.notifier_model.specs.Book.{served, denied, refused}
 use Rattle.notifier.proofs.Lives.{counted_lives}
 use Rattle.notifier.proofs.Owned.{counted_keeps}
 use Rattle.notifier.proofs.Soundness.{sound_told}

@@ -1,7 +1,7 @@
 use Rattle.std.proofs.Common.{map}
 use Rattle.notifier.specs.Ledger.{book_of}
-use Rattle.notifier.specs.Rows.{only, renewed}
-use Rattle.notifier.specs.Book.{served, accepted, keeping}
+use Rattle.notifier_model.specs.Rows.{only, renewed}
+use Rattle.notifier_model.specs.Book.{served, accepted, keeping}
 use Rattle.notifier.proofs.Lives.{renewed_lives}
 use Rattle.notifier.proofs.Owned.{renewed_keeps}
 use Rattle.notifier.proofs.Soundness.{sound_told}

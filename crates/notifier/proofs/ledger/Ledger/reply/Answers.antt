@@ -1,6 +1,6 @@
 use Rattle.std.proofs.Common.{[]}
-use Rattle.notifier.specs.Rows.{answered}
-use Rattle.notifier.specs.Book.{replied}
+use Rattle.notifier_model.specs.Rows.{answered}
+use Rattle.notifier_model.specs.Book.{replied}
 use Rattle.notifier.proofs.Lives.{answered_lives}
 use Rattle.notifier.proofs.Owned.{answered_keeps}
 use Rattle.notifier.proofs.Soundness.{sound_told}

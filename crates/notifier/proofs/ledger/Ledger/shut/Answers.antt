@@ -1,6 +1,6 @@
 use Rattle.std.proofs.Common.{map, []}
-use Rattle.notifier.specs.Rows.{stops}
-use Rattle.notifier.specs.Book.{shut}
+use Rattle.notifier_model.specs.Rows.{stops}
+use Rattle.notifier_model.specs.Book.{shut}
 use Rattle.notifier.proofs.Lives.{stops_lives}
 use Rattle.notifier.proofs.Owned.{stops_keeps}
 use Rattle.notifier.proofs.Soundness.{sound_told}

@@ -1,5 +1,5 @@
 use Rattle.std.proofs.Common.{map, []}
-use Rattle.notifier.specs.Rows.{tells_watcher}
+use Rattle.notifier_model.specs.Rows.{tells_watcher}
 use Rattle.notifier.proofs.Lives.{watcher_lives}
 use Rattle.notifier.proofs.Owned.{watcher_keeps}
 use Rattle.notifier.proofs.Soundness.{sound_told}

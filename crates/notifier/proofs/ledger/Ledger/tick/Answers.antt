@@ -2,7 +2,7 @@ use Rattle.std.proofs.Common.{map, []}
 use Rattle.std.proofs.lemmas.List.Elements.{All-weaker}
 use Rattle.notifier.specs.Sound.{IsLive, AreInOrder}
 use Rattle.notifier.specs.Stored.{rows_of}
-use Rattle.notifier.specs.Book.{ticked}
+use Rattle.notifier_model.specs.Book.{ticked}
 use Rattle.notifier.proofs.Soundness.{sound_ticked}
 use Rattle.notifier.proofs.ledger.Ledger.tick.Goals as goal
 

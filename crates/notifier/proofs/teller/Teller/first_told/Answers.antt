@@ -1,6 +1,6 @@
 use Rattle.std.proofs.Common.{◌≡◌, Some, ap, sym, ◌∙◌, map, option_to_list}
-use Rattle.notifier.specs.Book.{new_usage, new_want, first_step}
-use Rattle.notifier.specs.Out.{out_of}
+use Rattle.notifier_model.specs.Book.{new_usage, new_want, first_step}
+use Rattle.notifier_model.specs.Out.{out_of}
 use Rattle.notifier.proofs.FirstTurns.{first_turned, first_row}
 use Rattle.notifier.proofs.teller.Teller.first_told.Goals as goal
 

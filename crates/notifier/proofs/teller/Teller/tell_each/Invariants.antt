@@ -1,8 +1,8 @@
 use Rattle.std.proofs.Common.{◌≡◌, ◌++◌, map, take, All}
 use Rattle.notifier.specs.Among.{among}
 use Rattle.notifier.specs.Causes.{rule_of, CanTell}
-use Rattle.notifier.specs.Out.{out_of}
-use Rattle.notifier.specs.Rows as spec
+use Rattle.notifier_model.specs.Out.{out_of}
+use Rattle.notifier_model.specs.Rows as spec
 use Rattle.notifier.specs.Stored.{rows_of, IsIndexed}
 use Rattle.notifier.proofs.teller.Teller.tell_each.Given as goal
 

@@ -1,7 +1,7 @@
 use Rattle.std.proofs.Common.{◌∙◌, sym, ap, map}
 use Rattle.notifier.specs.Among.{said_at, gone_with}
 use Rattle.notifier.specs.Causes.{rule_of, CanTell}
-use Rattle.notifier.specs.Out.{out_of}
+use Rattle.notifier_model.specs.Out.{out_of}
 use Rattle.notifier.specs.Stored.{rows_of}
 use Rattle.notifier.proofs.Amid.{said-one, gone-one}
 use Rattle.notifier.proofs.Keeping.{cause_serials}

@@ -1,8 +1,8 @@
 use Rattle.std.proofs.Common.{◌∙◌, ◌++◌, sym, ap, subst, map, refl}
 use Rattle.notifier.specs.Among.{among, RiseFrom}
 use Rattle.notifier.specs.Causes.{rule_of}
-use Rattle.notifier.specs.Out.{out_of}
-use Rattle.notifier.specs.Rows.{left, said, gone}
+use Rattle.notifier_model.specs.Out.{out_of}
+use Rattle.notifier_model.specs.Rows.{left, said, gone}
 use Rattle.notifier.specs.Stored.{rows_of}
 use Rattle.notifier.proofs.Amid.{left-covered, said-covered, gone-covered}
 use Rattle.notifier.proofs.Turning.{on_ok, if_ok, rows_rise}

@@ -5,7 +5,7 @@ use Rattle.slab.specs.Slab as slab
 use Rattle.notifier.specs.declared.rows.Rows.{Rows}
 use Rattle.notifier.specs.Among.{said_at, gone_with}
 use Rattle.notifier.specs.Causes.{rule_of}
-use Rattle.notifier.specs.Out.{out_of}
+use Rattle.notifier_model.specs.Out.{out_of}
 use Rattle.notifier.specs.Stored.{alarm_of}
 use Rattle.notifier.proofs.Keeping.{cause_serials, cause_same}
 use Rattle.notifier.proofs.Turning.{indexed, turns, stay_moves, go_moves, row_there, turns_by}

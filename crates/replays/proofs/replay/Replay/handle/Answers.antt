@@ -1,7 +1,7 @@
 use Rattle.std.proofs.Common.{List, sym, subst}
 use Rattle.replays.specs.Recorded.{IsRun}
 use Rattle.replays.proofs.Grown.{grown}
-use Rattle.notifier.specs.declared.event.Event.{Event}
+use Rattle.notifier_model.specs.declared.event.Event.{Event}
 use Rattle.replays.proofs.replay.Replay.handle.Goals as goal
 
 pub invariant_of-self : goal.invariant_of-self

@@ -1,6 +1,6 @@
 use Rattle.std.proofs.Common.{◌≡◌, List, [], Option, sym, subst, rules}
 use Rattle.notifier.specs.Standing.{Standing}
-use Rattle.notifier.specs.declared.event.Event.{Event}
+use Rattle.notifier_model.specs.declared.event.Event.{Event}
 use Rattle.replays.specs.Recorded.{IsRun}
 use Rattle.replays.proofs.Grown.{begun_run}
 use Rattle.replays.proofs.replay.Replay.new.Goals as goal

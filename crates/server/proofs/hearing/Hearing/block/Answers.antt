@@ -1,5 +1,5 @@
 use Rattle.std.proofs.Common.{refl}
-use Rattle.notifier.specs.declared.event.Event.TheVariants as event
+use Rattle.notifier_model.specs.declared.event.Event.TheVariants as event
 use Rattle.server.proofs.Heard.{heard-event, heard-datagram}
 use Rattle.server.proofs.hearing.Hearing.block.Goals as goal
 

@@ -6,15 +6,15 @@ use Rattle.sip_write.specs.declared.status.Status.{Status}
 use Rattle.sip_write.specs.declared.status.Status.TheVariants as status
 use Rattle.sip_write.specs.Answer.{AnswerText}
 use Rattle.package.specs.Content.{Maps, SeenBy}
-use Rattle.notifier.specs.declared.place.Place.{Place}
-use Rattle.notifier.specs.declared.refusal.Refusal.{Refusal}
-use Rattle.notifier.specs.declared.refusal.Refusal.TheVariants as refusal
-use Rattle.notifier.specs.declared.row.Key.{Key}
-use Rattle.notifier.specs.declared.row.Kept.{Kept}
-use Rattle.notifier.specs.Limits.{Limits}
-use Rattle.notifier.specs.Refusals.{status_of}
-use Rattle.notifier.specs.Requests.{same_key, is_refer, is_unwatched, is_strange, granted}
-use Rattle.notifier.specs.Tag.{refusal_tag}
+use Rattle.notifier_model.specs.declared.place.Place.{Place}
+use Rattle.notifier_model.specs.declared.refusal.Refusal.{Refusal}
+use Rattle.notifier_model.specs.declared.refusal.Refusal.TheVariants as refusal
+use Rattle.notifier_model.specs.declared.row.Key.{Key}
+use Rattle.notifier_model.specs.declared.row.Kept.{Kept}
+use Rattle.notifier_model.specs.Limits.{Limits}
+use Rattle.notifier_model.specs.Refusals.{status_of}
+use Rattle.notifier_model.specs.Requests.{same_key, is_refer, is_unwatched, is_strange, granted}
+use Rattle.notifier_model.specs.Tag.{refusal_tag}
 
 -- an answer without any of the optional lines. A To without a tag gets this one
 abbrev pub bare_answer : Addr → Request → Option (List ℕ) → Status → AnswerText

@@ -1,7 +1,7 @@
 //! The limits of a notifier.
 ghost use Rattle.std.specs.Prelude.{◌≡◌, ◌↔◌, IsTrue, SomeIff};
-ghost use Rattle.notifier.specs.Limits as spec;
-ghost use Rattle.notifier.specs.Limits.{AreLimits};
+ghost use Rattle.notifier_model.specs.Limits as spec;
+ghost use Rattle.notifier_model.specs.Limits.{AreLimits};
 
 use std::marker::Model;
 
@@ -21,11 +21,11 @@ pub struct Limits {
 }
 
 impl Model for Limits {
-    ghost use Rattle.notifier.specs.Limits as spec;
+    ghost use Rattle.notifier_model.specs.Limits as spec;
 
     ghost Value = { spec.Limits };
 
-    ghost use Rattle.notifier.specs.LimitsFields.{limits_of, fields_of, AreInRange};
+    ghost use Rattle.notifier_model.specs.LimitsFields.{limits_of, fields_of, AreInRange};
 
     ghost view = { limits_of };
 

@@ -3,8 +3,8 @@ use Rattle.std.specs.Prelude.{ℕ, Bool, List, [], ◌∷◌, if◌then◌else�
 use Rattle.event_headers.specs.Values.{StateValue}
 use Rattle.sip_text.specs.declared.address.Addr.{Addr}
 use Rattle.sip_write.specs.Notify.{NotifyText, notify_text}
-use Rattle.notifier.specs.declared.event.Out.{Out}
-use Rattle.notifier.specs.declared.event.Out.TheVariants.{Answer, Notify, Start}
+use Rattle.notifier_model.specs.declared.event.Out.{Out}
+use Rattle.notifier_model.specs.declared.event.Out.TheVariants.{Answer, Notify, Start}
 
 pub data Send : Type 0 where
   Answers : (to : Addr) (bytes : List ℕ) → Send

@@ -1,6 +1,6 @@
 //! Why a request is refused.
 ghost use Rattle.std.specs.Prelude.{◌≡◌};
-ghost use Rattle.notifier.specs.Refusals.{status_of};
+ghost use Rattle.notifier_model.specs.Refusals.{status_of};
 
 use sip_write::Status;
 

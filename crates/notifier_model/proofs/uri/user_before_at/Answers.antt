@@ -1,9 +1,9 @@
 -- Without an `@` there is no user part.
 use Rattle.std.proofs.Common.{◌≡◌, false, arith}
 use Rattle.std.specs.List.{list_any}
-use Rattle.notifier.specs.Requests.{is_at}
-use Rattle.notifier.proofs.Texts.{none_passes}
-use Rattle.notifier.proofs.uri.user_before_at.Goals as goal
+use Rattle.notifier_model.specs.Requests.{is_at}
+use Rattle.notifier_model.proofs.Texts.{none_passes}
+use Rattle.notifier_model.proofs.uri.user_before_at.Goals as goal
 
 pub returns-in-None : goal.returns-in-None
 returns-in-None c =

@@ -8,13 +8,13 @@ use Rattle.event_headers.specs.Covering.{covers}
 use Rattle.sip_read.specs.declared.message.Request.{Request}
 use Rattle.package.specs.Content.{Maps, SeenBy, refer_package}
 use Rattle.package.specs.Boxes.{first_box}
-use Rattle.notifier.specs.declared.refusal.Refusal.{Refusal}
-use Rattle.notifier.specs.declared.refusal.Refusal.TheVariants.{OtherMethod, OtherScheme, UnmetRequire, Malformed, ReferInDialog, OtherEvent, NoPackage, OnlyByRefer, NotAcceptable, NoResource, TooBrief}
-use Rattle.notifier.specs.declared.row.Key.{Key}
-use Rattle.notifier.specs.declared.request.Birth.{Birth}
-use Rattle.notifier.specs.declared.request.Birth.TheVariants.{Watch, Fetch, Transfer, Unwatched}
-use Rattle.notifier.specs.Limits.{Limits}
-use Rattle.notifier.specs.Fields.{value_of, is_absent, is_bad, same_event}
+use Rattle.notifier_model.specs.declared.refusal.Refusal.{Refusal}
+use Rattle.notifier_model.specs.declared.refusal.Refusal.TheVariants.{OtherMethod, OtherScheme, UnmetRequire, Malformed, ReferInDialog, OtherEvent, NoPackage, OnlyByRefer, NotAcceptable, NoResource, TooBrief}
+use Rattle.notifier_model.specs.declared.row.Key.{Key}
+use Rattle.notifier_model.specs.declared.birth.Birth.{Birth}
+use Rattle.notifier_model.specs.declared.birth.Birth.TheVariants.{Watch, Fetch, Transfer, Unwatched}
+use Rattle.notifier_model.specs.Limits.{Limits}
+use Rattle.notifier_model.specs.Fields.{value_of, is_absent, is_bad, same_event}
 
 -- ---- the method and the transaction
 

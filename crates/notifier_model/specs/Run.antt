@@ -1,11 +1,11 @@
 -- Runs: the book after a list of events, and all that they sent.
 use Rattle.std.specs.Prelude.{List, [], ◌∷◌, ◌++◌}
 use Rattle.package.specs.Content.{Maps}
-use Rattle.notifier.specs.declared.place.Place.{Place}
-use Rattle.notifier.specs.declared.event.Event.{Event}
-use Rattle.notifier.specs.Start.{StartBy}
-use Rattle.notifier.specs.Out.{Send}
-use Rattle.notifier.specs.Book.{BookBy, step}
+use Rattle.notifier_model.specs.declared.place.Place.{Place}
+use Rattle.notifier_model.specs.declared.event.Event.{Event}
+use Rattle.notifier_model.specs.Start.{StartBy}
+use Rattle.notifier_model.specs.Out.{Send}
+use Rattle.notifier_model.specs.Book.{BookBy, step}
 
 module _ {maps : Maps} where
   unfoldable pub empty : StartBy maps → BookBy maps

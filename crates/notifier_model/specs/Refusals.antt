@@ -1,8 +1,8 @@
 -- The status of each refusal (RFC 3261 section 21, RFC 6665 section 8.3).
 use Rattle.sip_write.specs.declared.status.Status.{Status}
 use Rattle.sip_write.specs.declared.status.Status.TheVariants as status
-use Rattle.notifier.specs.declared.refusal.Refusal.{Refusal}
-use Rattle.notifier.specs.declared.refusal.Refusal.TheVariants as refusal
+use Rattle.notifier_model.specs.declared.refusal.Refusal.{Refusal}
+use Rattle.notifier_model.specs.declared.refusal.Refusal.TheVariants as refusal
 
 abbrev pub status_of : Refusal → Status
 status_of refusal.OtherMethod = status.MethodNotAllowed

@@ -6,9 +6,9 @@
 use Rattle.std.specs.Prelude.{ℕ, zero, suc, ◌+◌, ◌*◌, ◌%◌, ◌^◌, Bool, true, false, ◌&&◌, ◌||◌, ◌==◌, nat_eq, is_none, if◌then◌else◌, List, [], ◌∷◌, ◌++◌, filter, Option, Some, None, unwrap_or, codes, decimal}
 use Rattle.std.specs.List.{starts_with}
 use Rattle.sip_read.specs.declared.message.Request.{Request}
-use Rattle.notifier.specs.declared.event.Event.{Event}
-use Rattle.notifier.specs.declared.event.Event.TheVariants.{Request as Comes, Reply, Mail, Progress, Tick, Shut}
-use Rattle.notifier.specs.Requests.{is_subscribe, user_part}
+use Rattle.notifier_model.specs.declared.event.Event.{Event}
+use Rattle.notifier_model.specs.declared.event.Event.TheVariants.{Request as Comes, Reply, Mail, Progress, Tick, Shut}
+use Rattle.notifier_model.specs.Requests.{is_subscribe, user_part}
 
 -- ---- the hash of a key
 

@@ -14,22 +14,22 @@ use Rattle.package.specs.declared.change.Outcome.{Outcome}
 use Rattle.package.specs.declared.change.Outcome.TheVariants.{Changed, Same, Unknown}
 use Rattle.package.specs.Content.{Maps, SeenBy, is_final, mail_package, refer_package, finite_maps}
 use Rattle.package.specs.Boxes.{change_first}
-use Rattle.notifier.specs.declared.place.Place.{Place}
-use Rattle.notifier.specs.declared.event.Event.{Event}
-use Rattle.notifier.specs.declared.event.Event.TheVariants.{Request as Comes, Reply, Mail, Progress, Tick, Shut}
-use Rattle.notifier.specs.declared.refusal.Refusal.{Refusal}
-use Rattle.notifier.specs.declared.refusal.Refusal.TheVariants.{NoDialog, OldCseq, Full}
-use Rattle.notifier.specs.declared.request.Birth.{Birth}
-use Rattle.notifier.specs.declared.request.Birth.TheVariants.{Watch, Fetch, Transfer, Unwatched}
-use Rattle.notifier.specs.declared.row.Row.{Row}
-use Rattle.notifier.specs.declared.row.Kept.{Kept}
-use Rattle.notifier.specs.Fields.{value_of, or_empty}
-use Rattle.notifier.specs.Limits.{Limits}
-use Rattle.notifier.specs.Start.{tag_of, last_moment}
-use Rattle.notifier.specs.Requests.{is_ack, is_refer, key_of_request, user_part, event_of, granted, misfit, misplaced, unheard, birth_of, is_full}
-use Rattle.notifier.specs.Answers.{refusal_answer, renewal_answer, birth_answer, kept_answer, ring_with}
-use Rattle.notifier.specs.Out.{Send, Answers, Starts}
-use Rattle.notifier.specs.Rows.{Told, goes, turned, left, said, gone, forgetting, only, is_dialog, counted, renewed, tells_watcher, times_out, stops, answered}
+use Rattle.notifier_model.specs.declared.place.Place.{Place}
+use Rattle.notifier_model.specs.declared.event.Event.{Event}
+use Rattle.notifier_model.specs.declared.event.Event.TheVariants.{Request as Comes, Reply, Mail, Progress, Tick, Shut}
+use Rattle.notifier_model.specs.declared.refusal.Refusal.{Refusal}
+use Rattle.notifier_model.specs.declared.refusal.Refusal.TheVariants.{NoDialog, OldCseq, Full}
+use Rattle.notifier_model.specs.declared.birth.Birth.{Birth}
+use Rattle.notifier_model.specs.declared.birth.Birth.TheVariants.{Watch, Fetch, Transfer, Unwatched}
+use Rattle.notifier_model.specs.declared.row.Row.{Row}
+use Rattle.notifier_model.specs.declared.row.Kept.{Kept}
+use Rattle.notifier_model.specs.Fields.{value_of, or_empty}
+use Rattle.notifier_model.specs.Limits.{Limits}
+use Rattle.notifier_model.specs.Start.{tag_of, last_moment}
+use Rattle.notifier_model.specs.Requests.{is_ack, is_refer, key_of_request, user_part, event_of, granted, misfit, misplaced, unheard, birth_of, is_full}
+use Rattle.notifier_model.specs.Answers.{refusal_answer, renewal_answer, birth_answer, kept_answer, ring_with}
+use Rattle.notifier_model.specs.Out.{Send, Answers, Starts}
+use Rattle.notifier_model.specs.Rows.{Told, goes, turned, left, said, gone, forgetting, only, is_dialog, counted, renewed, tells_watcher, times_out, stops, answered}
 
 module _ (maps : Maps) where
   -- the moment in seconds, the next serial, the rows by rising serial, the packages, and the kept answers, newest first

@@ -2,10 +2,10 @@
 use Rattle.std.proofs.Common.{◌≡◌, List, [], ◌∷◌, ◌++◌, refl, sym, ap, ◌∙◌, append_assoc}
 use Rattle.std.proofs.lemmas.List.{append-nil}
 use Rattle.package.specs.Content.{Maps}
-use Rattle.notifier.specs.declared.place.Place.{Place}
-use Rattle.notifier.specs.declared.event.Event.{Event}
-use Rattle.notifier.specs.Book.{BookBy, step}
-use Rattle.notifier.specs.Run.{run_from, made_from}
+use Rattle.notifier_model.specs.declared.place.Place.{Place}
+use Rattle.notifier_model.specs.declared.event.Event.{Event}
+use Rattle.notifier_model.specs.Book.{BookBy, step}
+use Rattle.notifier_model.specs.Run.{run_from, made_from}
 
 module _ {maps : Maps} (place : Place) where
   pub run_from-push : (b : BookBy maps) (es : List Event) (e : Event) → run_from place b (es ++ e ∷ []) ≡ (step place (run_from place b es) e).book

@@ -1,6 +1,6 @@
-use Rattle.notifier.specs.Run.{run, made, empty}
-use Rattle.notifier.proofs.Runs.{run_from-push, made_from-push}
-use Rattle.notifier.proofs.laws.run_grows.Goals as goal
+use Rattle.notifier_model.specs.Run.{run, made, empty}
+use Rattle.notifier_model.proofs.Runs.{run_from-push, made_from-push}
+use Rattle.notifier_model.proofs.laws.run_grows.Goals as goal
 
 pub returns-clause-book : goal.returns-clause-book
 unfolding run

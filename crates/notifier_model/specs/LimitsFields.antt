@@ -1,6 +1,6 @@
 -- The limits that a value of the code stands for.
-use Rattle.notifier.specs.declared.limits.Limits.TheInside.{Inside}
-use Rattle.notifier.specs.Limits.{Limits, AreLimits}
+use Rattle.notifier_model.specs.declared.limits.Limits.TheInside.{Inside}
+use Rattle.notifier_model.specs.Limits.{Limits, AreLimits}
 
 abbrev pub limits_of : Inside → Limits
 limits_of l = record {

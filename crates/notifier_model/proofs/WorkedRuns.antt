@@ -5,9 +5,9 @@ use Rattle.sip_read.specs.declared.message.Request.{Request}
 use Rattle.package.specs.declared.counts.Class.TheVariants.{Voice, Fax, Text as TextMessages}
 use Rattle.sip_write.specs.Lines.{joined}
 use Rattle.package.specs.Content.{OfStatus}
-use Rattle.notifier.specs.declared.event.Event.{Event}
-use Rattle.notifier.specs.declared.event.Event.TheVariants.{Request as Comes, Tick as Ticks, Shut}
-use Rattle.notifier.proofs.Examples.{port, usual, mail_box, refer_box, presence_box, start_with, start, tag_1, tag_2, tag_3, subscribe, subscribe_1, subscribe_2, subscribe_3, refer, refer_1, unwatched, for_time, for_event, to_uri, of_call, with_method, within, comes, reply_from, reply, mail_for, mail, voice, progress, Answered, Noticed, Started, lines_of, outs, texts, transfer_after, Bytes}
+use Rattle.notifier_model.specs.declared.event.Event.{Event}
+use Rattle.notifier_model.specs.declared.event.Event.TheVariants.{Request as Comes, Tick as Ticks, Shut}
+use Rattle.notifier_model.proofs.Examples.{port, usual, mail_box, refer_box, presence_box, start_with, start, tag_1, tag_2, tag_3, subscribe, subscribe_1, subscribe_2, subscribe_3, refer, refer_1, unwatched, for_time, for_event, to_uri, of_call, with_method, within, comes, reply_from, reply, mail_for, mail, voice, progress, Answered, Noticed, Started, lines_of, outs, texts, transfer_after, Bytes}
 
 -- ---- a subscription, byte by byte
 

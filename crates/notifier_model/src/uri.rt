@@ -3,7 +3,7 @@
 
 ghost use Rattle.std.specs.Prelude.{◌≡◌};
 ghost use Rattle.std.specs.List.{before_first};
-ghost use Rattle.notifier.specs.Requests as spec;
+ghost use Rattle.notifier_model.specs.Requests as spec;
 
 /// Whether its scheme is `sip`, whose case is ignored.
 pub fn is_sip_uri(uri: &str) -> bool

@@ -1,12 +1,12 @@
 -- Messages and starts for worked runs, and what a run shows of what it sends. The maps of these packages are lists, since a
 -- list computes.
-use Rattle.notifier.specs.Tag
-use Rattle.notifier.specs.Requests
-use Rattle.notifier.specs.Answers
-use Rattle.notifier.specs.Out
-use Rattle.notifier.specs.Rows
-use Rattle.notifier.specs.Book
-use Rattle.notifier.specs.Run
+use Rattle.notifier_model.specs.Tag
+use Rattle.notifier_model.specs.Requests
+use Rattle.notifier_model.specs.Answers
+use Rattle.notifier_model.specs.Out
+use Rattle.notifier_model.specs.Rows
+use Rattle.notifier_model.specs.Book
+use Rattle.notifier_model.specs.Run
 use Rattle.subscription.specs.Table
 use Rattle.sip_write.specs.Answer as AnswerLayout
 use Rattle.sip_write.specs.Notify as NotifyLayout
@@ -29,14 +29,14 @@ use Rattle.package.specs.declared.counts.Class.TheVariants.{Voice}
 use Rattle.package.specs.Content.{Content, OfMail, Maps, SeenBy, refer_package}
 use Rattle.package.specs.Changes.{unset}
 use Rattle.package.specs.Boxes.{content_in}
-use Rattle.notifier.specs.declared.event.Event.{Event}
-use Rattle.notifier.specs.declared.event.Event.TheVariants.{Request as Comes, Reply as Replies, Mail as Mails, Progress as Progresses}
-use Rattle.notifier.specs.declared.event.Out.{Out}
-use Rattle.notifier.specs.declared.event.Out.TheVariants.{Answer, Notify, Start as Begins}
-use Rattle.notifier.specs.Limits.{Limits}
-use Rattle.notifier.specs.Start.{StartBy}
-use Rattle.notifier.specs.Out.{Send, Answers, Notifies, Starts, out_of}
-use Rattle.notifier.specs.Run.{run, made}
+use Rattle.notifier_model.specs.declared.event.Event.{Event}
+use Rattle.notifier_model.specs.declared.event.Event.TheVariants.{Request as Comes, Reply as Replies, Mail as Mails, Progress as Progresses}
+use Rattle.notifier_model.specs.declared.event.Out.{Out}
+use Rattle.notifier_model.specs.declared.event.Out.TheVariants.{Answer, Notify, Start as Begins}
+use Rattle.notifier_model.specs.Limits.{Limits}
+use Rattle.notifier_model.specs.Start.{StartBy}
+use Rattle.notifier_model.specs.Out.{Send, Answers, Notifies, Starts, out_of}
+use Rattle.notifier_model.specs.Run.{run, made}
 
 -- ---- maps that compute
 

@@ -1,9 +1,9 @@
 -- What a notifier starts from.
 use Rattle.std.specs.Prelude.{ℕ, List}
 use Rattle.package.specs.Content.{Maps, finite_maps, SeenBy}
-use Rattle.notifier.specs.declared.place.Setup.{Setup}
-use Rattle.notifier.specs.declared.place.Place.{Place}
-use Rattle.notifier.specs.Tag.{local_tag}
+use Rattle.notifier_model.specs.declared.place.Setup.{Setup}
+use Rattle.notifier_model.specs.declared.place.Place.{Place}
+use Rattle.notifier_model.specs.Tag.{local_tag}
 
 -- the place of a worker, and its boxes as they are at first
 pub record StartBy (maps : Maps) : Type 0 where

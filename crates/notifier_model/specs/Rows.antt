@@ -19,13 +19,13 @@ use Rattle.package.specs.declared.change.Change.TheVariants.{Forget}
 use Rattle.package.specs.Content.{Maps, SeenBy, is_final}
 use Rattle.package.specs.Boxes.{first_box, change_first, content_in, type_of}
 use Rattle.package.specs.Bodies.{body_of_held}
-use Rattle.notifier.specs.declared.place.Place.{Place}
-use Rattle.notifier.specs.declared.row.Row.{Row}
-use Rattle.notifier.specs.declared.row.Unanswered.{Unanswered}
-use Rattle.notifier.specs.Fields.{value_of, or_empty}
-use Rattle.notifier.specs.Start.{patience}
-use Rattle.notifier.specs.Requests.{is_of_refer, granted, asks_nothing}
-use Rattle.notifier.specs.Out.{Send, Notifies}
+use Rattle.notifier_model.specs.declared.place.Place.{Place}
+use Rattle.notifier_model.specs.declared.row.Row.{Row}
+use Rattle.notifier_model.specs.declared.row.Unanswered.{Unanswered}
+use Rattle.notifier_model.specs.Fields.{value_of, or_empty}
+use Rattle.notifier_model.specs.Start.{patience}
+use Rattle.notifier_model.specs.Requests.{is_of_refer, granted, asks_nothing}
+use Rattle.notifier_model.specs.Out.{Send, Notifies}
 
 -- ---- a NOTIFY shows the whole content
 

@@ -1,0 +1,4 @@
+pub mod Examples
+pub mod WorkedRuns
+pub mod Texts
+pub mod Runs

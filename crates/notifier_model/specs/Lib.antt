@@ -1,0 +1,13 @@
+pub mod Limits
+pub mod LimitsFields
+pub mod Refusals
+pub mod Fields
+pub mod Tag
+pub mod Start
+pub mod Requests
+pub mod Answers
+pub mod Out
+pub mod Rows
+pub mod Home
+pub mod Book
+pub mod Run
