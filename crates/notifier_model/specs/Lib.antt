@@ -7,6 +7,7 @@ pub mod Start
 pub mod Requests
 pub mod Answers
 pub mod Out
+pub mod Sent
 pub mod Rows
 pub mod Home
 pub mod Book

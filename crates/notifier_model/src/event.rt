@@ -1,4 +1,6 @@
 //! What comes to a desk, and what it sends.
+ghost use Rattle.std.specs.Prelude.{◌≡◌};
+ghost use Rattle.notifier_model.specs.Sent.{notify_of};
 
 use package::{MailChange, Progress};
 use sip_read::{Addr, Request, Response};
@@ -75,6 +77,44 @@ impl Drop for Out {
                 to: _,
                 bytes: _,
             } => {}
+        }
+    }
+}
+
+/// A NOTIFY as it goes out.
+#[derive(Debug, Drop)]
+pub struct NotifyOut {
+    /// The local tag of its subscription's dialog.
+    pub tag: Text,
+    /// The number of its CSeq.
+    pub number: u32,
+    pub to: Addr,
+    pub bytes: Octets,
+}
+
+impl Out {
+    /// The NOTIFY that it is, if it is one. Any other is dropped.
+    pub fn into_notify(self) -> Option<NotifyOut>
+        ensures notify { result ≡ notify_of self }
+    {
+        match self {
+            Out::Notify {
+                tag,
+                number,
+                terminated: _,
+                to,
+                bytes,
+            } => Some(NotifyOut {
+                tag,
+                number,
+                to,
+                bytes,
+            }),
+            Out::Answer { to: _, bytes: _ }
+            | Out::Start {
+                tag: _,
+                refer_to: _,
+            } => None,
         }
     }
 }

@@ -19,7 +19,7 @@ pub mod row;
 pub mod uri;
 
 pub use birth::Birth;
-pub use event::{Event, Out};
+pub use event::{Event, NotifyOut, Out};
 pub use limits::Limits;
 pub use place::{Place, Setup};
 pub use refusal::Refusal;
