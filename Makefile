@@ -1,10 +1,12 @@
 # `make gate` proves and tests everything from nothing. `make run` proves and builds the program `notifyd`, leaves it at
 # crates/notifyd/out/notifyd, and runs it on its stored example, one SUBSCRIBE. `make try` runs that example without a proof,
-# in under a minute. `make tests` tries the built program from outside, as the gate does behind its proofs. `make wrong` tries the
-# wrong bodies that the gate leaves to releases beside those that it tries (`make wrong CRATES="scripts refer"`).
-# `make field` tries the built program with real peers on this machine, and `make bench` measures it beside an echo; field/run and
-# bench/service say what they need, and neither is part of the gate.
-.PHONY: gate run try tests wrong field bench
+# in under a minute. `make lamp` shows a service, a lamp and a mail change, with the built program, or else with one that it compiles
+# without a proof (`make tried` leaves that alone, at crates/notifyd/out/notifyd.tried). `make tests` tries the built program from outside,
+# as the gate does behind its proofs. `make deb` makes a Debian package of it. `make wrong` tries the wrong bodies that the gate leaves to
+# releases beside those that it tries (`make wrong CRATES="scripts refer"`).
+# `make field` tries the built program with real peers on this machine and where datagrams are lost, and `make bench` measures it beside
+# an echo; field/run and bench/service say what they need, and neither is part of the gate.
+.PHONY: gate run try tried lamp tests deb wrong field bench
 
 gate:
 	@.ci/run
@@ -16,8 +18,17 @@ run:
 try:
 	@cd crates/notifyd && rt try < stdin
 
+tried:
+	@.ci/tried
+
+lamp:
+	@.ci/lamp
+
 tests:
 	@tests/run
+
+deb:
+	@.ci/deb
 
 wrong:
 	@.ci/wrong $(CRATES)

@@ -12,6 +12,7 @@ import sys
 import time
 
 from pages import SEED, data
+from phone import Message
 from suite import LONG_LIMIT, Ended, Running, brief, ended_with, free_port, run, same, shown, sip_block
 
 BAD_ARGUMENTS = Ended(1, b"", b"notifyd: bad arguments\n")
@@ -144,6 +145,16 @@ NOWHERE = "0.0.0.0 is no address for phones: --contact <a.b.c.d:port>"
 BAD_SERVICES = [
     (["--workers", "0"], 1, "a bad value: --workers <1 to 256>"),
     (["--workers", "257"], 1, "a bad value: --workers <1 to 256>"),
+    (["--kept", "0"], 1, "a bad value: --kept <1 to 4096>"),
+    (["--repeats", "65537"], 1, "a bad value: --repeats <0 to 65536>"),
+    (["--repeats", "-1"], 1, "a bad value: --repeats <0 to 65536>"),
+    (["--linger", "33"], 1, "a bad value: --linger <0 to 32>"),
+    (["--linger", "00"], 1, "a bad value: --linger <0 to 32>"),
+    (["--linger", ""], 1, "a bad value: --linger <0 to 32>"),
+    (["alice", "--repeats"], 1, "a value is missing: --repeats <0 to 65536>"),
+    (["--repeats", "all"], 1, "a bad value: --repeats <0 to 65536>"),
+    (["--linger", "0.5"], 1, "a bad value: --linger <0 to 32>"),
+    (["alice", "--linger"], 1, "a value is missing: --linger <0 to 32>"),
     (["--listen", "localhost"], 3, "a bad value: --listen <a.b.c.d:port>"),
     (["alice", "--seed", "00"], 1, "a bad value: --seed <64 hex digits>"),
     (["alice", "--mailboxes"], 1, "a value is missing: --mailboxes <file>"),
@@ -154,6 +165,13 @@ BAD_SERVICES = [
     (["--contact", "0.0.0.0:5060", "alice"], 1, NOWHERE),
     (["--max-time", "600", "alice"], 1, TIMES),
     (["--mailboxes", "nowhere"], 3, "no such file, or it can't be read: nowhere"),
+]
+
+# Words behind `serve` that are good: the least and the greatest numbers of the options that take 0.
+GOOD_SERVICES = [
+    ["--repeats", "0", "--linger", "0", "alice"],
+    ["--repeats", "65536", "--linger", "32", "alice"],
+    ["--linger", "32", "--linger", "1", "--repeats", "1", "alice"],
 ]
 
 # A file of mailboxes, how many it names, or the line that names none.
@@ -301,6 +319,19 @@ def service_is_refused(words, status, line):
     return lambda program, _: same("its end", wanted, run(program, ["serve", *words]))
 
 
+def service_begins(asked):
+    """A check that a service begins with these words, and ends well."""
+
+    def check(program, _):
+        _, control, words = service_words(asked)
+        with Running(program, words) as service:
+            same("the count", True, service.lines_until(b"listening").endswith(b" 1 mailboxes\n"))
+            same("the answer to CLOSE", b"ok", ask(control, b"CLOSE"))
+            same("the status", 0, service.end().status)
+
+    return check
+
+
 def a_port_in_use(program, _):
     """The address of an option can't be had."""
     for option in ("--listen", "--control"):
@@ -324,6 +355,7 @@ def a_service_as_asked(program, _):
         outs = phone.recv(65536), phone.recv(65536)
         same("a grant of 600 seconds", True, b"\r\nExpires: 600\r\n" in outs[0])
         same("a watcher told of 600 seconds", True, b"\r\nSubscription-State: active;expires=600\r\n" in outs[1])
+        phone.sendto(Message(outs[1]).answer("200 OK"), ("127.0.0.1", sip))
         same("the answer to CLOSE", b"ok", ask(control, b"CLOSE"))
         ended = service.end()
         same("the status", 0, ended.status)
@@ -356,6 +388,8 @@ def mailboxes_of_a_file(text, count, refusal):
 def serve_checks():
     for words, status, line in BAD_SERVICES:
         yield f"serve {words} is refused", service_is_refused(words, status, line)
+    for words in GOOD_SERVICES:
+        yield f"serve {words} begins", service_begins(words)
     yield "serve at a port in use", a_port_in_use
     yield "serve as it is asked", a_service_as_asked
     for text, count, refusal in MAILBOX_FILES:

@@ -1,9 +1,16 @@
-"""The scripts of `contrib/` that feed a service: what they ask `notifyd` for, and how they end. The `notifyd` that they find is a
-script that writes down its words."""
+"""The scripts of `contrib/`. Of those that feed a service or read its counters: what they ask `notifyd` for, and how they end. The
+`notifyd` that they find is a script that writes down its words. Of the lamp: what it sends to a notifier that loses messages, and that
+it shows what the program tells it."""
 
 import os
+import re
+import signal
+import socket
+import stat
 
-from suite import Ended, run, same
+from phone import PATIENCE, REPEATED, Message
+from service import Service
+from suite import Ended, Running, free_port, run, same
 
 TOP = os.path.dirname(os.path.dirname(os.path.abspath(__file__)))
 
@@ -39,6 +46,8 @@ def asterisk_is_told(program, folder):
         same("its end", Ended(0, b"<tell><" + line + b">", b""), called(folder, "asterisk-externnotify", *words))
     refused = called(folder, "asterisk-externnotify", "default", "100", "0", "0", TOLD="1")
     same("the status where notifyd refuses", 1, refused.status)
+    other = called(folder, "asterisk-externnotify", "default", "100", "1", "0", NOTIFYD_TELL="notifyd over there")
+    same("its end", Ended(0, b"<over><there><MAIL 100 voice 1 0 0 0>", b""), other)
 
 
 def a_maildir_is_told(program, folder):
@@ -47,6 +56,8 @@ def a_maildir_is_told(program, folder):
     same("its end", Ended(0, told, b""), called(folder, "maildir-notify", "alice", maildir))
     told = b"<tell><--control><10.0.0.1:5061><MAIL alice text 3 2 0 0>"
     same("its end", Ended(0, told, b""), called(folder, "maildir-notify", "alice", maildir, NOTIFYD_CONTROL="--control 10.0.0.1:5061"))
+    told = b"<over><there><MAIL alice text 3 2 0 0>"
+    same("its end", Ended(0, told, b""), called(folder, "maildir-notify", "alice", maildir, NOTIFYD_TELL="notifyd over there"))
 
 
 def an_empty_maildir_is_told(program, folder):
@@ -75,6 +86,242 @@ def no_context_is_told_as_nothing(program, folder):
     same("status and words", (1, b""), (ended.status, ended.out))
 
 
+# What `notifyd tell STATUS` says: some of the counters, and all of them.
+FEWER_COUNTERS = b"""\
+ok
+up 120
+datagrams 50
+events 49
+answers 20
+notifies 19
+starts 1
+failed 2
+begun 18
+over 17
+unread 1 2 3 4 5 6 7
+"""
+COUNTERS = FEWER_COUNTERS.replace(b"unread", b"repeats 5\ngiven_up 3\nonce 4\nlost 6\nunread")
+REPEATS = {f"notifyd_{name}_total" for name in ("repeats", "given_up", "once", "lost")}
+
+UNREAD = ("not_sip", "bad_header", "header_missing", "header_twice", "short_body", "too_long", "no_memory")
+
+VALUES = {"notifyd_reachable": "1", "notifyd_up_seconds": "120"}
+VALUES |= {f"notifyd_{name}_total": number for name, number in re.findall(r"(?m)^((?!up|unread)\w+) (\d+)$", COUNTERS.decode())}
+VALUES |= {f'notifyd_unread_total{{cause="{cause}"}}': str(number) for number, cause in enumerate(UNREAD, 1)}
+
+
+def metrics(folder, answer, status, *words):
+    """How `notifyd-metrics` ends over a service that answers so."""
+    teller = os.path.join(folder, "tell")
+    with open(teller, "wb") as file:
+        file.write(b"#!/bin/sh\nprintf '<%s>' \"$@\" >\"$0.told\"\ncat <<'END'\n" + answer + b"END\nexit " + str(status).encode() + b"\n")
+    os.chmod(teller, 0o700)
+    return called(folder, "notifyd-metrics", *words, NOTIFYD_TELL=teller, NOTIFYD_CONTROL="--control 10.0.0.1:5061")
+
+
+def values(page):
+    """The values of a page of Prometheus by their names. Each stands behind the HELP and the TYPE of its family, each of which stands once."""
+    told, families = {}, {}
+    for line in page.decode().splitlines():
+        if line.startswith("# HELP "):
+            family = line.split(" ")[2]
+            same(f"how often {family} comes before", 0, int(family in families))
+        elif line.startswith("# TYPE "):
+            families[family] = line.split(" ")[3]
+            same(f"the family of the type {line}", family, line.split(" ")[2])
+            same(f"the type of {family}", "counter" if family.endswith("_total") else "gauge", families[family])
+        else:
+            name, number = line.rsplit(" ", 1)
+            same(f"the family of {name}", family, name.partition("{")[0])
+            told[name] = number
+    return told
+
+
+def counters_are_metrics(program, folder):
+    ended = metrics(folder, COUNTERS, 0)
+    same("status and standard error", (0, b""), (ended.status, ended.err))
+    same("the values", VALUES, values(ended.out))
+    with open(os.path.join(folder, "tell.told"), "rb") as told:
+        same("what is asked", b"<--control><10.0.0.1:5061><STATUS>", told.read())
+
+
+def fewer_counters_are_metrics(program, folder):
+    ended = metrics(folder, FEWER_COUNTERS, 0)
+    same("status and standard error", (0, b""), (ended.status, ended.err))
+    same("the values", {name: number for name, number in VALUES.items() if name not in REPEATS}, values(ended.out))
+
+
+def metrics_are_a_file(program, folder):
+    place = os.path.join(folder, "notifyd.prom")
+    for answer, status, wanted in (COUNTERS, 0, (0, VALUES)), (b"", 3, (3, {"notifyd_reachable": "0"})), (b"closed\n", 1, (3, {"notifyd_reachable": "0"})):
+        ended = metrics(folder, answer, status, place)
+        same("the streams", (b"", b""), (ended.out, ended.err))
+        with open(place, "rb") as page:
+            same("status and values", wanted, (ended.status, values(page.read())))
+        same("who may read it", 0o644, stat.S_IMODE(os.stat(place).st_mode))
+        same("what stands in the folder", ["notifyd", "notifyd.prom", "tell", "tell.told"], sorted(os.listdir(folder)))
+
+
+def no_folder_for_metrics(program, folder):
+    ended = metrics(folder, COUNTERS, 0, os.path.join(folder, "nowhere", "notifyd.prom"))
+    same("status and words", (1, b""), (ended.status, ended.out))
+
+
+def metrics_of_the_program(program, folder):
+    with Service(program, "alice") as service:
+        told = {"NOTIFYD_TELL": f"{program} tell", "NOTIFYD_CONTROL": f"--control 127.0.0.1:{service.control}"}
+        ended = called(folder, "notifyd-metrics", **told)
+        same("status and standard error", (0, b""), (ended.status, ended.err))
+        same("what is missing", set(), set(VALUES) - REPEATS - set(values(ended.out)))
+        service.close()
+        ended = called(folder, "notifyd-metrics", **told)
+        same("status and values", (3, {"notifyd_reachable": "0"}), (ended.status, values(ended.out)))
+
+
+class Notifier:
+    """A notifier that does as its check says, for one lamp. Used in a `with`, at whose end the lamp is killed, if it still runs."""
+
+    def __init__(self):
+        self.socket = socket.socket(socket.AF_INET, socket.SOCK_DGRAM)
+        self.socket.bind(("127.0.0.1", 0))
+        self.socket.settimeout(PATIENCE)
+        self.running = Running(os.path.join(TOP, "contrib", "lamp"), ["{}:{}".format(*self.socket.getsockname()), "alice"])
+
+    def __enter__(self):
+        return self
+
+    def __exit__(self, *_):
+        self.running.__exit__()
+        self.socket.close()
+
+    def hear(self, first):
+        """The next message of the lamp, which begins so, and its bytes."""
+        octets, self.lamp = self.socket.recvfrom(65535)
+        message = Message(octets)
+        same("what the lamp sends", first, message.first[: len(first)])
+        return message, octets
+
+    def subscribed(self, number, tag):
+        """The next SUBSCRIBE, which has this number, and this tag of the notifier."""
+        request, _ = self.hear("SUBSCRIBE sip:")
+        same("CSeq and tag of the SUBSCRIBE", (f"{number} SUBSCRIBE", tag), (request.value("CSeq"), request.tag("To")))
+        return request
+
+    def answer(self, request, first, *lines):
+        kept = [line if not line.startswith("To: ") or ";tag=" in line else f"{line};tag=n" for line in request.lines if line.startswith(REPEATED)]
+        self.socket.sendto("\r\n".join([f"SIP/2.0 {first}", *kept, *lines, "Content-Length: 0", "", ""]).encode(), self.lamp)
+
+    def accept(self, request, seconds=3600):
+        self.answer(request, "200 OK", f"Contact: <sip:{self.socket.getsockname()[0]}>", f"Expires: {seconds}")
+
+    def notify(self, request, number, state, body="", answer="SIP/2.0 200 OK"):
+        """Sends a NOTIFY with this number, which is answered so. The bytes of the answer."""
+        lines = ["NOTIFY sip:alice@127.0.0.1 SIP/2.0", f"Via: SIP/2.0/UDP 127.0.0.1:5060;branch=z9hG4bKn{number}", f"From: {request.value('To').partition(';')[0]};tag=n"]
+        lines += [f"To: {request.value('From')}", f"Call-ID: {request.value('Call-ID')}", f"CSeq: {number} NOTIFY", "Event: message-summary"]
+        lines += [f"Subscription-State: {state}", f"Content-Length: {len(body)}", "", body]
+        self.socket.sendto("\r\n".join(lines).encode(), self.lamp)
+        told, octets = self.hear(answer)
+        same("CSeq and branch of the answer", (f"{number} NOTIFY", lines[1]), (told.value("CSeq"), told.lines[0]))
+        return octets
+
+    def end(self, status, out, err=b""):
+        same("the end of the lamp", Ended(status, out, err), self.running.end())
+
+
+ON = "Messages-Waiting: yes\r\nVoice-Message: 1/0 (0/0)\r\n"
+
+
+def a_lost_answer(program, folder):
+    """The 200 to the SUBSCRIBE is lost, so that the same bytes come again."""
+    with Notifier() as notifier:
+        _, first = notifier.hear("SUBSCRIBE sip:alice@127.0.0.1:")
+        request, again = notifier.hear("SUBSCRIBE sip:alice@127.0.0.1:")
+        same("the SUBSCRIBE", first, again)
+        notifier.accept(request)
+        notifier.accept(request)
+        notifier.notify(request, 1, "active;expires=3600", "Messages-Waiting: no\r\n")
+        notifier.notify(request, 2, "terminated;reason=deactivated", ON)
+        lines = b"SIP/2.0 200 OK\nSubscription-State: active;expires=3600, Messages-Waiting: no\n"
+        notifier.end(0, lines + b"Subscription-State: terminated;reason=deactivated, Messages-Waiting: yes, Voice-Message: 1/0 (0/0)\n")
+
+
+def lost_notifies(program, folder):
+    """The first NOTIFY comes before the 200, and the lamp's answers are lost: it answers again, and shows no NOTIFY that is older."""
+    with Notifier() as notifier:
+        request = notifier.subscribed(1, "")
+        notifier.notify(request, 2, "active;expires=3600", ON)
+        notifier.accept(request)
+        same("the answer", notifier.notify(request, 3, "active;expires=3599", ""), notifier.notify(request, 3, "active;expires=3599", ""))
+        notifier.notify(request, 1, "active;expires=3600", "Messages-Waiting: no\r\n", answer="SIP/2.0 500 ")
+        notifier.socket.sendto(b"", notifier.lamp)
+        notifier.socket.sendto(b"\xff\r\n\r\n", notifier.lamp)
+        notifier.notify(request, 4, "terminated;reason=timeout")
+        lines = b"Subscription-State: active;expires=3600, Messages-Waiting: yes, Voice-Message: 1/0 (0/0)\nSIP/2.0 200 OK\n"
+        notifier.end(0, lines + b"Subscription-State: active;expires=3599\nSubscription-State: terminated;reason=timeout\n")
+
+
+def more_time(program, folder):
+    """The lamp asks for more time before its own is up, and for a new subscription where the old one is forgotten."""
+    with Notifier() as notifier:
+        request = notifier.subscribed(1, "")
+        notifier.accept(request, 2)
+        notifier.notify(request, 1, "active;expires=2")
+        renewal = notifier.subscribed(2, "n")
+        same("its address", "SUBSCRIBE sip:127.0.0.1 SIP/2.0", renewal.first)
+        same("its dialog", (request.value("Call-ID"), request.value("From")), (renewal.value("Call-ID"), renewal.value("From")))
+        notifier.answer(renewal, "481 Subscription Does Not Exist")
+        other = notifier.subscribed(1, "")
+        same("whether its dialog is another", True, other.value("Call-ID") != request.value("Call-ID"))
+        notifier.notify(request, 2, "active;expires=2", answer="SIP/2.0 481 ")
+        notifier.accept(other)
+        notifier.notify(other, 1, "terminated;reason=timeout")
+        lines = b"SIP/2.0 200 OK\nSubscription-State: active;expires=2\nSIP/2.0 200 OK\nSubscription-State: terminated;reason=timeout\n"
+        notifier.end(0, lines)
+
+
+def a_lamp_leaves(program, folder):
+    with Notifier() as notifier:
+        request = notifier.subscribed(1, "")
+        notifier.accept(request)
+        notifier.notify(request, 1, "active;expires=3600")
+        notifier.running.process.send_signal(signal.SIGINT)
+        last = notifier.subscribed(2, "n")
+        same("the time that is asked for", "0", last.value("Expires"))
+        notifier.accept(last, 0)
+        notifier.notify(request, 2, "terminated;reason=timeout")
+        lines = b"SIP/2.0 200 OK\nSubscription-State: active;expires=3600\n"
+        notifier.end(0, lines + b"SIP/2.0 200 OK\nSubscription-State: terminated;reason=timeout\n")
+
+
+def a_lamp_is_refused(program, folder):
+    with Notifier() as notifier:
+        notifier.answer(notifier.subscribed(1, ""), "404 Not Found")
+        notifier.end(1, b"", b"lamp: the notifier refuses: 404 Not Found\n")
+
+
+def nobody_listens_to_a_lamp(program, folder):
+    notifier = f"127.0.0.1:{free_port()}"
+    ended = called(folder, "lamp", notifier, "alice")
+    same("its end", Ended(3, b"", f"lamp: nobody listens at {notifier}\n".encode()), ended)
+
+
+def bad_words_of_a_lamp(program, folder):
+    for words in [], ["127.0.0.1:5060"], ["127.0.0.1", "alice"], ["localhost:5060", "alice"], ["127.0.0.1:5060", "a b"], ["127.0.0.1:5060", "alice", "bob"]:
+        same(f"its end at {words}", Ended(1, b"", b"lamp: it wants: <a.b.c.d:port of the notifier> <mailbox>\n"), called(folder, "lamp", *words))
+
+
+def a_lamp_shows_a_mailbox(program, folder):
+    with Service(program, "alice") as service, service.operator() as operator:
+        with Running(os.path.join(TOP, "contrib", "lamp"), [f"127.0.0.1:{service.sip}", "alice"]) as lamp:
+            lines = [lamp.process.stdout.readline() for _ in range(2)]
+            same("at first", [b"SIP/2.0 200 OK\n", b"Subscription-State: active;expires=3600, Messages-Waiting: no\n"], lines)
+            operator.tell("MAIL alice voice 1 0 0 0")
+            same("at the change", b"Messages-Waiting: yes, Voice-Message: 1/0 (0/0)\n", lamp.process.stdout.readline().split(b", ", 1)[1])
+            service.close()
+            last = b"Subscription-State: terminated;reason=deactivated, Messages-Waiting: yes, Voice-Message: 1/0 (0/0)\n"
+            same("its end", Ended(0, last, b""), lamp.end())
+
+
 def checks():
     yield "contrib: what Asterisk counts is told", asterisk_is_told
     yield "contrib: all mailboxes of Asterisk are told", all_mailboxes_of_asterisk_are_told
@@ -82,3 +329,16 @@ def checks():
     yield "contrib: a Maildir is told", a_maildir_is_told
     yield "contrib: an empty Maildir is told", an_empty_maildir_is_told
     yield "contrib: a Maildir that isn't there is not told", no_maildir_is_told_as_nothing
+    yield "contrib: counters are metrics", counters_are_metrics
+    yield "contrib: counters that aren't told are left out of the metrics", fewer_counters_are_metrics
+    yield "contrib: metrics are a file that is there as a whole, also where nobody answers", metrics_are_a_file
+    yield "contrib: metrics without a folder", no_folder_for_metrics
+    yield "contrib: metrics of the program", metrics_of_the_program
+    yield "contrib: a lamp asks again where the answer is lost", a_lost_answer
+    yield "contrib: a lamp answers again, and shows nothing older", lost_notifies
+    yield "contrib: a lamp asks for more time", more_time
+    yield "contrib: a lamp leaves at Ctrl-C", a_lamp_leaves
+    yield "contrib: a lamp is refused", a_lamp_is_refused
+    yield "contrib: a lamp where nobody listens", nobody_listens_to_a_lamp
+    yield "contrib: bad words of a lamp", bad_words_of_a_lamp
+    yield "contrib: a lamp shows a mailbox", a_lamp_shows_a_mailbox

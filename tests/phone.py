@@ -1,6 +1,7 @@
 """A phone at a notifier over UDP: it subscribes, asks for more time, leaves, asks for transfers, answers each NOTIFY by a 200, and
 keeps what it was told. Each NOTIFY that comes is checked, whoever waits for it: it belongs to a dialog of this phone that isn't
-over, its number is one more than the last, its lines are those of the dialog, and its body is as long as it says."""
+over, its number is one more than the last, its lines are those of the dialog, and its body is as long as it says. One that comes
+again, byte for byte, since it wasn't answered soon enough, gets the same answer again and counts as a repeat."""
 
 import re
 import socket
@@ -60,13 +61,21 @@ class Message:
         """The tag of a From or To line."""
         return self.value(name).partition(";tag=")[2]
 
+    def branch(self):
+        """The branch of the first Via line."""
+        return re.search(r";branch=([^;,\s]+)", self.value("Via")).group(1)
+
+    def address(self, name):
+        """The URI of a line in angle brackets."""
+        return re.search(r"<([^>]+)>", self.value(name)).group(1)
+
     def is_notify(self):
         return self.first.startswith("NOTIFY ")
 
-    def agreement(self):
-        """The 200 to this request."""
+    def answer(self, status):
+        """The answer to this request with such a status, as `200 OK`."""
         kept = [line for line in self.lines if line.startswith(REPEATED)]
-        return "\r\n".join(["SIP/2.0 200 OK", *kept, "Content-Length: 0", "", ""]).encode()
+        return "\r\n".join([f"SIP/2.0 {status}", *kept, "Content-Length: 0", "", ""]).encode()
 
 
 class Dialog:
@@ -103,12 +112,17 @@ class Dialog:
 class Phone:
     """A phone of this user with a socket of its own, at the notifier at this port."""
 
+    # Whether a NOTIFY that comes again is answered again.
+    answers_again = True
+
     def __init__(self, sip, user):
         self.user = user
         self.socket = open_socket(("127.0.0.1", sip))
         self.me = "{}:{}".format(*self.socket.getsockname())
         self.dialogs = {}
+        self.answers = {}  # to each NOTIFY that came
         self.sent = 0  # datagrams to the notifier
+        self.repeats = 0  # NOTIFYs that came again
 
     def __enter__(self):
         return self
@@ -150,18 +164,36 @@ class Phone:
         lines = (f"Event: {dialog.event}", f"Expires: {seconds}")
         self.send(self.request("SUBSCRIBE", dialog.call_id, dialog.asked, dialog.tag, lines))
 
-    def receive(self):
-        """The next message of the notifier. A NOTIFY is checked, and answered."""
+    def receive_any(self):
+        """The next message of the notifier. A NOTIFY is checked, and answered; of one that came before this is nothing."""
         try:
-            message = Message(persist(self.socket.recv, 65535))
+            octets = persist(self.socket.recv, 65535)
         except socket.timeout:
             raise AssertionError(f"nothing comes to the phone of {self.user} for {PATIENCE} seconds") from None
-        if message.is_notify():
-            dialog = self.dialogs.get(message.value("Call-ID"))
-            if dialog is None:
-                raise AssertionError(f"a NOTIFY to {self.user} in nobody's dialog: {message.lines}")
-            dialog.hear(message)
-            self.send(message.agreement())
+        message = Message(octets)
+        if not message.is_notify():
+            return message
+        is_new = octets not in self.answers
+        if is_new:
+            self.own_dialog(message).hear(message)
+            self.answers[octets] = message.answer("200 OK")
+        self.repeats += not is_new
+        if is_new or self.answers_again:
+            self.send(self.answers[octets])
+        return message if is_new else None
+
+    def own_dialog(self, notify):
+        """The dialog of this phone to which a NOTIFY belongs."""
+        dialog = self.dialogs.get(notify.value("Call-ID"))
+        if dialog is None:
+            raise AssertionError(f"a NOTIFY to {self.user} in nobody's dialog: {notify.lines}")
+        return dialog
+
+    def receive(self):
+        """The next message of the notifier that didn't come before. A NOTIFY is checked, and answered."""
+        message = None
+        while message is None:
+            message = self.receive_any()
         return message
 
     def expect(self, first):
@@ -203,6 +235,10 @@ class Phone:
     def leave(self, dialog, body):
         """Asks for no more time: a 200 comes, and the last NOTIFY, with this body."""
         self.refresh(dialog, 0, body)
+
+    def hear_farewell(self, body=None):
+        """The last NOTIFY comes, of a service that ends."""
+        self.expect_notify(OVER + "deactivated", body)
 
     def refer(self, target):
         """Asks for a transfer: a 202 comes, and a NOTIFY that it is tried. Its tag, by which it is told how it goes."""

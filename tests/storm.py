@@ -68,6 +68,9 @@ class Flow:
 class Guest(Phone):
     """A phone in the storm, which hears whatever comes when it is told to."""
 
+    # Nothing is lost: where a NOTIFY comes again its answer is on its way.
+    answers_again = False
+
     def __init__(self, sip, mailbox, flow):
         super().__init__(sip, mailbox)
         self.flow = flow
@@ -90,8 +93,10 @@ class Guest(Phone):
         self.requests += 1
 
     def hear(self):
-        """Takes the next message in."""
-        message = self.receive()
+        """Takes the next message in, unless it came before."""
+        message = self.receive_any()
+        if message is None:
+            return
         if message.is_notify():
             self.notifies += 1
             self.be_told(counts_in(message.body))
@@ -252,11 +257,16 @@ class Storm:
         same("visitors who came", VISITORS, sum(visitor.notifies > 2 for visitor in self.visitors.values()))
 
     def counted(self):
-        """What STATUS has to say once all is quiet."""
+        """What STATUS has to say once all is quiet. What was sent again meanwhile is heard first."""
+        for key, _ in self.selector.select(0):
+            key.data()
         requests, notifies = (sum(getattr(guest, what) for guest in self.guests) for what in ("requests", "notifies"))
         visits = sum(len(visitor.dialogs) for visitor in self.visitors.values())
         counted = {"datagrams": self.flow.sent, "events": self.flow.sent, "answers": requests, "notifies": notifies}
         counted = {**counted, "starts": 0, "failed": 0, "begun": MAILBOXES + visits, "over": visits}
+        # A guest that was slow to hear its NOTIFY got it again.
+        counted = {**counted, "repeats": sum(guest.repeats for guest in self.guests)}
+        counted = {**counted, "given_up": 0, "once": 0, "lost": 0}
         return {**{name: str(count) for name, count in counted.items()}, "unread": "0 0 0 0 0 0 0"}
 
     def made(self):
@@ -269,7 +279,7 @@ class Storm:
     def hear_farewells(self):
         """Each watcher is told that the service is over."""
         for watcher in self.watchers:
-            watcher.expect_notify(OVER + "deactivated", body_of(watcher.counts))
+            watcher.hear_farewell(body_of(watcher.counts))
             watcher.notifies += 1
 
 
@@ -283,9 +293,8 @@ def a_storm(program, folder):
         for _ in range(2):
             storm.play(storm.mails())
             storm.all_know()
-        counters_become(storm.operator, storm.counted())
-        ended = service.close()
-        storm.hear_farewells()
+        counters_become(storm.operator, storm.counted)
+        ended = service.close(storm.hear_farewells)
     lines = "".join(f"WORKER {worker} N {made} closed\n" for worker, made in enumerate(storm.made()))
     same("what is printed", lines.encode(), re.sub(rb"(?m)^(WORKER \d) \d+", rb"\1 N", ended.out))
 

@@ -34,7 +34,7 @@ count_more is log more =
     ap length (filter-append (λ (x : Out × Fate). is x.0 x.1) log more)
     ∙ length-append (filter (λ (x : Out × Fate). is x.0 x.1) log) (filter (λ (x : Out × Fate). is x.0 x.1) more)
 
-rises_more : (n m k : ℕ) → rises (n + m) k ≡ rises n (rises m k)
+pub rises_more : (n m k : ℕ) → rises (n + m) k ≡ rises n (rises m k)
 rises_more zero m k = let e : 0 + m ≡ m = omega arith in ap (λ x. rises x k) e
 rises_more (suc n) m k =
     let e : suc n + m ≡ suc (n + m) = omega arith in ap (λ x. rises x k) e ∙ ap one_more (rises_more n m k)

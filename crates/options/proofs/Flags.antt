@@ -79,6 +79,8 @@ flag_again (flag.Number bound.Serials) = refl
 flag_again (flag.Number bound.Kept) = refl
 flag_again (flag.Number bound.Inbox) = refl
 flag_again (flag.Number bound.Outbox) = refl
+flag_again (flag.Number bound.Repeats) = refl
+flag_again (flag.Number bound.Linger) = refl
 flag_again flag.MailboxFile = refl
 flag_again flag.Seed = refl
 

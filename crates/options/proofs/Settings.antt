@@ -1,7 +1,7 @@
 -- What the words say: what is found is so, what is so is found, and an error names what is wrong first.
-use Rattle.std.proofs.Common.{◌≡◌, ◌≢◌, ℕ, ◌≤◌, Bool, true, false, cond, eqb, List, [], ◌∷◌, ◌++◌, Option, Some, None, Result, Ok, Err, refl, sym, ap, subst, ◌∙◌, arith, append_assoc}
-use Rattle.std.specs.Prelude.{codes, decimal, bytes_eq, IfOk, IfErr}
-use Rattle.std.proofs.lemmas.Bool.{eqb-false, ne_eqb}
+use Rattle.std.proofs.Common.{◌≡◌, ◌≢◌, ℕ, ◌≤◌, Bool, true, false, cond, List, [], ◌∷◌, ◌++◌, Option, Some, None, Result, Ok, Err, refl, sym, ap, subst, ◌∙◌, arith, append_assoc}
+use Rattle.std.specs.Prelude.{codes, decimal, bytes_eq, nat_lt, IfOk, IfErr}
+use Rattle.std.proofs.lemmas.Bool.Decides.{nat_tests}
 use Rattle.std.proofs.lemmas.Slice.Eq.{bytes_eq-Decides}
 use Rattle.hex.specs.declared.error.FromHexError.{FromHexError}
 use Rattle.hex.specs.Hex.{decode_sized}
@@ -22,25 +22,25 @@ use Rattle.options.specs.declared.setting.Setting.{Setting}
 use Rattle.options.specs.declared.setting.Setting.TheVariants as setting
 use Rattle.options.specs.declared.error.OptionsError.{OptionsError}
 use Rattle.options.specs.declared.error.OptionsError.TheVariants as error
-use Rattle.options.specs.Flags.{flag_text, most}
+use Rattle.options.specs.Flags.{flag_text, least, most}
 use Rattle.options.specs.Settings.{IsMailbox, IsSetting, AreSettings, BeginsWrong, AreWrong, Answers}
-use Rattle.options.specs.Reading.{place_of, time_of, count_of, bound_of, other_of, flag_of, or_bad, value_of, seed_of, from_one, valued, alone, then_more, by_flag, settings_from, Reads}
+use Rattle.options.specs.Reading.{place_of, time_of, count_of, bound_of, other_of, flag_of, or_bad, value_of, seed_of, between, valued, alone, then_more, by_flag, settings_from, Reads}
 use Rattle.options.proofs.Flags.{same_text, flag_takes, flag_again, no_flag}
 
 -- ---- numbers and seeds
 
-from_one_takes : (most : ℕ) (w : List ℕ) (n : ℕ) → from_one most w ≡ Some n → (w ≡ decimal n) × (1 ≤ n) × (n ≤ most)
-unfolding from_one
-from_one_takes most w n e =
-    let p = bind_some (plain_up_to most w) (λ m. cond {A = Option ℕ} (eqb m 0) None (Some m)) n e in
+between_takes : (least most : ℕ) (w : List ℕ) (n : ℕ) → between least most w ≡ Some n → (w ≡ decimal n) × (least ≤ n) × (n ≤ most)
+unfolding between
+between_takes least most w n e =
+    let p = bind_some (plain_up_to most w) (λ m. cond {A = Option ℕ} (nat_lt m least) None (Some m)) n e in
     let t = up_to_takes most w p.0 p.1 in
-    made p.0 t.0 t.2 (eqb p.0 0) refl p.2 where
-      made : (m : ℕ) → w ≡ decimal m → m ≤ most → (b : Bool) → eqb m 0 ≡ b → cond {A = Option ℕ} b None (Some m) ≡ Some n → (w ≡ decimal n) × (1 ≤ n) × (n ≤ most)
-      made m is le true zero_is e = absurd cc
-      made m is le false some e =
+    made p.0 t.0 t.2 (nat_lt p.0 least) refl p.2 where
+      made : (m : ℕ) → w ≡ decimal m → m ≤ most → (b : Bool) → nat_lt m least ≡ b → cond {A = Option ℕ} b None (Some m) ≡ Some n → (w ≡ decimal n) × (least ≤ n) × (n ≤ most)
+      made m is le true low e = absurd cc
+      made m is le false high e =
           let same : m ≡ n = some_is m n e in
-          let least : 1 ≤ m = omega (arith, eqb-false m 0 some) in
-          (is ∙ ap decimal same, rw (← same) least, rw (← same) le)
+          let enough : least ≤ m = grind (arith, nat_tests) in
+          (is ∙ ap decimal same, rw (← same) enough, rw (← same) le)
 
 most_is_small : (b : Bound) → most b ≤ 4294967295
 most_is_small bound.Workers = omega arith
@@ -54,10 +54,14 @@ most_is_small bound.Serials = omega arith
 most_is_small bound.Kept = omega arith
 most_is_small bound.Inbox = omega arith
 most_is_small bound.Outbox = omega arith
+most_is_small bound.Repeats = omega arith
+most_is_small bound.Linger = omega arith
 
-from_one_again : (most n : ℕ) → 1 ≤ n → n ≤ most → most ≤ 4294967295 → from_one most (decimal n) ≡ Some n
-unfolding from_one
-from_one_again most n least le small = rw (up_to_again most n le (omega (arith, small)), ne_eqb n 0 (λ e. omega (arith, e, least))) refl
+between_again : (least most n : ℕ) → least ≤ n → n ≤ most → most ≤ 4294967295 → between least most (decimal n) ≡ Some n
+unfolding between
+between_again least most n high le small =
+    let enough : nat_lt n least ≡ false = grind (arith, nat_tests) in
+    rw (up_to_again most n le (omega (arith, small)), enough) refl
 
 value_takes : (r : Result (List ℕ) FromHexError) (seed : List ℕ) → value_of r ≡ Some seed → r ≡ Ok seed
 value_takes (Ok x) seed e = ap (λ (s : List ℕ). Ok s) (some_is x seed e)
@@ -91,8 +95,8 @@ valued_takes (flag.Address place) value s e =
     subst (IsSetting (flag_text (flag.Address place) ∷ value ∷ [])) (some_is (setting.Address place p.0) s p.2)
     (a.1, ap (λ (v : List ℕ). flag_text (flag.Address place) ∷ v ∷ []) a.0)
 valued_takes (flag.Number bound) value s e =
-    let p = bind_some (from_one (most bound) value) (λ n. Some (setting.Number bound n)) s (or_bad_ok (flag.Number bound) (from_one (most bound) value >>= λ n. Some (setting.Number bound n)) s e) in
-    let n = from_one_takes (most bound) value p.0 p.1 in
+    let p = bind_some (between (least bound) (most bound) value) (λ n. Some (setting.Number bound n)) s (or_bad_ok (flag.Number bound) (between (least bound) (most bound) value >>= λ n. Some (setting.Number bound n)) s e) in
+    let n = between_takes (least bound) (most bound) value p.0 p.1 in
     subst (IsSetting (flag_text (flag.Number bound) ∷ value ∷ [])) (some_is (setting.Number bound p.0) s p.2)
     (n.1, n.2, ap (λ (v : List ℕ). flag_text (flag.Number bound) ∷ v ∷ []) n.0)
 valued_takes flag.MailboxFile value s e = subst (IsSetting (codes "--mailboxes" ∷ value ∷ [])) (ok_is (setting.MailboxFile value) s e) refl
@@ -107,7 +111,7 @@ or_bad_err f None e k = err_is (error.Bad f) e k
 valued_wrong : (f : Flag) (value : List ℕ) (e : OptionsError) → valued f value ≡ Err e → error.Bad f ≡ e
 unfolding valued
 valued_wrong (flag.Address place) value e k = or_bad_err (flag.Address place) (addr_of value >>= λ a. Some (setting.Address place a)) e k
-valued_wrong (flag.Number bound) value e k = or_bad_err (flag.Number bound) (from_one (most bound) value >>= λ n. Some (setting.Number bound n)) e k
+valued_wrong (flag.Number bound) value e k = or_bad_err (flag.Number bound) (between (least bound) (most bound) value >>= λ n. Some (setting.Number bound n)) e k
 valued_wrong flag.MailboxFile value e k = absurd cc
 valued_wrong flag.Seed value e k = or_bad_err flag.Seed (seed_of value >>= λ x. Some (setting.Seed x)) e k
 
@@ -180,6 +184,8 @@ flag_begins (flag.Number bound.Serials) = refl
 flag_begins (flag.Number bound.Kept) = refl
 flag_begins (flag.Number bound.Inbox) = refl
 flag_begins (flag.Number bound.Outbox) = refl
+flag_begins (flag.Number bound.Repeats) = refl
+flag_begins (flag.Number bound.Linger) = refl
 flag_begins flag.MailboxFile = refl
 flag_begins flag.Seed = refl
 
@@ -209,9 +215,9 @@ address_again : (p : Place) (a : Addr) → IsAddr a → valued (flag.Address p) 
 unfolding valued
 address_again p a h = rw (addr_again a h) refl
 
-number_again : (b : Bound) (n : ℕ) → 1 ≤ n → n ≤ most b → valued (flag.Number b) (decimal n) ≡ Ok (setting.Number b n)
+number_again : (b : Bound) (n : ℕ) → least b ≤ n → n ≤ most b → valued (flag.Number b) (decimal n) ≡ Ok (setting.Number b n)
 unfolding valued
-number_again b n least le = rw (from_one_again (most b) n least le (most_is_small b)) refl
+number_again b n high le = rw (between_again (least b) (most b) n high le (most_is_small b)) refl
 
 file_again : (path : List ℕ) → valued flag.MailboxFile path ≡ Ok (setting.MailboxFile path)
 unfolding valued

@@ -24,11 +24,13 @@ default_numbers = record {
   default_time = 3600;
   refer_time = 180;
   max_cseq = 2147483647;
-  table = 1024;
+  table = 16384;
   serials = 4294967295;
-  kept = 64;
-  inbox = 64;
-  outbox = 64;
+  kept = 4096;
+  inbox = 1024;
+  outbox = 1024;
+  repeats = 16384;
+  linger = 2;
 }
 
 -- what is done where nothing is set
@@ -54,6 +56,8 @@ with_number bound.Serials n numbers = record numbers { serials = n }
 with_number bound.Kept n numbers = record numbers { kept = n }
 with_number bound.Inbox n numbers = record numbers { inbox = n }
 with_number bound.Outbox n numbers = record numbers { outbox = n }
+with_number bound.Repeats n numbers = record numbers { repeats = n }
+with_number bound.Linger n numbers = record numbers { linger = n }
 
 abbrev pub with_address : Place → Addr → Choices → Choices
 with_address place.Listen addr choices = record choices { listen = addr }

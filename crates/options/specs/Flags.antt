@@ -24,6 +24,8 @@ bound_text bound.Serials = codes "--serials"
 bound_text bound.Kept = codes "--kept"
 bound_text bound.Inbox = codes "--inbox"
 bound_text bound.Outbox = codes "--outbox"
+bound_text bound.Repeats = codes "--repeats"
+bound_text bound.Linger = codes "--linger"
 
 abbrev pub flag_text : Flag → List ℕ
 flag_text (flag.Address place) = place_text place
@@ -31,7 +33,13 @@ flag_text (flag.Number bound) = bound_text bound
 flag_text flag.MailboxFile = codes "--mailboxes"
 flag_text flag.Seed = codes "--seed"
 
--- the greatest number that an option takes; the least is 1
+-- the least number that an option takes
+abbrev pub least : Bound → ℕ
+least bound.Repeats = 0
+least bound.Linger = 0
+least other = 1
+
+-- the greatest number that an option takes
 abbrev pub most : Bound → ℕ
 most bound.Workers = 256
 most bound.MinTime = 3600
@@ -44,3 +52,5 @@ most bound.Serials = 4294967295
 most bound.Kept = 4096
 most bound.Inbox = 65536
 most bound.Outbox = 65536
+most bound.Repeats = 65536
+most bound.Linger = 32

@@ -1,5 +1,5 @@
 -- What the reader of settings computes, piece by piece. No public contract cites this.
-use Rattle.std.specs.Prelude.{◌≡◌, ℕ, List, [], ◌∷◌, ◌++◌, if◌then◌else◌, ◌==◌, Option, Some, None, Result, Ok, Err, codes, bytes_eq}
+use Rattle.std.specs.Prelude.{◌≡◌, ℕ, List, [], ◌∷◌, ◌++◌, if◌then◌else◌, nat_lt, Option, Some, None, Result, Ok, Err, codes, bytes_eq}
 use Rattle.std.specs.Str.{byte}
 use Rattle.hex.specs.declared.error.FromHexError.{FromHexError}
 use Rattle.hex.specs.Hex.{decode_sized}
@@ -15,7 +15,7 @@ use Rattle.options.specs.declared.setting.Setting.{Setting}
 use Rattle.options.specs.declared.setting.Setting.TheVariants as setting
 use Rattle.options.specs.declared.error.OptionsError.{OptionsError}
 use Rattle.options.specs.declared.error.OptionsError.TheVariants as error
-use Rattle.options.specs.Flags.{most, place_text, bound_text}
+use Rattle.options.specs.Flags.{least, most, place_text, bound_text}
 
 -- ---- the option that a word is
 
@@ -27,10 +27,10 @@ abbrev pub places : List Place
 places = place.Listen ∷ place.Contact ∷ place.Control ∷ []
 
 abbrev pub times : List Bound
-times = bound.MinTime ∷ bound.MaxTime ∷ bound.DefaultTime ∷ bound.ReferTime ∷ []
+times = bound.MinTime ∷ bound.MaxTime ∷ bound.DefaultTime ∷ bound.ReferTime ∷ bound.Linger ∷ []
 
 abbrev pub counts : List Bound
-counts = bound.Workers ∷ bound.MaxCseq ∷ bound.Table ∷ bound.Serials ∷ bound.Kept ∷ bound.Inbox ∷ bound.Outbox ∷ []
+counts = bound.Workers ∷ bound.MaxCseq ∷ bound.Table ∷ bound.Serials ∷ bound.Kept ∷ bound.Inbox ∷ bound.Outbox ∷ bound.Repeats ∷ []
 
 unfoldable pub place_of : List ℕ → Option Place
 place_of word = find_text place_text places word
@@ -78,15 +78,15 @@ value_of (Err e) = None
 unfoldable pub seed_of : List ℕ → Option (List ℕ)
 seed_of digits = value_of (decode_sized digits 32)
 
--- a number from 1 to this
-unfoldable pub from_one : ℕ → List ℕ → Option ℕ
-from_one most word = do
+-- a number from the least to the most
+unfoldable pub between : ℕ → ℕ → List ℕ → Option ℕ
+between least most word = do
   n ← plain_up_to most word
-  if n == 0 then None else Some n
+  if nat_lt n least then None else Some n
 
 unfoldable pub valued : Flag → List ℕ → Result Setting OptionsError
 valued (flag.Address place) value = or_bad (flag.Address place) (addr_of value >>= λ a. Some (setting.Address place a))
-valued (flag.Number bound) value = or_bad (flag.Number bound) (from_one (most bound) value >>= λ n. Some (setting.Number bound n))
+valued (flag.Number bound) value = or_bad (flag.Number bound) (between (least bound) (most bound) value >>= λ n. Some (setting.Number bound n))
 valued flag.MailboxFile value = Ok (setting.MailboxFile value)
 valued flag.Seed value = or_bad flag.Seed (seed_of value >>= λ s. Some (setting.Seed s))
 

@@ -2,15 +2,15 @@
 --
 --   words    = *setting
 --   setting  = ("--listen" / "--contact" / "--control") address
---            / ("--workers" / "--min-time" / "--max-time" / "--default-time" / "--refer-time" / "--max-cseq" / "--table"
---              / "--serials" / "--kept" / "--inbox" / "--outbox") number
+--            / ("--workers" / "--min-time" / "--max-time" / "--default-time" / "--refer-time" / "--linger" / "--max-cseq" / "--table"
+--              / "--serials" / "--kept" / "--inbox" / "--outbox" / "--repeats") number
 --            / "--mailboxes" path
 --            / "--seed" digits                    ; 64 hex digits of either case
 --            / "--keep-subscriptions"
 --            / mailbox                            ; no space, no control character, and no `-` in front
 --   address  = octet "." octet "." octet "." octet ":" port
 --
--- Numbers are decimal without leading zeros, from 1 up to the greatest that the option takes.
+-- Numbers are decimal without leading zeros, from the least to the greatest that the option takes.
 use Rattle.std.specs.Prelude.{◌≡◌, ◌≢◌, ℕ, ◌≤◌, true, false, List, [], ◌∷◌, ◌++◌, codes, decimal, Result, Ok, Err}
 use Rattle.std.specs.Str.{byte}
 use Rattle.hex.specs.Hex.{decode_sized}
@@ -22,7 +22,7 @@ use Rattle.options.specs.declared.setting.Setting.{Setting}
 use Rattle.options.specs.declared.setting.Setting.TheVariants as setting
 use Rattle.options.specs.declared.error.OptionsError.{OptionsError}
 use Rattle.options.specs.declared.error.OptionsError.TheVariants as error
-use Rattle.options.specs.Flags.{place_text, bound_text, flag_text, most}
+use Rattle.options.specs.Flags.{place_text, bound_text, flag_text, least, most}
 
 -- a name that a mailbox may have
 pub record IsMailbox (name : List ℕ) : Type 0 where
@@ -32,7 +32,7 @@ pub record IsMailbox (name : List ℕ) : Type 0 where
 -- the words are this setting
 abbrev pub IsSetting : List (List ℕ) → Setting → Type 0
 IsSetting words (setting.Address place addr) = IsAddr addr × (words ≡ place_text place ∷ addr_text addr ∷ [])
-IsSetting words (setting.Number bound n) = (1 ≤ n) × (n ≤ most bound) × (words ≡ bound_text bound ∷ decimal n ∷ [])
+IsSetting words (setting.Number bound n) = (least bound ≤ n) × (n ≤ most bound) × (words ≡ bound_text bound ∷ decimal n ∷ [])
 IsSetting words (setting.MailboxFile path) = words ≡ codes "--mailboxes" ∷ path ∷ []
 IsSetting words (setting.Seed seed) =
     (digits : List ℕ) × (words ≡ codes "--seed" ∷ digits ∷ []) × (decode_sized digits 32 ≡ Ok seed)

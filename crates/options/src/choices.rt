@@ -22,6 +22,10 @@ pub struct Numbers {
     pub kept: u32,
     pub inbox: u32,
     pub outbox: u32,
+    /// How many NOTIFYs at a time may wait for their answers and be sent again (RFC 3261 section 17.1.2). 0: each is sent once.
+    pub repeats: u32,
+    /// How long at most a planned stop waits for the answers to the last NOTIFYs.
+    pub linger: u32,
 }
 
 /// What the service does, but for its mailboxes.
@@ -62,11 +66,13 @@ impl Numbers {
             default_time: 3600,
             refer_time: 180,
             max_cseq: 2147483647,
-            table: 1024,
+            table: 16384,
             serials: 4294967295,
-            kept: 64,
-            inbox: 64,
-            outbox: 64,
+            kept: 4096,
+            inbox: 1024,
+            outbox: 1024,
+            repeats: 16384,
+            linger: 2,
         }
     }
 
@@ -85,6 +91,8 @@ impl Numbers {
             Bound::Kept => self.kept = number,
             Bound::Inbox => self.inbox = number,
             Bound::Outbox => self.outbox = number,
+            Bound::Repeats => self.repeats = number,
+            Bound::Linger => self.linger = number,
         }
     }
 }

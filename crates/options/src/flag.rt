@@ -33,6 +33,8 @@ pub enum Bound {
     Kept,
     Inbox,
     Outbox,
+    Repeats,
+    Linger,
 }
 
 /// An option that has a value.
@@ -76,10 +78,22 @@ impl Bound {
             Bound::Kept => "--kept",
             Bound::Inbox => "--inbox",
             Bound::Outbox => "--outbox",
+            Bound::Repeats => "--repeats",
+            Bound::Linger => "--linger",
         }
     }
 
-    /// The greatest number that it takes. The least is 1.
+    /// The least number that it takes.
+    pub fn least(self) -> u32
+        ensures { result ≡ spec.least self }
+    {
+        match self {
+            Bound::Repeats | Bound::Linger => 0,
+            _ => 1,
+        }
+    }
+
+    /// The greatest number that it takes.
     pub fn most(self) -> u32
         ensures { result ≡ spec.most self }
     {
@@ -87,8 +101,9 @@ impl Bound {
             Bound::Workers => 256,
             Bound::MinTime => 3600,
             Bound::MaxCseq => 2147483647,
-            Bound::Table | Bound::Inbox | Bound::Outbox => 65536,
+            Bound::Table | Bound::Inbox | Bound::Outbox | Bound::Repeats => 65536,
             Bound::Kept => 4096,
+            Bound::Linger => 32,
             Bound::MaxTime | Bound::DefaultTime | Bound::ReferTime | Bound::Serials => u32::MAX,
         }
     }
@@ -115,8 +130,8 @@ impl Display for Flag {
         match *self {
             Flag::Address(_) => write!(f, "{text} <a.b.c.d:port>"),
             Flag::Number(bound) => {
-                let most = bound.most();
-                write!(f, "{text} <1 to {most}>")
+                let (least, most) = (bound.least(), bound.most());
+                write!(f, "{text} <{least} to {most}>")
             }
             Flag::MailboxFile => write!(f, "{text} <file>"),
             Flag::Seed => write!(f, "{text} <64 hex digits>"),
@@ -152,6 +167,8 @@ fn time_of(word: &str) -> Option<Bound>
         Some(Bound::DefaultTime)
     } else if word == "--refer-time" {
         Some(Bound::ReferTime)
+    } else if word == "--linger" {
+        Some(Bound::Linger)
     } else {
         None
     }
@@ -176,6 +193,8 @@ fn count_of(word: &str) -> Option<Bound>
         Some(Bound::Inbox)
     } else if word == "--outbox" {
         Some(Bound::Outbox)
+    } else if word == "--repeats" {
+        Some(Bound::Repeats)
     } else {
         None
     }

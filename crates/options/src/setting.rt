@@ -4,7 +4,7 @@ ghost use Rattle.sip_text.specs.Bytes.{Finds};
 ghost use Rattle.options.specs.declared.setting.Setting.{Setting};
 ghost use Rattle.options.specs.Settings.{AreSettings, AreWrong, Answers};
 ghost use Rattle.options.specs.Reading as spec;
-ghost use Rattle.options.specs.Reading.{seed_of, from_one, valued, alone, Reads};
+ghost use Rattle.options.specs.Reading.{seed_of, between, valued, alone, Reads};
 ghost use Rattle.sip_text.specs.Reading.{begins, plain_up_to};
 
 use crate::error::OptionsError;
@@ -19,7 +19,7 @@ use std::alloc::Global;
 pub enum Setting {
     /// `--listen`, `--contact` or `--control` with an address.
     Address(Place, Addr),
-    /// An option with a number, from 1 up to the greatest that it takes.
+    /// An option with a number, from the least to the greatest that it takes.
     Number(Bound, u32),
     /// `--mailboxes` with the path of a file.
     MailboxFile(Text),
@@ -54,13 +54,13 @@ fn up_to(most: u32, word: &[u8]) -> Option<u32>
     }
 }
 
-/// A number from 1 to this.
-#[tactic(auto, unfolding(crate::specs::Reading::from_one))]
-fn from_one(most: u32, word: &[u8]) -> Option<u32>
-    ensures { Finds (λ x. x) result (from_one most word.now) }
+/// A number from the least to the most.
+#[tactic(auto, unfolding(crate::specs::Reading::between))]
+fn between(least: u32, most: u32, word: &[u8]) -> Option<u32>
+    ensures { Finds (λ x. x) result (between least most word.now) }
 {
     let number = up_to(most, word)?;
-    if number == 0 { None } else { Some(number) }
+    if number < least { None } else { Some(number) }
 }
 
 /// What an option with this value says.
@@ -72,7 +72,8 @@ fn valued(alloc: Global, flag: Flag, value: &Text) -> Result<Setting, OptionsErr
     let setting = match flag {
         Flag::Address(place) => Addr::of(word.as_bytes()).map(|addr| Setting::Address(place, addr)),
         Flag::Number(bound) => {
-            from_one(bound.most(), word.as_bytes()).map(|number| Setting::Number(bound, number))
+            let number = between(bound.least(), bound.most(), word.as_bytes());
+            number.map(|number| Setting::Number(bound, number))
         }
         Flag::MailboxFile => Some(Setting::MailboxFile(value.copy(alloc)?)),
         Flag::Seed => seed_of(word).map(Setting::Seed),

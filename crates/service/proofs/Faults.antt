@@ -37,9 +37,9 @@ module _ {wire : UdpWire} {desk : ControlDesk UdpWire} {f : Feeders} (are : AreE
   left_stopwatch fails = let P : Task → Type 0 = λ t. FailsFor t fed in subst P are.time fails
 
 pub wire_failed : (wire left : UdpWire) (fed : Fed) → FailsFor (task.Datagrams wire) fed → fed.left ≡ task.Datagrams left
-    → left.failures ≡ failures_at fed.end wire.failures
+    → left.failures ≡ failures_then fed.fails_late (failures_at fed.end wire.failures)
 wire_failed wire left fed fails is =
-    let P : UdpWire → Type 0 = λ w. w.failures ≡ failures_at fed.end wire.failures in subst P (same_wire fails.0 left (sym fails.1 ∙ is)) fails.2
+    let P : UdpWire → Type 0 = λ w. w.failures ≡ failures_then fed.fails_late (failures_at fed.end wire.failures) in subst P (same_wire fails.0 left (sym fails.1 ∙ is)) fails.2
 
 pub desk_failed : (desk left : ControlDesk UdpWire) (fed : Fed) → FailsFor (task.Lines desk) fed → fed.left ≡ task.Lines left
     → left.coming.failures ≡ failures_then fed.fails_late (failures_at fed.end desk.coming.failures)
@@ -56,16 +56,17 @@ clock_failed left fed fails is =
 
 pub faults_new : {m n : ℕ} {o : Outcome} → m ≡ 0 → n ≡ 0 → AreFaults m n o → AreFaults 0 0 o
 faults_new {o = o} none none' are = record {
-  sip = are.sip ∙ ap (failures_at o.sip) none;
-  lines = are.lines ∙ ap (λ k. failures_then o.fails_late (failures_at o.lines k)) none';
+  sip = are.sip ∙ ap (λ k. failures_then o.sip_fails_late (failures_at o.sip k)) none;
+  lines = are.lines ∙ ap (λ k. failures_then o.lines_fail_late (failures_at o.lines k)) none';
   time = are.time;
 }
 
-none_of : (a b c d : Bool) → (a || b || c || d) ≡ false → (a ≡ false) × (b ≡ false) × (c ≡ false) × (d ≡ false)
-none_of false false false d none = (refl, refl, refl, none)
-none_of false false true d none = absurd cc
-none_of false true c d none = absurd cc
-none_of true b c d none = absurd cc
+none_of : (a b c d e : Bool) → (a || b || c || d || e) ≡ false → (a ≡ false) × (b ≡ false) × (c ≡ false) × (d ≡ false) × (e ≡ false)
+none_of false false false false e none = (refl, refl, refl, refl, none)
+none_of false false false true e none = absurd cc
+none_of false false true d e none = absurd cc
+none_of false true c d e none = absurd cc
+none_of true b c d e none = absurd cc
 
 no_more : (end : FeedEnd) (n : ℕ) → is_fault end ≡ false → failures_at end n ≡ n
 no_more ends.Done n none = refl
@@ -76,8 +77,8 @@ no_more ends.Gone n none = refl
 pub unfailed : (o : Outcome) → AreFaults 0 0 o → is_faulty o ≡ false
     → (o.wire.failures ≡ 0) × (o.desk.coming.failures ≡ 0) × (o.stopwatch.failures ≡ 0)
 unfailed o are no_fault =
-    let none = none_of (is_fault o.sip) (is_fault o.lines) o.fails_late (is_fault o.time) no_fault in (
-      are.sip ∙ no_more o.sip 0 none.0,
-      are.lines ∙ ap (λ late. failures_then late (failures_at o.lines 0)) none.2 ∙ no_more o.lines 0 none.1,
-      are.time ∙ no_more o.time 0 none.3,
+    let none = none_of (is_fault o.sip) o.sip_fails_late (is_fault o.lines) o.lines_fail_late (is_fault o.time) no_fault in (
+      are.sip ∙ ap (λ late. failures_then late (failures_at o.sip 0)) none.1 ∙ no_more o.sip 0 none.0,
+      are.lines ∙ ap (λ late. failures_then late (failures_at o.lines 0)) none.3 ∙ no_more o.lines 0 none.2,
+      are.time ∙ no_more o.time 0 none.4,
     )

@@ -1,6 +1,8 @@
 pub mod Doing
 pub mod Answering
 pub mod Closed
+pub mod Acts
+pub mod Repeats
 pub mod Ran
 pub mod Faults
 pub mod Ticking

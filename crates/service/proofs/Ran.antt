@@ -10,7 +10,7 @@ use Rattle.crew.specs.Started.{Hired, IsStarted}
 use Rattle.crew.specs.Joined.{IsJoined}
 use Rattle.crew.specs.declared.report.WorkerReport.{WorkerReport}
 use Rattle.emitting.specs.declared.sending.EmitReport.{EmitReport}
-use Rattle.emitting.specs.Emitted.{Fates, WireSeen, WriterSeen, IsEmitted}
+use Rattle.emitting.specs.Emitted.{WireSeen, WriterSeen}
 use Rattle.network.specs.declared.feeding.FeedEnd.{FeedEnd}
 use Rattle.wires.specs.declared.udp.UdpWire.{UdpWire}
 use Rattle.service.specs.declared.feeding.Task.{Task}
@@ -18,6 +18,7 @@ use Rattle.service.specs.declared.lines.ControlDesk.{ControlDesk}
 use Rattle.service.specs.declared.running.Feeders.{Feeders}
 use Rattle.service.specs.declared.running.Outcome.{Outcome}
 use Rattle.service.specs.Handing.{AreErrands}
+use Rattle.service.specs.Sending.{Act, IsSentOut}
 use Rattle.service.specs.Running.{SendsDatagrams, SendsLines, SendsTicks, SendsFor, ThenCloses, Runs, Leaves}
 use Rattle.service.proofs.Closed.{taker_new, taker_workers}
 
@@ -36,13 +37,13 @@ on_err (Ok x) p f = p
 on_err (Err e) p f = f p
 
 pub leaves : {start : ℕ → Start} {workers : ℕ} {crew : List Hired} {ports : List PortSeats} {taker : TakerSeat} (is : IsStarted start workers 3 crew ports taker)
-    {wire wire' : WireSeen} {writer writer' : WriterSeen} (none : List PortSeats) (got : List (Item Out)) (reports : List WorkerReport) (fates : Fates) (report : EmitReport)
-    → none ≡ [] → IsJoined crew none got reports → IsEmitted taker.workers fates taker.got got wire wire' writer writer' report
-    → Leaves start workers wire wire' writer writer'
-leaves {crew = crew} {ports = ports} {taker = taker} is {wire = wire} {wire' = wire'} {writer = writer} {writer' = writer'} none got reports fates report empty joined emitted =
+    {wire wire' : WireSeen} {writer writer' : WriterSeen} (none : List PortSeats) (got : List (Item Out)) (reports : List WorkerReport) (repeats : ℕ) (acts : List Act) (report : EmitReport)
+    → none ≡ [] → IsJoined crew none got reports → IsSentOut repeats taker.workers acts taker.got got wire wire' writer writer' report
+    → Leaves start workers repeats wire wire' writer writer'
+leaves {crew = crew} {ports = ports} {taker = taker} is {wire = wire} {wire' = wire'} {writer = writer} {writer' = writer'} none got reports repeats acts report empty joined sent =
     let P : List PortSeats → Type 0 = λ l. IsJoined crew l got reports in
-    let Q : List (Item Out) → Type 0 = λ l. IsEmitted taker.workers fates l got wire wire' writer writer' report in
-    let N : ℕ → Type 0 = λ n. IsEmitted n fates [] got wire wire' writer writer' report in record {
+    let Q : List (Item Out) → Type 0 = λ l. IsSentOut repeats taker.workers acts l got wire wire' writer writer' report in
+    let N : ℕ → Type 0 = λ n. IsSentOut repeats n acts [] got wire wire' writer writer' report in record {
       crew = crew;
       ports = ports;
       taker = taker;
@@ -50,9 +51,9 @@ leaves {crew = crew} {ports = ports} {taker = taker} is {wire = wire} {wire' = w
       got = got;
       reports = reports;
       joined = subst P empty joined;
-      fates = fates;
-      emitted_as = report;
-      emitted = subst N (taker_workers is) (subst Q (taker_new is) emitted);
+      acts = acts;
+      counts = report;
+      sent = subst N (taker_workers is) (subst Q (taker_new is) sent);
     }
 
 -- what each thread sent, once its errand is known
@@ -68,14 +69,14 @@ module _ {wire : UdpWire} {desk : ControlDesk UdpWire} {f : Feeders} (are : AreE
 
 pub runs_are : {start : ℕ → Start} {workers : ℕ} {crew : List Hired} {a b c : PortSeats} {taker : TakerSeat} (is : IsStarted start workers 3 crew (a ∷ b ∷ c ∷ []) taker)
     (mailboxes : List (List ℕ)) (wire wire' : WireSeen) (writer writer' : WriterSeen) (o : Outcome) (a' b' c' : PortSeats) (ports : List PortSeats)
-    (got : List (Item Out)) (fates : Fates) (report : EmitReport)
+    (got : List (Item Out)) (repeats : ℕ) (acts : List Act) (report : EmitReport)
     → ThenCloses (SendsDatagrams o.sip) a a' → ThenCloses (SendsLines mailboxes o.lines) b b' → ThenCloses (SendsTicks o.time) c c'
     → ports ≡ a' ∷ b' ∷ c' ∷ [] → IsJoined crew ports got o.report.workers.items
-    → IsEmitted taker.workers fates taker.got got wire wire' writer writer' report → Runs start workers mailboxes wire wire' writer writer' o
-runs_are {crew = crew} {a = a} {b = b} {c = c} {taker = taker} is mailboxes wire wire' writer writer' o a' b' c' ports got fates report datagrams lines ticks are joined emitted =
+    → IsSentOut repeats taker.workers acts taker.got got wire wire' writer writer' report → Runs start workers repeats mailboxes wire wire' writer writer' o
+runs_are {crew = crew} {a = a} {b = b} {c = c} {taker = taker} is mailboxes wire wire' writer writer' o a' b' c' ports got repeats acts report datagrams lines ticks are joined sent =
     let P : List PortSeats → Type 0 = λ l. IsJoined crew l got o.report.workers.items in
-    let Q : List (Item Out) → Type 0 = λ l. IsEmitted taker.workers fates l got wire wire' writer writer' report in
-    let N : ℕ → Type 0 = λ n. IsEmitted n fates [] got wire wire' writer writer' report in record {
+    let Q : List (Item Out) → Type 0 = λ l. IsSentOut repeats taker.workers acts l got wire wire' writer writer' report in
+    let N : ℕ → Type 0 = λ n. IsSentOut repeats n acts [] got wire wire' writer writer' report in record {
       crew = crew;
       sip = a;
       lines = b;
@@ -90,9 +91,9 @@ runs_are {crew = crew} {a = a} {b = b} {c = c} {taker = taker} is mailboxes wire
       sends_ticks = ticks;
       got = got;
       joined = subst P are joined;
-      fates = fates;
-      emitted_as = report;
-      emitted = subst N (taker_workers is) (subst Q (taker_new is) emitted);
+      acts = acts;
+      counts = report;
+      sent = subst N (taker_workers is) (subst Q (taker_new is) sent);
     }
 
 -- the same, where the number of workers has another name
@@ -100,10 +101,10 @@ module _ {start : ℕ → Start} {n m : ℕ} (same : m ≡ n) where
   pub started_with : {crew : List Hired} {ports : List PortSeats} {taker : TakerSeat} → IsStarted start n 3 crew ports taker → IsStarted start m 3 crew ports taker
   started_with {crew = crew} {ports = ports} {taker = taker} is = let P : ℕ → Type 0 = λ k. IsStarted start k 3 crew ports taker in subst P (sym same) is
 
-  pub runs_with : {mailboxes : List (List ℕ)} {wire wire' : WireSeen} {writer writer' : WriterSeen} {o : Outcome}
-      → Runs start m mailboxes wire wire' writer writer' o → Runs start n mailboxes wire wire' writer writer' o
-  runs_with {mailboxes = mailboxes} {wire = wire} {wire' = wire'} {writer = writer} {writer' = writer'} {o = o} runs =
-      let P : ℕ → Type 0 = λ k. Runs start k mailboxes wire wire' writer writer' o in subst P same runs
+  pub runs_with : {repeats : ℕ} {mailboxes : List (List ℕ)} {wire wire' : WireSeen} {writer writer' : WriterSeen} {o : Outcome}
+      → Runs start m repeats mailboxes wire wire' writer writer' o → Runs start n repeats mailboxes wire wire' writer writer' o
+  runs_with {repeats = repeats} {mailboxes = mailboxes} {wire = wire} {wire' = wire'} {writer = writer} {writer' = writer'} {o = o} runs =
+      let P : ℕ → Type 0 = λ k. Runs start k repeats mailboxes wire wire' writer writer' o in subst P same runs
 
-  pub leaves_with : {wire wire' : WireSeen} {writer writer' : WriterSeen} → Leaves start m wire wire' writer writer' → Leaves start n wire wire' writer writer'
-  leaves_with {wire = wire} {wire' = wire'} {writer = writer} {writer' = writer'} left = let P : ℕ → Type 0 = λ k. Leaves start k wire wire' writer writer' in subst P same left
+  pub leaves_with : {repeats : ℕ} {wire wire' : WireSeen} {writer writer' : WriterSeen} → Leaves start m repeats wire wire' writer writer' → Leaves start n repeats wire wire' writer writer'
+  leaves_with {repeats = repeats} {wire = wire} {wire' = wire'} {writer = writer} {writer' = writer'} left = let P : ℕ → Type 0 = λ k. Leaves start k repeats wire wire' writer writer' in subst P same left

@@ -8,11 +8,16 @@ use Rattle.service.specs.declared.feeding.Task.TheVariants as task
 use Rattle.service.specs.declared.lines.ControlDesk.{ControlDesk}
 use Rattle.service.specs.declared.running.Feeders.{Feeders}
 use Rattle.service.specs.declared.running.Running.{Running}
+use Rattle.transactions.specs.Machine.{empty}
 use Rattle.service.specs.Ticks.{new_stopwatch}
 
 -- it was just started with these ports, and workers with these starts
 abbrev pub IsNew : (ℕ → Start) → List PortSeats → Running → Type 0
-IsNew start ports running = IsStarted start running.workers 3 running.crew ports running.taker
+IsNew start ports running = IsStarted start running.outgoing.workers 3 running.crew ports running.outgoing.taker
+
+-- no NOTIFY waits for its answer, and so many may
+abbrev pub NoneWaits : ℕ → Running → Type 0
+NoneWaits repeats running = running.outgoing.waiting.transactions ≡ empty repeats
 
 -- each port is open
 abbrev pub NoneClosed : List PortSeats → Type 0

@@ -2,6 +2,8 @@ pub mod Ticks
 pub mod Served
 pub mod Taken
 pub mod Rung
+pub mod Noted
+pub mod Sending
 pub mod Handing
 pub mod Running
 pub mod Refused

@@ -3,6 +3,8 @@
 --   a SIP datagram -> port 0 -+              +-> an answer or a NOTIFY, by the wire
 --   a control line -> port 1 -+-> workers ->-+
 --   a tick         -> port 2 -+              +-> START <tag> <refer_to>, by the writer
+--
+-- Answers to NOTIFYs go as notes to the thread that sends, too, which sends a NOTIFY again until its answer was noted.
 use Rattle.std.specs.Prelude.{◌≡◌, ◌||◌, ℕ, Bool, true, false, List, [], ◌∷◌}
 use Rattle.queue_rule.specs.declared.items.Item.{Item}
 use Rattle.notifier_model.specs.declared.event.Out.{Out}
@@ -14,7 +16,7 @@ use Rattle.crew.specs.Started.{Hired, IsStarted}
 use Rattle.crew.specs.Joined.{IsJoined}
 use Rattle.crew.specs.declared.report.WorkerReport.{WorkerReport}
 use Rattle.emitting.specs.declared.sending.EmitReport.{EmitReport}
-use Rattle.emitting.specs.Emitted.{Fates, WireSeen, WriterSeen, IsEmitted}
+use Rattle.emitting.specs.Emitted.{WireSeen, WriterSeen}
 use Rattle.network.specs.declared.feeding.FeedEnd.{FeedEnd}
 use Rattle.network.specs.declared.feeding.FeedEnd.TheVariants as ends
 use Rattle.network.specs.Fed.{Log, failures_at}
@@ -25,6 +27,7 @@ use Rattle.service.specs.declared.feeding.Task.{Task}
 use Rattle.service.specs.declared.feeding.Task.TheVariants as task
 use Rattle.service.specs.declared.lines.ControlDesk.{ControlDesk}
 use Rattle.service.specs.declared.running.Outcome.{Outcome}
+use Rattle.service.specs.Sending.{Act, IsSentOut}
 use Rattle.service.specs.Served.{AreServed}
 use Rattle.service.specs.Taken.{Line, AreTaken, failures_then}
 use Rattle.service.specs.Ticks.{rises_from, AreTold}
@@ -57,7 +60,8 @@ pub record ThenCloses (sends : PortSeats → PortSeats → Type 0) (old new : Po
 -- what a thread leaves of what it was to send: what it read by failed once more where it tells of a fault, and not else
 abbrev pub FailsFor : Task → Fed → Type 0
 FailsFor (task.Datagrams wire) fed =
-    (left : UdpWire) × (fed.left ≡ task.Datagrams left) × (left.failures ≡ failures_at fed.end wire.failures)
+    (left : UdpWire) × (fed.left ≡ task.Datagrams left)
+    × (left.failures ≡ failures_then fed.fails_late (failures_at fed.end wire.failures))
 FailsFor (task.Lines desk) fed =
     (left : ControlDesk UdpWire) × (fed.left ≡ task.Lines left)
     × (left.coming.failures ≡ failures_then fed.fails_late (failures_at fed.end desk.coming.failures))
@@ -78,20 +82,20 @@ is_fault ends.Gone = false
 
 -- did a wire by which something comes in, or the clock, fail?
 abbrev pub is_faulty : Outcome → Bool
-is_faulty o = is_fault o.sip || is_fault o.lines || o.fails_late || is_fault o.time
+is_faulty o = is_fault o.sip || o.sip_fails_late || is_fault o.lines || o.lines_fail_late || is_fault o.time
 
 -- each fault is told, and no other: of the wire by which SIP came in and of the one by which lines did, which had failed m and n
 -- times before, and of the clock
 pub record AreFaults (m n : ℕ) (o : Outcome) : Type 0 where
-  pub sip : o.wire.failures ≡ failures_at o.sip m
-  pub lines : o.desk.coming.failures ≡ failures_then o.fails_late (failures_at o.lines n)
+  pub sip : o.wire.failures ≡ failures_then o.sip_fails_late (failures_at o.sip m)
+  pub lines : o.desk.coming.failures ≡ failures_then o.lines_fail_late (failures_at o.lines n)
   pub time : o.stopwatch.failures ≡ failures_at o.time 0
 
 -- ---- all of it
 
 -- workers with these starts handled, as their reports tell, what the three ports sent until all were closed, and each of their
--- outs was sent, written or failed, in order
-pub record Runs (start : ℕ → Start) (workers : ℕ) (mailboxes : List (List ℕ)) (wire wire' : WireSeen) (writer writer' : WriterSeen) (outcome : Outcome) : Type 0 where
+-- outs was sent, written or failed, in order, and NOTIFYs again as their transactions ask for it, of which so many may be open
+pub record Runs (start : ℕ → Start) (workers repeats : ℕ) (mailboxes : List (List ℕ)) (wire wire' : WireSeen) (writer writer' : WriterSeen) (outcome : Outcome) : Type 0 where
   -- as it was started
   pub crew : List Hired
   pub sip : PortSeats
@@ -110,15 +114,15 @@ pub record Runs (start : ℕ → Start) (workers : ℕ) (mailboxes : List (List 
   pub got : List (Item Out)
   pub joined : IsJoined crew (sip_closed ∷ lines_closed ∷ time_closed ∷ []) got outcome.report.workers.items
   -- what became of these
-  pub fates : Fates
-  pub emitted_as : EmitReport
-  pub emitted : IsEmitted workers fates [] got wire wire' writer writer' emitted_as
+  pub acts : List Act
+  pub counts : EmitReport
+  pub sent : IsSentOut repeats workers acts [] got wire wire' writer writer' counts
 
 -- ---- a service that doesn't run
 
 -- what left by a wire and a writer were outs of workers with these starts: of each all that the one-thread notifier makes of the
--- events that it handled, and no others. Each was sent, written or failed, in order
-pub record Leaves (start : ℕ → Start) (workers : ℕ) (wire wire' : WireSeen) (writer writer' : WriterSeen) : Type 0 where
+-- events that it handled, and no others. Each was sent, written or failed, in order, and NOTIFYs again as in a service that runs
+pub record Leaves (start : ℕ → Start) (workers repeats : ℕ) (wire wire' : WireSeen) (writer writer' : WriterSeen) : Type 0 where
   pub crew : List Hired
   pub ports : List PortSeats
   pub taker : TakerSeat
@@ -128,6 +132,6 @@ pub record Leaves (start : ℕ → Start) (workers : ℕ) (wire wire' : WireSeen
   pub reports : List WorkerReport
   pub joined : IsJoined crew [] got reports
   -- what became of these
-  pub fates : Fates
-  pub emitted_as : EmitReport
-  pub emitted : IsEmitted workers fates [] got wire wire' writer writer' emitted_as
+  pub acts : List Act
+  pub counts : EmitReport
+  pub sent : IsSentOut repeats workers acts [] got wire wire' writer writer' counts

@@ -1,10 +1,12 @@
 //! What SIP datagrams say, sent on.
-ghost use Rattle.std.specs.Prelude.{◌≡◌, ◌<◌, []};
+ghost use Rattle.std.specs.Prelude.{◌≡◌, ◌<◌, List, []};
 ghost use Rattle.crew.specs.Kept.{SameSeats};
 ghost use Rattle.wires.specs.Wires.{Grows};
 ghost use Rattle.network.specs.Fed.{Log, datagrams, failures_at};
 ghost use Rattle.service.specs.Served as spec;
 ghost use Rattle.service.specs.Served.{Gave, AreServed};
+ghost use Rattle.service.specs.Taken.{failures_then};
+ghost use Rattle.wires.specs.declared.datagram.Datagram.{Datagram};
 
 use crate::shared::{Counter, Shared};
 use crew::Port;
@@ -47,7 +49,8 @@ fn is_gone(told: Told) -> bool
 }
 
 /// Sends what SIP datagrams say, until the service closes, the wire fails or a worker is gone. What can't be read is counted
-/// and dropped. The datagram that comes after the close is dropped too, so whoever closes sends one. The port isn't closed.
+/// and dropped. Of an answer to a NOTIFY a note is put first, for the thread that sends NOTIFYs again. The datagram that comes after the
+/// close is dropped, so whoever closes sends one. The port isn't closed.
 pub fn hear_datagrams<R: Wait, W: Wire>(
     rt: &R,
     alloc: Global,
@@ -67,15 +70,38 @@ pub fn hear_datagrams<R: Wait, W: Wire>(
         let Ok((length, source)) = wire.recv(rt, &mut octets) else {
             return FeedEnd::Fault;
         };
+        let heard = hear_sip(alloc, source, &octets[..length]);
+        shared.notes.put(rt, alloc, &heard);
         if shared.is_closing() {
+            drop(heard);
             return FeedEnd::Done;
         }
-        let heard = hear_sip(alloc, source, &octets[..length]);
         let told = tell(rt, port, heard);
         count(alloc, shared, told, &octets[..length]);
         if is_gone(told) {
             return FeedEnd::Gone;
         }
+    }
+    unreachable!()
+}
+
+/// Puts notes of the answers to NOTIFYs that come while the service closes, until all was sent out or the wire fails: true then. Any
+/// other datagram is dropped, and so is the one that comes after all was sent out.
+pub fn hear_answers<R: Wait, W: Wire>(rt: &R, alloc: Global, wire: &mut W, shared: &Shared) -> bool
+    ensures given { (came : List Datagram) × Grows (W.given wire.old) (W.given wire.new) came }
+    ensures taken { Grows (W.taken wire.old) (W.taken wire.new) [] }
+    ensures failures { W.failures wire.new ≡ failures_then result (W.failures wire.old) }
+{
+    let mut octets = [0; ROOM];
+    for _ in rt.forever() {
+        let Ok((length, source)) = wire.recv(rt, &mut octets) else {
+            return true;
+        };
+        if shared.is_finished() {
+            return false;
+        }
+        let heard = hear_sip(alloc, source, &octets[..length]);
+        shared.notes.put(rt, alloc, &heard);
     }
     unreachable!()
 }

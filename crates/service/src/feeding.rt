@@ -6,7 +6,7 @@ ghost use Rattle.service.specs.declared.feeding.Task.TheVariants as tasks;
 ghost use Rattle.service.specs.Running.{Keeps};
 
 use crate::clock::{Stopwatch, tell_time};
-use crate::datagrams::hear_datagrams;
+use crate::datagrams::{hear_answers, hear_datagrams};
 use crate::lines::ControlDesk;
 use crate::shared::Shared;
 use crew::Port;
@@ -35,7 +35,7 @@ pub(crate) enum Task {
 pub(crate) struct Fed {
     pub(crate) port: Port,
     pub(crate) end: FeedEnd,
-    /// Whether the wire failed behind this end, while lines were refused.
+    /// Whether the wire failed behind this end, while the service closed.
     pub(crate) fails_late: bool,
     /// What was to be sent, as it is left.
     pub(crate) left: Task,
@@ -79,7 +79,7 @@ fn shut<R: Wait>(rt: &R, mut port: Port, shared: &Shared) -> Port
     port
 }
 
-/// Sends what SIP datagrams say until the service closes, and closes the port.
+/// Sends what SIP datagrams say until the service closes, and closes the port. Answers to NOTIFYs are heard until all was sent out.
 fn hear_whole<R: Wait>(
     rt: &R,
     alloc: Global,
@@ -92,10 +92,11 @@ fn hear_whole<R: Wait>(
 {
     let end = hear_datagrams(rt, alloc, &mut wire, &mut port, shared);
     let port = shut(rt, port, shared);
+    let fails_late = hear_answers(rt, alloc, &mut wire, shared);
     Fed {
         port,
         end,
-        fails_late: false,
+        fails_late,
         left: Task::Datagrams(wire),
     }
 }

@@ -14,9 +14,12 @@ mod clock;
 mod datagrams;
 mod error;
 mod feeding;
+pub mod laws;
 mod lines;
+mod notes;
 mod outs;
 mod running;
+mod sending;
 mod shared;
 
 pub use clock::Stopwatch;

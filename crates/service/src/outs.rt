@@ -1,13 +1,16 @@
-//! What the workers post, sent out.
-ghost use Rattle.std.specs.Prelude.{◌≡◌, ◌⊎◌, [], true};
+//! What the workers post, sent out, and each NOTIFY again that nobody answers.
+ghost use Rattle.std.specs.Prelude.{◌≡◌, ◌<◌, ◌⊎◌, ℕ, List, [], true, IfSome, IfNone};
 ghost use Rattle.queue_rule.specs.Ended.{AllEnded};
+ghost use Rattle.outbox.specs.Took.{Took};
 ghost use Rattle.wires.specs.Wires.{Grows};
 ghost use Rattle.emitting.specs.declared.sending.EmitReport.{EmitReport};
 ghost use Rattle.emitting.specs.Emitted as spec;
-ghost use Rattle.emitting.specs.Emitted.{Fates, IsEmitted};
+ghost use Rattle.transactions.specs.Machine.{empty};
 ghost use Rattle.service.specs.Taken.{Offers};
 ghost use Rattle.service.specs.Rung.{Rings};
+ghost use Rattle.service.specs.Sending.{Act, IsSentOut, fates};
 
+use crate::sending::{Waiting, Watch};
 use crate::shared::{Counter, Shared};
 use network::{Fate, put_out};
 use notifier_model::Out;
@@ -83,14 +86,31 @@ impl<W: Wire> Bell<W> {
     }
 }
 
-/// Waits a little where nothing was posted so many times in a row, and rings while the service closes.
+/// What comes next of so many workers that haven't ended, if anything was posted.
+fn next_posted<R: Wait>(rt: &R, taker: &mut Taker, left: u32) -> Option<Posted>
+    ensures next { IfSome result (λ posted. Took taker.old posted taker.new) }
+    ensures none { IfNone result (taker.new ≡ taker.old) }
+    ensures some { IfSome result (λ _. 0 < left) }
+{
+    if left == 0 {
+        return None;
+    }
+    taker.take(rt)
+}
+
+/// How many turns there were in a row in which nothing was done, after one more in which something was or not yet.
+fn idle_turns(idle: u32, was_due: bool) -> u32 {
+    if was_due { 0 } else { idle }
+}
+
+/// Waits a little where nothing was posted and nothing was due so many times in a row, and rings while the service closes.
 fn rest<R: Wait + Clock>(rt: &R, bell: &mut Bell<UdpWire>, shared: &Shared, idle: u32) {
+    if shared.is_closing() && (idle == 0 || idle >= TURNS) {
+        bell.ring(rt);
+    }
     if idle < TURNS {
         thread::yield_now();
         return;
-    }
-    if shared.is_closing() {
-        bell.ring(rt);
     }
     thread::sleep(rt, Duration::from_micros(NAP));
 }
@@ -102,45 +122,64 @@ pub struct Exit<W, F> {
     pub sink: Sink<F>,
 }
 
+/// What is to be sent: what the workers post, and the NOTIFYs that wait for their answers.
+#[derive(Drop)]
+pub(crate) struct Outgoing {
+    pub(crate) taker: Taker,
+    pub(crate) workers: u32,
+    pub(crate) waiting: Waiting,
+    /// For how many milliseconds at most the answers to the last NOTIFYs are waited for.
+    pub(crate) linger: u64,
+}
+
 /// Sends out what the workers post, in the order in which it is taken, until each has ended: answers and NOTIFYs by the wire,
-/// and a line for each transfer that starts. What fails is counted, and the rest goes on. While the service closes, who listens
-/// is woken. No worker's end mark was taken yet.
-pub fn send_outs<R: Wait + Clock, W: Wire, F: Write>(
+/// and a line for each transfer that starts. What fails is counted, and the rest goes on. Between them it takes notes of answers, and
+/// sends a NOTIFY again whose time has come; where all workers have ended it waits a while for the answers to the last ones. While
+/// the service closes, who listens is woken. No worker's end mark was taken yet, and no NOTIFY waits.
+pub(crate) fn send_outs<R: Wait + Clock + Eprint, W: Wire, F: Write>(
     rt: &R,
     exit: &mut Exit<W, F>,
-    taker: &mut Taker,
-    workers: u32,
+    outgoing: &mut Outgoing,
     bell: &mut Bell<UdpWire>,
     shared: &Shared,
 )
-    requires workers { workers ≡ taker.old.workers }
-    requires none { taker.old.got ≡ [] }
-    // Each out that was taken is sent, written or failed, in order, and nothing else is sent or written. Where the writer
-    // never failed, what it took is flushed.
-    ensures emitted { (log : Fates) × (report : EmitReport)
-        × IsEmitted taker.old.workers log taker.old.got taker.new.got
+    requires workers { outgoing.old.workers ≡ outgoing.old.taker.workers }
+    requires none { outgoing.old.taker.got ≡ [] }
+    // Each out that was taken is sent, written or failed, in order, and nothing else is sent or written but NOTIFYs again, as
+    // their transactions ask for it. Where the writer never failed, what it took is flushed.
+    ensures sent { (limit : ℕ) → outgoing.old.waiting.transactions ≡ empty limit
+        → (acts : List Act) × (report : EmitReport)
+        × IsSentOut limit outgoing.old.taker.workers acts outgoing.old.taker.got outgoing.new.taker.got
         (record { taken = W.taken exit.old.wire; failures = W.failures exit.old.wire })
         (record { taken = W.taken exit.new.wire; failures = W.failures exit.new.wire })
         (record { contents = F.contents exit.old.sink.writer; failures = exit.old.sink.failures })
         (record { contents = F.contents exit.new.sink.writer; failures = exit.new.sink.failures }) report
-        × (spec.count spec.fails_to_start log ≡ 0 → (exit.new.sink ≡ exit.old.sink) ⊎ (exit.new.sink.is_flushed ≡ true)) }
+        × (spec.count spec.fails_to_start (fates acts) ≡ 0
+        → (exit.new.sink ≡ exit.old.sink) ⊎ (exit.new.sink.is_flushed ≡ true)) }
     ensures given { Grows (W.given exit.old.wire) (W.given exit.new.wire) [] }
-    ensures outbox { taker.new.outbox ≡ taker.old.outbox }
-    ensures ended { AllEnded taker.old.workers taker.new.got }
+    ensures outbox { outgoing.new.taker.outbox ≡ outgoing.old.taker.outbox }
+    ensures ended { AllEnded outgoing.old.taker.workers outgoing.new.taker.got }
 {
-    let mut left = workers;
+    let mut left = outgoing.workers;
     let mut idle = 0u32;
+    let mut watch = Watch::new(outgoing.linger);
     for _ in rt.forever() {
-        if left == 0 {
+        watch.look(rt, shared);
+        if watch.is_over(left, outgoing.waiting.len()) {
+            shared.count_lost(outgoing.waiting.len());
             return;
         }
-        match taker.take(rt) {
+        let was_due = outgoing
+            .waiting
+            .tend(rt, &mut exit.wire, &mut watch, shared);
+        idle = idle_turns(idle, was_due);
+        match next_posted(rt, &mut outgoing.taker, left) {
             Some(Posted::Ended(_)) => left -= 1,
             Some(Posted::Out(_, out)) => {
                 idle = 0;
                 let fate = put_out(rt, &mut exit.wire, &mut exit.sink, &out);
                 count(shared, &out, fate);
-                drop(out);
+                outgoing.waiting.keep(watch.now(), out, shared);
             }
             None => {
                 rest(rt, bell, shared, idle);

@@ -4,7 +4,7 @@ ghost use Rattle.notifier_model.specs.Start.{Start};
 ghost use Rattle.crew.specs.Ports.{PortSeats};
 ghost use Rattle.crew.specs.Ready.{start_of};
 ghost use Rattle.crew.specs.Started.{IsStarted};
-ghost use Rattle.service.specs.Handing.{IsNew, NoneClosed, AreLent, AreErrands};
+ghost use Rattle.service.specs.Handing.{IsNew, NoneWaits, NoneClosed, AreLent, AreErrands};
 ghost use Rattle.service.specs.Running as spec;
 ghost use Rattle.service.specs.declared.clock.Stopwatch.{Stopwatch};
 ghost use Rattle.service.specs.declared.error.RunError.TheVariants as error;
@@ -17,7 +17,8 @@ use crate::clock::Stopwatch;
 use crate::error::RunError;
 use crate::feeding::{Feeder, Task, start_feeder};
 use crate::lines::ControlDesk;
-use crate::outs::{Bell, Exit, send_outs};
+use crate::outs::{Bell, Exit, Outgoing, send_outs};
+use crate::sending::Waiting;
 use crate::shared::Shared;
 use crew::{Crew, Port, Report};
 use network::FeedEnd;
@@ -29,6 +30,7 @@ use std::io::Write;
 use std::rt::Clock;
 use std::sync::{Arc, Wait};
 use std::thread::Threads;
+use transactions::Transactions;
 use wires::{UdpWire, Wire};
 use worker::Open;
 
@@ -43,6 +45,10 @@ pub struct Work {
     /// What wakes those two.
     pub bell: Bell<UdpWire>,
     pub shared: Arc<Shared, Global>,
+    /// How many NOTIFYs may wait for their answers at once, and are sent again until these come. 0: each is sent once.
+    pub repeats: u32,
+    /// For how many seconds at most it waits, at its end, for the answers to the last NOTIFYs.
+    pub linger: u32,
 }
 
 /// What came of a service.
@@ -50,10 +56,12 @@ pub struct Work {
 pub struct Outcome {
     /// Why no more SIP datagrams were taken.
     pub sip: FeedEnd,
+    /// Whether the wire by which they come failed behind that, while answers were heard.
+    pub sip_fails_late: bool,
     /// Why no more control lines were.
     pub lines: FeedEnd,
     /// Whether the wire by which they come failed behind that, while lines were refused.
-    pub fails_late: bool,
+    pub lines_fail_late: bool,
     /// Why no more time was told.
     pub time: FeedEnd,
     /// What each worker did.
@@ -80,7 +88,11 @@ impl Outcome {
     pub fn is_faulty(&self) -> bool
         ensures { result ≡ is_faulty self.now }
     {
-        is_fault(self.sip) || is_fault(self.lines) || self.fails_late || is_fault(self.time)
+        is_fault(self.sip)
+            || self.sip_fails_late
+            || is_fault(self.lines)
+            || self.lines_fail_late
+            || is_fault(self.time)
     }
 }
 
@@ -88,8 +100,7 @@ impl Outcome {
 #[derive(Drop)]
 pub(crate) struct Running {
     pub(crate) crew: Crew,
-    pub(crate) taker: Taker,
-    pub(crate) workers: u32,
+    pub(crate) outgoing: Outgoing,
     pub(crate) bell: Bell<UdpWire>,
     pub(crate) shared: Arc<Shared, Global>,
 }
@@ -191,7 +202,7 @@ fn start_feeders<R: Threads + Wait + Clock + Eprint + Copy + Send + 'static>(
 }
 
 /// Closes a service of which only these threads were started, and waits for their end and that of its crew.
-fn wind_up<R: Threads + Wait + Clock, W: Wire, F: Write>(
+fn wind_up<R: Threads + Wait + Clock + Eprint, W: Wire, F: Write>(
     rt: &R,
     alloc: Global,
     running: Running,
@@ -199,7 +210,8 @@ fn wind_up<R: Threads + Wait + Clock, W: Wire, F: Write>(
     exit: &mut Exit<W, F>,
 )
     requires { (start : ℕ → Start) × (ports : List PortSeats) × IsNew start ports running }
-    ensures { (start : ℕ → Start) (ports : List PortSeats) → IsNew start ports running → Leaves start running.workers
+    ensures { (start : ℕ → Start) (ports : List PortSeats) (repeats : ℕ) → IsNew start ports running → NoneWaits repeats running
+        → Leaves start running.outgoing.workers repeats
         (record { taken = W.taken exit.old.wire; failures = W.failures exit.old.wire })
         (record { taken = W.taken exit.new.wire; failures = W.failures exit.new.wire })
         (record { contents = F.contents exit.old.sink.writer; failures = exit.old.sink.failures })
@@ -207,16 +219,15 @@ fn wind_up<R: Threads + Wait + Clock, W: Wire, F: Write>(
 {
     let Running {
         crew,
-        mut taker,
-        workers,
+        mut outgoing,
         mut bell,
         shared,
     } = running;
     shared.close();
     shared.finish();
     begun.end(rt, &mut bell);
-    send_outs(rt, exit, &mut taker, workers, &mut bell, &shared);
-    let report = crew.join(rt, Vec::new(alloc), taker);
+    send_outs(rt, exit, &mut outgoing, &mut bell, &shared);
+    let report = crew.join(rt, Vec::new(alloc), outgoing.taker);
     drop(report);
 }
 
@@ -254,7 +265,7 @@ fn stopwatch_of(task: Task) -> Stopwatch
 }
 
 /// Sends out what the workers post until the ports have ended, and joins all threads. There is room for the ports.
-fn serve_to_end<R: Threads + Wait + Clock, W: Wire, F: Write>(
+fn serve_to_end<R: Threads + Wait + Clock + Eprint, W: Wire, F: Write>(
     rt: &R,
     running: Running,
     mut ports: Vec<Port>,
@@ -266,9 +277,9 @@ fn serve_to_end<R: Threads + Wait + Clock, W: Wire, F: Write>(
     requires room { (vec_len ports ≡ 0) × (3 ≤ vec_capacity ports) }
     ensures faults { (wire : UdpWire) (desk : ControlDesk UdpWire) → AreErrands wire desk feeders
         → AreFaults wire.failures desk.coming.failures result }
-    ensures runs { (start : ℕ → Start) (lent : List PortSeats) (wire : UdpWire) (desk : ControlDesk UdpWire)
-        → IsNew start lent running → AreLent lent feeders → AreErrands wire desk feeders
-        → Runs start running.workers desk.mailboxes.items
+    ensures runs { (start : ℕ → Start) (lent : List PortSeats) (wire : UdpWire) (desk : ControlDesk UdpWire) (repeats : ℕ)
+        → IsNew start lent running → NoneWaits repeats running → AreLent lent feeders → AreErrands wire desk feeders
+        → Runs start running.outgoing.workers repeats desk.mailboxes.items
         (record { taken = W.taken exit.old.wire; failures = W.failures exit.old.wire })
         (record { taken = W.taken exit.new.wire; failures = W.failures exit.new.wire })
         (record { contents = F.contents exit.old.sink.writer; failures = exit.old.sink.failures })
@@ -276,12 +287,11 @@ fn serve_to_end<R: Threads + Wait + Clock, W: Wire, F: Write>(
 {
     let Running {
         crew,
-        mut taker,
-        workers,
+        mut outgoing,
         mut bell,
         shared,
     } = running;
-    send_outs(rt, exit, &mut taker, workers, &mut bell, &shared);
+    send_outs(rt, exit, &mut outgoing, &mut bell, &shared);
     shared.finish();
     // Twice, since no later ring sends again what one fails to send.
     bell.ring(rt);
@@ -293,11 +303,12 @@ fn serve_to_end<R: Threads + Wait + Clock, W: Wire, F: Write>(
     ports.push_reserved(sip.port);
     ports.push_reserved(lines.port);
     ports.push_reserved(time.port);
-    let report = crew.join(rt, ports, taker);
+    let report = crew.join(rt, ports, outgoing.taker);
     Outcome {
         sip: sip.end,
+        sip_fails_late: sip.fails_late,
         lines: lines.end,
-        fails_late: lines.fails_late,
+        lines_fail_late: lines.fails_late,
         time: time.end,
         report,
         wire: wire_of(sip.left),
@@ -320,17 +331,18 @@ where
     R: Threads + Wait + Clock + Eprint + Copy + Send + 'static,
     W: Wire,
     F: Write,
-    requires some { 0 < running.workers }
+    requires some { 0 < running.outgoing.workers }
     requires new { (start : ℕ → Start) × IsNew start ports.items running }
-    ensures served { IfOk result (λ o. (start : ℕ → Start) → IsNew start ports.items running
-        → Runs start running.workers ears.desk.mailboxes.items
+    ensures served { IfOk result (λ o. (start : ℕ → Start) (repeats : ℕ) → IsNew start ports.items running
+        → NoneWaits repeats running → Runs start running.outgoing.workers repeats ears.desk.mailboxes.items
         (record { taken = W.taken exit.old.wire; failures = W.failures exit.old.wire })
         (record { taken = W.taken exit.new.wire; failures = W.failures exit.new.wire })
         (record { contents = F.contents exit.old.sink.writer; failures = exit.old.sink.failures })
         (record { contents = F.contents exit.new.sink.writer; failures = exit.new.sink.failures }) o) }
     ensures faults { IfOk result (AreFaults ears.sip.failures ears.desk.coming.failures) }
     ensures refused { IfErr result (λ e. e ≡ error.NoThread) }
-    ensures left { OnErr result ((start : ℕ → Start) → IsNew start ports.items running → Leaves start running.workers
+    ensures left { OnErr result ((start : ℕ → Start) (repeats : ℕ) → IsNew start ports.items running
+        → NoneWaits repeats running → Leaves start running.outgoing.workers repeats
         (record { taken = W.taken exit.old.wire; failures = W.failures exit.old.wire })
         (record { taken = W.taken exit.new.wire; failures = W.failures exit.new.wire })
         (record { contents = F.contents exit.old.sink.writer; failures = exit.old.sink.failures })
@@ -381,7 +393,7 @@ where
     F: Write,
     requires few_workers { vec_len boxes ≤ 256 }
     ensures runs { IfOk result (λ o. (b : _)
-        → Runs (λ w. start_of P.seen work.setup w (get_or boxes.items w b).items) (vec_len boxes)
+        → Runs (λ w. start_of P.seen work.setup w (get_or boxes.items w b).items) (vec_len boxes) work.repeats
         work.desk.mailboxes.items
         (record { taken = W.taken exit.old.wire; failures = W.failures exit.old.wire })
         (record { taken = W.taken exit.new.wire; failures = W.failures exit.new.wire })
@@ -392,25 +404,33 @@ where
     // Without memory nothing is started, and nothing leaves. Where a thread is refused only outs of workers with these starts do.
     ensures no_memory { result ≡ Err error.NoMemory → exit.new ≡ exit.old }
     ensures no_thread { OnErr result ((exit.new ≡ exit.old) ⊎ ((b : _)
-        → Leaves (λ w. start_of P.seen work.setup w (get_or boxes.items w b).items) (vec_len boxes)
+        → Leaves (λ w. start_of P.seen work.setup w (get_or boxes.items w b).items) (vec_len boxes) work.repeats
         (record { taken = W.taken exit.old.wire; failures = W.failures exit.old.wire })
         (record { taken = W.taken exit.new.wire; failures = W.failures exit.new.wire })
         (record { contents = F.contents exit.old.sink.writer; failures = exit.old.sink.failures })
         (record { contents = F.contents exit.new.sink.writer; failures = exit.new.sink.failures }))) }
 {
     let workers = boxes.len() as u32;
+    let transactions = Transactions::new(alloc, work.repeats)?;
     let (crew, ports, taker) = start_crew(rt, alloc, &work.setup, boxes)?;
     let Work {
         sip,
         desk,
         bell,
         shared,
+        repeats,
+        linger,
         ..
     } = work;
-    let running = Running {
-        crew,
+    let outgoing = Outgoing {
         taker,
         workers,
+        waiting: Waiting::new(transactions, repeats),
+        linger: u64::from(linger) * 1000,
+    };
+    let running = Running {
+        crew,
+        outgoing,
         bell,
         shared,
     };

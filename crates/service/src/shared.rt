@@ -1,5 +1,7 @@
-//! What the threads of a service share: how far it is, and what they counted.
+//! What the threads of a service share: how far it is, what they counted, and the notes of answers to NOTIFYs.
+ghost use Rattle.std.specs.Prelude.{◌<◌, ◌^◌, IfSome};
 
+use crate::notes::Notes;
 use sip_read::ReadError;
 use sip_text::NoMemory;
 use std::alloc::Global;
@@ -7,12 +9,16 @@ use std::rt::Clock;
 use std::sync::atomic::{AtomicBool, AtomicU64, Ordering};
 use std::time::Instant;
 
-/// How far a service is, and what its threads have counted since it began.
+/// The last moment, in milliseconds: no service is up for so long.
+pub(crate) const LAST_MOMENT: u64 = (1 << 63) - 1;
+
+/// How far a service is, what its threads have counted since it began, and the notes of answers to NOTIFYs.
 #[derive(Drop)]
 pub struct Shared {
     began: Instant,
     is_closing: AtomicBool,
     is_finished: AtomicBool,
+    pub(crate) notes: Notes,
     datagrams: AtomicU64,
     unread: [AtomicU64; 7],
     events: AtomicU64,
@@ -22,6 +28,10 @@ pub struct Shared {
     failed: AtomicU64,
     begun: AtomicU64,
     over: AtomicU64,
+    repeats: AtomicU64,
+    given_up: AtomicU64,
+    once: AtomicU64,
+    lost: AtomicU64,
 }
 
 /// What is counted, each by one.
@@ -39,6 +49,12 @@ pub enum Counter {
     Start,
     /// An out, or an answer to a control line, was not sent or written.
     Failed,
+    /// A NOTIFY was sent again.
+    Repeat,
+    /// A NOTIFY was given up: nobody answered it for 32 seconds.
+    GivenUp,
+    /// A NOTIFY is not sent again, since as many others wait for their answers as may.
+    Once,
 }
 
 /// Appends what was counted by this name, on a line of its own.
@@ -63,12 +79,14 @@ fn add_word(alloc: Global, text: &mut String, counted: &AtomicU64) -> Result<(),
 }
 
 impl Shared {
-    /// Of a service that begins now.
-    pub fn new(began: Instant) -> Shared {
-        Shared {
+    /// Of a service that begins now. An error where memory is wanting.
+    pub fn new(alloc: Global, began: Instant) -> Result<Shared, NoMemory> {
+        let notes = Notes::new(alloc)?;
+        Ok(Shared {
             began,
             is_closing: AtomicBool::new(false),
             is_finished: AtomicBool::new(false),
+            notes,
             datagrams: AtomicU64::new(0),
             unread: [
                 AtomicU64::new(0),
@@ -86,13 +104,31 @@ impl Shared {
             failed: AtomicU64::new(0),
             begun: AtomicU64::new(0),
             over: AtomicU64::new(0),
-        }
+            repeats: AtomicU64::new(0),
+            given_up: AtomicU64::new(0),
+            once: AtomicU64::new(0),
+            lost: AtomicU64::new(0),
+        })
     }
 
     /// How many seconds the service is up. None where the clock can't be read.
     pub fn seconds<R: Clock>(&self, rt: &R) -> Option<u64> {
         match self.began.elapsed(rt) {
             Ok(passed) => Some(passed.as_secs()),
+            Err(_) => None,
+        }
+    }
+
+    /// How many milliseconds the service is up. None where the clock can't be read.
+    pub(crate) fn moment<R: Clock>(&self, rt: &R) -> Option<u64>
+        ensures in_range { IfSome result (λ moment. moment < 2 ^ 63) }
+    {
+        match self.began.elapsed(rt) {
+            Ok(passed) => {
+                let seconds = passed.as_secs().saturating_mul(1000);
+                let moment = seconds.saturating_add(u64::from(passed.subsec_millis()));
+                Some(moment.min(LAST_MOMENT))
+            }
             Err(_) => None,
         }
     }
@@ -126,6 +162,9 @@ impl Shared {
             Counter::Notify => &self.notifies,
             Counter::Start => &self.starts,
             Counter::Failed => &self.failed,
+            Counter::Repeat => &self.repeats,
+            Counter::GivenUp => &self.given_up,
+            Counter::Once => &self.once,
         };
         counted.fetch_add(1, Ordering::SeqCst);
     }
@@ -148,6 +187,16 @@ impl Shared {
         }
     }
 
+    /// Counts the NOTIFYs that nobody had answered when the service ended.
+    pub(crate) fn count_lost(&self, count: usize) {
+        self.lost.fetch_add(count as u64, Ordering::SeqCst);
+    }
+
+    /// How many NOTIFYs were given up.
+    pub(crate) fn given_up(&self) -> u64 {
+        self.given_up.load(Ordering::SeqCst)
+    }
+
     /// How many datagrams couldn't be read.
     pub fn unread(&self) -> u64 {
         let mut sum = 0u64;
@@ -168,6 +217,10 @@ impl Shared {
             ("failed", &self.failed),
             ("begun", &self.begun),
             ("over", &self.over),
+            ("repeats", &self.repeats),
+            ("given_up", &self.given_up),
+            ("once", &self.once),
+            ("lost", &self.lost),
         ];
         for (name, counted) in named {
             add_line(alloc, text, name, counted)?;

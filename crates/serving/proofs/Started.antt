@@ -32,9 +32,9 @@ if_both (Ok x) p q f = f x p q
 if_both (Err e) p q f = p
 
 -- the same under other names of the starts and their number
-runs_as : {start start' : ℕ → Start} {workers workers' : ℕ} {mailboxes : List (List ℕ)} {wire wire' : WireSeen} {writer writer' : WriterSeen} {o : Outcome}
-    → workers ≡ workers' → ((w : ℕ) → w < workers' → start w ≡ start' w) → Runs start workers mailboxes wire wire' writer writer' o
-    → Runs start' workers' mailboxes wire wire' writer writer' o
+runs_as : {start start' : ℕ → Start} {workers workers' repeats : ℕ} {mailboxes : List (List ℕ)} {wire wire' : WireSeen} {writer writer' : WriterSeen} {o : Outcome}
+    → workers ≡ workers' → ((w : ℕ) → w < workers' → start w ≡ start' w) → Runs start workers repeats mailboxes wire wire' writer writer' o
+    → Runs start' workers' repeats mailboxes wire wire' writer writer' o
 runs_as {start' = start'} {workers' = workers'} same each r = record {
   crew = r.crew;
   sip = r.sip;
@@ -50,9 +50,9 @@ runs_as {start' = start'} {workers' = workers'} same each r = record {
   sends_ticks = r.sends_ticks;
   got = r.got;
   joined = r.joined;
-  fates = r.fates;
-  emitted_as = r.emitted_as;
-  emitted = rw (← same) r.emitted;
+  acts = r.acts;
+  counts = r.counts;
+  sent = rw (← same) r.sent;
 }
 
 module _ {P : Type 0} (seen : P → Seen) (setup : Setup) (boxes : List (Vec P Global)) (plan : Plan) (local : Addr) (is_setup : setup ≡ setup_of plan local)
@@ -74,17 +74,18 @@ module _ {P : Type 0} (seen : P → Seen) (setup : Setup) (boxes : List (Vec P G
       ∙ ap (λ (b : List Seen). let s : Start = record { place = place_of (setup_of plan local) w; boxes = b } in s) (boxes_at w held low)
 
   -- the service that was asked for
-  pub ran_is : {W : Type 0} (contents : W → Option (List ℕ)) (n : ℕ) {mailboxes : List (List ℕ)} {before after : SinkSeen W} {o : Outcome}
-      → n ≡ length boxes → 0 < plan.workers → mailboxes ≡ plan.mailboxes.items
-      → ((held : Vec P Global) → Ran contents (λ w. start_of seen setup w (get_or boxes w held).items) n mailboxes before after o)
-      → Ran contents (start_at plan local) plan.workers plan.mailboxes.items before after o
-  ran_is contents n {before = before} {after = after} {o = o} size some are ran =
+  pub ran_is : {W : Type 0} (contents : W → Option (List ℕ)) (n : ℕ) {repeats : ℕ} {mailboxes : List (List ℕ)} {before after : SinkSeen W} {o : Outcome}
+      → n ≡ length boxes → 0 < plan.workers → repeats ≡ plan.choices.numbers.repeats → mailboxes ≡ plan.mailboxes.items
+      → ((held : Vec P Global) → Ran contents (λ w. start_of seen setup w (get_or boxes w held).items) n repeats mailboxes before after o)
+      → Ran contents (start_at plan local) plan.workers plan.choices.numbers.repeats plan.mailboxes.items before after o
+  ran_is contents n {mailboxes = mailboxes} {before = before} {after = after} {o = o} size some room are ran =
       let len = workers_are in
       let held : Vec P Global = element boxes 0 (omega (arith, len, some)) in
       let its = ran held in
-      let Q : List (List ℕ) → Type 0 = λ names. Ran contents (start_at plan local) plan.workers names before after o in
-      subst Q are (record {
+      let N : ℕ → Type 0 = λ k. Ran contents (start_at plan local) plan.workers k mailboxes before after o in
+      let Q : List (List ℕ) → Type 0 = λ names. Ran contents (start_at plan local) plan.workers plan.choices.numbers.repeats names before after o in
+      subst Q are (subst N room (record {
         wire = its.wire;
         wire' = its.wire';
         runs = runs_as (size ∙ len) (λ w low. starts_are held w (omega (arith, len, low))) its.runs;
-      })
+      }))

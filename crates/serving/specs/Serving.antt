@@ -51,6 +51,8 @@ pub record IsWork (plan : Plan) (bell : Bell UdpWire) (work : Work) : Type 0 whe
   pub lines : work.desk.coming.local ≡ bell.control
   pub replies : work.desk.going.local ≡ bell.control
   pub woken_by : work.bell ≡ bell
+  pub repeats : work.repeats ≡ plan.choices.numbers.repeats
+  pub linger : work.linger ≡ plan.choices.numbers.linger
   pub sip_failures : work.sip.failures ≡ 0
   pub line_failures : work.desk.coming.failures ≡ 0
 
@@ -60,10 +62,10 @@ new_sink writer = record { writer = writer; failures = 0; is_flushed = false }
 
 module _ {W : Type 0} (contents : W → Option (List ℕ)) where
   -- a crew ran as a service to its end, over some wire
-  pub record Ran (start : ℕ → Start) (workers : ℕ) (mailboxes : List (List ℕ)) (before after : SinkSeen W) (outcome : Outcome) : Type 0 where
+  pub record Ran (start : ℕ → Start) (workers repeats : ℕ) (mailboxes : List (List ℕ)) (before after : SinkSeen W) (outcome : Outcome) : Type 0 where
     pub wire : WireSeen
     pub wire' : WireSeen
-    pub runs : Runs start workers mailboxes wire wire' (writer_seen contents before) (writer_seen contents after) outcome
+    pub runs : Runs start workers repeats mailboxes wire wire' (writer_seen contents before) (writer_seen contents after) outcome
 
   -- the words ask for a service, which ran to its end, and tells each fault of its sockets and of the clock
   pub record Serves (words : List (List ℕ)) (before after : SinkSeen W) (outcome : Outcome) : Type 0 where
@@ -71,7 +73,7 @@ module _ {W : Type 0} (contents : W → Option (List ℕ)) where
     pub is_plan : IsPlan words plan
     pub local : Addr
     pub is_at : IsAt plan.choices.listen local
-    pub ran : Ran (start_at plan local) plan.workers plan.mailboxes.items before after outcome
+    pub ran : Ran (start_at plan local) plan.workers plan.choices.numbers.repeats plan.mailboxes.items before after outcome
     pub faults : AreFaults 0 0 outcome
 
 -- the words ask for a service, which ran to its end, and all went well: no read of its two sockets failed and none of the clock,
@@ -86,7 +88,7 @@ pub record EndsWell (words : List (List ℕ)) : Type 0 where
   pub wire' : WireSeen
   pub writer : WriterSeen
   pub writer' : WriterSeen
-  pub runs : Runs (start_at plan local) plan.workers plan.mailboxes.items wire wire' writer writer' outcome
+  pub runs : Runs (start_at plan local) plan.workers plan.choices.numbers.repeats plan.mailboxes.items wire wire' writer writer' outcome
   pub sip_failures : outcome.wire.failures ≡ 0
   pub line_failures : outcome.desk.coming.failures ≡ 0
   pub clock_failures : outcome.stopwatch.failures ≡ 0

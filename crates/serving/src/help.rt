@@ -23,11 +23,13 @@ usage: notifyd serve [options] [<mailbox>...]
   --default-time <seconds>   granted to who asks for none (3600)
   --refer-time <seconds>     granted to a REFER (180)
   --max-cseq <number>        the last number of a NOTIFY (2147483647)
-  --table <1 to 65536>       live subscriptions of a worker (1024)
+  --table <1 to 65536>       live subscriptions of a worker (16384)
   --serials <number>         subscriptions that a worker accepts (4294967295)
-  --kept <1 to 4096>         answers that a worker keeps (64)
-  --inbox <1 to 65536>       places of a worker's inbox (64)
-  --outbox <1 to 65536>      places of the outbox (64)
+  --kept <1 to 4096>         answers that a worker keeps (4096)
+  --inbox <1 to 65536>       places of a worker's inbox (1024)
+  --outbox <1 to 65536>      places of the outbox (1024)
+  --repeats <0 to 65536>     unanswered NOTIFYs that are sent again (16384)
+  --linger <0 to 32>         seconds that a stop waits for answers (2)
 
 Lines for tell: MAIL, PROGRESS, STATUS, CLOSE; see notifyd(8).";
 

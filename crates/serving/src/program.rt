@@ -48,7 +48,7 @@ fn begin<R: Clock + AllocGlobal>(
     let Ok(now) = Instant::now(rt) else {
         return Err(ServeError::System);
     };
-    let shared = Arc::new(rt.alloc(), Shared::new(now))?;
+    let shared = Arc::new(rt.alloc(), Shared::new(rt.alloc(), now)?)?;
     let theirs = Arc::try_clone(&shared)?;
     Ok((shared, theirs))
 }
@@ -111,6 +111,7 @@ fn work_of(plan: Plan, sockets: Sockets, shared: Arc<Shared, Global>) -> (Work, 
         bell,
     } = sockets;
     let setup = setup_of(&plan, bell.sip);
+    let numbers = plan.choices.numbers;
     let desk = ControlDesk {
         coming: lines,
         going: replies,
@@ -122,6 +123,8 @@ fn work_of(plan: Plan, sockets: Sockets, shared: Arc<Shared, Global>) -> (Work, 
         desk,
         bell,
         shared,
+        repeats: numbers.repeats,
+        linger: numbers.linger,
     };
     (work, outgoing)
 }
@@ -143,7 +146,7 @@ where
     ensures refused { IfErr result IsOther }
     ensures ran { IfOk result (λ s. (b : _)
         → Ran F.contents (λ w. start_of box_seen work.setup w (get_or boxes.items w b).items) (vec_len boxes)
-        work.desk.mailboxes.items exit.sink s.sink s.outcome) }
+        work.repeats work.desk.mailboxes.items exit.sink s.sink s.outcome) }
     ensures faults { IfOk result (λ s. AreFaults work.sip.failures work.desk.coming.failures s.outcome) }
 {
     let mut exit = exit;

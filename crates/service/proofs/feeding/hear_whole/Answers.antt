@@ -1,9 +1,10 @@
-use Rattle.std.proofs.Common.{refl, ◌∙◌}
+use Rattle.std.proofs.Common.{refl, ap, ◌∙◌}
+use Rattle.service.specs.Taken.{failures_then}
 use Rattle.service.proofs.feeding.hear_whole.Goals as goal
 
 pub returns : goal.returns
 returns g c =
-    let heard = c.hear_datagrams-end.ensures in let shut = c.shut-port.ensures in record {
+    let heard = c.hear_datagrams-end.ensures in let shut = c.shut-port.ensures in let late = c.hear_answers-fails_late in record {
       sends = record {
         fed_to = c.hear_datagrams-end.new.port;
         fed = (heard.served.0, heard.served.2);
@@ -11,5 +12,5 @@ returns g c =
         ends = shut.ends;
         seats = shut.seats ∙ heard.seats;
       };
-      fails = (c.hear_datagrams-end.new.wire, refl, heard.failures);
+      fails = (late.new.wire, refl, late.ensures.failures ∙ ap (failures_then late.result) heard.failures);
     }

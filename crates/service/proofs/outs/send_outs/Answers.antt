@@ -1,44 +1,64 @@
-use Rattle.std.proofs.Common.{◌-◌, [], ◌++◌, arith, refl, inl}
+use Rattle.std.proofs.Common.{◌-◌, [], ◌++◌, ◌∷◌, arith, refl, inl}
 use Rattle.queue_rule.proofs.Ended.{ended_none}
 use Rattle.emitting.specs.Emitted.{counted}
-use Rattle.emitting.proofs.Emitting.{one, running_first, running_end, running_out, running_done, took_as, flushed_more}
+use Rattle.emitting.proofs.Emitting.{running_first, running_end, running_done, took_as}
+use Rattle.service.specs.Sending.{Put}
+use Rattle.service.proofs.Acts.{does_none, does_more, does_put, running_on, running_as, running_put, without_after, sent_out, flushed_on, flushed_put}
 use Rattle.service.proofs.outs.send_outs.Goals as goal
 
 pub loop-init : goal.loop-init
 loop-init g c = record {
+  acts = [];
   report = record { sent = 0; starts = 0; failed = 0 };
-  log = [];
-  running = running_first c.args.taker.now c.args.workers _ _ _ c.requires.workers (ended_none _ _ c.requires.none);
+  without = record { taken = g.W.Wire.taken c.args.exit.now.wire; failures = g.W.Wire.failures c.args.exit.now.wire };
+  running = running_first c.args.outgoing.now.taker c.args.outgoing.now.workers _ _ _ c.requires.workers (ended_none _ _ c.requires.none);
+  does = does_none c.args.outgoing.now.waiting.transactions _;
   flushed = λ none. inl refl;
 }
 
-pub returns-then-left-eq0-clause-ended : goal.returns-then-left-eq0-clause-ended
-returns-then-left-eq0-clause-ended g c = running_done c.loop.invariant.running c.if-left-eq0.true
+pub returns-then-is_over-clause-sent : goal.returns-then-is_over-clause-sent
+returns-then-is_over-clause-sent g c = λ limit none.
+    let at = c.loop.invariant in (at.acts, at.report, sent_out at.running at.does none, at.flushed)
 
-pub returns-then-left-eq0-clause-emitted : goal.returns-then-left-eq0-clause-emitted
-returns-then-left-eq0-clause-emitted g c =
-    (c.loop.invariant.log, c.loop.invariant.report, c.loop.invariant.running.emitted, c.loop.invariant.flushed)
+pub returns-then-is_over-clause-ended : goal.returns-then-is_over-clause-ended
+returns-then-is_over-clause-ended g c = running_done c.loop.invariant.running (c.is_over.ensures.ended c.if-is_over.true)
 
 pub loop-preserved-in-Some-Ended : goal.loop-preserved-in-Some-Ended
 loop-preserved-in-Some-Ended g c =
-    let some = c.if-left-eq0.false in let at = c.in-Some-Ended in record {
-      report = c.loop.invariant.report;
-      log = c.loop.invariant.log;
-      running = running_end c.loop.invariant.running c.take.new.self (c.loop.left - 1) _ (took_as _ _ _ _ at.field-0-is at.ensures)
-          (omega arith);
-      flushed = c.loop.invariant.flushed;
+    let was = c.loop.invariant in let at = c.in-Some-Ended in let tended = c.tend-was_due.ensures in let more = tended.does in
+    let some = at.ensures.some in record {
+      acts = was.acts ++ more.0;
+      report = was.report;
+      without = was.without;
+      running = running_end (running_on was.acts was.running more.0 _ more.1 tended.given) c.next_posted.new.taker (c.loop.left - 1) _
+          (took_as _ _ _ _ at.field-0-is at.ensures.next) (omega (arith, some));
+      does = does_more was.does more.2;
+      flushed = flushed_on (λ s. s.is_flushed) _ _ was.acts was.flushed more.0 more.1;
     }
 
 pub loop-preserved-in-Some-Out : goal.loop-preserved-in-Some-Out
 loop-preserved-in-Some-Out g c =
-    let at = c.in-Some-Out in let put = c.put_out-fate.ensures in record {
-      report = counted c.loop.invariant.report c.put_out-fate.result;
-      log = c.loop.invariant.log ++ one at.out c.put_out-fate.result;
-      running = running_out c.loop.invariant.running c.take.new.self _ at.out c.put_out-fate.result
+    let was = c.loop.invariant in let at = c.in-Some-Out in let tended = c.tend-was_due.ensures in let more = tended.does in
+    let put = c.put_out-fate.ensures in let fate = c.put_out-fate.result in let now = c.now.result in record {
+      acts = (was.acts ++ more.0) ++ Put now at.out fate ∷ [];
+      report = counted was.report fate;
+      without = without_after was.without at.out fate;
+      running = running_put (was.acts ++ more.0) (running_on was.acts was.running more.0 _ more.1 tended.given) now c.next_posted.new.taker _ at.out fate
           (g.W.Wire.given c.put_out-fate.new.wire)
-          (record { taken = g.W.Wire.taken c.put_out-fate.new.wire; failures = g.W.Wire.failures c.put_out-fate.new.wire })
           (record { contents = g.F.Write.contents c.put_out-fate.new.sink.writer; failures = c.put_out-fate.new.sink.failures })
-          (took_as _ _ _ _ at.field-0-is at.ensures) put.fate put.given put.taken put.wire_failures put.failures put.writes;
-      flushed = flushed_more (λ s. s.is_flushed) _ _ _ at.out c.put_out-fate.result c.loop.invariant.log put.fate
-          c.loop.invariant.flushed put.flushed put.stays;
+          (took_as _ _ _ _ at.field-0-is at.ensures.next) put.fate put.given put.failures put.writes;
+      does = does_more (does_more was.does more.2) (does_put now at.out fate _ _ _ _ put.taken put.wire_failures c.keep.ensures.kept);
+      flushed = flushed_put (λ s. s.is_flushed) _ _ (was.acts ++ more.0) (flushed_on (λ s. s.is_flushed) _ _ was.acts was.flushed more.0 more.1)
+          c.put_out-fate.new.sink now at.out fate put.fate put.flushed put.stays;
+    }
+
+pub loop-preserved : goal.loop-preserved
+loop-preserved g c =
+    let was = c.loop.invariant in let tended = c.tend-was_due.ensures in let more = tended.does in record {
+      acts = was.acts ++ more.0;
+      report = was.report;
+      without = was.without;
+      running = running_on was.acts (running_as was.acts was.running c.next_posted.new.taker c.in-None-next_posted.ensures.none) more.0 _ more.1 tended.given;
+      does = does_more was.does more.2;
+      flushed = flushed_on (λ s. s.is_flushed) _ _ was.acts was.flushed more.0 more.1;
     }

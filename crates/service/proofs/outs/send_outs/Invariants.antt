@@ -1,17 +1,22 @@
-use Rattle.std.proofs.Common.{◌≡◌, ◌⊎◌, true}
+use Rattle.std.proofs.Common.{◌≡◌, ◌⊎◌, ℕ, List, true}
 use Rattle.emitting.specs.declared.sending.EmitReport.{EmitReport}
-use Rattle.emitting.specs.Emitted.{Fates, count, fails_to_start}
+use Rattle.emitting.specs.Emitted.{WireSeen, count, fails_to_start}
 use Rattle.emitting.proofs.Emitting.{Running}
+use Rattle.service.specs.Sending.{Act, fates, Does}
 use Rattle.service.proofs.outs.send_outs.Given as goal
 
 abbrev pub invariant-loop : goal.invariant-loop
 invariant-loop g l = record {
+  acts : List Act;
   report : EmitReport;
-  log : Fates;
-  running : Running log l.fn.taker l.taker l.left (g.W.Wire.given l.fn.exit.wire) (g.W.Wire.given l.exit.wire)
+  without : WireSeen;
+  running : Running (fates acts) l.fn.outgoing.taker l.outgoing.taker l.left (g.W.Wire.given l.fn.exit.wire) (g.W.Wire.given l.exit.wire)
       (record { taken = g.W.Wire.taken l.fn.exit.wire; failures = g.W.Wire.failures l.fn.exit.wire })
-      (record { taken = g.W.Wire.taken l.exit.wire; failures = g.W.Wire.failures l.exit.wire })
+      without
       (record { contents = g.F.Write.contents l.fn.exit.sink.writer; failures = l.fn.exit.sink.failures })
       (record { contents = g.F.Write.contents l.exit.sink.writer; failures = l.exit.sink.failures }) report;
-  flushed : count fails_to_start log ≡ 0 → (l.exit.sink ≡ l.fn.exit.sink) ⊎ (l.exit.sink.is_flushed ≡ true);
+  does : Does acts l.fn.outgoing.waiting.transactions l.outgoing.waiting.transactions
+      (record { taken = g.W.Wire.taken l.fn.exit.wire; failures = g.W.Wire.failures l.fn.exit.wire })
+      (record { taken = g.W.Wire.taken l.exit.wire; failures = g.W.Wire.failures l.exit.wire });
+  flushed : count fails_to_start (fates acts) ≡ 0 → (l.exit.sink ≡ l.fn.exit.sink) ⊎ (l.exit.sink.is_flushed ≡ true);
 }

@@ -1,4 +1,4 @@
-use Rattle.std.proofs.Common.{inr, get_or, arith}
+use Rattle.std.proofs.Common.{inr, get_or, ◌∙◌, arith}
 use Rattle.crew.specs.Ready.{start_of}
 use Rattle.crew.proofs.Starting.{element}
 use Rattle.service.proofs.Ran.{on_ok, on_err, no_other, started_with, runs_with, leaves_with}
@@ -18,7 +18,7 @@ serve-requires-clause-new g c κs within =
 pub returns-clause-runs : goal.returns-clause-runs
 returns-clause-runs g c =
     on_ok c.serve.result c.serve.ensures.served
-    (λ o runs held. runs_with c.len-workers.ensures (runs _ (started_with c.len-workers.ensures (c.in_ok-crew.ensures.started held))))
+    (λ o runs held. runs_with c.len-workers.ensures (runs _ c.args.work.repeats (started_with c.len-workers.ensures (c.in_ok-crew.ensures.started held)) (c.new-2.ensures ∙ c.in_ok-transactions.ensures)))
 
 pub returns-clause-no_memory : goal.returns-clause-no_memory
 returns-clause-no_memory g c = λ e. no_other c.serve.result _ _ c.serve.ensures.refused e (λ same. cc)
@@ -26,4 +26,4 @@ returns-clause-no_memory g c = λ e. no_other c.serve.result _ _ c.serve.ensures
 pub returns-clause-no_thread : goal.returns-clause-no_thread
 returns-clause-no_thread g c =
     on_err c.serve.result c.serve.ensures.left
-    (λ left. inr (λ held. leaves_with c.len-workers.ensures (left _ (started_with c.len-workers.ensures (c.in_ok-crew.ensures.started held)))))
+    (λ left. inr (λ held. leaves_with c.len-workers.ensures (left _ c.args.work.repeats (started_with c.len-workers.ensures (c.in_ok-crew.ensures.started held)) (c.new-2.ensures ∙ c.in_ok-transactions.ensures))))

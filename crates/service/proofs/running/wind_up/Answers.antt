@@ -11,9 +11,9 @@ pub send_outs-requires-clause-none : goal.send_outs-requires-clause-none
 send_outs-requires-clause-none g c = taker_new c.requires.2
 
 pub join-report-requires-clause-ended : goal.join-report-requires-clause-ended
-join-report-requires-clause-ended g c = started_end c.requires.2 c.send_outs.new.taker c.send_outs.ensures.outbox c.send_outs.ensures.ended
+join-report-requires-clause-ended g c = started_end c.requires.2 c.send_outs.new.outgoing.taker c.send_outs.ensures.outbox c.send_outs.ensures.ended
 
 pub returns : goal.returns
-returns g c = λ start ports is.
-    let sent = c.send_outs.ensures.emitted in
-    leaves is c.new.result.items c.send_outs.new.taker.got _ sent.0 sent.1 c.new.ensures.items c.join-report.ensures sent.2
+returns g c = λ start ports repeats is none.
+    let sent = c.send_outs.ensures.sent repeats none in
+    leaves is c.new.result.items c.send_outs.new.outgoing.taker.got _ repeats sent.0 sent.1 c.new.ensures.items c.join-report.ensures sent.2

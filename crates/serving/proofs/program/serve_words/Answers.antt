@@ -25,7 +25,7 @@ returns-clause-served g c =
       is_at = c.in_ok-boxes.ensures.opened.at;
       ran =
           ran_is box_seen c.work_of-work.result.0.setup boxes.items plan local work.setup c.in_ok-boxes.ensures.boxes
-          g.F.Write.contents _ boxes.ok.0 (omega (arith, few.0)) work.mailboxes ran;
+          g.F.Write.contents _ boxes.ok.0 (omega (arith, few.0)) work.repeats work.mailboxes ran;
       faults = faults_new work.sip_failures work.line_failures faults;
     })
 

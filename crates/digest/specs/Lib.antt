@@ -1,0 +1,15 @@
+pub mod Algorithms
+pub mod Challenges
+pub mod Credentials
+pub mod Directives
+pub mod Errors
+pub mod Grammar
+pub mod Nonces
+pub mod Params
+pub mod Passwords
+pub mod Posed
+pub mod Reading
+pub mod Responses
+pub mod Verdicts
+pub mod Views
+pub mod Watching

@@ -1,0 +1,218 @@
+-- What the thread that sends did so far.
+use Rattle.std.proofs.Common.{◌≡◌, ℕ, zero, suc, ◌+◌, Bool, true, false, List, [], ◌∷◌, ◌++◌, length, map, Option, Some, None, refl, ap, sym, ◌∙◌, ◌⊎◌, subst, length-append, arith}
+use Rattle.std.specs.Prelude.{option_to_list, option_and_then}
+use Rattle.std.specs.List.{filter, cons_option}
+use Rattle.std.proofs.lemmas.List.{append-nil, map-append}
+use Rattle.std.proofs.lemmas.List.Elements.{filter-append, filter_map-append}
+use Rattle.notifier_model.specs.declared.event.Out.{Out}
+use Rattle.notifier_model.specs.declared.event.Out.TheVariants as out
+use Rattle.outbox.specs.Seats.{TakerSeat}
+use Rattle.outbox.specs.Took.{Took}
+use Rattle.outbox.specs.declared.ends.Posted.TheVariants as posted
+use Rattle.scripts.specs.Devices.{rises}
+use Rattle.wires.specs.declared.datagram.Datagram.{Datagram}
+use Rattle.wires.specs.Wires.{datagram, Grows}
+use Rattle.emitting.specs.declared.sending.Fate.{Fate}
+use Rattle.emitting.specs.declared.sending.Fate.TheVariants.{Sent, Started, Failed}
+use Rattle.emitting.specs.declared.sending.EmitReport.{EmitReport}
+use Rattle.emitting.specs.Emitted.{Fates, WireSeen, WriterSeen, MayMeet, Writes, count, counted, sent_datagrams, fails_to_send, fails_to_start, is_start}
+use Rattle.emitting.proofs.Emitting.{Running, one, running_out, rises_more, flushed_more}
+use Rattle.emitting.proofs.Telling.{grows_none, grows_more, grows_same}
+use Rattle.transactions.specs.declared.open.Open.{Open}
+use Rattle.transactions.specs.Timers.{is_over}
+use Rattle.transactions.specs.Machine.{State, empty, answer, due, turn}
+use Rattle.transactions.specs.Runs.{Call, after, state_after, repeated, unless_over}
+use Rattle.service.specs.declared.notes.Note.{Note}
+use Rattle.service.specs.Noted.{answer_of}
+use Rattle.service.specs.Taken.{failures_then}
+use Rattle.service.specs.Sending.{Act, Put, Noted, Repeated, GaveUp, fate_of, fates, sent_by, sent_again, datagrams, fails_at, failures, call_of, calls, kept_after, IsAsked, AreAsked, Does, IsSentOut}
+
+-- ---- two parts of what it did
+
+state_append : (a b : List Call) (s : State) → state_after (a ++ b) s ≡ state_after b (state_after a s)
+state_append [] b s = refl
+state_append (c ∷ a) b s = state_append a b (after c s)
+
+failures_more : (a b : List Act) → failures (a ++ b) ≡ failures b + failures a
+failures_more a b =
+    let e = ap length (filter-append fails_at a b) ∙ length-append (filter fails_at a) (filter fails_at b) in omega arith
+
+pub state_first : (c : Option Call) (cs : List Call) (s : State) → state_after (cons_option c cs) s ≡ state_after cs (state_after (option_to_list c) s)
+state_first None cs s = refl
+state_first (Some c) cs s = refl
+
+asked_more : (a b : List Act) (s : State) → AreAsked s a → AreAsked (state_after (calls a) s) b → AreAsked s (a ++ b)
+asked_more [] b s first then = then
+asked_more (act ∷ a) b s first then =
+    let P : State → Type 0 = λ u. AreAsked u b in
+    (first.0, asked_more a b (state_after (option_to_list (call_of act)) s) first.1 (subst P (state_first (call_of act) (calls a) s) then))
+
+pub does_none : (s : State) (w : WireSeen) → Does [] s s w w
+does_none s w = record { taken = grows_none w.taken; failed = refl; asked = tt; open_now = refl }
+
+pub does_more : {a b : List Act} {s t u : State} {v w x : WireSeen} → Does a s t v w → Does b t u w x → Does (a ++ b) s u v x
+does_more {a = a} {b = b} {s = s} {t = t} {v = v} {w = w} {x = x} first then =
+    let P : List Datagram → Type 0 = λ l. Grows v.taken x.taken l in
+    let Q : State → Type 0 = λ z. AreAsked z b in record {
+      taken = subst P (sym (filter_map-append sent_by a b)) (grows_more v.taken w.taken x.taken (datagrams a) (datagrams b) first.taken then.taken);
+      failed = then.failed ∙ ap (rises (failures b)) first.failed ∙ sym (rises_more (failures b) (failures a) v.failures)
+          ∙ ap (λ n. rises n v.failures) (sym (failures_more a b));
+      asked = asked_more a b s first.asked (subst Q first.open_now then.asked);
+      open_now = then.open_now ∙ ap (state_after (calls b)) first.open_now ∙ sym (state_append (calls a) (calls b) s)
+          ∙ ap (λ l. state_after l s) (sym (filter_map-append call_of a b));
+    }
+
+-- ---- notes
+
+abbrev pub noted : Note → Act
+noted n = Noted n.tag n.number n.status
+
+noted_calls : (notes : List Note) → calls (map noted notes) ≡ map answer_of notes
+noted_calls [] = refl
+noted_calls (n ∷ notes) = ap (λ l. answer_of n ∷ l) (noted_calls notes)
+
+pub noted_fates : (notes : List Note) → fates (map noted notes) ≡ []
+noted_fates [] = refl
+noted_fates (n ∷ notes) = noted_fates notes
+
+noted_datagrams : (notes : List Note) → datagrams (map noted notes) ≡ []
+noted_datagrams [] = refl
+noted_datagrams (n ∷ notes) = noted_datagrams notes
+
+noted_failures : (notes : List Note) → failures (map noted notes) ≡ 0
+noted_failures [] = refl
+noted_failures (n ∷ notes) = noted_failures notes
+
+noted_asked : (notes : List Note) (s : State) → AreAsked s (map noted notes)
+noted_asked [] s = tt
+noted_asked (n ∷ notes) s = (tt, noted_asked notes (state_after (option_to_list (call_of (noted n))) s))
+
+pub does_notes : (notes : List Note) (s t : State) (w : WireSeen) → t ≡ state_after (map answer_of notes) s → Does (map noted notes) s t w w
+does_notes notes s t w is =
+    let P : List Datagram → Type 0 = λ l. Grows w.taken w.taken l in record {
+      taken = subst P (sym (noted_datagrams notes)) (grows_none w.taken);
+      failed = ap (λ n. rises n w.failures) (sym (noted_failures notes));
+      asked = noted_asked notes s;
+      open_now = is ∙ ap (λ l. state_after l s) (sym (noted_calls notes));
+    }
+
+pub none_more : (a b : List Act) → fates a ≡ [] → fates b ≡ [] → fates (a ++ b) ≡ []
+none_more a b none none' = filter_map-append fate_of a b ∙ ap (λ l. l ++ fates b) none ∙ none'
+
+-- ---- an out
+
+put_failures : (now : ℕ) (o : Out) (f : Fate) → failures (Put now o f ∷ []) ≡ count fails_to_send (one o f)
+put_failures now o Sent = refl
+put_failures now o Started = refl
+put_failures now (out.Answer to octets) Failed = refl
+put_failures now (out.Notify tag number terminated to octets) Failed = refl
+put_failures now (out.Start tag refer_to) Failed = refl
+
+pub does_put : (now : ℕ) (o : Out) (f : Fate) (s t : State) (v w : WireSeen) → Grows v.taken w.taken (sent_datagrams (one o f))
+    → w.failures ≡ rises (count fails_to_send (one o f)) v.failures → t ≡ kept_after now o s → Does (Put now o f ∷ []) s t v w
+does_put now o f s t v w taken failed is = record {
+  taken = taken;
+  failed = failed ∙ ap (λ n. rises n v.failures) (sym (put_failures now o f));
+  asked = (tt, tt);
+  open_now = is ∙ sym (state_first (call_of (Put now o f)) [] s);
+}
+
+-- ---- what is due
+
+unless_is : (now : ℕ) (t : Open) → is_over now t ≡ false → unless_over now t ≡ Some t
+unless_is now t early = rw early refl
+
+module _ (now : ℕ) (t : Open) (s u : State) (is_due : due s now ≡ Some t) (turned : u ≡ turn s now) where
+  repeated_is : is_over now t ≡ false → repeated s now ≡ Some t
+  repeated_is early = ap (option_and_then (unless_over now)) is_due ∙ unless_is now t early
+
+  pub does_repeat : (fails : Bool) (v w : WireSeen) → is_over now t ≡ false → Grows v.taken w.taken (sent_again t fails)
+      → w.failures ≡ failures_then fails v.failures → Does (Repeated now (datagram t.to t.bytes) fails ∷ []) s u v w
+  does_repeat false v w early taken failed =
+      record { taken = taken; failed = failed; asked = ((t, repeated_is early, refl), tt); open_now = turned }
+  does_repeat true v w early taken failed =
+      record { taken = taken; failed = failed; asked = ((t, repeated_is early, refl), tt); open_now = turned }
+
+  pub does_give_up : (w : WireSeen) → is_over now t ≡ true → Does (GaveUp now ∷ []) s u w w
+  does_give_up w over = record { taken = grows_none w.taken; failed = refl; asked = ((t, is_due, over), tt); open_now = turned }
+
+-- ---- with the repeats left out
+
+abbrev grown : {T : Type 0} → Option (List T) → List T → Option (List T)
+grown None more = None
+grown (Some xs) more = Some (xs ++ more)
+
+grows_so : {T : Type 0} (old : Option (List T)) (more : List T) → Grows old (grown old more) more
+grows_so None more = tt
+grows_so (Some xs) more = refl
+
+-- the wire without repeats, after this out
+abbrev pub without_after : WireSeen → Out → Fate → WireSeen
+without_after w o f = record {
+  taken = grown w.taken (sent_datagrams (one o f));
+  failures = rises (count fails_to_send (one o f)) w.failures;
+}
+
+module _ (acts : List Act) {t0 t : TakerSeat} {left : ℕ} {told told' : Option (List Datagram)} {wire without : WireSeen} {writer writer' : WriterSeen} {report : EmitReport}
+    (was : Running (fates acts) t0 t left told told' wire without writer writer' report) where
+  -- nothing was taken, and what was done is no out
+  pub running_on : (more : List Act) (told'' : Option (List Datagram)) → fates more ≡ [] → Grows told' told'' []
+      → Running (fates (acts ++ more)) t0 t left told told'' wire without writer writer' report
+  running_on more told'' none same =
+      let P : Fates → Type 0 = λ l. Running l t0 t left told told'' wire without writer writer' report in
+      subst P (sym (filter_map-append fate_of acts more ∙ ap (λ l. fates acts ++ l) none ∙ append-nil (fates acts))) (record {
+        outbox = was.outbox;
+        workers = was.workers;
+        left_is = was.left_is;
+        given = grows_same told told' told'' [] was.given same;
+        emitted = was.emitted;
+      })
+
+  -- the same taker by another name
+  pub running_as : (u : TakerSeat) → u ≡ t → Running (fates acts) t0 u left told told' wire without writer writer' report
+  running_as u same = let P : TakerSeat → Type 0 = λ k. Running (fates acts) t0 k left told told' wire without writer writer' report in subst P (sym same) was
+
+  pub running_put : (now : ℕ) (u : TakerSeat) (w : ℕ) (o : Out) (f : Fate) (told'' : Option (List Datagram)) (after' : WriterSeen)
+      → Took t (posted.Out w o) u → MayMeet o f → Grows told' told'' []
+      → after'.failures ≡ rises (count fails_to_start (one o f)) writer'.failures
+      → Writes writer'.contents after'.contents o f
+      → Running (fates (acts ++ Put now o f ∷ [])) t0 u left told told'' wire (without_after without o f) writer after' (counted report f)
+  running_put now u w o f told'' after' took may none failed wrote =
+      let P : Fates → Type 0 = λ l. Running l t0 u left told told'' wire (without_after without o f) writer after' (counted report f) in
+      subst P (sym (filter_map-append fate_of acts (Put now o f ∷ [])))
+      (running_out was u w o f told'' (without_after without o f) after' took may none (grows_so without.taken (sent_datagrams (one o f))) refl failed wrote)
+
+-- ---- what was flushed
+
+module _ {S : Type 0} (flushed : S → Bool) (first old : S) (acts : List Act) (was : count fails_to_start (fates acts) ≡ 0 → (old ≡ first) ⊎ (flushed old ≡ true)) where
+  pub flushed_on : (more : List Act) → fates more ≡ [] → count fails_to_start (fates (acts ++ more)) ≡ 0 → (old ≡ first) ⊎ (flushed old ≡ true)
+  flushed_on more none =
+      let P : Fates → Type 0 = λ l. count fails_to_start l ≡ 0 → (old ≡ first) ⊎ (flushed old ≡ true) in
+      subst P (sym (filter_map-append fate_of acts more ∙ ap (λ l. fates acts ++ l) none ∙ append-nil (fates acts))) was
+
+  pub flushed_put : (new : S) (now : ℕ) (o : Out) (f : Fate) → MayMeet o f → (f ≡ Started → flushed new ≡ true) → (is_start o ≡ false → new ≡ old)
+      → count fails_to_start (fates (acts ++ Put now o f ∷ [])) ≡ 0 → (new ≡ first) ⊎ (flushed new ≡ true)
+  flushed_put new now o f may written stays =
+      let P : Fates → Type 0 = λ l. count fails_to_start l ≡ 0 → (new ≡ first) ⊎ (flushed new ≡ true) in
+      subst P (sym (filter_map-append fate_of acts (Put now o f ∷ []))) (flushed_more flushed first old new o f (fates acts) may was written stays)
+
+-- ---- all of it
+
+pub sent_out : {limit : ℕ} {t0 t : TakerSeat} {left : ℕ} {told told' : Option (List Datagram)} {acts : List Act} {s u : State} {wire wire' without : WireSeen}
+    {writer writer' : WriterSeen} {report : EmitReport} → Running (fates acts) t0 t left told told' wire without writer writer' report
+    → Does acts s u wire wire' → s ≡ empty limit → IsSentOut limit t0.workers acts t0.got t.got wire wire' writer writer' report
+sent_out {limit = limit} {acts = acts} {u = u} {wire = wire} {wire' = wire'} {without = without} running does none =
+    let P : State → Type 0 = λ z. Does acts z u wire wire' in record {
+      without = without;
+      emitted = running.emitted;
+      left_open = u;
+      does = subst P none does;
+    }
+
+-- ---- notes, one by one
+
+pub noted_more : (notes : List Note) (n : Note) (s t u : State) → t ≡ state_after (map answer_of notes) s → u ≡ answer t n.tag n.number n.status
+    → u ≡ state_after (map answer_of (notes ++ n ∷ [])) s
+noted_more notes n s t u was is =
+    is ∙ ap (λ z. answer z n.tag n.number n.status) was
+    ∙ sym (ap (λ l. state_after l s) (map-append answer_of notes (n ∷ [])) ∙ state_append (map answer_of notes) (answer_of n ∷ []) s)

@@ -1,0 +1,105 @@
+-- What is sent again is of a NOTIFY that was put.
+use Rattle.std.proofs.Common.{◌≡◌, ◌≤◌, ℕ, zero, suc, ◌+◌, ◌*◌, Bool, false, List, [], ◌∷◌, ◌++◌, Option, Some, None, refl, ap, sym, ◌∙◌, subst, arith}
+use Rattle.std.specs.Prelude.{option_to_list}
+use Rattle.std.specs.List.{AllByRecursion, cons_option}
+use Rattle.notifier_model.specs.declared.event.Out.TheVariants as out
+use Rattle.emitting.specs.declared.sending.Fate.{Fate}
+use Rattle.wires.specs.declared.datagram.Datagram.{Datagram}
+use Rattle.wires.specs.Wires.{datagram}
+use Rattle.transactions.specs.declared.open.Open.{Open}
+use Rattle.transactions.specs.Machine.{State, empty}
+use Rattle.transactions.specs.Runs.{Call, Keep, state_after, is_end, earliest, keeping, times}
+use Rattle.transactions.proofs.Histories.{each_repeat}
+use Rattle.service.specs.Sending.{Act, Put, Noted, Repeated, GaveUp, call_of, calls, IsAsked, AreAsked, ends_it, IsOfNotify, EachRepeatIsOfANotify}
+use Rattle.service.proofs.Acts.{state_first}
+
+-- what was asked for behind a part
+asked_behind : (a b : List Act) (s : State) → AreAsked s (a ++ b) → AreAsked (state_after (calls a) s) b
+asked_behind [] b s asked = asked
+asked_behind (act ∷ a) b s asked =
+    let P : State → Type 0 = λ u. AreAsked u b in
+    subst P (sym (state_first (call_of act) (calls a) s)) (asked_behind a b (state_after (option_to_list (call_of act)) s) asked.1)
+
+-- the act that a call is of
+record Found (acts : List Act) (earlier : List Call) (call : Call) (since : List Call) : Type 0 where
+  pub before : List Act
+  pub act : Act
+  pub after : List Act
+  pub split : acts ≡ before ++ act ∷ after
+  pub is : call_of act ≡ Some call
+  pub rest : calls after ≡ since
+
+found_later : (first : Act) (acts : List Act) {earlier : List Call} {call : Call} {since : List Call} {earlier' : List Call}
+    → Found acts earlier call since → Found (first ∷ acts) earlier' call since
+found_later first acts f = record {
+  before = first ∷ f.before;
+  act = f.act;
+  after = f.after;
+  split = ap (λ l. first ∷ l) f.split;
+  is = f.is;
+  rest = f.rest;
+}
+
+found_at : (act : Act) (acts : List Act) (c : Option Call) → call_of act ≡ c → (earlier : List Call) (call : Call) (since : List Call)
+    → cons_option c (calls acts) ≡ earlier ++ call ∷ since → ((e : List Call) → calls acts ≡ e ++ call ∷ since → Found acts e call since)
+    → Found (act ∷ acts) earlier call since
+found_at act acts None is earlier call since e later = found_later act acts (later earlier e)
+found_at act acts (Some c) is [] call since e later = record { before = []; act = act; after = acts; split = refl; is = cc; rest = cc }
+found_at act acts (Some c) is (d ∷ earlier) call since e later = found_later act acts (later earlier cc)
+
+found : (acts : List Act) (earlier : List Call) (call : Call) (since : List Call) → calls acts ≡ earlier ++ call ∷ since → Found acts earlier call since
+found [] [] call since e = absurd cc
+found [] (c ∷ earlier) call since e = absurd cc
+found (act ∷ acts) earlier call since e = found_at act acts (call_of act) refl earlier call since e (λ rest p. found acts rest call since p)
+
+-- a NOTIFY that is kept was put
+put_is : (act : Act) (t : Open) → call_of act ≡ Some (keeping t)
+    → (terminated : Bool) × (fate : Fate) × (act ≡ Put t.first (out.Notify t.tag t.number terminated t.to t.bytes) fate)
+put_is (Put now (out.Answer to octets) fate) t e = absurd cc
+put_is (Put now (out.Notify tag number terminated to octets) fate) t e = (terminated, fate, cc)
+put_is (Put now (out.Start tag refer_to) fate) t e = absurd cc
+put_is (Noted tag number status) t e = absurd cc
+put_is (Repeated now sent fails) t e = absurd cc
+put_is (GaveUp now) t e = absurd cc
+
+-- no call is_end it, so no act does
+unended : (tag : List ℕ) (number : ℕ) (acts : List Act) → AllByRecursion (λ call. is_end tag number call ≡ false) (calls acts)
+    → AllByRecursion (λ act. ends_it tag number act ≡ false) acts
+unended tag number [] none = tt
+unended tag number (Put now (out.Answer to octets) fate ∷ acts) none = (refl, unended tag number acts none)
+unended tag number (Put now (out.Notify other n terminated to octets) fate ∷ acts) none = (refl, unended tag number acts none.1)
+unended tag number (Put now (out.Start other refer_to) fate ∷ acts) none = (refl, unended tag number acts none)
+unended tag number (Noted other n status ∷ acts) none = (none.0, unended tag number acts none.1)
+unended tag number (Repeated now sent fails ∷ acts) none = (refl, unended tag number acts none.1)
+unended tag number (GaveUp now ∷ acts) none = (refl, unended tag number acts none.1)
+
+-- none comes again before half a second has passed
+half_a_second : (n : ℕ) → 500 ≤ earliest n
+half_a_second zero = omega arith
+half_a_second (suc zero) = omega arith
+half_a_second (suc (suc zero)) = omega arith
+half_a_second (suc (suc (suc n))) = omega arith
+
+pub each_repeat_is : EachRepeatIsOfANotify
+each_repeat_is limit before after now sent fails asked =
+    let here = asked_behind before (Repeated now sent fails ∷ after) (empty limit) asked in
+    let t = here.0.0 in
+    let order = each_repeat limit (calls before) now t here.0.1 in
+    let f = found before order.earlier (keeping t) order.since order.split in
+    let put = put_is f.act t f.is in
+    let P : Datagram → Type 0 = λ d. before ≡ f.before ++ Put t.first (out.Notify t.tag t.number put.0 d.peer d.octets) put.1 ∷ f.after in
+    let C : List Call → Type 0 = λ l. AllByRecursion (λ call. is_end t.tag t.number call ≡ false) l in
+    let long = half_a_second (times t.tag t.number order.since (state_after (order.earlier ++ keeping t ∷ []) (empty limit))) in
+    let waited = order.waited in record {
+      earlier = f.before;
+      since = f.after;
+      first = t.first;
+      tag = t.tag;
+      number = t.number;
+      terminated = put.0;
+      fate = put.1;
+      split = subst P (sym here.0.2) (f.split ∙ ap (λ act. f.before ++ act ∷ f.after) put.2);
+      unanswered = unended t.tag t.number f.after (subst C (sym f.rest) order.unanswered);
+      waited = omega (arith, long, waited);
+      in_time = order.in_time;
+    }

@@ -1,0 +1,11 @@
+use Rattle.std.proofs.Common.{◌≡◌, List, map}
+use Rattle.transactions.specs.Runs.{state_after}
+use Rattle.service.specs.Noted.{answer_of}
+use Rattle.service.specs.declared.notes.Note.{Note}
+use Rattle.service.proofs.sending.Waiting.take_notes.Given as goal
+
+abbrev pub invariant-loop : goal.invariant-loop
+invariant-loop g l = record {
+  taken : List Note;
+  noted : l.self.transactions ≡ state_after (map answer_of taken) l.fn.self.transactions;
+}

@@ -1,0 +1,23 @@
+use Rattle.std.proofs.Common.{◌++◌, map}
+use Rattle.service.proofs.Acts.{noted, noted_fates, none_more, does_notes, does_more}
+use Rattle.service.proofs.sending.Waiting.tend.Goals as goal
+
+pub returns-then-watch-eq0-clause-does : goal.returns-then-watch-eq0-clause-does
+returns-then-watch-eq0-clause-does g c =
+    let notes = c.take_notes.ensures.noted in (map noted notes.0, noted_fates notes.0, does_notes notes.0 _ _ _ notes.1)
+
+pub returns-then-was_due-clause-does : goal.returns-then-was_due-clause-does
+returns-then-was_due-clause-does g c =
+    let notes = c.take_notes.ensures.noted in let again = c.repeat-was_due.ensures.does in (
+      map noted notes.0 ++ again.0,
+      none_more (map noted notes.0) again.0 (noted_fates notes.0) again.1,
+      does_more (does_notes notes.0 _ _ _ notes.1) again.2,
+    )
+
+pub returns-else-was_due-clause-does : goal.returns-else-was_due-clause-does
+returns-else-was_due-clause-does g c =
+    let notes = c.take_notes.ensures.noted in let again = c.repeat-was_due.ensures.does in (
+      map noted notes.0 ++ again.0,
+      none_more (map noted notes.0) again.0 (noted_fates notes.0) again.1,
+      does_more (does_notes notes.0 _ _ _ notes.1) again.2,
+    )

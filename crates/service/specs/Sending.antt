@@ -1,0 +1,150 @@
+-- What the thread that sends does: it sends, writes or fails at each out that the workers post, takes notes of answers to NOTIFYs,
+-- and sends a NOTIFY again whose time has come, or gives it up (RFC 3261 section 17.1.2). Moments are milliseconds.
+use Rattle.std.specs.Prelude.{◌≡◌, ◌<◌, ◌≤◌, ◌+◌, ℕ, Bool, true, false, List, [], ◌∷◌, ◌++◌, length, Option, Some, None, option_map, option_to_list, if◌then◌else◌}
+use Rattle.std.specs.List.{filter, filter_map, AllByRecursion}
+use Rattle.queue_rule.specs.declared.items.Item.{Item}
+use Rattle.notifier_model.specs.declared.event.NotifyOut.{NotifyOut}
+use Rattle.notifier_model.specs.declared.event.Out.{Out}
+use Rattle.notifier_model.specs.declared.event.Out.TheVariants as out
+use Rattle.notifier_model.specs.Sent.{notify_of}
+use Rattle.scripts.specs.Devices.{rises}
+use Rattle.wires.specs.declared.datagram.Datagram.{Datagram}
+use Rattle.wires.specs.Wires.{datagram, Grows}
+use Rattle.emitting.specs.declared.sending.Fate.{Fate}
+use Rattle.emitting.specs.declared.sending.EmitReport.{EmitReport}
+use Rattle.emitting.specs.Emitted.{Fates, WireSeen, WriterSeen, IsEmitted, datagram_sent, fails_to_send}
+use Rattle.transactions.specs.declared.open.Open.{Open}
+use Rattle.transactions.specs.Timers.{is_over}
+use Rattle.transactions.specs.Machine.{State, empty, due}
+use Rattle.transactions.specs.Runs.{Call, Keep, Answer, Turn, state_after, repeated, is_end}
+
+-- what it does, one after the other
+pub data Act : Type 0 where
+  -- at this moment this became of an out
+  Put : (now : ℕ) (o : Out) (fate : Fate) → Act
+  -- it took the note of this answer to a NOTIFY
+  Noted : (tag : List ℕ) (number status : ℕ) → Act
+  -- at this moment it sent this again, or the wire failed at it
+  Repeated : (now : ℕ) (sent : Datagram) (fails : Bool) → Act
+  -- at this moment it gave up the NOTIFY that was due
+  GaveUp : (now : ℕ) → Act
+
+-- ---- with the repeats left out
+
+abbrev pub fate_of : Act → Option (Out × Fate)
+fate_of (Put now o fate) = Some (o, fate)
+fate_of (Noted tag number status) = None
+fate_of (Repeated now sent fails) = None
+fate_of (GaveUp now) = None
+
+-- what became of the outs
+abbrev pub fates : List Act → Fates
+fates acts = filter_map fate_of acts
+
+-- ---- with them
+
+abbrev pub sent_by : Act → Option Datagram
+sent_by (Put now o fate) = datagram_sent o fate
+sent_by (Noted tag number status) = None
+sent_by (Repeated now sent fails) = if fails then None else Some sent
+sent_by (GaveUp now) = None
+
+-- the datagrams that were sent, in order
+abbrev pub datagrams : List Act → List Datagram
+datagrams acts = filter_map sent_by acts
+
+abbrev pub fails_at : Act → Bool
+fails_at (Put now o fate) = fails_to_send o fate
+fails_at (Noted tag number status) = false
+fails_at (Repeated now sent fails) = fails
+fails_at (GaveUp now) = false
+
+-- what the wire took of a repeat, where it did not fail at it
+abbrev pub sent_again : Open → Bool → List Datagram
+sent_again t false = datagram t.to t.bytes ∷ []
+sent_again t true = []
+
+-- at how many the wire failed
+abbrev pub failures : List Act → ℕ
+failures acts = length (filter fails_at acts)
+
+-- ---- what is sent again
+
+-- a NOTIFY is kept from its first send on
+abbrev pub keeping : ℕ → NotifyOut → Call
+keeping now n = Keep now n.tag n.number n.to n.bytes
+
+abbrev pub kept_by : ℕ → Out → Option Call
+kept_by now o = option_map (keeping now) (notify_of o)
+
+-- what it is to the open transactions of NOTIFYs
+abbrev pub call_of : Act → Option Call
+call_of (Put now o fate) = kept_by now o
+call_of (Noted tag number status) = Some (Answer tag number status)
+call_of (Repeated now sent fails) = Some (Turn now)
+call_of (GaveUp now) = Some (Turn now)
+
+abbrev pub calls : List Act → List Call
+calls acts = filter_map call_of acts
+
+-- the open transactions after a NOTIFY was put, or another out
+abbrev pub kept_after : ℕ → Out → State → State
+kept_after now o s = state_after (option_to_list (kept_by now o)) s
+
+-- the transactions ask for it
+abbrev pub IsAsked : State → Act → Type 0
+IsAsked s (Put now o fate) = Unit {0}
+IsAsked s (Noted tag number status) = Unit {0}
+IsAsked s (Repeated now sent fails) = (t : Open) × (repeated s now ≡ Some t) × (sent ≡ datagram t.to t.bytes)
+IsAsked s (GaveUp now) = (t : Open) × (due s now ≡ Some t) × (is_over now t ≡ true)
+
+-- each of them, from these open transactions on
+abbrev pub AreAsked : State → List Act → Type 0
+AreAsked s [] = Unit {0}
+AreAsked s (act ∷ acts) = IsAsked s act × AreAsked (state_after (option_to_list (call_of act)) s) acts
+
+-- ---- all of it
+
+-- the wire has taken what was sent, in this order, and failed at the rest; what was sent again was asked for, and the transactions
+-- are these now
+pub record Does (acts : List Act) (open_before open_after : State) (wire wire' : WireSeen) : Type 0 where
+  pub taken : Grows wire.taken wire'.taken (datagrams acts)
+  pub failed : wire'.failures ≡ rises (failures acts) wire.failures
+  pub asked : AreAsked open_before acts
+  pub open_now : open_after ≡ state_after (calls acts) open_before
+
+-- The outs that were got of the workers met these fates: with the repeats left out the wire has taken just their datagrams, in
+-- order. With them it has taken what the acts tell
+pub record IsSentOut (limit workers : ℕ) (acts : List Act) (got got' : List (Item Out)) (wire wire' : WireSeen) (writer writer' : WriterSeen) (report : EmitReport) : Type 0 where
+  pub without : WireSeen
+  pub emitted : IsEmitted workers (fates acts) got got' wire without writer writer' report
+  pub left_open : State
+  pub does : Does acts (empty limit) left_open wire wire'
+
+-- ---- what that says of each repeat
+
+-- it is the note of an answer that ends the NOTIFY with this tag and this number
+abbrev pub ends_it : List ℕ → ℕ → Act → Bool
+ends_it tag number (Put now o fate) = false
+ends_it tag number (Noted other n status) = is_end tag number (Answer other n status)
+ends_it tag number (Repeated now sent fails) = false
+ends_it tag number (GaveUp now) = false
+
+-- it is the datagram of a NOTIFY that was put before, from 500 milliseconds after that on and before 32 seconds have passed, and
+-- no final answer to it was noted since
+pub record IsOfNotify (before : List Act) (now : ℕ) (sent : Datagram) : Type 0 where
+  pub earlier : List Act
+  pub since : List Act
+  pub first : ℕ
+  pub tag : List ℕ
+  pub number : ℕ
+  pub terminated : Bool
+  pub fate : Fate
+  pub split : before ≡ earlier ++ Put first (out.Notify tag number terminated sent.peer sent.octets) fate ∷ since
+  pub unanswered : AllByRecursion (λ act. ends_it tag number act ≡ false) since
+  pub waited : first + 500 ≤ now
+  pub in_time : now < first + 32000
+
+abbrev pub EachRepeatIsOfANotify : Type 0
+EachRepeatIsOfANotify = (limit : ℕ) (before after : List Act) (now : ℕ) (sent : Datagram) (fails : Bool)
+    → AreAsked (empty limit) (before ++ Repeated now sent fails ∷ after) → IsOfNotify before now sent

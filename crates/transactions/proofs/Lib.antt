@@ -1,0 +1,12 @@
+pub mod Tournaments
+pub mod Slots
+pub mod Ringed
+pub mod Walks
+pub mod Seats
+pub mod Books
+pub mod Listing
+pub mod Sounds
+pub mod Histories
+pub mod Among
+pub mod Fewer
+pub mod Tagged

@@ -1,0 +1,86 @@
+-- A whole run of calls, and what holds of each NOTIFY that is sent again (RFC 3261 section 17.1.2.2).
+use Rattle.std.specs.Prelude.{◌≡◌, ℕ, zero, suc, ◌+◌, ◌*◌, ◌<◌, ◌≤◌, Bool, false, ◌&&◌, ◌||◌, ◌==◌, nat_le, bytes_eq, Option, Some, None, option_and_then, List, [], ◌∷◌, ◌++◌, if◌then◌else◌}
+use Rattle.std.specs.List.{AllByRecursion, Contains}
+use Rattle.sip_text.specs.declared.address.Addr.{Addr}
+use Rattle.transactions.specs.declared.open.Open.{Open}
+use Rattle.transactions.specs.declared.open.TheConstants.{PATIENCE, GONE}
+use Rattle.transactions.specs.Timers.{is_named, is_over, alarm}
+use Rattle.transactions.specs.Machine.{State, empty, refusal, keep, answer, due, turn, next_moment}
+
+pub data Call : Type 0 where
+  Keep : (now : ℕ) (tag : List ℕ) (number : ℕ) (to : Addr) (bytes : List ℕ) → Call
+  Answer : (tag : List ℕ) (number status : ℕ) → Call
+  Turn : (now : ℕ) → Call
+
+abbrev pub after : Call → State → State
+after (Keep now tag number to bytes) s = keep s now tag number to bytes
+after (Answer tag number status) s = answer s tag number status
+after (Turn now) s = turn s now
+
+-- the state after these calls, one after another
+abbrev pub state_after : List Call → State → State
+state_after [] s = s
+state_after (call ∷ calls) s = state_after calls (after call s)
+
+abbrev pub unless_over : ℕ → Open → Option Open
+unless_over now t = if is_over now t then None else Some t
+
+-- the transaction whose NOTIFY is sent again at this moment
+abbrev pub repeated : State → ℕ → Option Open
+repeated s now = option_and_then (unless_over now) (due s now)
+
+-- the one whose NOTIFY is sent again with this call
+abbrev pub repeat_made : Call → State → Option Open
+repeat_made (Keep now tag number to bytes) s = None
+repeat_made (Answer tag number status) s = None
+repeat_made (Turn now) s = repeated s now
+
+-- how often the NOTIFY with this name is sent again in these calls
+abbrev pub times : List ℕ → ℕ → List Call → State → ℕ
+times tag number [] s = 0
+times tag number (call ∷ calls) s = (if is_named tag number (repeat_made call s) then 1 else 0) + times tag number calls (after call s)
+
+-- an answer that ends the NOTIFY with this name: a final one to it, or a 481 to its tag
+abbrev pub is_end : List ℕ → ℕ → Call → Bool
+is_end tag number (Keep now other n to bytes) = false
+is_end tag number (Answer other n status) = bytes_eq tag other && ((status == GONE) || (nat_le 200 status && (number == n)))
+is_end tag number (Turn now) = false
+
+-- how long after the first send the NOTIFY may come again, where it came again so often before
+abbrev pub earliest : ℕ → ℕ
+earliest zero = 500
+earliest (suc zero) = 1500
+earliest (suc (suc zero)) = 3500
+earliest (suc (suc (suc n))) = 7500 + 4000 * n
+
+-- the call that kept a transaction
+abbrev pub keeping : Open → Call
+keeping t = Keep t.first t.tag t.number t.to t.bytes
+
+-- what holds where the NOTIFY of t is sent again at this moment, after these calls
+pub record IsInOrder (limit : ℕ) (before : List Call) (now : ℕ) (t : Open) : Type 0 where
+  -- it was kept
+  pub earlier : List Call
+  pub since : List Call
+  pub split : before ≡ earlier ++ keeping t ∷ since
+  pub kept : refusal (state_after earlier (empty limit)) t.tag t.number ≡ None
+  -- and no answer that ends it came since
+  pub unanswered : AllByRecursion (λ call. is_end t.tag t.number call ≡ false) since
+  -- it is time, and it came again less than ten times
+  pub waited : t.first + earliest (times t.tag t.number since (state_after (earlier ++ keeping t ∷ []) (empty limit))) ≤ now
+  pub seldom : times t.tag t.number since (state_after (earlier ++ keeping t ∷ []) (empty limit)) < 10
+  -- and not too late
+  pub in_time : now < t.first + PATIENCE
+
+abbrev pub EachRepeatIsInOrder : Type 0
+EachRepeatIsInOrder = (limit : ℕ) (before : List Call) (now : ℕ) (t : Open) → repeated (state_after before (empty limit)) now ≡ Some t → IsInOrder limit before now t
+
+-- ---- none is forgotten
+
+-- where the alarm of an open transaction is up, one is due whose alarm comes no later
+abbrev pub NoneIsPassedOver : Type 0
+NoneIsPassedOver = (s : State) (now : ℕ) (t : Open) → Contains s.live t → alarm t ≤ now → (u : Open) × (due s now ≡ Some u) × (alarm u ≤ alarm t)
+
+-- the next moment is no later than any alarm
+abbrev pub NextIsInTime : Type 0
+NextIsInTime = (s : State) (t : Open) → Contains s.live t → (moment : ℕ) × (next_moment s ≡ Some moment) × (moment ≤ alarm t)

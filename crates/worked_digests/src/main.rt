@@ -1,0 +1,21 @@
+//! Worked examples of digest authentication. Of each a line says what came of it.
+//!
+//! - [`vectors`] has the examples of RFC 2617 section 3.5, RFC 7616 section 3.9.1 and RFC 2069 section 2.4 (with the response of its erratum).
+//!   The hashes of their passwords and their responses were checked by Python's hashlib.
+//! - [`values`] has values of `Authorization`, most of them wrong in one thing, each with the number of its error.
+//! - [`visits`] has requests that a guard judges, and its challenges.
+//!
+//! There is nothing here that others build on.
+#![tactic(auto)]
+
+mod values;
+mod vectors;
+mod visits;
+
+use std::io;
+
+fn main(rt: HostRuntime) -> io::Result<()> {
+    vectors::tell_all(&rt)?;
+    values::tell_all(&rt)?;
+    visits::tell_all(&rt)
+}

@@ -1,0 +1,287 @@
+"""`notifyd serve` sends a NOTIFY again until it is answered or given up, by the timers E and F of RFC 3261 section 17.1.2, to phones
+that are silent, or answer late, or by something else than a 200.
+
+The phones here answer a NOTIFY only where a check says so. When a datagram came is told by the system, so that a phone may be
+late to read it."""
+
+import socket
+import struct
+import subprocess
+import time
+from collections import namedtuple
+
+from phone import OVER, Message, Phone
+from service import HEARD, Service, last_counters
+from suite import same
+
+# Seconds from the first time that a NOTIFY is sent to each, while nobody answers: the intervals double from T1, half a second, up to
+# T2, four seconds, as long as T1 times 64 are not over.
+MOMENTS = (0.0, 0.5, 1.5, 3.5, 7.5, 11.5, 15.5, 19.5, 23.5, 27.5, 31.5)
+
+# The same where a provisional answer comes to the first: each interval is T2, but for that which has begun (section 17.1.2.2).
+MOMENTS_WHEN_PROCEEDING = (0.0, 0.5, 4.5, 8.5)
+
+# Seconds by which a datagram may come before its moment, and behind.
+EARLY, LATE = 0.02, 0.4
+
+# Seconds that are longer than the longest interval: what doesn't come for so long isn't sent again.
+QUIET = 4.5
+
+# Seconds that a datagram is waited for; none of these is to come later than 4.4 seconds behind another.
+PATIENCE = 10
+
+# Seconds in which what was on its way has come, or was heard.
+ON_ITS_WAY = 0.3
+
+SO_TIMESTAMPNS = 35
+
+GONE = "481 Call/Transaction Does Not Exist"
+
+# A datagram, and the time of its coming in seconds.
+Arrival = namedtuple("Arrival", "time octets")
+
+
+class Observer(Phone):
+    """A phone that answers NOTIFYs when it is told to."""
+
+    def __init__(self, sip, user):
+        super().__init__(sip, user)
+        self.socket.setsockopt(socket.SOL_SOCKET, SO_TIMESTAMPNS, 1)
+
+    def arrival(self, seconds):
+        """What comes next within so many seconds, if anything does."""
+        usual = self.socket.gettimeout()
+        self.socket.settimeout(max(seconds, 0.001))
+        try:
+            octets, notes, _, _ = self.socket.recvmsg(65535, 64)
+        except socket.timeout:
+            return None
+        finally:
+            self.socket.settimeout(usual)
+        whole, nanos = next(struct.unpack("qq", stamp) for _, kind, stamp in notes if kind == SO_TIMESTAMPNS)
+        return Arrival(whole + nanos / 1e9, octets)
+
+    def observe(self, count):
+        """The next datagrams, so many."""
+        came = []
+        while len(came) < count:
+            arrival = self.arrival(PATIENCE)
+            if arrival is None:
+                raise AssertionError(f"{count} datagrams were to come to {self.user}, and {len(came)} came")
+            came.append(arrival)
+        return came
+
+    def observe_until(self, end):
+        """All that comes until this moment of the monotonic clock."""
+        came = []
+        while True:
+            arrival = self.arrival(end - time.monotonic())
+            if arrival is None:
+                return came
+            came.append(arrival)
+
+    def notified(self, number, body=None):
+        """The first NOTIFY that comes with this number; those below it may come again before."""
+        came = self.observe(1)[0]
+        while Message(came.octets).value("CSeq") != f"{number} NOTIFY":
+            came = self.observe(1)[0]
+        if body is not None:
+            same(f"what {self.user} is told", body, Message(came.octets).body)
+        return came
+
+    def hears_nothing(self, seconds=QUIET):
+        """Nothing comes for so long."""
+        same(f"what comes to {self.user}", [], self.observe_until(time.monotonic() + seconds))
+
+    def reply(self, arrival, status="200 OK"):
+        """Answers a NOTIFY so."""
+        self.send(Message(arrival.octets).answer(status))
+
+    def accept(self, number, body=None):
+        """A NOTIFY comes with this number, and is answered by a 200."""
+        self.reply(self.notified(number, body))
+
+
+def are_sends(what, arrivals, moments):
+    """Raises AssertionError unless the same bytes came at these moments and no more often."""
+    first = arrivals[0]
+    same(f"{what}: different datagrams", 1, len({arrival.octets for arrival in arrivals}))
+    came = [round(arrival.time - first.time, 3) for arrival in arrivals]
+    if len(came) != len(moments) or any(not -EARLY <= time - moment <= LATE for time, moment in zip(came, moments)):
+        raise AssertionError(f"{what}: sent after {moments} seconds was wanted, it came after {came}")
+
+
+def silence_brings_it_again(program, folder):
+    with Service(program, "alice") as service, Observer(service.sip, "alice") as phone, service.operator() as operator:
+        phone.ask("SIP/2.0 200 OK")
+        came = phone.observe(5)
+        are_sends("a NOTIFY that nobody answers", came, MOMENTS[:5])
+        phone.reply(came[-1])
+        phone.hears_nothing()
+        operator.tell("MAIL alice voice 2 8 0 2")
+        phone.accept(2, HEARD)
+        service.close(lambda: phone.accept(3))
+
+
+def a_provisional_answer_slows_it_down(program, folder):
+    with Service(program, "alice") as service, Observer(service.sip, "alice") as phone:
+        phone.ask("SIP/2.0 200 OK")
+        first = phone.notified(1)
+        phone.reply(first, "100 Trying")
+        came = [first, *phone.observe(3)]
+        are_sends("a NOTIFY that is answered by a 100", came, MOMENTS_WHEN_PROCEEDING)
+        phone.reply(came[-1])
+        phone.hears_nothing()
+        service.close(lambda: phone.accept(2))
+
+
+def a_481_ends_all_of_its_dialog(program, folder):
+    """Of two dialogs with three NOTIFYs each one is ended by a 481 to the second; the other goes on."""
+    with Service(program, "--linger", "0", "alice") as service, service.operator() as operator:
+        with Observer(service.sip, "alice") as gone, Observer(service.sip, "alice") as other:
+            dialog = gone.ask("SIP/2.0 200 OK")
+            other.ask("SIP/2.0 200 OK")
+            for new in (1, 2):
+                operator.tell(f"MAIL alice voice {new} 0 0 0")
+            second = gone.notified(2)
+            gone.notified(3)
+            gone.reply(second, GONE)
+            gone.observe_until(time.monotonic() + ON_ITS_WAY)
+            gone.hears_nothing()
+            came = other.observe(3 * 4)
+            for octets in {arrival.octets for arrival in came}:
+                sends = [arrival for arrival in came if arrival.octets == octets]
+                are_sends("a NOTIFY of the other dialog", sends, MOMENTS[:4])
+            operator.tell("MAIL alice voice 3 0 0 0")
+            other.notified(4)
+            gone.go_on(dialog, 3600)
+            gone.expect(f"SIP/2.0 {GONE}")
+            service.close()
+
+
+def a_stale_number_is_done_with(program, folder):
+    """The first NOTIFY was lost, and when it comes again the phone has seen the second: it answers by a 500 (RFC 3261 section
+    12.2.2), which is a final answer."""
+    with Service(program, "alice") as service, Observer(service.sip, "alice") as phone, service.operator() as operator:
+        phone.ask("SIP/2.0 200 OK")
+        first = phone.notified(1)
+        operator.tell("MAIL alice voice 2 8 0 2")
+        phone.accept(2, HEARD)
+        again = phone.notified(1)
+        are_sends("the first NOTIFY", [first, again], MOMENTS[:2])
+        phone.reply(again, "500 Server Internal Error")
+        phone.hears_nothing()
+        operator.tell("MAIL alice voice 0 10 0 0")
+        phone.accept(3)
+        service.close(lambda: phone.accept(4))
+
+
+def it_is_given_up(program, folder):
+    """A phone that is silent for good, beside one that answers at the fifth time, which is told of a change behind the end of the
+    other."""
+    with Service(program, "alice") as service, service.operator() as operator:
+        with Observer(service.sip, "alice") as silent, Observer(service.sip, "alice") as late:
+            dialog = silent.ask("SIP/2.0 200 OK")
+            end = time.monotonic() + MOMENTS[-1] + QUIET
+            late.ask("SIP/2.0 200 OK")
+            late.reply(late.observe(5)[-1])
+            are_sends("a NOTIFY that nobody ever answers", silent.observe_until(end), MOMENTS)
+            late.hears_nothing(ON_ITS_WAY)
+            counters = operator.counters()
+            same("NOTIFYs given up", "1", counters["given_up"])
+            same("how often one was sent again", str(10 + 4), counters["repeats"])
+            operator.tell("MAIL alice voice 2 8 0 2")
+            late.accept(2, HEARD)
+            silent.go_on(dialog, 3600)
+            silent.expect(f"SIP/2.0 {GONE}")
+            ended = service.close(lambda: late.accept(3))
+            log = f"notifyd: nobody answered 1 NOTIFYs, the last of them of dialog {dialog.tag} at {silent.me}\n"
+            same("whether the log names the dialog and the phone", True, log.encode() in ended.err)
+
+
+def a_farewell_comes_again(program, folder):
+    """The service waits for the answer, and no longer."""
+    with Service(program, "--linger", "30", "alice") as service, Observer(service.sip, "alice") as phone:
+        phone.ask("SIP/2.0 200 OK")
+        phone.accept(1)
+
+        def answer_late():
+            came = phone.observe(3)
+            are_sends("the farewell", came, MOMENTS[:3])
+            same("what it says", OVER + "deactivated", Message(came[0].octets).value("Subscription-State"))
+            phone.reply(came[-1])
+
+        service.close(answer_late, lambda: ends_within(service, 2.0))
+
+
+def ends_within(service, seconds):
+    """The service ends in so many seconds."""
+    try:
+        service.running.process.wait(seconds)
+    except subprocess.TimeoutExpired:
+        raise AssertionError(f"it doesn't end within {seconds} seconds") from None
+
+
+def a_silent_phone_is_waited_for(words, seconds, moments):
+    """A check that a farewell that nobody answers is sent at these moments, as a service with these words lingers for so many
+    seconds."""
+
+    def check(program, folder):
+        with Service(program, *words, "alice") as service, Observer(service.sip, "alice") as phone:
+            phone.ask("SIP/2.0 200 OK")
+            phone.accept(1)
+            ended = service.close(lambda: ends_within(service, seconds + 1.5))
+            came = phone.observe_until(time.monotonic() + ON_ITS_WAY)
+            are_sends("the farewell", came, moments)
+            same("NOTIFYs lost, as the line at the end says", "1", last_counters(ended)["lost"])
+
+    return check
+
+
+def nothing_is_repeated(program, folder):
+    with Service(program, "--repeats", "0", "alice") as service, Observer(service.sip, "alice") as phone:
+        with service.operator() as operator:
+            phone.ask("SIP/2.0 200 OK")
+            phone.notified(1)
+            phone.hears_nothing(2.0)
+            operator.tell("MAIL alice voice 2 8 0 2")
+            phone.notified(2, HEARD)
+            phone.hears_nothing(2.0)
+            same("NOTIFYs sent again", "0", operator.counters()["repeats"])
+            service.close(lambda: phone.notified(3))
+
+
+def one_is_repeated_at_a_time(program, folder):
+    """With room for one transaction a NOTIFY beside it is sent once, and the next has the room again once the first is answered."""
+    with Service(program, "--repeats", "1", "alice") as service, Observer(service.sip, "alice") as phone:
+        with service.operator() as operator:
+            phone.ask("SIP/2.0 200 OK")
+            first = phone.notified(1)
+            operator.tell("MAIL alice voice 1 0 0 0")
+            phone.notified(2)
+            came = [first, *phone.observe(2)]
+            are_sends("the NOTIFY that has the room", came, MOMENTS[:3])
+            phone.reply(came[-1])
+            phone.hears_nothing()
+            same("NOTIFYs sent once", "1", operator.counters()["once"])
+            operator.tell("MAIL alice voice 2 8 0 2")
+            third = phone.notified(3, HEARD)
+            are_sends("the NOTIFY behind it", [third, *phone.observe(1)], MOMENTS[:2])
+            phone.reply(third)
+            service.close(lambda: phone.accept(4))
+
+
+def checks():
+    # The longest stands first, so that others are tried beside it.
+    yield "repeats: eleven times at most, and one who answers the fifth is told of the next change", it_is_given_up
+    yield "repeats: after 0.5, 1.5, 3.5 and 7.5 seconds, and no more once it is answered", silence_brings_it_again
+    yield "repeats: a 100 makes the interval four seconds", a_provisional_answer_slows_it_down
+    yield "repeats: a 481 ends all of its dialog, and of no other", a_481_ends_all_of_its_dialog
+    yield "repeats: a number that is stale, and so answered by a 500, is done with", a_stale_number_is_done_with
+    yield "repeats: a farewell comes again, and the service ends once it is answered", a_farewell_comes_again
+    for words, seconds in ((("--linger", "0"), 0), (("--linger", "1"), 1), ((), 2)):
+        moments = tuple(moment for moment in MOMENTS if moment < max(seconds, 0.1))
+        told = f"repeats: {' '.join(words) or 'without --linger'}: a silent phone is waited for {seconds} seconds"
+        yield told, a_silent_phone_is_waited_for(words, seconds, moments)
+    yield "repeats: with --repeats 0 each is sent once", nothing_is_repeated
+    yield "repeats: with --repeats 1 one at a time", one_is_repeated_at_a_time
