@@ -1,4 +1,4 @@
-//! What `crew_runs many_mails` runs, in plain Rust over `std`'s `sync_channel`s: four ports, four workers and a taker, each in
+//! What `examples_crew many_mails` runs, in plain Rust over `std`'s `sync_channel`s: four ports, four workers and a taker, each in
 //! a thread of its own, and a hundred mailboxes to a port, dealt to all workers by the hash of their names. A worker keeps the
 //! counts of its mailboxes with one watcher each, and for each change writes a NOTIFY with the lines and the body that a desk
 //! of the house writes. `plain_mails <changes of each mailbox>`

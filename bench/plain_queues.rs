@@ -1,4 +1,4 @@
-//! What `crew_runs queues` measures, in plain Rust over `std`'s `sync_channel`s: two ports, two workers and a taker, each in a
+//! What `examples_crew queues` measures, in plain Rust over `std`'s `sync_channel`s: two ports, two workers and a taker, each in a
 //! thread of its own, with values as large as the notifier's. `plain_queues <events a port> <capacity>...`
 
 use std::sync::mpsc::{sync_channel, Receiver, SyncSender};

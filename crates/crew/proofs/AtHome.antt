@@ -5,11 +5,11 @@ use Rattle.std.specs.List.{All}
 use Rattle.std.proofs.lemmas.List.{get_or-set_other, get_or-set_same, length-set, get_or-map, length-map}
 use Rattle.std.proofs.lemmas.List.Elements.{All-nil, All-push}
 use Rattle.std.proofs.lemmas.Bool.Decides.{eqb_tells}
-use Rattle.queue_rule.specs.Values.{values, value_item, end_item}
+use Rattle.queues.specs.Values.{values, value_item, end_item}
 use Rattle.notifier_model.specs.declared.event.Event.{Event}
 use Rattle.notifier_model.specs.Home.{home, is_for_all, comes_to}
-use Rattle.inbox.specs.Seats.{Inbox, SenderSeat, with_sent}
-use Rattle.worker.proofs.Folds.{values_value, values_end}
+use Rattle.queues.specs.InboxSeats.{Inbox, SenderSeat, with_sent}
+use Rattle.crew.proofs.Folds.{values_value, values_end}
 use Rattle.crew.specs.Ports.{PortSeats, new_seat, sent_first, Closes, ClosesSome}
 use Rattle.crew.specs.AtHome.{NewLaw, SendLaw, TickLaw, CloseLaw}
 

@@ -1,8 +1,8 @@
 -- How the seats of a port are closed one by one.
 use Rattle.std.proofs.Common.{◌≡◌, ◌⊎◌, Bool, true, false, List, [], ◌∷◌, ◌++◌, map, reverse, ap, ◌∙◌, refl, sym, inl, inr, append_assoc, MatchBool}
 use Rattle.std.proofs.lemmas.List.{reverse-append}
-use Rattle.queue_rule.specs.Values.{end_item}
-use Rattle.inbox.specs.Seats.{SenderSeat, with_sent}
+use Rattle.queues.specs.Values.{end_item}
+use Rattle.queues.specs.InboxSeats.{SenderSeat, with_sent}
 use Rattle.crew.specs.Ports.{ClosesSome, OneStays}
 
 abbrev pub ended : SenderSeat → SenderSeat

@@ -1,7 +1,7 @@
 -- How seats are dealt out.
 use Rattle.std.proofs.Common.{◌≡◌, ℕ, suc, add-zero, ◌+◌, ◌<◌, ◌≤◌, List, ◌∷◌, length, get_or, set, ap, sym, ◌∙◌, arith, below_more}
 use Rattle.std.proofs.lemmas.List.{get_or-set_other, get_or-set_same}
-use Rattle.inbox.specs.Seats.{SenderSeat}
+use Rattle.queues.specs.InboxSeats.{SenderSeat}
 use Rattle.crew.specs.Ports.{PortSeats, seated, TakeSeats}
 
 -- one port more has taken its seat

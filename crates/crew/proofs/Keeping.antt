@@ -2,19 +2,19 @@
 use Rattle.std.proofs.Common.{◌≡◌, inl, inr, ⊎_elim, ℕ, zero, suc, ◌+◌, ◌<◌, ◌≤◌, List, [], ◌∷◌, ◌++◌, length, map, get_or, take, drop, true, refl, ap, sym, ◌∙◌, subst, arith}
 use Rattle.std.specs.Prelude.{MatchResult, OnErr, Result, Ok, Err, Some, slice_get, slice_set}
 use Rattle.std.proofs.lemmas.List.{get_or-map, length-map}
-use Rattle.queue_rule.specs.declared.items.Item.{Item}
-use Rattle.queue_rule.specs.Items.{items_of, has_end}
-use Rattle.queue_rule.specs.Ended.{count_ended, AllEnded}
-use Rattle.queue_rule.proofs.Ended.{ended_value, ended_more, ended_none, all_ended}
+use Rattle.queues.specs.declared.items.Item.{Item}
+use Rattle.queues.specs.Items.{items_of, has_end}
+use Rattle.queues.specs.Ended.{count_ended, AllEnded}
+use Rattle.queues.proofs.Ended.{ended_value, ended_more, ended_none, all_ended}
 use Rattle.notifier_model.specs.Start.{Start}
 use Rattle.notifier_model.specs.declared.event.Event.{Event}
 use Rattle.notifier_model.specs.declared.event.Out.{Out}
-use Rattle.queue_rule.specs.Values.{end_item, value_item}
-use Rattle.inbox.specs.Seats.{SenderSeat, ReceiverSeat, with_sent}
-use Rattle.outbox.specs.Seats.{TakerSeat, PosterSeat}
-use Rattle.outbox.specs.Took.{Took}
-use Rattle.outbox.specs.declared.ends.Posted.{Posted}
-use Rattle.outbox.specs.declared.ends.Posted.TheVariants as posted
+use Rattle.queues.specs.Values.{end_item, value_item}
+use Rattle.queues.specs.InboxSeats.{SenderSeat, ReceiverSeat, with_sent}
+use Rattle.queues.specs.OutboxSeats.{TakerSeat, PosterSeat}
+use Rattle.queues.specs.OutboxTook.{Took}
+use Rattle.queues.specs.declared.outbox.Posted.{Posted}
+use Rattle.queues.specs.declared.outbox.Posted.TheVariants as posted
 use Rattle.crew.specs.Ports.{PortSeats, new_seat, Closes, ClosesSome, OneStays, IsShut, SendsTo, sends_first}
 use Rattle.crew.specs.PortErrors.{GivesBack, TicksFirst}
 use Rattle.crew.specs.declared.errors.SendError.{SendError}

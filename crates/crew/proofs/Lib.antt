@@ -7,3 +7,12 @@ pub mod Reporting
 pub mod Keeping
 pub mod OnePort
 mod AtHome
+pub mod Joined
+pub mod Elsewhere
+pub mod Others
+mod Grown
+pub mod Sent
+pub mod Folds
+mod Loops
+mod Halting
+pub mod Counted

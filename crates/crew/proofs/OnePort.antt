@@ -1,25 +1,25 @@
 -- What a report tells of a crew with one port.
 use Rattle.std.proofs.Common.{◌≡◌, ◌<◌, Bool, List, [], ◌∷◌, ◌++◌, length, refl, ap, sym, ◌∙◌, subst, arith}
 use Rattle.std.proofs.lemmas.List.Elements.{All-head, All-tail}
-use Rattle.queue_rule.specs.declared.items.Item.{Item}
-use Rattle.queue_rule.specs.Items.{items_of}
-use Rattle.queue_rule.proofs.ItemLists.{items_of_first}
+use Rattle.queues.specs.declared.items.Item.{Item}
+use Rattle.queues.specs.Items.{items_of}
+use Rattle.queues.proofs.ItemLists.{items_of_first}
 use Rattle.notifier_model.specs.declared.event.Event.{Event}
 use Rattle.notifier_model.specs.declared.event.Out.{Out}
 use Rattle.notifier_model.specs.Home.{at_the_stop}
-use Rattle.inbox.specs.Events.{events_of}
-use Rattle.inbox.specs.Seats.{SenderSeat}
-use Rattle.inbox.proofs.Events.{events_ended}
-use Rattle.queue_rule.specs.Values.{values}
-use Rattle.worker.specs.Worked.{AllFrom, outs_for}
-use Rattle.worker.specs.Worked.{Ends}
+use Rattle.queues.specs.InboxEvents.{events_of}
+use Rattle.queues.specs.InboxSeats.{SenderSeat}
+use Rattle.queues.proofs.InboxEvents.{events_ended}
+use Rattle.queues.specs.Values.{values}
+use Rattle.crew.specs.Worked.{AllFrom, outs_for}
+use Rattle.crew.specs.Worked.{Ends}
 use Rattle.crew.specs.Started.{Hired}
 use Rattle.crew.specs.Joined.{Reported, Arrived, IsHeard}
 use Rattle.crew.specs.One.{all_events, TellsAll}
 use Rattle.crew.specs.declared.report.WorkerReport.{WorkerReport}
-use Rattle.worker.specs.declared.end.End.{End}
-use Rattle.worker.specs.declared.end.End.TheVariants as end
-use Rattle.worker.proofs.Folds.{take_whole}
+use Rattle.crew.specs.declared.end.End.{End}
+use Rattle.crew.specs.declared.end.End.TheVariants as end
+use Rattle.crew.proofs.Folds.{take_whole}
 
 pub all_of_one : (taken : List (Item Event)) → AllFrom 1 taken → items_of 0 taken ≡ taken
 all_of_one [] all = refl

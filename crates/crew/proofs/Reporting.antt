@@ -2,25 +2,25 @@
 use Rattle.std.proofs.Common.{◌≡◌, ℕ, ◌+◌, ◌<◌, Bool, true, List, [], ◌∷◌, ◌++◌, length, map, get_or, set, take, drop, reverse, refl, ap, sym, ◌∙◌, subst, arith, length-append, append_assoc, below_more}
 use Rattle.std.proofs.lemmas.List.{get_or_at, get_or_default, get_or-map, set-get_or, reverse-append, length-map, length-reverse}
 use Rattle.std.proofs.lemmas.Grind.{common_steps}
-use Rattle.queue_rule.specs.declared.items.Item.{Item}
-use Rattle.queue_rule.specs.Ended.{AllEnded}
-use Rattle.queue_rule.specs.Items.{items_of, has_end, StartsWith, TookInOrder}
+use Rattle.queues.specs.declared.items.Item.{Item}
+use Rattle.queues.specs.Ended.{AllEnded}
+use Rattle.queues.specs.Items.{items_of, has_end, StartsWith, TookInOrder}
 use Rattle.notifier_model.specs.declared.event.Event.{Event}
 use Rattle.notifier_model.specs.declared.event.Out.{Out}
-use Rattle.inbox.specs.Seats.{SenderSeat}
-use Rattle.outbox.specs.Seats.{TakerSeat}
-use Rattle.queue_rule.specs.Values.{values, values_by, end_item}
-use Rattle.worker.specs.Worked.{Ends}
-use Rattle.worker.specs.Worked.{IsWorked}
+use Rattle.queues.specs.InboxSeats.{SenderSeat}
+use Rattle.queues.specs.OutboxSeats.{TakerSeat}
+use Rattle.queues.specs.Values.{values, values_by, end_item}
+use Rattle.crew.specs.Worked.{Ends}
+use Rattle.crew.specs.Worked.{IsWorked}
 use Rattle.crew.specs.Ports.{PortSeats}
 use Rattle.crew.specs.Started.{Hired}
 use Rattle.crew.specs.Joined.{HasEndOf, IsPortOf, Reported, Arrived, IsHeard, IsJoined}
 use Rattle.crew.specs.Settled.{AreSeatsOf, HaveCome}
 use Rattle.crew.specs.declared.report.WorkerReport.{WorkerReport}
-use Rattle.worker.specs.declared.end.Done.{Done}
-use Rattle.worker.specs.declared.end.End.{End}
-use Rattle.worker.specs.declared.end.End.TheVariants as end
-use Rattle.worker.proofs.Folds.{values_end}
+use Rattle.crew.specs.declared.end.Done.{Done}
+use Rattle.crew.specs.declared.end.End.{End}
+use Rattle.crew.specs.declared.end.End.TheVariants as end
+use Rattle.crew.proofs.Folds.{values_end}
 use Rattle.crew.proofs.Starting.{element}
 
 values_back : {T : Type 0} (w : ℕ) (xs : List T) → values (values_by w xs) ≡ xs

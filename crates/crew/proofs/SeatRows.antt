@@ -2,7 +2,7 @@
 use Rattle.std.proofs.Common.{◌≡◌, ℕ, zero, suc, ◌+◌, ◌<◌, List, [], ◌∷◌, ◌++◌, length, get_or, refl, ap, sym, ◌∙◌, subst, arith, below_more, length-append}
 use Rattle.std.proofs.lemmas.List.{get_or_append_left, map-append}
 use Rattle.std.proofs.Math.Seq.{get_or-append_seam}
-use Rattle.inbox.specs.Seats.{Inbox, SenderSeat, new_senders}
+use Rattle.queues.specs.InboxSeats.{Inbox, SenderSeat, new_senders}
 use Rattle.crew.specs.Ports.{PortSeats, seated, new_seat, port_of, AreDealt, TakeSeats}
 
 pub new_senders-length : (inbox : Inbox) (n : ℕ) → length (new_senders inbox n) ≡ n

@@ -2,8 +2,8 @@
 use Rattle.std.proofs.Common.{◌≡◌, ℕ, zero, suc, ◌<◌, ◌+◌, List, [], ◌∷◌, set, length, Some, sym, ap, ◌∙◌, arith, add-one}
 use Rattle.std.specs.Prelude.{slice_get}
 use Rattle.notifier_model.specs.declared.event.Event.{Event}
-use Rattle.queue_rule.specs.Values.{value_item}
-use Rattle.inbox.specs.Seats.{SenderSeat, with_sent}
+use Rattle.queues.specs.Values.{value_item}
+use Rattle.queues.specs.InboxSeats.{SenderSeat, with_sent}
 use Rattle.crew.specs.Ports.{SendsAt, sent_first}
 
 abbrev pub one_more : Event → SenderSeat → SenderSeat

@@ -4,8 +4,8 @@ use Rattle.std.proofs.lemmas.List.{get_or_append_left}
 use Rattle.std.proofs.Math.Seq.{get_or-append_seam}
 use Rattle.notifier_model.specs.Start.{Start}
 use Rattle.notifier.specs.Standing.{Standing, first_standing}
-use Rattle.inbox.specs.Seats.{ReceiverSeat}
-use Rattle.outbox.specs.Seats.{Outbox, PosterSeat, TakerSeat, new_posters}
+use Rattle.queues.specs.InboxSeats.{ReceiverSeat}
+use Rattle.queues.specs.OutboxSeats.{Outbox, PosterSeat, TakerSeat, new_posters}
 use Rattle.crew.specs.Ready.{IsReady}
 use Rattle.crew.specs.Started.{Hired, IsFit, IsHired}
 

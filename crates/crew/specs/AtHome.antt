@@ -1,10 +1,10 @@
 -- That each event a port sent to a worker has its home there, ticks and stops apart.
 use Rattle.std.specs.Prelude.{◌≡◌, ◌⊎◌, ◌<◌, ℕ, true, List, length, get_or}
 use Rattle.std.specs.List.{All}
-use Rattle.queue_rule.specs.Values.{values}
+use Rattle.queues.specs.Values.{values}
 use Rattle.notifier_model.specs.declared.event.Event.{Event}
 use Rattle.notifier_model.specs.Home.{home, is_for_all, comes_to}
-use Rattle.inbox.specs.Seats.{Inbox, SenderSeat}
+use Rattle.queues.specs.InboxSeats.{Inbox, SenderSeat}
 use Rattle.crew.specs.Ports.{PortSeats, port_of, SendsTo, sends_first, Closes, ClosesSome}
 
 -- each event that worker w of n got from these seats goes to w, or to all

@@ -1,18 +1,18 @@
 -- What the report of a crew tells.
 use Rattle.std.specs.Prelude.{◌≡◌, ◌<◌, ℕ, true, List, length, get_or}
-use Rattle.queue_rule.specs.declared.items.Item.{Item}
-use Rattle.queue_rule.specs.Items.{items_of, has_end, StartsWith, TookInOrder}
-use Rattle.queue_rule.specs.Values.{values}
+use Rattle.queues.specs.declared.items.Item.{Item}
+use Rattle.queues.specs.Items.{items_of, has_end, StartsWith, TookInOrder}
+use Rattle.queues.specs.Values.{values}
 use Rattle.notifier_model.specs.declared.event.Event.{Event}
 use Rattle.notifier_model.specs.declared.event.Out.{Out}
-use Rattle.inbox.specs.Seats.{SenderSeat, ReceiverSeat}
-use Rattle.outbox.specs.Seats.{TakerSeat}
-use Rattle.worker.specs.Worked.{AllFrom, Ends, handled_of, outs_for}
+use Rattle.queues.specs.InboxSeats.{SenderSeat, ReceiverSeat}
+use Rattle.queues.specs.OutboxSeats.{TakerSeat}
+use Rattle.crew.specs.Worked.{AllFrom, Ends, handled_of, outs_for}
 use Rattle.crew.specs.Ports.{PortSeats}
 use Rattle.crew.specs.Started.{Hired}
 use Rattle.crew.specs.declared.report.WorkerReport.{WorkerReport}
-use Rattle.worker.specs.declared.end.End.{End}
-use Rattle.worker.specs.declared.end.End.TheVariants.{Closed, NoMemory, Abandoned}
+use Rattle.crew.specs.declared.end.End.{End}
+use Rattle.crew.specs.declared.end.End.TheVariants.{Closed, NoMemory, Abandoned}
 
 -- the taker is of the worker's outbox, and has its end mark
 pub record HasEndOf (taker : TakerSeat) (h : Hired) : Type 0 where

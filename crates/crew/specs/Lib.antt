@@ -8,3 +8,9 @@ pub mod Settled
 pub mod Kept
 pub mod One
 pub mod AtHome
+pub mod Laws
+pub mod Elsewhere
+pub mod Whole
+pub mod Recorded
+pub mod Worked
+pub mod Loop

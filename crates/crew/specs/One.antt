@@ -1,14 +1,14 @@
 -- What a report tells of a crew with one port.
 use Rattle.std.specs.Prelude.{◌≡◌, List, ◌++◌, length}
-use Rattle.queue_rule.specs.declared.items.Item.{Item}
-use Rattle.queue_rule.specs.Items.{items_of}
-use Rattle.queue_rule.specs.Values.{values}
+use Rattle.queues.specs.declared.items.Item.{Item}
+use Rattle.queues.specs.Items.{items_of}
+use Rattle.queues.specs.Values.{values}
 use Rattle.notifier_model.specs.declared.event.Event.{Event}
 use Rattle.notifier_model.specs.declared.event.Out.{Out}
-use Rattle.inbox.specs.Seats.{SenderSeat}
+use Rattle.queues.specs.InboxSeats.{SenderSeat}
 use Rattle.notifier_model.specs.Home.{at_the_stop}
-use Rattle.worker.specs.Worked.{outs_for}
-use Rattle.worker.specs.declared.end.End.TheVariants as end
+use Rattle.crew.specs.Worked.{outs_for}
+use Rattle.crew.specs.declared.end.End.TheVariants as end
 use Rattle.crew.specs.Started.{Hired}
 use Rattle.crew.specs.Joined.{Reported, IsHeard}
 use Rattle.crew.specs.declared.report.WorkerReport.{WorkerReport}

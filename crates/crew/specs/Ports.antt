@@ -1,8 +1,8 @@
 -- What contracts see of a port of a crew.
 use Rattle.std.specs.Prelude.{◌≡◌, ◌⊎◌, ◌<◌, ◌+◌, ℕ, List, [], ◌∷◌, ◌++◌, length, map, get_or, take, drop, slice_get, slice_set, Some}
 use Rattle.notifier_model.specs.declared.event.Event.{Event}
-use Rattle.queue_rule.specs.Values.{end_item, value_item}
-use Rattle.inbox.specs.Seats.{Inbox, SenderSeat, with_sent}
+use Rattle.queues.specs.Values.{end_item, value_item}
+use Rattle.queues.specs.InboxSeats.{Inbox, SenderSeat, with_sent}
 
 -- a port's seats in the order of the workers, and how many of them are open: all or none
 pub record PortSeats : Type 0 where

@@ -4,8 +4,8 @@ use Rattle.package.specs.Content.{Seen}
 use Rattle.notifier_model.specs.declared.place.Setup.{Setup}
 use Rattle.notifier.specs.Standing.{Standing, first_standing}
 use Rattle.notifier_model.specs.Start.{Start, place_of}
-use Rattle.inbox.specs.Seats.{ReceiverSeat, new_receiver}
-use Rattle.outbox.specs.Seats.{PosterSeat}
+use Rattle.queues.specs.InboxSeats.{ReceiverSeat, new_receiver}
+use Rattle.queues.specs.OutboxSeats.{PosterSeat}
 
 -- the worker of this number, with these boxes
 abbrev pub start_of : {P : Type 0} → (P → Seen) → Setup → ℕ → List P → Start

@@ -1,7 +1,7 @@
 -- How the seats of a port are joined to the workers'.
 use Rattle.std.specs.Prelude.{◌≡◌, ◌<◌, ℕ, List, length, get_or}
-use Rattle.queue_rule.specs.Items.{TookInOrder}
-use Rattle.inbox.specs.Seats.{SenderSeat}
+use Rattle.queues.specs.Items.{TookInOrder}
+use Rattle.queues.specs.InboxSeats.{SenderSeat}
 use Rattle.crew.specs.declared.report.WorkerReport.{WorkerReport}
 
 -- a seat of the inbox of each report

@@ -2,10 +2,10 @@
 use Rattle.std.specs.Prelude.{◌≡◌, ℕ, ◌<◌, Bool, List, [], length, map, get_or, Option, Some}
 use Rattle.notifier_model.specs.Start.{Start}
 use Rattle.notifier.specs.Standing.{Standing, first_standing}
-use Rattle.inbox.specs.Seats.{ReceiverSeat, new_receiver}
-use Rattle.outbox.specs.Seats.{PosterSeat, TakerSeat, new_taker}
+use Rattle.queues.specs.InboxSeats.{ReceiverSeat, new_receiver}
+use Rattle.queues.specs.OutboxSeats.{PosterSeat, TakerSeat, new_taker}
 use Rattle.crew.specs.Ports.{PortSeats, AreDealt}
-use Rattle.worker.specs.declared.launching.Began.{Began}
+use Rattle.crew.specs.declared.launching.Began.{Began}
 
 -- a worker as it was launched: its start, and its ends of the inbox and the outbox
 pub record Hired : Type 0 where

@@ -5,15 +5,15 @@ ghost use Rattle.notifier_model.specs.Start.{place_of};
 ghost use Rattle.crew.specs.Started.{IsStarted};
 
 use crate::errors::StartError;
+use crate::gate::Gate;
 use crate::port::Port;
 use crate::start::Crew;
 use notifier_model::Setup;
-use outbox::Taker;
 use package::Package;
+use queues::outbox::Taker;
 use std::alloc::Global;
 use std::sync::{Arc, Wait};
 use std::thread::Threads;
-use worker::Gate;
 
 /// [`Crew::start`] over boxed packages.
 pub fn start_boxes<R, G>(

@@ -1,20 +1,22 @@
 //! What a crew is launched with.
 ghost use Rattle.std.specs.Prelude.{◌≡◌, ◌<◌, ◌≤◌, ℕ, [], map, get_or, vec_len, vec_capacity, IfOk};
-ghost use Rattle.outbox.specs.Seats.{new_taker};
+ghost use Rattle.queues.specs.OutboxSeats.{new_taker};
 ghost use Rattle.crew.specs.Ports.{AreDealt};
 ghost use Rattle.crew.specs.Ready.{start_of, IsReady};
 
+use crate::end::Done;
+use crate::launching::{Began, Seat};
 use crate::port::Port;
 use crate::report::WorkerReport;
 use crate::seating::make_seats;
 use notifier_model::Setup;
-use outbox::Taker;
 use package::Package;
+use queues::outbox;
+use queues::outbox::Taker;
 use sip_text::NoMemory;
 use std::alloc::Global;
 use std::sync::Arc;
 use std::thread::PromisedHandle;
-use worker::{Began, Done, Seat};
 
 /// This many ports, each without a seat.
 fn open_ports(alloc: Global, count: u32) -> Result<Vec<Port>, NoMemory>

@@ -1,19 +1,20 @@
 //! How a crew is joined.
 ghost use Rattle.std.specs.Prelude.{◌≡◌, ◌<◌, ◌≤◌, ℕ, [], length, reverse, get_or, vec_len, vec_capacity};
-ghost use Rattle.queue_rule.specs.Items.{TookInOrder};
+ghost use Rattle.queues.specs.Items.{TookInOrder};
 ghost use Rattle.crew.specs.Ports.{PortSeats};
 ghost use Rattle.crew.specs.Started.{Hired, hired};
 ghost use Rattle.crew.specs.Joined.{HasEndOf, IsPortOf, Reported, IsJoined};
 ghost use Rattle.crew.specs.Settled.{AreSeatsOf, HaveCome};
 
+use crate::end::Done;
+use crate::launching::Began;
 use crate::port::Port;
 use crate::report::{Report, WorkerReport};
 use crate::start::Crew;
-use inbox::Sent;
-use outbox::Taker;
+use queues::inbox::Sent;
+use queues::outbox::Taker;
 use std::sync::Wait;
 use std::thread::{PromisedHandle, Threads};
-use worker::{Began, Done};
 
 /// Joins one worker.
 fn join_one<R: Threads + Wait>(

@@ -1,6 +1,19 @@
-//! What follows for each port, and for each report.
+//! What follows for each port and for each report, and what the taker of a joined crew got, by [`crate::Crew::join`]'s report alone.
+//!
+//! Of the end of a crew the outs that the taker got of a worker are those of a one-thread notifier for the events that the worker
+//! handled. [`life`] says so of each subscription in its own words, [`whole`] that no other NOTIFY with its tag came from any
+//! worker, and [`alone`] that neither the number of workers nor any other event shows in it; [`nowhere_else`] says that no other
+//! worker took anything that concerns it but ticks and the planned stop. What the taker may rely on at any moment before,
+//! [`world`] says. No function here does anything: each is a theorem over definitions.
+//!
+//! Begin with `specs/Laws`, then `specs/Whole` and `specs/Elsewhere`.
 ghost use Rattle.crew.specs.AtHome.{NewLaw, SendLaw, TickLaw, CloseLaw};
 ghost use Rattle.crew.specs.One.{OnePortLaw};
+ghost use Rattle.crew.specs.Elsewhere.{EveryPortLaw, NowhereElseLaw};
+ghost use Rattle.crew.specs.Laws.{AllLaw, AloneLaw, LifeLaw};
+ghost use Rattle.crew.specs.Whole.{RisingLaw, TookLaw, WholeLaw};
+
+pub use schedules::world;
 
 /// In a crew with one port, a worker that ended as Closed took what the port sent, handled all of it and the planned stop,
 /// where there is one, and the taker got the outs of just that.
@@ -15,4 +28,49 @@ pub fn events_are_at_home()
     ensures send { SendLaw }
     ensures tick { TickLaw }
     ensures close { CloseLaw }
+{}
+
+/// A worker that ended as Closed handled all events that it took, and the planned stop where there is one.
+pub fn all()
+    ensures { AllLaw }
+{}
+
+/// The NOTIFYs of a subscription that the taker of a joined crew got are those of its life over the events that its worker
+/// handled, one for one and in order.
+pub fn life()
+    ensures { LifeLaw }
+{}
+
+/// What a taker got since it was made is of its own workers.
+pub fn took()
+    ensures { TookLaw }
+{}
+
+/// The NOTIFYs with a subscription's tag among all that the taker got since the crew's start, from whichever worker, are those
+/// of its life: no other worker's NOTIFYs have that tag.
+pub fn whole()
+    ensures { WholeLaw }
+{}
+
+/// Those NOTIFYs are numbered 1, 2, 3 and so on, and none follows a terminated one.
+pub fn rising()
+    ensures { RisingLaw }
+{}
+
+/// What the taker got of a subscription is what it would be told of its own events alone, by one worker, as its first:
+/// where its requests aren't taken for somebody else's (`life/specs/Apart`).
+pub fn alone()
+    ensures { AloneLaw }
+{}
+
+/// No other worker took anything that concerns a subscription but ticks and the planned stop, where it was born at the home of its
+/// request, every port of the crew was handed to `Crew::join`, and each sent events to their homes: whatever the number of workers,
+/// it is told by one.
+pub fn nowhere_else()
+    ensures { NowhereElseLaw }
+{}
+
+/// The ports of a new crew, each closed and handed in, are every port.
+pub fn every_port()
+    ensures { EveryPortLaw }
 {}

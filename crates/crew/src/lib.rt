@@ -5,27 +5,45 @@
 //! [`Crew::start`] starts it, with every list empty and every port open; [`Crew::join`] waits for the workers, and promises
 //! of each what it handled and what it made, out of what the ports sent: `specs/Joined`.
 //!
+//! A worker takes what its ports sent, passes a [`Gate`] before each event, handles the event at its desk and posts the outs,
+//! until each port has ended. It handles the events of its inbox in the order in which it took them, each once, and posts what
+//! the one-thread notifier makes of them (`specs/Worked`). Where a growth is refused it handles nothing more, and takes and
+//! drops what is still to come; where all ports went away before their end marks it ends as [`End::Abandoned`]. A [`Replay`] is
+//! a desk with the list of the events that it handled, and a [`SharedDesk`] one behind a lock (`specs/Recorded`).
+//!
 //! What it isn't: it reads no bytes and opens no socket, and it promises no progress: that a call which waits comes back,
 //! or that an out is ever taken. Begin with [`Crew::start`], [`Port::send`] and [`Crew::join`], then `specs/Ports`,
-//! `specs/Started` and `specs/Joined`; [`laws`] draws what follows for crews with one port, and that each event was sent
-//! to its home.
+//! `specs/Started` and `specs/Joined`; [`laws`] says what follows for each subscription from the report of a joined crew.
 #![tactic(auto)]
 
 mod boxed;
+mod end;
 mod errors;
 mod fitting;
+mod gate;
+mod hand;
 mod joining;
+mod launching;
 pub mod laws;
 mod port;
+mod replay;
 mod report;
 mod seating;
+mod serving;
+mod shared;
 mod start;
+mod token;
+mod working;
 
 pub use boxed::start_boxes;
+pub use end::{Done, End};
 pub use errors::{SendError, StartError, TickError};
-pub use homes::{home, key_hash};
+pub use gate::{Gate, Open};
+pub use home::{home, key_hash};
+pub use launching::{Began, Seat, launch};
 pub use port::Port;
-pub use replays::{Replay, SharedDesk};
+pub use replay::Replay;
 pub use report::{Report, WorkerReport};
+pub use shared::SharedDesk;
 pub use start::Crew;
-pub use worker::{End, Gate, Open};
+pub use token::{HasStart, Opening, StartToken};

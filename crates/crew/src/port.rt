@@ -6,9 +6,10 @@ ghost use Rattle.crew.specs.Ports.{no_seats, seated, AllOpen, HaveRoom, TakeSeat
 ghost use Rattle.crew.specs.PortErrors.{GivesBack, TicksFirst};
 
 use crate::errors::{SendError, TickError};
-use homes::home;
-use inbox::{Gone, Left, Sender, Sent};
+use home::home;
 use notifier_model::Event;
+use queues::inbox::{Gone, Sender, Sent};
+use queues::many_to_one::Left;
 use sip_text::NoMemory;
 use std::alloc::Global;
 use std::marker::Model;

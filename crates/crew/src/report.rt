@@ -1,7 +1,7 @@
 //! What is told of a crew that has ended.
 
-use inbox::Receiver;
-use worker::End;
+use crate::end::End;
+use queues::inbox::Receiver;
 
 /// What one worker did.
 pub struct WorkerReport {

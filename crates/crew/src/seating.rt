@@ -1,19 +1,21 @@
 //! What the workers of a crew are launched with.
 ghost use Rattle.std.specs.Prelude.{◌≡◌, ◌<◌, ◌≤◌, ℕ, [], length, map, get_or, vec_len, Some, IfOk};
-ghost use Rattle.outbox.specs.Seats.{PosterSeat};
+ghost use Rattle.queues.specs.OutboxSeats.{PosterSeat};
 ghost use Rattle.crew.specs.Ports.{AreDealt, AllOpen, HaveRoom, TakeSeats};
-ghost use Rattle.inbox.specs.Seats.{new_senders, new_receiver};
+ghost use Rattle.queues.specs.InboxSeats.{new_senders, new_receiver};
 ghost use Rattle.notifier.specs.Standing.{first_standing};
 ghost use Rattle.crew.specs.Ready.{start_of, IsReady};
 
+use crate::launching::Seat;
 use crate::port::{Port, deal_out};
-use inbox::Receiver;
+use crate::token::{Opening, StartToken};
 use notifier::{Desk, Setup};
-use outbox::Poster;
 use package::Package;
+use queues::inbox;
+use queues::inbox::Receiver;
+use queues::outbox::Poster;
 use sip_text::NoMemory;
 use std::alloc::Global;
-use worker::{Opening, Seat, StartToken};
 
 /// An inbox in which each of these ports takes a seat.
 fn open_inbox(alloc: Global, setup: &Setup, ports: &mut [Port]) -> Result<Receiver, NoMemory>

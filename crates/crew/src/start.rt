@@ -3,19 +3,21 @@ ghost use Rattle.std.specs.Prelude.{◌≡◌, ◌↔◌, ◌<◌, ◌≤◌, �
 ghost use Rattle.crew.specs.Ready.{start_of};
 ghost use Rattle.crew.specs.Started.{hired, IsFit, IsStarted};
 
+use crate::end::Done;
 use crate::errors::StartError;
 use crate::fitting::{Fitted, fit_out};
+use crate::gate::Gate;
+use crate::launching::{Began, Seat, launch};
 use crate::port::Port;
 use crate::report::WorkerReport;
 use notifier_model::Setup;
-use outbox::{Posted, Taker};
 use package::Package;
+use queues::outbox::{Posted, Taker};
 use std::alloc::Global;
 use std::marker::Model;
 use std::sync::{Arc, Wait};
 use std::thread;
 use std::thread::{PromisedHandle, Threads};
-use worker::{Began, Done, Gate, Seat, launch};
 
 /// Workers that run. Contracts see what each began with. Where it is dropped the workers go on, each in its own thread, until
 /// their ports have ended.

@@ -6,18 +6,18 @@
 //! <workers> <mailbox>...` reads a script from standard input and prints what the notifier sends; without arguments it is
 //! `notifyd script 1 alice`.
 //!
-//! What is proved of them are the contracts of the crate `serving`, of [`udp_program::run`] and of [`server::run`]. Here
-//! stand the words, the two streams and the exit status. Begin with `server::run` where a script is meant, with `serving::serve`
+//! What is proved of them are the contracts of the crate `commands`, of [`commands::udp::run`] and of [`server::run`]. Here
+//! stand the words, the two streams and the exit status. Begin with `server::run` where a script is meant, with `commands::serve`
 //! where a server is.
 #![tactic(auto)]
 
-use scripts::{Sink, Source};
-use server::Status;
-use serving::{serve, tell};
+use arguments::Status;
+use commands::{serve, tell, udp};
 use sip_text::Text;
 use std::process::ExitCode;
 use std::rt::Env;
 use std::{env, io};
+use transport::{Sink, Source};
 
 /// The words behind the program's name. One that isn't UTF-8 is a bad argument.
 fn words_of(rt: &(impl Env + AllocGlobal)) -> Result<Vec<Text>, Status> {
@@ -60,9 +60,7 @@ fn main(rt: HostRuntime) -> ExitCode {
         [word] if asks_for_text(word) => return ExitCode::from(serve(rt, words.as_slice())),
         [word, rest @ ..] if word.is("serve") => return ExitCode::from(serve(rt, rest)),
         [word, rest @ ..] if word.is("tell") => return ExitCode::from(tell(&rt, rest)),
-        [word, ..] if word.is("udp") => {
-            udp_program::run(rt, rt.alloc(), words.as_slice(), &mut sink)
-        }
+        [word, ..] if word.is("udp") => { udp::run(rt, rt.alloc(), words.as_slice(), &mut sink) }
         _ => {
             let mut source = Source::new(rt.reader());
             server::run(rt, rt.alloc(), words.as_slice(), &mut source, &mut sink)

@@ -1,11 +1,6 @@
-pub mod Arguments
-pub mod ArgumentsReading
 pub mod Changes
-pub mod Devices
 pub mod Errors
 pub mod Page
 pub mod Script
 pub mod Reading
 pub mod Views
-pub mod UdpArguments
-pub mod UdpReading

@@ -1,12 +1,12 @@
 //! Reads a whole script.
 ghost use Rattle.std.specs.Prelude.{◌≡◌, ◌≢◌, ◌≤◌, length, IfOk, OnOk, Err};
 ghost use Rattle.std.specs.Io.KnownBytes.{Consumes, IsAtEnd};
-ghost use Rattle.scripts.specs.Devices.{one_more, GaveMore};
+ghost use Rattle.transport.specs.Devices.{one_more, GaveMore};
 
-use crate::device::Source;
 use crate::error::ScriptError;
 use std::alloc::Global;
 use std::io::Read;
+use transport::Source;
 
 /// The most bytes that a script may have.
 pub const MOST_BYTES: usize = 1_048_576;

@@ -1,17 +1,14 @@
-//! Scripts in, pages out, and the program's arguments. It knows nothing of the notifier: only a reader, a writer and memory.
+//! Scripts in, pages out, and control lines. It knows nothing of the notifier: only a reader, a writer and memory.
 //!
 //! [`read_script`] reads a script, [`parse_script`] cuts it into [`Block`]s (datagrams, changes, progress, the time), [`Page`]
-//! gathers what is to be printed, and [`write_page`] writes it. [`parse_control`] reads one line for a server that runs,
-//! [`parse_arguments`] and [`parse_udp_arguments`] read arguments.
+//! gathers what is to be printed, and [`write_page`] writes it. [`parse_control`] reads one line for a server that runs.
 //!
 //! Begin with [`Block`] and the grammar in `specs/Script`. Each block has one text, and a script is those texts joined: what is
 //! answered is so, and what is so is answered, want of memory apart; by [`one_reading`] no bytes are a script in two ways. A
-//! [`ScriptError::Device`] comes only where a read, a write or a flush failed in that call; [`Source`] and [`Sink`] count these.
+//! [`ScriptError::Device`] comes only where a read, a write or a flush failed in that call; `transport` counts these.
 #![tactic(auto)]
 
-pub mod arguments;
 mod block;
-pub mod device;
 pub mod error;
 pub mod input;
 mod line;
@@ -19,14 +16,10 @@ pub mod output;
 pub mod page;
 pub mod parse;
 pub mod script;
-pub mod udp_arguments;
 
-pub use arguments::{Arguments, ArgumentsError, parse_arguments};
-pub use device::{Sink, Source};
 pub use error::ScriptError;
 pub use input::read_script;
 pub use output::write_page;
 pub use page::Page;
 pub use parse::{one_reading, parse_control, parse_script};
 pub use script::{Block, Control};
-pub use udp_arguments::{UdpArguments, parse_udp_arguments};

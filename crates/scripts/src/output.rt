@@ -1,11 +1,11 @@
 //! Writes a whole page.
 ghost use Rattle.std.specs.Prelude.{◌≡◌, true, IfErr, OnOk, OnErr};
 ghost use Rattle.std.specs.Io.KnownBytes.{Appends};
-ghost use Rattle.scripts.specs.Devices.{one_more, AppendsFront};
+ghost use Rattle.transport.specs.Devices.{one_more, AppendsFront};
 
-use crate::device::Sink;
 use crate::error::ScriptError;
 use std::io::Write;
+use transport::Sink;
 
 /// Writes all of the page and flushes it. A failed write or flush is a device fault, and so is a write that takes no byte;
 /// a front of the page went out then.

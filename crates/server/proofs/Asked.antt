@@ -1,8 +1,8 @@
 -- When words ask for nothing.
 use Rattle.std.proofs.Common.{ℕ, List, Err}
-use Rattle.scripts.specs.declared.arguments.Arguments.{Arguments}
-use Rattle.scripts.specs.declared.arguments.ArgumentsError.TheVariants.{Bad}
-use Rattle.scripts.specs.Arguments.{AreArguments, AnswersArguments}
+use Rattle.arguments.specs.declared.arguments.Arguments.{Arguments}
+use Rattle.arguments.specs.declared.arguments.ArgumentsError.TheVariants.{Bad}
+use Rattle.arguments.specs.Arguments.{AreArguments, AnswersArguments}
 use Rattle.server.specs.Call.{AsksForNone}
 
 -- the words are no arguments

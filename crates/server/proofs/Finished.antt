@@ -2,17 +2,17 @@
 use Rattle.std.proofs.Common.{◌≡◌, ℕ, zero, suc, ◌<◌, Bool, true, List, [], ◌∷◌, ◌++◌, length, map, get_or, Vec, refl, ap, sym, ◌∙◌, subst, arith, length-append}
 use Rattle.std.proofs.lemmas.List.{get_or_default, get_or-map, length-map}
 use Rattle.std.specs.declared.alloc.Global.{Global}
-use Rattle.queue_rule.specs.Items.{items_of}
-use Rattle.queue_rule.specs.Values.{values}
+use Rattle.queues.specs.Items.{items_of}
+use Rattle.queues.specs.Values.{values}
 use Rattle.package.specs.Content.{Seen}
 use Rattle.notifier_model.specs.declared.place.Setup.{Setup}
 use Rattle.notifier_model.specs.declared.event.Event.{Event}
 use Rattle.notifier_model.specs.declared.event.Out.{Out}
 use Rattle.notifier_model.specs.Home.{at_the_stop, events_for}
 use Rattle.notifier_model.specs.Start.{Start}
-use Rattle.inbox.specs.Seats.{Inbox, SenderSeat, ReceiverSeat}
-use Rattle.outbox.specs.Seats.{TakerSeat, PosterSeat, new_taker}
-use Rattle.worker.specs.Worked.{outs_for}
+use Rattle.queues.specs.InboxSeats.{Inbox, SenderSeat, ReceiverSeat}
+use Rattle.queues.specs.OutboxSeats.{TakerSeat, PosterSeat, new_taker}
+use Rattle.crew.specs.Worked.{outs_for}
 use Rattle.crew.specs.Kept.{SameSeats}
 use Rattle.crew.specs.Ports.{PortSeats, new_seat, port_of}
 use Rattle.crew.specs.Ready.{start_of}

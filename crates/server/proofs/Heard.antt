@@ -12,12 +12,7 @@ use Rattle.notifier_model.specs.declared.event.Event.{Event}
 use Rattle.server.specs.declared.hearing.Hearing.{Hearing}
 use Rattle.server.specs.Page.{Readings, AreReadings, event_of, unread_line, octets_in, event_in, events_of, unread_lines}
 use Rattle.server.specs.Hearing.{HasHeard}
-
-pub enumerate_from-append : {X : Type 0} (n : ℕ) (xs ys : List X) → enumerate_from n (xs ++ ys) ≡ enumerate_from n xs ++ enumerate_from (n + length xs) ys
-enumerate_from-append n [] ys = ap (λ m. enumerate_from m ys) (omega arith)
-enumerate_from-append n (x ∷ xs) ys =
-    let e : n + 1 + length xs ≡ n + length (x ∷ xs) = omega arith in
-    ap (λ rest. (n, x) ∷ rest) (enumerate_from-append (n + 1) xs ys ∙ ap (λ m. enumerate_from (n + 1) xs ++ enumerate_from m ys) e)
+use Rattle.crew.proofs.Counted.{enumerate_from-append}
 
 one_more : {X : Type 0} (o : Option X) → cons_option o [] ≡ option_to_list o
 one_more None = refl

@@ -4,15 +4,15 @@ use Rattle.std.specs.Prelude.{◌==◌}
 use Rattle.std.proofs.lemmas.List.{append-nil}
 use Rattle.std.proofs.lemmas.Bool.{ne_eqb}
 use Rattle.std.proofs.lemmas.Bool.Decides.{eqb_tells}
-use Rattle.queue_rule.specs.declared.items.Item.{Item}
-use Rattle.queue_rule.specs.Items.{items_of}
-use Rattle.queue_rule.specs.Values.{values, value_item, end_item}
-use Rattle.queue_rule.proofs.ItemLists.{items_of-append, items_of_same, items_of_other}
+use Rattle.queues.specs.declared.items.Item.{Item}
+use Rattle.queues.specs.Items.{items_of}
+use Rattle.queues.specs.Values.{values, value_item, end_item}
+use Rattle.queues.proofs.ItemLists.{items_of-append, items_of_same, items_of_other}
 use Rattle.notifier_model.specs.declared.event.Out.{Out}
-use Rattle.outbox.specs.Seats.{TakerSeat}
-use Rattle.outbox.specs.Took.{Took}
-use Rattle.outbox.specs.declared.ends.Posted.TheVariants as posted
-use Rattle.worker.proofs.Folds.{values-append}
+use Rattle.queues.specs.OutboxSeats.{TakerSeat}
+use Rattle.queues.specs.OutboxTook.{Took}
+use Rattle.queues.specs.declared.outbox.Posted.TheVariants as posted
+use Rattle.crew.proofs.Folds.{values-append}
 use Rattle.crew.proofs.Keeping.{Taking, taking_out, taking_end}
 use Rattle.server.specs.declared.work.Work.{Work}
 use Rattle.server.specs.Gathering.{AreNew, Keeps, AreKept}

@@ -5,11 +5,11 @@ use Rattle.std.proofs.lemmas.List.{get_or-set_other, get_or-set_same, length-set
 use Rattle.std.proofs.lemmas.List.Elements.{filter-append}
 use Rattle.std.proofs.lemmas.Bool.Decides.{eqb_tells}
 use Rattle.std.proofs.lemmas.Bool.{ne_eqb}
-use Rattle.queue_rule.specs.Values.{values, value_item, end_item}
+use Rattle.queues.specs.Values.{values, value_item, end_item}
 use Rattle.notifier_model.specs.declared.event.Event.{Event}
 use Rattle.notifier_model.specs.Home.{home, is_for_all, comes_to, events_for}
-use Rattle.inbox.specs.Seats.{SenderSeat, with_sent}
-use Rattle.worker.proofs.Folds.{values_value, values_end}
+use Rattle.queues.specs.InboxSeats.{SenderSeat, with_sent}
+use Rattle.crew.proofs.Folds.{values_value, values_end}
 use Rattle.crew.specs.Ports.{PortSeats, sent_first, sends_first, SendsTo, Closes}
 use Rattle.server.specs.Sending.{Reaches, HasSent}
 

@@ -1,9 +1,8 @@
 -- The starts of workers, and what is printed of what they did.
-use Rattle.std.proofs.Common.{◌≡◌, ℕ, zero, suc, ◌+◌, ◌<◌, List, [], ◌∷◌, ◌++◌, length, map, get_or, Result, Ok, Err, Vec, refl, sym, ap, subst, ◌∙◌, arith}
+use Rattle.std.proofs.Common.{◌≡◌, ℕ, zero, suc, ◌+◌, ◌<◌, List, [], ◌∷◌, ◌++◌, length, map, get_or, Vec, refl, sym, ap, subst, ◌∙◌, arith}
 use Rattle.std.proofs.lemmas.List.{length-map, get_or-map}
 use Rattle.std.proofs.lemmas.List.Concat.{flat_map-cons}
 use Rattle.std.proofs.lemmas.List.FromFn.{length-enumerate_from}
-use Rattle.std.specs.Prelude.{IfOk}
 use Rattle.std.specs.List.{flat_map, enumerate_from}
 use Rattle.std.specs.declared.alloc.Global.{Global}
 use Rattle.scripts.specs.Page.{worker_text}
@@ -15,7 +14,7 @@ use Rattle.notifier_model.specs.Start.{Start, place_of}
 use Rattle.notifier_model.specs.Out.{out_of}
 use Rattle.notifier_model.specs.Run.{made}
 use Rattle.notifier_model.specs.Home.{at_the_stop}
-use Rattle.homes.proofs.Homes.{one_law}
+use Rattle.home.proofs.Homes.{one_law}
 use Rattle.server.specs.declared.work.Work.{Work}
 use Rattle.server.specs.Page.{out_text, worker_lines, events_at, worker_page}
 use Rattle.crew.specs.Ready.{start_of}
@@ -78,10 +77,6 @@ one_works seen setup boxes es work is =
 pub some_there : (n : ℕ) → (n ≡ 0 → ⊥) → 0 < n
 some_there zero none = absurd (none refl)
 some_there (suc n) none = omega arith
-
-pub if_ok : {T E : Type 0} {P Q : T → Type 0} (r : Result T E) → ((x : T) → P x → Q x) → IfOk r P → IfOk r Q
-if_ok (Ok x) f told = f x told
-if_ok (Err e) f told = tt
 
 -- ---- what is printed
 

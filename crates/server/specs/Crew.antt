@@ -3,8 +3,8 @@ use Rattle.std.specs.Prelude.{◌≡◌, ℕ, ◌<◌, Bool, true, List, length,
 use Rattle.scripts.specs.declared.error.ScriptError.{ScriptError}
 use Rattle.scripts.specs.declared.error.ScriptError.TheVariants as error
 use Rattle.notifier_model.specs.Start.{Start}
-use Rattle.worker.specs.declared.end.End.TheVariants.{Closed}
-use Rattle.outbox.specs.Seats.{TakerSeat}
+use Rattle.crew.specs.declared.end.End.TheVariants.{Closed}
+use Rattle.queues.specs.OutboxSeats.{TakerSeat}
 use Rattle.crew.specs.declared.errors.StartError.{StartError}
 use Rattle.crew.specs.declared.errors.StartError.TheVariants as start
 use Rattle.crew.specs.Ports.{PortSeats}

@@ -1,11 +1,11 @@
 -- What the taker of a crew kept of a script's outs. No public contract cites this.
 use Rattle.std.specs.Prelude.{◌≡◌, ◌==◌, ℕ, ◌<◌, true, if◌then◌else◌, List, [], ◌∷◌, ◌++◌, length, get_or}
-use Rattle.queue_rule.specs.declared.items.Item.{Item}
-use Rattle.queue_rule.specs.Items.{items_of}
-use Rattle.queue_rule.specs.Ended.{AllEnded}
-use Rattle.queue_rule.specs.Values.{values}
+use Rattle.queues.specs.declared.items.Item.{Item}
+use Rattle.queues.specs.Items.{items_of}
+use Rattle.queues.specs.Ended.{AllEnded}
+use Rattle.queues.specs.Values.{values}
 use Rattle.notifier_model.specs.declared.event.Out.{Out}
-use Rattle.outbox.specs.Seats.{TakerSeat}
+use Rattle.queues.specs.OutboxSeats.{TakerSeat}
 use Rattle.server.specs.declared.work.Work.{Work}
 use Rattle.server.specs.declared.gathering.Gathered.{Gathered}
 

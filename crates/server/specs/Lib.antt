@@ -1,8 +1,6 @@
 pub mod Page
 pub mod Runs
-pub mod Either
 pub mod Call
-pub mod Boxes
 pub mod Hearing
 pub mod Working
 pub mod Sending

@@ -4,7 +4,7 @@ use Rattle.std.specs.List.{enumerate_from}
 use Rattle.std.specs.declared.alloc.Global.{Global}
 use Rattle.std.specs.Io.KnownBytes.{Consumes, Appends, IsAtEnd}
 use Rattle.scripts.specs.declared.script.Block.{Block}
-use Rattle.scripts.specs.Devices.{SourceSeen, SinkSeen, one_more, AppendsFront}
+use Rattle.transport.specs.Devices.{SourceSeen, SinkSeen, one_more, AppendsFront}
 use Rattle.package.specs.Content.{Seen}
 use Rattle.notifier_model.specs.declared.place.Setup.{Setup}
 use Rattle.notifier_model.specs.Start.{Start, place_of}

@@ -1,9 +1,9 @@
 -- What the one port of a crew sent of a script. No public contract cites this.
 use Rattle.std.specs.Prelude.{◌≡◌, ℕ, ◌<◌, List, [], ◌∷◌, ◌++◌, length, get_or}
-use Rattle.queue_rule.specs.Values.{values}
+use Rattle.queues.specs.Values.{values}
 use Rattle.notifier_model.specs.declared.event.Event.{Event}
 use Rattle.notifier_model.specs.Home.{events_for}
-use Rattle.inbox.specs.Seats.{SenderSeat}
+use Rattle.queues.specs.InboxSeats.{SenderSeat}
 use Rattle.crew.specs.Ports.{PortSeats}
 
 -- the event came to each worker that it goes to, and to no other

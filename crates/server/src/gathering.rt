@@ -1,11 +1,11 @@
 //! What the workers of a crew send, taken on a thread of its own.
 ghost use Rattle.std.specs.Prelude.{◌≡◌, ◌<◌, ◌≤◌, true, [], length, IfOk};
-ghost use Rattle.queue_rule.specs.Ended.{AllEnded};
+ghost use Rattle.queues.specs.Ended.{AllEnded};
 ghost use Rattle.server.specs.Gathering.{AreNew, Keeps, AreKept, IsGathered};
 
 use crate::work::Work;
 use notifier_model::Out;
-use outbox::{Posted, Taker};
+use queues::outbox::{Posted, Taker};
 use sip_text::NoMemory;
 use std::alloc::Global;
 use std::snapshot::Snapshot;

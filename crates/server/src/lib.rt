@@ -12,7 +12,6 @@
 #![tactic(auto)]
 
 mod crew_work;
-pub mod either;
 mod gathering;
 mod hearing;
 mod printing;
@@ -21,6 +20,5 @@ pub mod script;
 mod sending;
 mod work;
 
-pub use either::EitherPackage;
-pub use program::{Boxes, Status, boxes_for, run, setup_at};
+pub use program::run;
 pub use script::{script_many, script_one};

@@ -1,151 +1,20 @@
 //! The program, over any reader and writer.
-ghost use Rattle.std.specs.Prelude.{◌≡◌, ◌≢◌, ◌<◌, ◌≤◌, ◌∷◌, [], ◌++◌, true, map, option_map, string_bytes, ◌⊎◌, IfOk, OnOk, OnErr, IfErr, Err};
-ghost use Rattle.scripts.specs.declared.arguments.Arguments.{Arguments};
-ghost use Rattle.server.specs.Boxes.{box_seen};
+ghost use Rattle.std.specs.Prelude.{◌≡◌, ◌≢◌, ◌<◌, ◌≤◌, true, ◌⊎◌, OnOk, OnErr, IfErr, Err};
+ghost use Rattle.arguments.specs.declared.arguments.Arguments.{Arguments};
 ghost use Rattle.server.specs.Runs.{WritesPage, ReadsNoScript, MeetsFault, StartsNoThread, IsHindered};
-ghost use Rattle.server.specs.Call as spec;
-ghost use Rattle.server.specs.Call.{code_of, line_of, starts_for, AsksFor, AsksForNone};
+ghost use Rattle.server.specs.Call.{starts_for, AsksFor, AsksForNone};
 
-use crate::either::EitherPackage;
 use crate::script::{script_many, script_one};
-use homes::key_hash;
-use message_summary::Mailboxes;
-use notifier_model::{Limits, Setup};
-use package::ClosingCell;
-use refer::Transfers;
-use scripts::{Arguments, ArgumentsError, ScriptError, Sink, Source, parse_arguments};
-use sip_read::Addr;
+use arguments::{
+    Arguments, ArgumentsError, Status, boxes_for, boxes_with, names_for, parse_arguments, setup_at,
+};
+use scripts::ScriptError;
 use sip_text::{NoMemory, Text};
 use std::alloc::Global;
 use std::io::{Read, Write};
 use std::sync::Wait;
 use std::thread::Threads;
-
-/// How a run of the program ended.
-#[derive(Clone, Copy, Debug, PartialEq, Eq)]
-pub enum Status {
-    Done,
-    /// The arguments ask for nothing that the program does.
-    BadArguments,
-    /// The bytes are no script, or too many.
-    BadScript,
-    /// A read, a write or a wire failed, a port could not be bound, or a thread could not be started.
-    DeviceFault,
-    /// A growth was refused, or a worker didn't come to the end of what was sent.
-    OutOfMemory,
-}
-
-impl Status {
-    /// The exit status of the program, 0 to 4.
-    pub fn code(self) -> u8
-        ensures { result ≡ code_of self }
-    {
-        match self {
-            Status::Done => 0,
-            Status::BadArguments => 1,
-            Status::BadScript => 2,
-            Status::DeviceFault => 3,
-            Status::OutOfMemory => 4,
-        }
-    }
-
-    /// The line for standard error, without its line feed, if there is one.
-    pub fn line(self) -> Option<&'static str>
-        ensures { option_map (λ line. line.now) result ≡ line_of self }
-    {
-        match self {
-            Status::Done => None,
-            Status::BadArguments => Some("notifyd: bad arguments"),
-            Status::BadScript => Some("notifyd: bad script"),
-            Status::DeviceFault => Some("notifyd: device fault"),
-            Status::OutOfMemory => Some("notifyd: out of memory"),
-        }
-    }
-}
-
-/// What the desks of the program stand on: their port, the seed, and whether a stop is planned.
-pub fn setup_at(port: u16, seed: [u8; 32], stop: bool) -> Setup
-    ensures { result ≡ spec.setup_at port seed stop }
-{
-    let Some(limits) = Limits::new(
-        60, 86400, 3600, 180, 2147483647, 1024, 4294967295, 64, 64, 64,
-    ) else {
-        unreachable!();
-    };
-    Setup {
-        limits,
-        seed,
-        me: Addr {
-            ip: [127, 0, 0, 1],
-            port,
-        },
-        stop,
-    }
-}
-
-/// Adds the mailbox to the names, if its key goes to this one of the workers.
-fn add_name(
-    alloc: Global,
-    names: &mut Vec<String>,
-    mailbox: &Text,
-    workers: u32,
-    worker: u32,
-) -> Result<(), NoMemory>
-    requires { 0 < workers }
-    ensures { OnOk result (map string_bytes names.new.items
-        ≡ map string_bytes names.old.items ++ spec.names_for workers worker (mailbox.now ∷ [])) }
-{
-    if key_hash(mailbox.as_str()) % workers == worker {
-        names.push(mailbox.copy(alloc)?.into_string())?;
-    }
-    Ok(())
-}
-
-/// The mailboxes, of these, whose keys go to this one of the workers.
-fn names_for(
-    alloc: Global,
-    mailboxes: &[Text],
-    workers: u32,
-    worker: u32,
-) -> Result<Vec<String>, NoMemory>
-    requires { 0 < workers }
-    ensures { IfOk result (λ names. map string_bytes names.items ≡ spec.names_for workers worker mailboxes.now) }
-{
-    let mut names = Vec::new(alloc);
-    for mailbox in mailboxes {
-        add_name(alloc, &mut names, mailbox, workers, worker)?;
-    }
-    Ok(names)
-}
-
-/// The packages of a worker of the program.
-pub type Boxes = Vec<EitherPackage<Mailboxes, Transfers>>;
-
-/// The packages of a worker with these mailboxes.
-fn boxes_with(alloc: Global, names: Vec<String>) -> Result<Boxes, NoMemory>
-    ensures { IfOk result (λ boxes. map box_seen boxes.items ≡ spec.boxes_with (map string_bytes names.items)) }
-{
-    let mailboxes = Mailboxes::new(alloc, names, ClosingCell::new(alloc)?)?;
-    let transfers = Transfers::new(alloc, ClosingCell::new(alloc)?)?;
-    let mut boxes = Vec::new(alloc);
-    boxes.push(EitherPackage::First(mailboxes))?;
-    boxes.push(EitherPackage::Second(transfers))?;
-    Ok(boxes)
-}
-
-/// The packages of each worker, among whom the mailboxes are dealt out.
-pub fn boxes_for(alloc: Global, mailboxes: &[Text], workers: u32) -> Result<Vec<Boxes>, NoMemory>
-    requires { 0 < workers }
-    ensures { IfOk result (λ all.
-        map (λ boxes. map box_seen boxes.items) all.items ≡ spec.boxes_for workers mailboxes.now) }
-{
-    let mut all = Vec::new(alloc);
-    for worker in 0..workers {
-        let names = names_for(alloc, mailboxes, workers, worker)?;
-        all.push(boxes_with(alloc, names)?)?;
-    }
-    Ok(all)
-}
+use transport::{Sink, Source};
 
 /// Runs a script by one worker with this seed and these mailboxes, on this thread.
 fn run_one<R: Read, W: Write>(

@@ -14,13 +14,14 @@ use crate::printing::print_works;
 use crate::work::{Work, work_alone};
 use notifier_model::Setup;
 use package::Package;
-use scripts::{Page, ScriptError, Sink, Source, parse_script, read_script, write_page};
+use scripts::{Page, ScriptError, parse_script, read_script, write_page};
 use sip_read::laws::one_reading;
 use sip_text::NoMemory;
 use std::alloc::Global;
 use std::io::{Read, Write};
 use std::sync::Wait;
 use std::thread::Threads;
+use transport::{Sink, Source};
 
 /// What is heard of the script that the bytes are.
 fn hear_script(alloc: Global, bytes: &[u8]) -> Result<Hearing, ScriptError>

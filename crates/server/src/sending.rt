@@ -5,7 +5,7 @@ ghost use Rattle.crew.specs.Kept.{SameSeats};
 ghost use Rattle.server.specs.Sending.{Reaches, HasSent};
 
 use crew::Port;
-use homes::is_for_all;
+use home::is_for_all;
 use notifier_model::Event;
 use std::sync::Wait;
 

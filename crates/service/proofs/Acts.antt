@@ -6,18 +6,18 @@ use Rattle.std.proofs.lemmas.List.{append-nil, map-append}
 use Rattle.std.proofs.lemmas.List.Elements.{filter-append, filter_map-append}
 use Rattle.notifier_model.specs.declared.event.Out.{Out}
 use Rattle.notifier_model.specs.declared.event.Out.TheVariants as out
-use Rattle.outbox.specs.Seats.{TakerSeat}
-use Rattle.outbox.specs.Took.{Took}
-use Rattle.outbox.specs.declared.ends.Posted.TheVariants as posted
-use Rattle.scripts.specs.Devices.{rises}
-use Rattle.wires.specs.declared.datagram.Datagram.{Datagram}
-use Rattle.wires.specs.Wires.{datagram, Grows}
-use Rattle.emitting.specs.declared.sending.Fate.{Fate}
-use Rattle.emitting.specs.declared.sending.Fate.TheVariants.{Sent, Started, Failed}
-use Rattle.emitting.specs.declared.sending.EmitReport.{EmitReport}
-use Rattle.emitting.specs.Emitted.{Fates, WireSeen, WriterSeen, MayMeet, Writes, count, counted, sent_datagrams, fails_to_send, fails_to_start, is_start}
-use Rattle.emitting.proofs.Emitting.{Running, one, running_out, rises_more, flushed_more}
-use Rattle.emitting.proofs.Telling.{grows_none, grows_more, grows_same}
+use Rattle.queues.specs.OutboxSeats.{TakerSeat}
+use Rattle.queues.specs.OutboxTook.{Took}
+use Rattle.queues.specs.declared.outbox.Posted.TheVariants as posted
+use Rattle.transport.specs.Devices.{rises}
+use Rattle.transport.specs.declared.datagram.Datagram.{Datagram}
+use Rattle.transport.specs.Wires.{datagram, Grows}
+use Rattle.feeds.specs.declared.sending.Fate.{Fate}
+use Rattle.feeds.specs.declared.sending.Fate.TheVariants.{Sent, Started, Failed}
+use Rattle.feeds.specs.declared.sending.EmitReport.{EmitReport}
+use Rattle.feeds.specs.Emitted.{Fates, WireSeen, WriterSeen, MayMeet, Writes, count, counted, sent_datagrams, fails_to_send, fails_to_start, is_start}
+use Rattle.feeds.proofs.Emitting.{Running, one, running_out, rises_more, flushed_more}
+use Rattle.feeds.proofs.Telling.{grows_none, grows_more, grows_same}
 use Rattle.transactions.specs.declared.open.Open.{Open}
 use Rattle.transactions.specs.Timers.{is_over}
 use Rattle.transactions.specs.Machine.{State, empty, answer, due, turn}

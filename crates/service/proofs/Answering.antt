@@ -2,7 +2,7 @@
 use Rattle.std.proofs.Common.{ℕ, List, ⊎_elim}
 use Rattle.std.specs.Prelude.{Option, Some, None}
 use Rattle.sip_text.specs.declared.address.Addr.{Addr}
-use Rattle.wires.specs.declared.datagram.Datagram.{Datagram}
+use Rattle.transport.specs.declared.datagram.Datagram.{Datagram}
 use Rattle.service.specs.declared.lines.Done.{Done}
 use Rattle.service.specs.Taken.{IsReply, Offers, IsAnswered}
 

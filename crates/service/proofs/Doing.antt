@@ -3,9 +3,9 @@ use Rattle.std.proofs.Common.{◌≡◌, ℕ, true, List, refl, inl, inr}
 use Rattle.package.specs.Values.{MailChange, Progress}
 use Rattle.notifier_model.specs.declared.event.Event.TheVariants as happened
 use Rattle.crew.specs.Ports.{PortSeats}
-use Rattle.telling.specs.declared.answer.Answer.TheVariants as answer
-use Rattle.telling.specs.declared.line.Asked.TheVariants as asked
-use Rattle.telling.specs.Lines.{Asks}
+use Rattle.control_lines.specs.declared.answer.Answer.TheVariants as answer
+use Rattle.control_lines.specs.declared.line.Asked.TheVariants as asked
+use Rattle.control_lines.specs.Lines.{Asks}
 use Rattle.service.specs.declared.lines.Done.{Done}
 use Rattle.service.specs.declared.lines.Done.TheVariants as did
 use Rattle.service.specs.Taken.{is_held, IsSent, IsChanged, IsDone}

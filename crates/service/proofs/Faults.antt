@@ -1,9 +1,9 @@
 -- The faults that a service tells.
 use Rattle.std.proofs.Common.{◌≡◌, ℕ, Bool, true, false, ◌||◌, refl, sym, ap, ◌∙◌, subst}
-use Rattle.wires.specs.declared.udp.UdpWire.{UdpWire}
-use Rattle.network.specs.declared.feeding.FeedEnd.{FeedEnd}
-use Rattle.network.specs.declared.feeding.FeedEnd.TheVariants as ends
-use Rattle.network.specs.Fed.{failures_at}
+use Rattle.transport.specs.declared.udp.UdpWire.{UdpWire}
+use Rattle.feeds.specs.declared.feeding.FeedEnd.{FeedEnd}
+use Rattle.feeds.specs.declared.feeding.FeedEnd.TheVariants as ends
+use Rattle.feeds.specs.Fed.{failures_at}
 use Rattle.service.specs.declared.clock.Stopwatch.{Stopwatch}
 use Rattle.service.specs.declared.feeding.Fed.{Fed}
 use Rattle.service.specs.declared.feeding.Task.{Task}

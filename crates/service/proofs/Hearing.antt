@@ -1,18 +1,18 @@
 -- The SIP datagrams that were heard so far.
 use Rattle.std.proofs.Common.{◌≡◌, inl, true, false, ℕ, ◌+◌, List, [], ◌∷◌, Option, refl, arith}
 use Rattle.crew.specs.Ports.{PortSeats}
-use Rattle.wires.specs.declared.datagram.Datagram.{Datagram}
-use Rattle.wires.specs.Wires.{Grows}
-use Rattle.emitting.proofs.Telling.{grows_more, grows_same}
-use Rattle.network.specs.declared.hearing.Heard.{Heard}
-use Rattle.network.specs.declared.hearing.Heard.TheVariants as heard
-use Rattle.network.specs.declared.hearing.Language.TheVariants as language
-use Rattle.network.specs.declared.feeding.FeedEnd.TheVariants.{Done, Fault, Gone}
-use Rattle.network.specs.declared.feeding.Told.{Told}
-use Rattle.network.specs.declared.feeding.Told.TheVariants as told
-use Rattle.network.specs.Heard.{Says}
-use Rattle.network.specs.Fed.{Log, datagrams, IsTold}
-use Rattle.network.proofs.Fed.{Feeding, feeding_none, step_sent, step_unread, step_gone}
+use Rattle.transport.specs.declared.datagram.Datagram.{Datagram}
+use Rattle.transport.specs.Wires.{Grows}
+use Rattle.feeds.proofs.Telling.{grows_more, grows_same}
+use Rattle.feeds.specs.declared.hearing.Heard.{Heard}
+use Rattle.feeds.specs.declared.hearing.Heard.TheVariants as heard
+use Rattle.feeds.specs.declared.hearing.Language.TheVariants as language
+use Rattle.feeds.specs.declared.feeding.FeedEnd.TheVariants.{Done, Fault, Gone}
+use Rattle.feeds.specs.declared.feeding.Told.{Told}
+use Rattle.feeds.specs.declared.feeding.Told.TheVariants as told
+use Rattle.feeds.specs.Heard.{Says}
+use Rattle.feeds.specs.Fed.{Log, datagrams, IsTold}
+use Rattle.feeds.proofs.Fed.{Feeding, feeding_none, step_sent, step_unread, step_gone}
 use Rattle.service.specs.Served.{is_gone, Gave, AreServed}
 
 -- the port was fed with them

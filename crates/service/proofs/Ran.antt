@@ -1,18 +1,18 @@
 -- A crew that ran as a service to its end.
 use Rattle.std.proofs.Common.{◌≡◌, ℕ, List, [], ◌∷◌, sym, subst}
 use Rattle.std.specs.Prelude.{IfOk, IfErr, OnErr, Result, Ok, Err}
-use Rattle.queue_rule.specs.declared.items.Item.{Item}
+use Rattle.queues.specs.declared.items.Item.{Item}
 use Rattle.notifier_model.specs.declared.event.Out.{Out}
 use Rattle.notifier_model.specs.Start.{Start}
-use Rattle.outbox.specs.Seats.{TakerSeat}
+use Rattle.queues.specs.OutboxSeats.{TakerSeat}
 use Rattle.crew.specs.Ports.{PortSeats}
 use Rattle.crew.specs.Started.{Hired, IsStarted}
 use Rattle.crew.specs.Joined.{IsJoined}
 use Rattle.crew.specs.declared.report.WorkerReport.{WorkerReport}
-use Rattle.emitting.specs.declared.sending.EmitReport.{EmitReport}
-use Rattle.emitting.specs.Emitted.{WireSeen, WriterSeen}
-use Rattle.network.specs.declared.feeding.FeedEnd.{FeedEnd}
-use Rattle.wires.specs.declared.udp.UdpWire.{UdpWire}
+use Rattle.feeds.specs.declared.sending.EmitReport.{EmitReport}
+use Rattle.feeds.specs.Emitted.{WireSeen, WriterSeen}
+use Rattle.feeds.specs.declared.feeding.FeedEnd.{FeedEnd}
+use Rattle.transport.specs.declared.udp.UdpWire.{UdpWire}
 use Rattle.service.specs.declared.feeding.Task.{Task}
 use Rattle.service.specs.declared.lines.ControlDesk.{ControlDesk}
 use Rattle.service.specs.declared.running.Feeders.{Feeders}

@@ -3,12 +3,12 @@ use Rattle.std.proofs.Common.{◌≡◌, ◌<◌, ◌≤◌, take, ℕ, true, fa
 use Rattle.std.specs.List.{filter, AllByRecursion}
 use Rattle.std.proofs.lemmas.List.{append-nil, length-take-le}
 use Rattle.std.proofs.lemmas.List.Elements.{filter-append}
-use Rattle.scripts.specs.Devices.{one_more}
-use Rattle.wires.specs.declared.datagram.Datagram.{Datagram}
-use Rattle.wires.specs.Wires.{Grows}
-use Rattle.emitting.proofs.Telling.{grows_none, grows_more, grows_same}
-use Rattle.telling.specs.declared.answer.Answer.TheVariants as answer
-use Rattle.telling.specs.Lines.{answer_text}
+use Rattle.transport.specs.Devices.{one_more}
+use Rattle.transport.specs.declared.datagram.Datagram.{Datagram}
+use Rattle.transport.specs.Wires.{Grows}
+use Rattle.feeds.proofs.Telling.{grows_none, grows_more, grows_same}
+use Rattle.control_lines.specs.declared.answer.Answer.TheVariants as answer
+use Rattle.control_lines.specs.Lines.{answer_text}
 use Rattle.service.specs.declared.lines.Done.TheVariants as did
 use Rattle.service.specs.Taken.{Line, MayReply, Replies, Offers, datagrams_of, has_octets, is_line, AreAnswered, AreRefused}
 use Rattle.service.proofs.Taking.{all_more, came_more, answered_more}

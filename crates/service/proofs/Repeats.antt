@@ -3,9 +3,9 @@ use Rattle.std.proofs.Common.{◌≡◌, ◌≤◌, ℕ, zero, suc, ◌+◌, ◌
 use Rattle.std.specs.Prelude.{option_to_list}
 use Rattle.std.specs.List.{AllByRecursion, cons_option}
 use Rattle.notifier_model.specs.declared.event.Out.TheVariants as out
-use Rattle.emitting.specs.declared.sending.Fate.{Fate}
-use Rattle.wires.specs.declared.datagram.Datagram.{Datagram}
-use Rattle.wires.specs.Wires.{datagram}
+use Rattle.feeds.specs.declared.sending.Fate.{Fate}
+use Rattle.transport.specs.declared.datagram.Datagram.{Datagram}
+use Rattle.transport.specs.Wires.{datagram}
 use Rattle.transactions.specs.declared.open.Open.{Open}
 use Rattle.transactions.specs.Machine.{State, empty}
 use Rattle.transactions.specs.Runs.{Call, Keep, state_after, is_end, earliest, keeping, times}

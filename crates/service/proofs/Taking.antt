@@ -5,15 +5,15 @@ use Rattle.std.proofs.lemmas.List.{append-nil, map-append}
 use Rattle.std.proofs.lemmas.List.Elements.{filter-append, filter_map-append}
 use Rattle.notifier_model.specs.declared.event.Event.{Event}
 use Rattle.crew.specs.Ports.{PortSeats}
-use Rattle.scripts.specs.Devices.{one_more, rises}
-use Rattle.wires.specs.declared.datagram.Datagram.{Datagram}
-use Rattle.wires.specs.Wires.{Grows}
-use Rattle.emitting.proofs.Telling.{grows_none, grows_more, grows_same}
-use Rattle.network.specs.declared.feeding.FeedEnd.{FeedEnd}
-use Rattle.network.specs.declared.feeding.FeedEnd.TheVariants as ends
-use Rattle.network.specs.Fed.{Sends}
-use Rattle.network.proofs.Sending.{sends_none, sends_more}
-use Rattle.telling.specs.declared.answer.Answer.TheVariants as answer
+use Rattle.transport.specs.Devices.{one_more, rises}
+use Rattle.transport.specs.declared.datagram.Datagram.{Datagram}
+use Rattle.transport.specs.Wires.{Grows}
+use Rattle.feeds.proofs.Telling.{grows_none, grows_more, grows_same}
+use Rattle.feeds.specs.declared.feeding.FeedEnd.{FeedEnd}
+use Rattle.feeds.specs.declared.feeding.FeedEnd.TheVariants as ends
+use Rattle.feeds.specs.Fed.{Sends}
+use Rattle.feeds.proofs.SendingHome.{sends_none, sends_more}
+use Rattle.control_lines.specs.declared.answer.Answer.TheVariants as answer
 use Rattle.service.specs.declared.lines.Done.{Done}
 use Rattle.service.specs.declared.lines.Done.TheVariants as did
 use Rattle.service.specs.Taken.{Line, IsLine, IsMeant, IsDone, end_after, MayReply, Replies, datagrams_of, events, replies, reply_to, is_none, unanswered, AllGoOn, EndsWith, Gave, AreTaken, AreAnswered}

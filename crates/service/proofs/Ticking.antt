@@ -4,9 +4,9 @@ use Rattle.std.proofs.lemmas.List.{map-append}
 use Rattle.notifier_model.specs.declared.event.Event.{Event}
 use Rattle.notifier_model.specs.declared.event.Event.TheVariants as event
 use Rattle.crew.specs.Ports.{PortSeats}
-use Rattle.network.specs.declared.feeding.FeedEnd.TheVariants.{Gone}
-use Rattle.network.specs.Fed.{Sends, Misses}
-use Rattle.network.proofs.Sending.{sends_none, sends_more}
+use Rattle.feeds.specs.declared.feeding.FeedEnd.TheVariants.{Gone}
+use Rattle.feeds.specs.Fed.{Sends, Misses}
+use Rattle.feeds.proofs.SendingHome.{sends_none, sends_more}
 use Rattle.service.specs.Ticks.{rises_from, ticks, AreTold}
 
 abbrev pub last_of : ℕ → List ℕ → ℕ

@@ -3,7 +3,7 @@ use Rattle.std.specs.Prelude.{◌≡◌, ◌<◌, ℕ, List, [], ◌∷◌, leng
 use Rattle.notifier_model.specs.Start.{Start}
 use Rattle.crew.specs.Ports.{PortSeats}
 use Rattle.crew.specs.Started.{IsStarted}
-use Rattle.wires.specs.declared.udp.UdpWire.{UdpWire}
+use Rattle.transport.specs.declared.udp.UdpWire.{UdpWire}
 use Rattle.service.specs.declared.feeding.Task.TheVariants as task
 use Rattle.service.specs.declared.lines.ControlDesk.{ControlDesk}
 use Rattle.service.specs.declared.running.Feeders.{Feeders}

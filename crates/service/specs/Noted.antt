@@ -4,8 +4,8 @@ use Rattle.sip_read.specs.declared.message.Head.{Head}
 use Rattle.sip_read.specs.declared.message.Response.{Response}
 use Rattle.notifier_model.specs.declared.event.Event.{Event}
 use Rattle.notifier_model.specs.declared.event.Event.TheVariants as event
-use Rattle.network.specs.declared.hearing.Heard.{Heard}
-use Rattle.network.specs.declared.hearing.Heard.TheVariants as heard
+use Rattle.feeds.specs.declared.hearing.Heard.{Heard}
+use Rattle.feeds.specs.declared.hearing.Heard.TheVariants as heard
 use Rattle.transactions.specs.Runs.{Call, Answer}
 use Rattle.service.specs.declared.notes.Note.{Note}
 

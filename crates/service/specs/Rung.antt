@@ -1,7 +1,7 @@
 -- What wakes the threads that wait for a datagram.
 use Rattle.std.specs.Prelude.{ℕ, List, [], Option}
 use Rattle.sip_text.specs.declared.address.Addr.{Addr}
-use Rattle.wires.specs.declared.datagram.Datagram.{Datagram}
+use Rattle.transport.specs.declared.datagram.Datagram.{Datagram}
 use Rattle.service.specs.Taken.{Offers}
 
 -- the wire took an empty datagram to each address, or failed at it

@@ -6,21 +6,21 @@
 --
 -- Answers to NOTIFYs go as notes to the thread that sends, too, which sends a NOTIFY again until its answer was noted.
 use Rattle.std.specs.Prelude.{◌≡◌, ◌||◌, ℕ, Bool, true, false, List, [], ◌∷◌}
-use Rattle.queue_rule.specs.declared.items.Item.{Item}
+use Rattle.queues.specs.declared.items.Item.{Item}
 use Rattle.notifier_model.specs.declared.event.Out.{Out}
 use Rattle.notifier_model.specs.Start.{Start}
-use Rattle.outbox.specs.Seats.{TakerSeat}
+use Rattle.queues.specs.OutboxSeats.{TakerSeat}
 use Rattle.crew.specs.Ports.{PortSeats, IsShut}
 use Rattle.crew.specs.Kept.{SameSeats}
 use Rattle.crew.specs.Started.{Hired, IsStarted}
 use Rattle.crew.specs.Joined.{IsJoined}
 use Rattle.crew.specs.declared.report.WorkerReport.{WorkerReport}
-use Rattle.emitting.specs.declared.sending.EmitReport.{EmitReport}
-use Rattle.emitting.specs.Emitted.{WireSeen, WriterSeen}
-use Rattle.network.specs.declared.feeding.FeedEnd.{FeedEnd}
-use Rattle.network.specs.declared.feeding.FeedEnd.TheVariants as ends
-use Rattle.network.specs.Fed.{Log, failures_at}
-use Rattle.wires.specs.declared.udp.UdpWire.{UdpWire}
+use Rattle.feeds.specs.declared.sending.EmitReport.{EmitReport}
+use Rattle.feeds.specs.Emitted.{WireSeen, WriterSeen}
+use Rattle.feeds.specs.declared.feeding.FeedEnd.{FeedEnd}
+use Rattle.feeds.specs.declared.feeding.FeedEnd.TheVariants as ends
+use Rattle.feeds.specs.Fed.{Log, failures_at}
+use Rattle.transport.specs.declared.udp.UdpWire.{UdpWire}
 use Rattle.service.specs.declared.clock.Stopwatch.{Stopwatch}
 use Rattle.service.specs.declared.feeding.Fed.{Fed}
 use Rattle.service.specs.declared.feeding.Task.{Task}

@@ -2,17 +2,17 @@
 -- and sends a NOTIFY again whose time has come, or gives it up (RFC 3261 section 17.1.2). Moments are milliseconds.
 use Rattle.std.specs.Prelude.{◌≡◌, ◌<◌, ◌≤◌, ◌+◌, ℕ, Bool, true, false, List, [], ◌∷◌, ◌++◌, length, Option, Some, None, option_map, option_to_list, if◌then◌else◌}
 use Rattle.std.specs.List.{filter, filter_map, AllByRecursion}
-use Rattle.queue_rule.specs.declared.items.Item.{Item}
+use Rattle.queues.specs.declared.items.Item.{Item}
 use Rattle.notifier_model.specs.declared.event.NotifyOut.{NotifyOut}
 use Rattle.notifier_model.specs.declared.event.Out.{Out}
 use Rattle.notifier_model.specs.declared.event.Out.TheVariants as out
 use Rattle.notifier_model.specs.Sent.{notify_of}
-use Rattle.scripts.specs.Devices.{rises}
-use Rattle.wires.specs.declared.datagram.Datagram.{Datagram}
-use Rattle.wires.specs.Wires.{datagram, Grows}
-use Rattle.emitting.specs.declared.sending.Fate.{Fate}
-use Rattle.emitting.specs.declared.sending.EmitReport.{EmitReport}
-use Rattle.emitting.specs.Emitted.{Fates, WireSeen, WriterSeen, IsEmitted, datagram_sent, fails_to_send}
+use Rattle.transport.specs.Devices.{rises}
+use Rattle.transport.specs.declared.datagram.Datagram.{Datagram}
+use Rattle.transport.specs.Wires.{datagram, Grows}
+use Rattle.feeds.specs.declared.sending.Fate.{Fate}
+use Rattle.feeds.specs.declared.sending.EmitReport.{EmitReport}
+use Rattle.feeds.specs.Emitted.{Fates, WireSeen, WriterSeen, IsEmitted, datagram_sent, fails_to_send}
 use Rattle.transactions.specs.declared.open.Open.{Open}
 use Rattle.transactions.specs.Timers.{is_over}
 use Rattle.transactions.specs.Machine.{State, empty, due}

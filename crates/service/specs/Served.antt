@@ -1,14 +1,14 @@
 -- What a wire gave while a service listened, and what its port sent of it.
 use Rattle.std.specs.Prelude.{Bool, true, false, List, [], ◌∷◌, ◌++◌, length, Option}
 use Rattle.crew.specs.Ports.{PortSeats}
-use Rattle.wires.specs.declared.datagram.Datagram.{Datagram}
-use Rattle.wires.specs.Wires.{Grows}
-use Rattle.network.specs.declared.hearing.Language.TheVariants as language
-use Rattle.network.specs.declared.feeding.FeedEnd.{FeedEnd}
-use Rattle.network.specs.declared.feeding.FeedEnd.TheVariants.{Done, Fault, Gone}
-use Rattle.network.specs.declared.feeding.Told.{Told}
-use Rattle.network.specs.declared.feeding.Told.TheVariants as told
-use Rattle.network.specs.Fed.{Log, AllSay, Ends}
+use Rattle.transport.specs.declared.datagram.Datagram.{Datagram}
+use Rattle.transport.specs.Wires.{Grows}
+use Rattle.feeds.specs.declared.hearing.Language.TheVariants as language
+use Rattle.feeds.specs.declared.feeding.FeedEnd.{FeedEnd}
+use Rattle.feeds.specs.declared.feeding.FeedEnd.TheVariants.{Done, Fault, Gone}
+use Rattle.feeds.specs.declared.feeding.Told.{Told}
+use Rattle.feeds.specs.declared.feeding.Told.TheVariants as told
+use Rattle.feeds.specs.Fed.{Log, AllSay, Ends}
 
 abbrev pub is_gone : Told → Bool
 is_gone told.Sent = false

@@ -6,16 +6,16 @@ use Rattle.package.specs.Values.{MailChange, Progress}
 use Rattle.notifier_model.specs.declared.event.Event.{Event}
 use Rattle.notifier_model.specs.declared.event.Event.TheVariants as happened
 use Rattle.crew.specs.Ports.{PortSeats}
-use Rattle.scripts.specs.Devices.{one_more, rises}
+use Rattle.transport.specs.Devices.{one_more, rises}
 use Rattle.scripts.specs.Script.{lf}
-use Rattle.wires.specs.declared.datagram.Datagram.{Datagram}
-use Rattle.wires.specs.Wires.{datagram, Grows}
-use Rattle.network.specs.declared.feeding.FeedEnd.{FeedEnd}
-use Rattle.network.specs.declared.feeding.FeedEnd.TheVariants as ends
-use Rattle.network.specs.Fed.{Sends, Misses}
-use Rattle.telling.specs.declared.answer.Answer.TheVariants as answer
-use Rattle.telling.specs.declared.line.Asked.TheVariants as asked
-use Rattle.telling.specs.Lines.{Asks, answer_text}
+use Rattle.transport.specs.declared.datagram.Datagram.{Datagram}
+use Rattle.transport.specs.Wires.{datagram, Grows}
+use Rattle.feeds.specs.declared.feeding.FeedEnd.{FeedEnd}
+use Rattle.feeds.specs.declared.feeding.FeedEnd.TheVariants as ends
+use Rattle.feeds.specs.Fed.{Sends, Misses}
+use Rattle.control_lines.specs.declared.answer.Answer.TheVariants as answer
+use Rattle.control_lines.specs.declared.line.Asked.TheVariants as asked
+use Rattle.control_lines.specs.Lines.{Asks, answer_text}
 use Rattle.service.specs.declared.lines.Done.{Done}
 use Rattle.service.specs.declared.lines.Done.TheVariants as did
 

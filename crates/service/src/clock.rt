@@ -1,13 +1,13 @@
 //! The time, sent on.
 ghost use Rattle.std.specs.Prelude.{◌≡◌, ◌<◌, ℕ, List, is_none};
 ghost use Rattle.crew.specs.Kept.{SameSeats};
-ghost use Rattle.network.specs.Fed.{failures_at};
+ghost use Rattle.feeds.specs.Fed.{failures_at};
 ghost use Rattle.service.specs.Taken.{failures_then};
 ghost use Rattle.service.specs.Ticks.{rises_from, AreTold, new_stopwatch};
 
 use crate::shared::Shared;
 use crew::Port;
-use network::{FeedEnd, send_event};
+use feeds::{FeedEnd, send_event};
 use notifier_model::Event;
 use std::rt::Clock;
 use std::sync::Wait;

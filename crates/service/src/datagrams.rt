@@ -1,20 +1,20 @@
 //! What SIP datagrams say, sent on.
 ghost use Rattle.std.specs.Prelude.{◌≡◌, ◌<◌, List, []};
 ghost use Rattle.crew.specs.Kept.{SameSeats};
-ghost use Rattle.wires.specs.Wires.{Grows};
-ghost use Rattle.network.specs.Fed.{Log, datagrams, failures_at};
+ghost use Rattle.transport.specs.Wires.{Grows};
+ghost use Rattle.feeds.specs.Fed.{Log, datagrams, failures_at};
 ghost use Rattle.service.specs.Served as spec;
 ghost use Rattle.service.specs.Served.{Gave, AreServed};
 ghost use Rattle.service.specs.Taken.{failures_then};
-ghost use Rattle.wires.specs.declared.datagram.Datagram.{Datagram};
+ghost use Rattle.transport.specs.declared.datagram.Datagram.{Datagram};
 
 use crate::shared::{Counter, Shared};
 use crew::Port;
-use network::{FeedEnd, Told, hear_sip, tell};
+use feeds::{FeedEnd, Told, hear_sip, tell};
 use sip_read::{ReadError, read};
 use std::alloc::Global;
 use std::sync::Wait;
-use wires::Wire;
+use transport::Wire;
 
 /// The room for a datagram: none is longer.
 const ROOM: usize = 65536;

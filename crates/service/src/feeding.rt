@@ -10,14 +10,14 @@ use crate::datagrams::{hear_answers, hear_datagrams};
 use crate::lines::ControlDesk;
 use crate::shared::Shared;
 use crew::Port;
-use network::FeedEnd;
+use feeds::FeedEnd;
 use std::alloc::Global;
 use std::rt::Clock;
 use std::snapshot::Snapshot;
 use std::sync::{Arc, Wait};
 use std::thread;
 use std::thread::{Promise, PromisedHandle, SpawnError, Threads};
-use wires::UdpWire;
+use transport::UdpWire;
 
 /// What a thread sends through its port.
 #[derive(Drop)]

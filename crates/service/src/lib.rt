@@ -5,7 +5,7 @@
 //! workers post (`send_outs`). [`run_crew`] starts all of them, and ends at CLOSE, a fault of a socket or of the clock, or a
 //! worker that is gone.
 //!
-//! What it isn't: what the workers do is `notifier`'s, what a port sends `crew`'s, and what a datagram says `network`'s; the
+//! What it isn't: what the workers do is `notifier`'s, what a port sends `crew`'s, and what a datagram says `feeds`'s; the
 //! counters of [`Shared`] are no part of any contract. Begin with [`run_crew`], then `specs/Ticks`, `specs/Served`,
 //! `specs/Taken` and `specs/Running`.
 #![tactic(auto)]

@@ -1,24 +1,24 @@
 //! Control lines, each answered.
 ghost use Rattle.std.specs.Prelude.{◌≡◌, ◌<◌, List, [], IfOk, IfSome, bytes_eq, string_bytes};
 ghost use Rattle.std.specs.List.{list_any};
-ghost use Rattle.wires.specs.Wires.{Grows};
+ghost use Rattle.transport.specs.Wires.{Grows};
 ghost use Rattle.crew.specs.Kept.{SameSeats};
-ghost use Rattle.network.specs.Fed.{failures_at};
-ghost use Rattle.telling.specs.Lines.{answer_text};
+ghost use Rattle.feeds.specs.Fed.{failures_at};
+ghost use Rattle.control_lines.specs.Lines.{answer_text};
 ghost use Rattle.service.specs.Taken as spec;
 ghost use Rattle.service.specs.Taken.{Line, IsSent, IsChanged, IsDone, IsReport, Offers, IsAnswered, Gave, AreTaken, AreAnswered, AreRefused, failures_then};
 
 use crate::shared::{Counter, Shared};
+use control_lines::{Answer, Asked, hear_line};
 use crew::Port;
-use network::{FeedEnd, send_event};
+use feeds::{FeedEnd, send_event};
 use notifier_model::Event;
 use package::MailChange;
 use sip_text::{Addr, NoMemory, Text};
 use std::alloc::Global;
 use std::rt::Clock;
 use std::sync::Wait;
-use telling::{Answer, Asked, hear_line};
-use wires::Wire;
+use transport::Wire;
 
 /// The room for a control line: as long as a datagram may be. A line that were cut might still be read, with a wrong number.
 const ROOM: usize = 65536;

@@ -3,7 +3,7 @@ ghost use Rattle.std.specs.Prelude.{◌≡◌, IfOk, option_copied};
 ghost use Rattle.service.specs.Noted as spec;
 
 use crossbeam_queue::ArrayQueue;
-use network::Heard;
+use feeds::Heard;
 use notifier_model::Event;
 use sip_read::{Head, Response};
 use sip_text::{NoMemory, Text};

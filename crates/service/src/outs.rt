@@ -1,10 +1,10 @@
 //! What the workers post, sent out, and each NOTIFY again that nobody answers.
 ghost use Rattle.std.specs.Prelude.{◌≡◌, ◌<◌, ◌⊎◌, ℕ, List, [], true, IfSome, IfNone};
-ghost use Rattle.queue_rule.specs.Ended.{AllEnded};
-ghost use Rattle.outbox.specs.Took.{Took};
-ghost use Rattle.wires.specs.Wires.{Grows};
-ghost use Rattle.emitting.specs.declared.sending.EmitReport.{EmitReport};
-ghost use Rattle.emitting.specs.Emitted as spec;
+ghost use Rattle.queues.specs.Ended.{AllEnded};
+ghost use Rattle.queues.specs.OutboxTook.{Took};
+ghost use Rattle.transport.specs.Wires.{Grows};
+ghost use Rattle.feeds.specs.declared.sending.EmitReport.{EmitReport};
+ghost use Rattle.feeds.specs.Emitted as spec;
 ghost use Rattle.transactions.specs.Machine.{empty};
 ghost use Rattle.service.specs.Taken.{Offers};
 ghost use Rattle.service.specs.Rung.{Rings};
@@ -12,17 +12,16 @@ ghost use Rattle.service.specs.Sending.{Act, IsSentOut, fates};
 
 use crate::sending::{Waiting, Watch};
 use crate::shared::{Counter, Shared};
-use network::{Fate, put_out};
+use feeds::{Fate, put_out};
 use notifier_model::Out;
-use outbox::{Posted, Taker};
-use scripts::Sink;
+use queues::outbox::{Posted, Taker};
 use sip_text::Addr;
 use std::io::Write;
 use std::rt::Clock;
 use std::sync::Wait;
 use std::thread;
 use std::time::Duration;
-use wires::{UdpWire, Wire};
+use transport::{Sink, UdpWire, Wire};
 
 /// How often nothing may be posted before the thread sleeps.
 const TURNS: u32 = 200;

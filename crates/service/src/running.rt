@@ -10,7 +10,7 @@ ghost use Rattle.service.specs.declared.clock.Stopwatch.{Stopwatch};
 ghost use Rattle.service.specs.declared.error.RunError.TheVariants as error;
 ghost use Rattle.service.specs.declared.feeding.Task.TheVariants as tasks;
 ghost use Rattle.service.specs.declared.lines.ControlDesk.{ControlDesk};
-ghost use Rattle.wires.specs.declared.udp.UdpWire.{UdpWire};
+ghost use Rattle.transport.specs.declared.udp.UdpWire.{UdpWire};
 ghost use Rattle.service.specs.Running.{Runs, Leaves, AreFaults, is_faulty};
 
 use crate::clock::Stopwatch;
@@ -20,19 +20,18 @@ use crate::lines::ControlDesk;
 use crate::outs::{Bell, Exit, Outgoing, send_outs};
 use crate::sending::Waiting;
 use crate::shared::Shared;
-use crew::{Crew, Port, Report};
-use network::FeedEnd;
+use crew::{Crew, Open, Port, Report};
+use feeds::FeedEnd;
 use notifier_model::Setup;
-use outbox::Taker;
 use package::Package;
+use queues::outbox::Taker;
 use std::alloc::Global;
 use std::io::Write;
 use std::rt::Clock;
 use std::sync::{Arc, Wait};
 use std::thread::Threads;
 use transactions::Transactions;
-use wires::{UdpWire, Wire};
-use worker::Open;
+use transport::{UdpWire, Wire};
 
 /// What a service works with beside its packages.
 #[derive(Drop)]

@@ -1,6 +1,6 @@
 //! The NOTIFYs that nobody has answered yet, sent again (RFC 3261 section 17.1.2).
 ghost use Rattle.std.specs.Prelude.{◌≡◌, ◌<◌, ◌^◌, List, [], map, true};
-ghost use Rattle.wires.specs.Wires.{Grows};
+ghost use Rattle.transport.specs.Wires.{Grows};
 ghost use Rattle.transactions.specs.Runs.{state_after};
 ghost use Rattle.service.specs.Sending.{Act, Does, fates, kept_after, sent_again};
 ghost use Rattle.service.specs.Taken.{failures_then};
@@ -13,7 +13,7 @@ use notifier_model::{NotifyOut, Out};
 use std::rt::Clock;
 use std::sync::Wait;
 use transactions::{Open, Transactions};
-use wires::Wire;
+use transport::Wire;
 
 /// How many notes are taken between two looks at what is due and what was posted.
 const NOTES_AT_ONCE: u32 = 16;

@@ -1,5 +1,5 @@
 use Rattle.std.proofs.Common.{◌≡◌, ◌<◌, ℕ, length, get_or, arith, ap, ◌∙◌, subst}
-use Rattle.outbox.specs.Seats.{PosterSeat}
+use Rattle.queues.specs.OutboxSeats.{PosterSeat}
 use Rattle.crew.specs.Ready.{start_of, IsReady}
 use Rattle.crew.proofs.Starting.{new_poster, new_posters-length, new_posters-at}
 use Rattle.crew.proofs.fitting.seat_crew.Goals as goal

@@ -1,10 +1,10 @@
 use Rattle.std.proofs.Common.{ℕ, ◌≤◌, get_or, vec_items, vec_len, arith, sym, ◌∙◌, subst}
 use Rattle.std.specs.declared.thread.PromisedHandle.{PromisedHandle}
-use Rattle.outbox.specs.Seats.{TakerSeat}
+use Rattle.queues.specs.OutboxSeats.{TakerSeat}
 use Rattle.crew.specs.Started.{hired}
 use Rattle.crew.specs.Joined.{Reported}
-use Rattle.worker.specs.declared.end.Done.{Done}
-use Rattle.worker.specs.declared.launching.Began.{Began}
+use Rattle.crew.specs.declared.end.Done.{Done}
+use Rattle.crew.specs.declared.launching.Began.{Began}
 use Rattle.crew.specs.declared.report.WorkerReport.{WorkerReport}
 use Rattle.crew.proofs.Dealing.{head_is, left_is}
 use Rattle.crew.proofs.SeatRows.{each_more}

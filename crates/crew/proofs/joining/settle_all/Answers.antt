@@ -1,5 +1,5 @@
 use Rattle.std.proofs.Common.{◌≡◌, ℕ, ◌+◌, List, [], ◌∷◌, ◌++◌, length, get_or, rules, arith, length-append, ◌∙◌, subst, below_more}
-use Rattle.inbox.specs.Seats.{SenderSeat}
+use Rattle.queues.specs.InboxSeats.{SenderSeat}
 use Rattle.crew.specs.Ports.{PortSeats}
 use Rattle.crew.specs.Settled.{HaveCome}
 use Rattle.crew.specs.declared.report.WorkerReport.{WorkerReport}

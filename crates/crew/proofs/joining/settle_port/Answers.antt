@@ -1,5 +1,5 @@
 use Rattle.std.proofs.Common.{ap, sym, ◌∙◌, subst}
-use Rattle.queue_rule.specs.Items.{TookInOrder}
+use Rattle.queues.specs.Items.{TookInOrder}
 use Rattle.crew.specs.declared.report.WorkerReport.{WorkerReport}
 use Rattle.crew.proofs.Reporting.{inbox_is, settling_more, all_settled}
 use Rattle.crew.proofs.joining.settle_port.Goals as goal

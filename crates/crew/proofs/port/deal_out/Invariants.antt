@@ -1,6 +1,6 @@
 use Rattle.std.proofs.Common.{◌≡◌, ℕ, ◌+◌, ◌<◌, ◌≤◌, length, get_or}
 use Rattle.std.specs.Vec.Iter.{into_iter_items, into_iter_len}
-use Rattle.inbox.specs.Seats.{SenderSeat}
+use Rattle.queues.specs.InboxSeats.{SenderSeat}
 use Rattle.crew.specs.Ports.{PortSeats, TakeSeats}
 use Rattle.crew.proofs.port.deal_out.Given as goal
 

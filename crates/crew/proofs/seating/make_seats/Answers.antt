@@ -1,8 +1,8 @@
 use Rattle.std.proofs.Common.{◌≡◌, ◌++◌, ◌∷◌, [], ℕ, ◌≤◌, List, Vec, Global, length, map, get_or, vec_len, vec_items, arith, sym, ap, subst, ◌∙◌}
 use Rattle.std.proofs.lemmas.List.{map-append}
-use Rattle.inbox.specs.Seats.{Inbox, new_senders}
-use Rattle.outbox.specs.Seats.{PosterSeat}
-use Rattle.worker.specs.declared.launching.Seat.{Seat}
+use Rattle.queues.specs.InboxSeats.{Inbox, new_senders}
+use Rattle.queues.specs.OutboxSeats.{PosterSeat}
+use Rattle.crew.specs.declared.launching.Seat.{Seat}
 use Rattle.crew.specs.Ports.{AreDealt, TakeSeats}
 use Rattle.crew.specs.Ready.{start_of, IsReady}
 use Rattle.crew.proofs.Dealing.{head_is, left_is}

@@ -1,6 +1,6 @@
 use Rattle.std.proofs.Common.{◌≡◌, ℕ, ◌+◌, ◌<◌, ◌≤◌, length, map, get_or, vec_items, vec_len, vec_capacity}
 use Rattle.std.specs.Vec.Iter.{into_iter_items, into_iter_len}
-use Rattle.outbox.specs.Seats.{PosterSeat}
+use Rattle.queues.specs.OutboxSeats.{PosterSeat}
 use Rattle.crew.specs.Ports.{AreDealt}
 use Rattle.crew.specs.Ready.{start_of, IsReady}
 use Rattle.crew.proofs.seating.make_seats.Given as goal

@@ -1,8 +1,8 @@
 use Rattle.std.proofs.Common.{◌≡◌, ℕ, ◌≤◌, get_or, vec_items, vec_len, arith, ap, sym, ◌∙◌, subst}
 use Rattle.std.specs.declared.thread.PromisedHandle.{PromisedHandle}
-use Rattle.worker.specs.declared.end.Done.{Done}
-use Rattle.worker.specs.declared.launching.Began.{Began}
-use Rattle.worker.specs.declared.launching.Seat.{Seat}
+use Rattle.crew.specs.declared.end.Done.{Done}
+use Rattle.crew.specs.declared.launching.Began.{Began}
+use Rattle.crew.specs.declared.launching.Seat.{Seat}
 use Rattle.crew.specs.Started.{Hired, hired}
 use Rattle.crew.proofs.Dealing.{head_is, left_is}
 use Rattle.crew.proofs.SeatRows.{each_more}

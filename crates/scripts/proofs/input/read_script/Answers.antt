@@ -1,6 +1,6 @@
 use Rattle.std.proofs.Common.{ℕ, ◌<◌, List, ◌++◌, length, take, arith}
 use Rattle.std.proofs.lemmas.List.{length-append}
-use Rattle.scripts.proofs.Devices.{consumes_more}
+use Rattle.transport.proofs.Devices.{consumes_more}
 use Rattle.scripts.proofs.input.read_script.Goals as goal
 
 pub returns-then-count-len-clause-too_long : goal.returns-then-count-len-clause-too_long

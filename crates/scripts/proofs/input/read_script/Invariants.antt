@@ -1,4 +1,4 @@
-use Rattle.scripts.proofs.Devices.{GaveSoFar}
+use Rattle.transport.proofs.Devices.{GaveSoFar}
 use Rattle.scripts.proofs.input.read_script.Given as goal
 
 abbrev pub invariant-loop : goal.invariant-loop

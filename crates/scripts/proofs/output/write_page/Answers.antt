@@ -1,7 +1,7 @@
 use Rattle.std.proofs.Common.{◌≡◌, ℕ, ◌≤◌, ◌+◌, List, length, take, drop, arith, ◌∙◌}
 use Rattle.std.proofs.Math.Seq.{take-add}
 use Rattle.std.proofs.lemmas.List.{length-drop}
-use Rattle.scripts.proofs.Devices.{appends_more, took_some}
+use Rattle.transport.proofs.Devices.{appends_more, took_some}
 use Rattle.scripts.proofs.output.write_page.Goals as goal
 
 pub loop-sent-preserved : goal.loop-sent-preserved

@@ -1,5 +1,5 @@
 use Rattle.std.proofs.Common.{length, ◌-◌}
-use Rattle.scripts.proofs.Devices.{TookSoFar}
+use Rattle.transport.proofs.Devices.{TookSoFar}
 use Rattle.scripts.proofs.output.write_page.Given as goal
 
 abbrev pub invariant-loop-sent : goal.invariant-loop-sent

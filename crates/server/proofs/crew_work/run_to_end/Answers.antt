@@ -3,7 +3,7 @@ use Rattle.crew.specs.Ports.{PortSeats}
 use Rattle.crew.specs.Joined.{IsPortOf}
 use Rattle.server.specs.Gathering.{AreNew}
 use Rattle.server.specs.Crew.{IsFinished}
-use Rattle.server.proofs.Worked.{if_ok}
+use Rattle.crew.proofs.Counted.{if_ok}
 use Rattle.server.proofs.Finished.{popped, ports_len, taker_new, taker_workers, port_open, port_unsent, is_port, works_are}
 use Rattle.server.proofs.crew_work.run_to_end.Goals as goal
 

@@ -2,7 +2,8 @@ use Rattle.std.proofs.Common.{◌<◌, ℕ, vec_len, sym, ◌∙◌, subst}
 use Rattle.crew.proofs.Starting.{element}
 use Rattle.server.specs.Gathering.{AreNew}
 use Rattle.server.specs.Runs.{starts_of}
-use Rattle.server.proofs.Worked.{if_ok, some_there}
+use Rattle.server.proofs.Worked.{some_there}
+use Rattle.crew.proofs.Counted.{if_ok}
 use Rattle.server.proofs.Finished.{running}
 use Rattle.server.proofs.crew_work.work_together.Goals as goal
 

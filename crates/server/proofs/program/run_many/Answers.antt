@@ -1,8 +1,9 @@
 use Rattle.std.proofs.Common.{◌⊎◌, List, OnOk, map, subst, arith}
 use Rattle.notifier_model.specs.Start.{Start}
-use Rattle.server.specs.Boxes.{box_seen}
+use Rattle.arguments.specs.Boxes.{box_seen}
 use Rattle.server.specs.Runs.{WritesPage, MeetsFault, StartsNoThread}
-use Rattle.server.proofs.Started.{boxes-len, starts_are}
+use Rattle.server.proofs.Started.{starts_are}
+use Rattle.arguments.proofs.Dealt.{boxes-len}
 use Rattle.server.proofs.program.run_many.Goals as goal
 
 pub script_many-requires-clause-some : goal.script_many-requires-clause-some

@@ -1,6 +1,6 @@
 use Rattle.std.proofs.Common.{List, OnOk, map, subst}
 use Rattle.notifier_model.specs.Start.{Start}
-use Rattle.server.specs.Boxes.{box_seen}
+use Rattle.arguments.specs.Boxes.{box_seen}
 use Rattle.server.specs.Runs.{WritesPage, MeetsFault}
 use Rattle.server.proofs.Started.{one_start_is}
 use Rattle.server.proofs.program.run_one.Goals as goal

@@ -1,6 +1,6 @@
 use Rattle.std.proofs.Common.{◌∙◌, ◌++◌, ◌∷◌, [], ap, refl, take}
-use Rattle.wires.specs.Wires.{datagram}
-use Rattle.emitting.proofs.Telling.{grows_none, grows_more, grows_same}
+use Rattle.transport.specs.Wires.{datagram}
+use Rattle.feeds.proofs.Telling.{grows_none, grows_more, grows_same}
 use Rattle.service.proofs.datagrams.hear_answers.Goals as goal
 
 pub loop-init : goal.loop-init

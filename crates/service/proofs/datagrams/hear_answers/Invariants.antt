@@ -1,6 +1,6 @@
 use Rattle.std.proofs.Common.{◌≡◌, List, []}
-use Rattle.wires.specs.Wires.{Grows}
-use Rattle.wires.specs.declared.datagram.Datagram.{Datagram}
+use Rattle.transport.specs.Wires.{Grows}
+use Rattle.transport.specs.declared.datagram.Datagram.{Datagram}
 use Rattle.service.proofs.datagrams.hear_answers.Given as goal
 
 abbrev pub invariant-loop : goal.invariant-loop

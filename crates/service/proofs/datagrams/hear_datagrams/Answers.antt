@@ -1,6 +1,6 @@
 use Rattle.std.proofs.Common.{◌∙◌, refl, sym, take, arith}
-use Rattle.wires.specs.Wires.{datagram}
-use Rattle.emitting.proofs.Telling.{grows_none, grows_same}
+use Rattle.transport.specs.Wires.{datagram}
+use Rattle.feeds.proofs.Telling.{grows_none, grows_same}
 use Rattle.service.proofs.Hearing.{hearing_none, hearing_more, hearing_open, served_done, served_gone}
 use Rattle.service.proofs.datagrams.hear_datagrams.Goals as goal
 

@@ -1,6 +1,6 @@
 use Rattle.std.proofs.Common.{◌≡◌, ◌<◌, []}
 use Rattle.crew.specs.Kept.{SameSeats}
-use Rattle.wires.specs.Wires.{Grows}
+use Rattle.transport.specs.Wires.{Grows}
 use Rattle.service.proofs.Hearing.{Hearing}
 use Rattle.service.proofs.datagrams.hear_datagrams.Given as goal
 

@@ -1,7 +1,7 @@
 use Rattle.std.proofs.Common.{◌-◌, [], ◌++◌, ◌∷◌, arith, refl, inl}
-use Rattle.queue_rule.proofs.Ended.{ended_none}
-use Rattle.emitting.specs.Emitted.{counted}
-use Rattle.emitting.proofs.Emitting.{running_first, running_end, running_done, took_as}
+use Rattle.queues.proofs.Ended.{ended_none}
+use Rattle.feeds.specs.Emitted.{counted}
+use Rattle.feeds.proofs.Emitting.{running_first, running_end, running_done, took_as}
 use Rattle.service.specs.Sending.{Put}
 use Rattle.service.proofs.Acts.{does_none, does_more, does_put, running_on, running_as, running_put, without_after, sent_out, flushed_on, flushed_put}
 use Rattle.service.proofs.outs.send_outs.Goals as goal

@@ -1,7 +1,7 @@
 use Rattle.std.proofs.Common.{◌≡◌, ◌⊎◌, ℕ, List, true}
-use Rattle.emitting.specs.declared.sending.EmitReport.{EmitReport}
-use Rattle.emitting.specs.Emitted.{WireSeen, count, fails_to_start}
-use Rattle.emitting.proofs.Emitting.{Running}
+use Rattle.feeds.specs.declared.sending.EmitReport.{EmitReport}
+use Rattle.feeds.specs.Emitted.{WireSeen, count, fails_to_start}
+use Rattle.feeds.proofs.Emitting.{Running}
 use Rattle.service.specs.Sending.{Act, fates, Does}
 use Rattle.service.proofs.outs.send_outs.Given as goal
 

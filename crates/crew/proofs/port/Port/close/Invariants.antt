@@ -1,6 +1,6 @@
 use Rattle.std.proofs.Common.{◌≡◌, ◌≤◌, ◌<◌, ◌+◌, ◌++◌, List, true, false, map, reverse, vec_len, vec_capacity}
-use Rattle.queue_rule.specs.Values.{end_item}
-use Rattle.inbox.specs.Seats.{SenderSeat, with_sent}
+use Rattle.queues.specs.Values.{end_item}
+use Rattle.queues.specs.InboxSeats.{SenderSeat, with_sent}
 use Rattle.crew.specs.Ports.{ClosesSome, OneStays}
 use Rattle.crew.proofs.port.Port.close.Given as goal
 

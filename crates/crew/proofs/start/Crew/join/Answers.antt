@@ -4,8 +4,8 @@ use Rattle.crew.specs.Ports.{PortSeats}
 use Rattle.crew.specs.Settled.{AreSeatsOf, HaveCome}
 use Rattle.crew.specs.Started.{Hired, hired}
 use Rattle.crew.specs.Joined.{HasEndOf, IsJoined}
-use Rattle.worker.specs.declared.end.Done.{Done}
-use Rattle.worker.specs.declared.launching.Began.{Began}
+use Rattle.crew.specs.declared.end.Done.{Done}
+use Rattle.crew.specs.declared.launching.Began.{Began}
 use Rattle.crew.specs.declared.report.WorkerReport.{WorkerReport}
 use Rattle.crew.proofs.Reporting.{Reports, rows_are, seats_fit, joined, image_at, images_are, written_back}
 use Rattle.crew.proofs.start.Crew.join.Goals as goal

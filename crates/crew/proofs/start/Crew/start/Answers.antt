@@ -1,10 +1,10 @@
 use Rattle.std.proofs.Common.{◌≡◌, ◌<◌, List, length, map, get_or, vec_len, arith, refl, ap, sym, ◌∙◌, subst}
 use Rattle.std.proofs.lemmas.List.{get_or-map, length-map}
 use Rattle.std.specs.declared.thread.PromisedHandle.{PromisedHandle}
-use Rattle.inbox.specs.Seats.{Inbox}
-use Rattle.worker.specs.declared.end.Done.{Done}
-use Rattle.worker.specs.declared.launching.Began.{Began}
-use Rattle.worker.specs.declared.launching.Seat.{Seat}
+use Rattle.queues.specs.InboxSeats.{Inbox}
+use Rattle.crew.specs.declared.end.Done.{Done}
+use Rattle.crew.specs.declared.launching.Began.{Began}
+use Rattle.crew.specs.declared.launching.Seat.{Seat}
 use Rattle.crew.specs.Ports.{AreDealt}
 use Rattle.crew.specs.Started.{Hired, hired}
 use Rattle.crew.proofs.Starting.{element, ready_fit, hired_is, same_maps}

@@ -1,6 +1,6 @@
 use Rattle.std.proofs.Common.{refl}
-use Rattle.telling.specs.declared.answer.Answer.TheVariants as answer
-use Rattle.telling.specs.Lines.{answer_text}
+use Rattle.control_lines.specs.declared.answer.Answer.TheVariants as answer
+use Rattle.control_lines.specs.Lines.{answer_text}
 use Rattle.service.specs.declared.lines.Done.TheVariants as did
 use Rattle.service.proofs.Answering.{answered_by}
 use Rattle.service.proofs.lines.ControlDesk.answer.Goals as goal

@@ -1,7 +1,7 @@
 use Rattle.std.proofs.Common.{◌∙◌, ◌∷◌, [], ap, refl, take}
-use Rattle.scripts.specs.Devices.{one_more}
-use Rattle.wires.specs.Wires.{Grows, datagram}
-use Rattle.emitting.proofs.Telling.{grows_none, grows_same}
+use Rattle.transport.specs.Devices.{one_more}
+use Rattle.transport.specs.Wires.{Grows, datagram}
+use Rattle.feeds.proofs.Telling.{grows_none, grows_same}
 use Rattle.service.proofs.Refusing.{refusing_none, refusing_blank, refusing_more, refused_dropped, refused_fault, some_taken, none_taken}
 use Rattle.service.proofs.lines.ControlDesk.refuse_lines.Goals as goal
 

@@ -1,5 +1,5 @@
 use Rattle.std.proofs.Common.{◌≡◌, []}
-use Rattle.wires.specs.Wires.{Grows}
+use Rattle.transport.specs.Wires.{Grows}
 use Rattle.service.proofs.Refusing.{Refusing}
 use Rattle.service.proofs.lines.ControlDesk.refuse_lines.Given as goal
 

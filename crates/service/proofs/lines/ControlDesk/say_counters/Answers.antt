@@ -1,6 +1,6 @@
 use Rattle.std.proofs.Common.{inl, inr, refl}
-use Rattle.telling.specs.declared.answer.Answer.TheVariants as answer
-use Rattle.telling.specs.Lines.{answer_text}
+use Rattle.control_lines.specs.declared.answer.Answer.TheVariants as answer
+use Rattle.control_lines.specs.Lines.{answer_text}
 use Rattle.service.specs.declared.lines.Done.TheVariants as did
 use Rattle.service.proofs.Answering.{answered_by}
 use Rattle.service.proofs.lines.ControlDesk.say_counters.Goals as goal

@@ -1,6 +1,6 @@
 use Rattle.std.proofs.Common.{◌∙◌, ◌∷◌, [], refl, sym, take, arith}
-use Rattle.wires.specs.Wires.{Grows, datagram}
-use Rattle.emitting.proofs.Telling.{grows_none, grows_same}
+use Rattle.transport.specs.Wires.{Grows, datagram}
+use Rattle.feeds.proofs.Telling.{grows_none, grows_same}
 use Rattle.service.proofs.Taking.{taking_none, taking_more, taken_last, taken_dropped, taking_open}
 use Rattle.service.proofs.lines.ControlDesk.take_lines.Goals as goal
 

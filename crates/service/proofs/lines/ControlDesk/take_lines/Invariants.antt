@@ -1,5 +1,5 @@
 use Rattle.std.proofs.Common.{◌≡◌, ◌<◌, []}
-use Rattle.wires.specs.Wires.{Grows}
+use Rattle.transport.specs.Wires.{Grows}
 use Rattle.crew.specs.Kept.{SameSeats}
 use Rattle.service.proofs.Taking.{Taking}
 use Rattle.service.proofs.lines.ControlDesk.take_lines.Given as goal

@@ -1,5 +1,5 @@
 use Rattle.std.proofs.Common.{◌∷◌, [], refl, sym, ◌∙◌}
-use Rattle.wires.specs.Wires.{datagram}
+use Rattle.transport.specs.Wires.{datagram}
 use Rattle.service.specs.Sending.{Repeated, GaveUp}
 use Rattle.service.proofs.Acts.{does_repeat, does_give_up}
 use Rattle.service.proofs.sending.Waiting.repeat.Goals as goal

@@ -1,0 +1,376 @@
+-- What the words say: what is found is so, what is so is found, and an error names what is wrong first.
+use Rattle.std.proofs.Common.{◌≡◌, ◌≢◌, ℕ, ◌≤◌, Bool, true, false, cond, List, [], ◌∷◌, ◌++◌, Option, Some, None, Result, Ok, Err, refl, sym, ap, subst, ◌∙◌, arith, append_assoc}
+use Rattle.std.specs.Prelude.{codes, decimal, bytes_eq, nat_lt, IfOk, IfErr}
+use Rattle.std.proofs.lemmas.Bool.Decides.{nat_tests}
+use Rattle.std.proofs.lemmas.Slice.Eq.{bytes_eq-Decides}
+use Rattle.hex.specs.declared.error.FromHexError.{FromHexError}
+use Rattle.hex.specs.Hex.{decode_sized}
+use Rattle.sip_text.specs.declared.address.Addr.{Addr}
+use Rattle.sip_text.specs.Addresses.{addr_text, IsAddr}
+use Rattle.sip_text.specs.Reading.{◌>>=◌, begins, addr_of, plain_up_to}
+use Rattle.sip_text.proofs.Pieces.{bind_some, some_is}
+use Rattle.sip_text.proofs.PlainNumbers.{up_to_takes, up_to_again}
+use Rattle.sip_text.proofs.Addresses.{addr_takes, addr_again}
+use Rattle.package.specs.Texts.{is_word}
+use Rattle.arguments.specs.declared.flag.Bound.{Bound}
+use Rattle.arguments.specs.declared.flag.Bound.TheVariants as bound
+use Rattle.arguments.specs.declared.flag.Place.{Place}
+use Rattle.arguments.specs.declared.flag.Place.TheVariants as place
+use Rattle.arguments.specs.declared.flag.Flag.{Flag}
+use Rattle.arguments.specs.declared.flag.Flag.TheVariants as flag
+use Rattle.arguments.specs.declared.setting.Setting.{Setting}
+use Rattle.arguments.specs.declared.setting.Setting.TheVariants as setting
+use Rattle.arguments.specs.declared.error.OptionsError.{OptionsError}
+use Rattle.arguments.specs.declared.error.OptionsError.TheVariants as error
+use Rattle.arguments.specs.Flags.{flag_text, least, most}
+use Rattle.arguments.specs.Settings.{IsMailbox, IsSetting, AreSettings, BeginsWrong, AreWrong, Answers}
+use Rattle.arguments.specs.Reading.{place_of, time_of, count_of, bound_of, other_of, flag_of, or_bad, value_of, seed_of, between, valued, alone, then_more, by_flag, settings_from, Reads}
+use Rattle.arguments.proofs.Flags.{same_text, flag_takes, flag_again, no_flag}
+
+-- ---- numbers and seeds
+
+between_takes : (least most : ℕ) (w : List ℕ) (n : ℕ) → between least most w ≡ Some n → (w ≡ decimal n) × (least ≤ n) × (n ≤ most)
+unfolding between
+between_takes least most w n e =
+    let p = bind_some (plain_up_to most w) (λ m. cond {A = Option ℕ} (nat_lt m least) None (Some m)) n e in
+    let t = up_to_takes most w p.0 p.1 in
+    made p.0 t.0 t.2 (nat_lt p.0 least) refl p.2 where
+      made : (m : ℕ) → w ≡ decimal m → m ≤ most → (b : Bool) → nat_lt m least ≡ b → cond {A = Option ℕ} b None (Some m) ≡ Some n → (w ≡ decimal n) × (least ≤ n) × (n ≤ most)
+      made m is le true low e = absurd cc
+      made m is le false high e =
+          let same : m ≡ n = some_is m n e in
+          let enough : least ≤ m = grind (arith, nat_tests) in
+          (is ∙ ap decimal same, rw (← same) enough, rw (← same) le)
+
+most_is_small : (b : Bound) → most b ≤ 4294967295
+most_is_small bound.Workers = omega arith
+most_is_small bound.MinTime = omega arith
+most_is_small bound.MaxTime = omega arith
+most_is_small bound.DefaultTime = omega arith
+most_is_small bound.ReferTime = omega arith
+most_is_small bound.MaxCseq = omega arith
+most_is_small bound.Table = omega arith
+most_is_small bound.Serials = omega arith
+most_is_small bound.Kept = omega arith
+most_is_small bound.Inbox = omega arith
+most_is_small bound.Outbox = omega arith
+most_is_small bound.Repeats = omega arith
+most_is_small bound.Linger = omega arith
+
+between_again : (least most n : ℕ) → least ≤ n → n ≤ most → most ≤ 4294967295 → between least most (decimal n) ≡ Some n
+unfolding between
+between_again least most n high le small =
+    let enough : nat_lt n least ≡ false = grind (arith, nat_tests) in
+    rw (up_to_again most n le (omega (arith, small)), enough) refl
+
+value_takes : (r : Result (List ℕ) FromHexError) (seed : List ℕ) → value_of r ≡ Some seed → r ≡ Ok seed
+value_takes (Ok x) seed e = ap (λ (s : List ℕ). Ok s) (some_is x seed e)
+value_takes (Err e) seed k = absurd cc
+
+seed_takes : (digits seed : List ℕ) → seed_of digits ≡ Some seed → decode_sized digits 32 ≡ Ok seed
+unfolding seed_of
+seed_takes digits seed e = value_takes (decode_sized digits 32) seed e
+
+seed_again : (digits seed : List ℕ) → decode_sized digits 32 ≡ Ok seed → seed_of digits ≡ Some seed
+unfolding seed_of
+seed_again digits seed e = ap value_of e
+
+-- ---- one setting
+
+ok_is : {A E : Type 0} (x y : A) → ◌≡◌ {A = Result A E} (Ok x) (Ok y) → x ≡ y
+ok_is x y e = cc
+
+err_is : {A E : Type 0} (x y : E) → ◌≡◌ {A = Result A E} (Err x) (Err y) → x ≡ y
+err_is x y e = cc
+
+or_bad_ok : (f : Flag) (o : Option Setting) (s : Setting) → or_bad f o ≡ Ok s → o ≡ Some s
+or_bad_ok f (Some x) s e = ap (λ (y : Setting). Some y) (ok_is x s e)
+or_bad_ok f None s e = absurd cc
+
+valued_takes : (f : Flag) (value : List ℕ) (s : Setting) → valued f value ≡ Ok s → IsSetting (flag_text f ∷ value ∷ []) s
+unfolding valued
+valued_takes (flag.Address place) value s e =
+    let p = bind_some (addr_of value) (λ a. Some (setting.Address place a)) s (or_bad_ok (flag.Address place) (addr_of value >>= λ a. Some (setting.Address place a)) s e) in
+    let a = addr_takes value p.0 p.1 in
+    subst (IsSetting (flag_text (flag.Address place) ∷ value ∷ [])) (some_is (setting.Address place p.0) s p.2)
+    (a.1, ap (λ (v : List ℕ). flag_text (flag.Address place) ∷ v ∷ []) a.0)
+valued_takes (flag.Number bound) value s e =
+    let p = bind_some (between (least bound) (most bound) value) (λ n. Some (setting.Number bound n)) s (or_bad_ok (flag.Number bound) (between (least bound) (most bound) value >>= λ n. Some (setting.Number bound n)) s e) in
+    let n = between_takes (least bound) (most bound) value p.0 p.1 in
+    subst (IsSetting (flag_text (flag.Number bound) ∷ value ∷ [])) (some_is (setting.Number bound p.0) s p.2)
+    (n.1, n.2, ap (λ (v : List ℕ). flag_text (flag.Number bound) ∷ v ∷ []) n.0)
+valued_takes flag.MailboxFile value s e = subst (IsSetting (codes "--mailboxes" ∷ value ∷ [])) (ok_is (setting.MailboxFile value) s e) refl
+valued_takes flag.Seed value s e =
+    let p = bind_some (seed_of value) (λ x. Some (setting.Seed x)) s (or_bad_ok flag.Seed (seed_of value >>= λ x. Some (setting.Seed x)) s e) in
+    subst (IsSetting (codes "--seed" ∷ value ∷ [])) (some_is (setting.Seed p.0) s p.2) (value, refl, seed_takes value p.0 p.1)
+
+or_bad_err : (f : Flag) (o : Option Setting) (e : OptionsError) → or_bad f o ≡ Err e → error.Bad f ≡ e
+or_bad_err f (Some x) e k = absurd cc
+or_bad_err f None e k = err_is (error.Bad f) e k
+
+valued_wrong : (f : Flag) (value : List ℕ) (e : OptionsError) → valued f value ≡ Err e → error.Bad f ≡ e
+unfolding valued
+valued_wrong (flag.Address place) value e k = or_bad_err (flag.Address place) (addr_of value >>= λ a. Some (setting.Address place a)) e k
+valued_wrong (flag.Number bound) value e k = or_bad_err (flag.Number bound) (between (least bound) (most bound) value >>= λ n. Some (setting.Number bound n)) e k
+valued_wrong flag.MailboxFile value e k = absurd cc
+valued_wrong flag.Seed value e k = or_bad_err flag.Seed (seed_of value >>= λ x. Some (setting.Seed x)) e k
+
+abbrev keeping : List ℕ
+keeping = codes "--keep-subscriptions"
+
+abbrev by_word : List ℕ → Result Setting OptionsError
+by_word word = cond (is_word word) (Ok (setting.Mailbox word)) (Err (error.NoMailbox word))
+
+abbrev by_dash : List ℕ → Result Setting OptionsError
+by_dash word = cond (begins 45 word) (Err (error.Unknown word)) (by_word word)
+
+alone_takes : (word : List ℕ) (s : Setting) → alone word ≡ Ok s → IsSetting (word ∷ []) s
+unfolding alone
+alone_takes word s e = keep (bytes_eq word keeping) refl e where
+  named : (b : Bool) → is_word word ≡ b → begins 45 word ≡ false → cond {A = Result Setting OptionsError} b (Ok (setting.Mailbox word)) (Err (error.NoMailbox word)) ≡ Ok s → IsSetting (word ∷ []) s
+  named true is plain k = subst (IsSetting (word ∷ [])) (ok_is (setting.Mailbox word) s k) (record { word = is; no_option = plain }, refl)
+  named false is plain k = absurd cc
+
+  dashed : (b : Bool) → begins 45 word ≡ b → cond b (Err (error.Unknown word)) (by_word word) ≡ Ok s → IsSetting (word ∷ []) s
+  dashed true is k = absurd cc
+  dashed false is k = named (is_word word) refl is k
+
+  keep : (b : Bool) → bytes_eq word keeping ≡ b → cond b (Ok setting.KeepSubscriptions) (by_dash word) ≡ Ok s → IsSetting (word ∷ []) s
+  keep true is k = subst (IsSetting (word ∷ [])) (ok_is setting.KeepSubscriptions s k) (ap (λ (w : List ℕ). w ∷ []) (same_text word keeping is))
+  keep false is k = dashed (begins 45 word) refl k
+
+same_texts : (a b : List ℕ) → a ≡ b → bytes_eq a b ≡ true
+same_texts a b e = (bytes_eq-Decides a b).1 e
+
+no_mailbox : (word : List ℕ) → is_word word ≡ false → ¬ (IsMailbox word)
+no_mailbox word is h = absurd (clash (sym is ∙ h.word)) where
+  clash : false ≡ true → ⊥
+  clash e = absurd cc
+
+alone_wrong : (word : List ℕ) (words : List (List ℕ)) (e : OptionsError) → flag_of word ≡ None → alone word ≡ Err e → BeginsWrong (word ∷ words) e
+unfolding alone
+alone_wrong word words e none k = keep (bytes_eq word keeping) refl k where
+  named : (b : Bool) → is_word word ≡ b → begins 45 word ≡ false → cond {A = Result Setting OptionsError} b (Ok (setting.Mailbox word)) (Err (error.NoMailbox word)) ≡ Err e → BeginsWrong (word ∷ words) e
+  named true is plain k = absurd cc
+  named false is plain k = subst (BeginsWrong (word ∷ words)) (err_is (error.NoMailbox word) e k) (words, refl, no_mailbox word is, plain)
+
+  unlike : bytes_eq word keeping ≡ false → word ≢ keeping
+  unlike is same = clash (sym is ∙ same_texts word keeping same) where
+    clash : false ≡ true → ⊥
+    clash e = absurd cc
+
+  dashed : (b : Bool) → begins 45 word ≡ b → bytes_eq word keeping ≡ false → cond b (Err (error.Unknown word)) (by_word word) ≡ Err e → BeginsWrong (word ∷ words) e
+  dashed true is other k = subst (BeginsWrong (word ∷ words)) (err_is (error.Unknown word) e k) (words, refl, is, unlike other, no_flag word none)
+  dashed false is other k = named (is_word word) refl is k
+
+  keep : (b : Bool) → bytes_eq word keeping ≡ b → cond b (Ok setting.KeepSubscriptions) (by_dash word) ≡ Err e → BeginsWrong (word ∷ words) e
+  keep true is k = absurd cc
+  keep false is k = dashed (begins 45 word) refl is k
+
+-- ---- a setting is read again
+
+flag_begins : (f : Flag) → begins 45 (flag_text f) ≡ true
+flag_begins (flag.Address place.Listen) = refl
+flag_begins (flag.Address place.Contact) = refl
+flag_begins (flag.Address place.Control) = refl
+flag_begins (flag.Number bound.Workers) = refl
+flag_begins (flag.Number bound.MinTime) = refl
+flag_begins (flag.Number bound.MaxTime) = refl
+flag_begins (flag.Number bound.DefaultTime) = refl
+flag_begins (flag.Number bound.ReferTime) = refl
+flag_begins (flag.Number bound.MaxCseq) = refl
+flag_begins (flag.Number bound.Table) = refl
+flag_begins (flag.Number bound.Serials) = refl
+flag_begins (flag.Number bound.Kept) = refl
+flag_begins (flag.Number bound.Inbox) = refl
+flag_begins (flag.Number bound.Outbox) = refl
+flag_begins (flag.Number bound.Repeats) = refl
+flag_begins (flag.Number bound.Linger) = refl
+flag_begins flag.MailboxFile = refl
+flag_begins flag.Seed = refl
+
+plain_is_no_flag : (word : List ℕ) → begins 45 word ≡ false → flag_of word ≡ None
+plain_is_no_flag word plain = step (flag_of word) refl where
+  clash : false ≡ true → ⊥
+  clash e = absurd cc
+
+  step : (o : Option Flag) → flag_of word ≡ o → o ≡ None
+  step None is = refl
+  step (Some f) is = absurd (clash (sym plain ∙ ap (begins 45) (flag_takes word f is) ∙ flag_begins f))
+
+plain_is_no_keeping : (word : List ℕ) → begins 45 word ≡ false → bytes_eq word keeping ≡ false
+plain_is_no_keeping word plain = step (bytes_eq word keeping) refl where
+  clash : false ≡ true → ⊥
+  clash e = absurd cc
+
+  step : (b : Bool) → bytes_eq word keeping ≡ b → b ≡ false
+  step false is = refl
+  step true is = absurd (clash (sym plain ∙ ap (begins 45) (same_text word keeping is)))
+
+mailbox_again : (name : List ℕ) → IsMailbox name → alone name ≡ Ok (setting.Mailbox name)
+unfolding alone
+mailbox_again name h = rw (plain_is_no_keeping name h.no_option, h.no_option, h.word) refl
+
+address_again : (p : Place) (a : Addr) → IsAddr a → valued (flag.Address p) (addr_text a) ≡ Ok (setting.Address p a)
+unfolding valued
+address_again p a h = rw (addr_again a h) refl
+
+number_again : (b : Bound) (n : ℕ) → least b ≤ n → n ≤ most b → valued (flag.Number b) (decimal n) ≡ Ok (setting.Number b n)
+unfolding valued
+number_again b n high le = rw (between_again (least b) (most b) n high le (most_is_small b)) refl
+
+file_again : (path : List ℕ) → valued flag.MailboxFile path ≡ Ok (setting.MailboxFile path)
+unfolding valued
+file_again path = refl
+
+seeds_again : (digits seed : List ℕ) → decode_sized digits 32 ≡ Ok seed → valued flag.Seed digits ≡ Ok (setting.Seed seed)
+unfolding valued
+seeds_again digits seed e = rw (seed_again digits seed e) refl
+
+keeping_again : (flag_of keeping ≡ None) × (alone keeping ≡ Ok setting.KeepSubscriptions)
+unfolding alone flag_of place_of other_of bound_of time_of count_of
+keeping_again = (refl, refl)
+
+-- an option with its value
+option_again : (f : Flag) (value : List ℕ) (rest : List (List ℕ)) → settings_from None (flag_text f ∷ value ∷ rest) ≡ then_more (valued f value) (settings_from None rest)
+unfolding settings_from
+option_again f value rest = ap (λ o. by_flag o (alone (flag_text f)) (λ waiting. settings_from waiting (value ∷ rest))) (flag_again f)
+
+-- a word that stands alone
+alone_again : (word : List ℕ) (rest : List (List ℕ)) → flag_of word ≡ None → settings_from None (word ∷ rest) ≡ then_more (alone word) (settings_from None rest)
+unfolding settings_from
+alone_again word rest none = ap (λ o. by_flag o (alone word) (λ waiting. settings_from waiting rest)) none
+
+setting_again : (s : Setting) (front rest : List (List ℕ)) → IsSetting front s → settings_from None (front ++ rest) ≡ then_more (Ok s) (settings_from None rest)
+setting_again (setting.Address p a) front rest h =
+    ap (λ (l : List (List ℕ)). settings_from None (l ++ rest)) h.1 ∙ option_again (flag.Address p) (addr_text a) rest ∙ ap (λ r. then_more r (settings_from None rest)) (address_again p a h.0)
+setting_again (setting.Number b n) front rest h =
+    ap (λ (l : List (List ℕ)). settings_from None (l ++ rest)) h.2 ∙ option_again (flag.Number b) (decimal n) rest ∙ ap (λ r. then_more r (settings_from None rest)) (number_again b n h.0 h.1)
+setting_again (setting.MailboxFile path) front rest h =
+    ap (λ (l : List (List ℕ)). settings_from None (l ++ rest)) h ∙ option_again flag.MailboxFile path rest ∙ ap (λ r. then_more r (settings_from None rest)) (file_again path)
+setting_again (setting.Seed seed) front rest h =
+    ap (λ (l : List (List ℕ)). settings_from None (l ++ rest)) h.1 ∙ option_again flag.Seed h.0 rest ∙ ap (λ r. then_more r (settings_from None rest)) (seeds_again h.0 seed h.2)
+setting_again setting.KeepSubscriptions front rest h =
+    ap (λ (l : List (List ℕ)). settings_from None (l ++ rest)) h ∙ alone_again keeping rest keeping_again.0 ∙ ap (λ r. then_more r (settings_from None rest)) keeping_again.1
+setting_again (setting.Mailbox name) front rest h =
+    ap (λ (l : List (List ℕ)). settings_from None (l ++ rest)) h.1 ∙ alone_again name rest (plain_is_no_flag name h.0.no_option) ∙ ap (λ r. then_more r (settings_from None rest)) (mailbox_again name h.0)
+
+no_words : settings_from None [] ≡ Ok []
+unfolding settings_from
+no_words = refl
+
+pub settings_again : (words : List (List ℕ)) (settings : List Setting) → AreSettings words settings → settings_from None words ≡ Ok settings
+settings_again words [] h = ap (settings_from None) h ∙ no_words
+settings_again words (s ∷ settings) h =
+    ap (settings_from None) h.2 ∙ setting_again s h.0 h.1 h.3 ∙ ap (then_more (Ok s)) (settings_again h.1 settings h.4)
+
+-- ---- what is found is so
+
+abbrev with_waiting : Option Flag → List (List ℕ) → List (List ℕ)
+with_waiting None words = words
+with_waiting (Some f) words = flag_text f ∷ words
+
+record IsMore (s : Result Setting OptionsError) (more : Result (List Setting) OptionsError) (settings : List Setting) : Type 0 where
+  one : Setting
+  others : List Setting
+  one_is : s ≡ Ok one
+  others_are : more ≡ Ok others
+  all : one ∷ others ≡ settings
+
+more_ok : (s : Result Setting OptionsError) (more : Result (List Setting) OptionsError) (settings : List Setting) → then_more s more ≡ Ok settings → IsMore s more settings
+more_ok (Ok s) (Ok others) settings e = record { one = s; others = others; one_is = refl; others_are = refl; all = ok_is (s ∷ others) settings e }
+more_ok (Ok s) (Err k) settings e = absurd cc
+more_ok (Err k) more settings e = absurd cc
+
+takes_from : (o : Option Flag) (words : List (List ℕ)) (settings : List Setting) → settings_from o words ≡ Ok settings → AreSettings (with_waiting o words) settings
+unfolding settings_from
+takes_from None [] settings e = subst (AreSettings []) (ok_is [] settings e) refl
+takes_from (Some f) [] settings e = absurd cc
+takes_from (Some f) (w ∷ ws) settings e =
+    let m = more_ok (valued f w) (settings_from None ws) settings e in
+    subst (AreSettings (flag_text f ∷ w ∷ ws)) m.all (flag_text f ∷ w ∷ [], ws, refl, valued_takes f w m.one m.one_is, takes_from None ws m.others m.others_are)
+takes_from None (w ∷ ws) settings e = step (flag_of w) refl (λ o more k. takes_from o ws more k) e where
+  step : (o : Option Flag) → flag_of w ≡ o → ((p : Option Flag) (more : List Setting) → settings_from p ws ≡ Ok more → AreSettings (with_waiting p ws) more)
+      → by_flag o (alone w) (λ waiting. settings_from waiting ws) ≡ Ok settings → AreSettings (w ∷ ws) settings
+  step (Some f) is again k = subst (λ (x : List ℕ). AreSettings (x ∷ ws) settings) (sym (flag_takes w f is)) (again (Some f) settings k)
+  step None is again k =
+      let m = more_ok (alone w) (settings_from None ws) settings k in
+      subst (AreSettings (w ∷ ws)) m.all (w ∷ [], ws, refl, alone_takes w m.one m.one_is, again None m.others m.others_are)
+
+pub settings_take : (words : List (List ℕ)) (settings : List Setting) → settings_from None words ≡ Ok settings → AreSettings words settings
+settings_take words settings e = takes_from None words settings e
+
+-- ---- what is wrong
+
+at_once : (words : List (List ℕ)) (e : OptionsError) → BeginsWrong words e → AreWrong words e
+at_once words e h = record { front = []; settings = []; are_settings = refl; rest = words; whole = refl; wrong = h }
+
+behind : (s : Setting) (front words : List (List ℕ)) (e : OptionsError) → IsSetting front s → AreWrong words e → AreWrong (front ++ words) e
+behind s front words e is h = record {
+  front = front ++ h.front;
+  settings = s ∷ h.settings;
+  are_settings = (front, h.front, refl, is, h.are_settings);
+  rest = h.rest;
+  whole = ap (λ (l : List (List ℕ)). front ++ l) h.whole ∙ sym (append_assoc front h.front h.rest);
+  wrong = h.wrong;
+}
+
+no_setting : (f : Flag) (value : List ℕ) (e : OptionsError) → valued f value ≡ Err e → (s : Setting) → ¬ (IsSetting (flag_text f ∷ value ∷ []) s)
+no_setting f value e k s h =
+    clash (then_more (Ok s) (Ok [])) refl (sym (ap (then_more (Ok s)) no_words) ∙ sym (setting_again s (flag_text f ∷ value ∷ []) [] h) ∙ option_again f value [] ∙ ap (λ r. then_more r (settings_from None [])) k) where
+      clash : (r : Result (List Setting) OptionsError) → r ≡ Ok (s ∷ []) → r ≡ Err e → ⊥
+      clash r a b = absurd cc
+
+is_bad : (f : Flag) (w : List ℕ) (ws : List (List ℕ)) (e : OptionsError) → valued f w ≡ Err e → AreWrong (flag_text f ∷ w ∷ ws) e
+is_bad f w ws e k = subst (AreWrong (flag_text f ∷ w ∷ ws)) (valued_wrong f w e k) (at_once (flag_text f ∷ w ∷ ws) (error.Bad f) (w, ws, refl, no_setting f w e k))
+
+wrong_from : (o : Option Flag) (words : List (List ℕ)) (e : OptionsError) → settings_from o words ≡ Err e → AreWrong (with_waiting o words) e
+unfolding settings_from
+wrong_from None [] e k = absurd cc
+wrong_from (Some f) [] e k = subst (AreWrong (flag_text f ∷ [])) (err_is (error.Missing f) e k) (at_once (flag_text f ∷ []) (error.Missing f) refl)
+wrong_from (Some f) (w ∷ ws) e k = step (valued f w) refl (λ j. wrong_from None ws e j) (settings_from None ws) refl k where
+  step : (r : Result Setting OptionsError) → valued f w ≡ r → (settings_from None ws ≡ Err e → AreWrong ws e) → (more : Result (List Setting) OptionsError) → settings_from None ws ≡ more
+      → then_more r more ≡ Err e → AreWrong (flag_text f ∷ w ∷ ws) e
+  step (Err x) is again more m j = is_bad f w ws e (is ∙ ap (λ (y : OptionsError). Err y) (err_is x e j))
+  step (Ok s) is again (Ok others) m j = absurd cc
+  step (Ok s) is again (Err x) m j = behind s (flag_text f ∷ w ∷ []) ws e (valued_takes f w s is) (again (m ∙ ap (λ (y : OptionsError). Err y) (err_is x e j)))
+wrong_from None (w ∷ ws) e k = first (flag_of w) refl (λ o j. wrong_from o ws e j) k where
+  second : (r : Result Setting OptionsError) → flag_of w ≡ None → alone w ≡ r → (settings_from None ws ≡ Err e → AreWrong ws e) → (more : Result (List Setting) OptionsError) → settings_from None ws ≡ more
+      → then_more r more ≡ Err e → AreWrong (w ∷ ws) e
+  second (Err x) none is again more m j = at_once (w ∷ ws) e (alone_wrong w ws e none (is ∙ ap (λ (y : OptionsError). Err y) (err_is x e j)))
+  second (Ok s) none is again (Ok others) m j = absurd cc
+  second (Ok s) none is again (Err x) m j = behind s (w ∷ []) ws e (alone_takes w s is) (again (m ∙ ap (λ (y : OptionsError). Err y) (err_is x e j)))
+
+  first : (o : Option Flag) → flag_of w ≡ o → ((p : Option Flag) → settings_from p ws ≡ Err e → AreWrong (with_waiting p ws) e) → by_flag o (alone w) (λ waiting. settings_from waiting ws) ≡ Err e → AreWrong (w ∷ ws) e
+  first (Some f) is again j = subst (λ (x : List ℕ). AreWrong (x ∷ ws) e) (sym (flag_takes w f is)) (again (Some f) j)
+  first None is again j = second (alone w) is refl (again None) (settings_from None ws) refl j
+
+-- ---- from what the function on lists gives to what is answered
+
+pub found_is : {X : Type 0} (view : X → List Setting) (r : Result X OptionsError) (words : List (List ℕ)) → Reads view r (settings_from None words) → IfOk r (λ x. AreSettings words (view x))
+found_is view (Ok x) words h = settings_take words (view x) h
+found_is view (Err e) words h = tt
+
+pub only_is : {X : Type 0} (view : X → List Setting) (r : Result X OptionsError) (words : List (List ℕ)) (settings : List Setting) → Reads view r (settings_from None words) → AreSettings words settings → Answers view r settings
+only_is view (Ok x) words settings h are = ok_is (view x) settings (sym h ∙ settings_again words settings are)
+only_is view (Err error.NoMemory) words settings h are = tt
+only_is view (Err (error.Missing f)) words settings h are = other (settings_from None words) h (settings_again words settings are) where
+  other : (r : Result (List Setting) OptionsError) → r ≡ Err (error.Missing f) → r ≡ Ok settings → ⊥
+  other r a b = absurd cc
+only_is view (Err (error.Bad f)) words settings h are = other (settings_from None words) h (settings_again words settings are) where
+  other : (r : Result (List Setting) OptionsError) → r ≡ Err (error.Bad f) → r ≡ Ok settings → ⊥
+  other r a b = absurd cc
+only_is view (Err (error.Unknown w)) words settings h are = other (settings_from None words) h (settings_again words settings are) where
+  other : (r : Result (List Setting) OptionsError) → r ≡ Err (error.Unknown w) → r ≡ Ok settings → ⊥
+  other r a b = absurd cc
+only_is view (Err (error.NoMailbox w)) words settings h are = other (settings_from None words) h (settings_again words settings are) where
+  other : (r : Result (List Setting) OptionsError) → r ≡ Err (error.NoMailbox w) → r ≡ Ok settings → ⊥
+  other r a b = absurd cc
+
+pub wrong_is : {X : Type 0} (view : X → List Setting) (r : Result X OptionsError) (words : List (List ℕ)) → Reads view r (settings_from None words) → IfErr r (AreWrong words)
+wrong_is view (Ok x) words h = tt
+wrong_is view (Err error.NoMemory) words h = at_once words error.NoMemory tt
+wrong_is view (Err (error.Missing f)) words h = wrong_from None words (error.Missing f) h
+wrong_is view (Err (error.Bad f)) words h = wrong_from None words (error.Bad f) h
+wrong_is view (Err (error.Unknown w)) words h = wrong_from None words (error.Unknown w) h
+wrong_is view (Err (error.NoMailbox w)) words h = wrong_from None words (error.NoMailbox w) h

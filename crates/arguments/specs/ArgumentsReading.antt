@@ -1,0 +1,53 @@
+-- What the reader of arguments computes, piece by piece. No public contract cites this.
+use Rattle.std.specs.Prelude.{◌≡◌, ℕ, Bool, true, false, List, [], ◌∷◌, length, ◌==◌, if◌then◌else◌, Option, Some, None, Result, Ok, Err, codes, bytes_eq}
+use Rattle.hex.specs.declared.error.FromHexError.{FromHexError}
+use Rattle.hex.specs.Hex.{decode_sized}
+use Rattle.arguments.specs.declared.arguments.Arguments.{Arguments}
+use Rattle.arguments.specs.declared.arguments.ArgumentsError.{ArgumentsError}
+use Rattle.arguments.specs.declared.arguments.ArgumentsError.TheVariants as error
+use Rattle.arguments.specs.Arguments.{zero_seed, default_arguments}
+use Rattle.sip_text.specs.Reading.{◌>>=◌, plain_up_to}
+
+abbrev pub value_of : Result (List ℕ) FromHexError → Option (List ℕ)
+value_of (Ok seed) = Some seed
+value_of (Err e) = None
+
+unfoldable pub seed_of : List ℕ → Option (List ℕ)
+seed_of digits = value_of (decode_sized digits 32)
+
+unfoldable pub workers_of : List ℕ → Option ℕ
+workers_of word = do
+  n ← plain_up_to 256 word
+  if n == 0 then None else Some n
+
+-- the workers and the mailboxes
+unfoldable pub crew_at : List ℕ → Bool → List (List ℕ) → Option Arguments
+crew_at seed stop [] = None
+crew_at seed stop (word ∷ mailboxes) = do
+  n ← workers_of word
+  if length mailboxes == 0 then None else Some (record { seed = seed; stop = stop; workers = n; mailboxes = mailboxes })
+
+-- what stands behind the seed
+unfoldable pub stop_at : List ℕ → List (List ℕ) → Option Arguments
+stop_at seed [] = crew_at seed false []
+stop_at seed (flag ∷ words) = if bytes_eq flag (codes "--stop") then crew_at seed true words else crew_at seed false (flag ∷ words)
+
+-- what stands behind the first word
+unfoldable pub script_at : List (List ℕ) → Option Arguments
+script_at [] = stop_at zero_seed []
+script_at (word ∷ []) = stop_at zero_seed (word ∷ [])
+script_at (flag ∷ digits ∷ words) =
+    if bytes_eq flag (codes "--seed") then (seed_of digits >>= λ seed. stop_at seed words) else stop_at zero_seed (flag ∷ digits ∷ words)
+
+unfoldable pub arguments_of : List (List ℕ) → Option Arguments
+arguments_of [] = Some default_arguments
+arguments_of (program ∷ words) = if bytes_eq program (codes "script") then script_at words else None
+
+abbrev pub ArgumentsFail : ArgumentsError → Option Arguments → Type 0
+ArgumentsFail error.NoMemory read = Unit {0}
+ArgumentsFail error.Bad read = read ≡ None
+
+-- what a function returned is what the function on lists gives, unless memory ran out
+abbrev pub GivesArguments : Result Arguments ArgumentsError → Option Arguments → Type 0
+GivesArguments (Ok a) read = read ≡ Some a
+GivesArguments (Err e) read = ArgumentsFail e read

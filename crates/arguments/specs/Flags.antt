@@ -1,0 +1,56 @@
+-- The options of `notifyd serve` that have a value: how each is written, and which numbers it takes.
+use Rattle.std.specs.Prelude.{ℕ, List, codes}
+use Rattle.arguments.specs.declared.flag.Place.{Place}
+use Rattle.arguments.specs.declared.flag.Place.TheVariants as place
+use Rattle.arguments.specs.declared.flag.Bound.{Bound}
+use Rattle.arguments.specs.declared.flag.Bound.TheVariants as bound
+use Rattle.arguments.specs.declared.flag.Flag.{Flag}
+use Rattle.arguments.specs.declared.flag.Flag.TheVariants as flag
+
+abbrev pub place_text : Place → List ℕ
+place_text place.Listen = codes "--listen"
+place_text place.Contact = codes "--contact"
+place_text place.Control = codes "--control"
+
+abbrev pub bound_text : Bound → List ℕ
+bound_text bound.Workers = codes "--workers"
+bound_text bound.MinTime = codes "--min-time"
+bound_text bound.MaxTime = codes "--max-time"
+bound_text bound.DefaultTime = codes "--default-time"
+bound_text bound.ReferTime = codes "--refer-time"
+bound_text bound.MaxCseq = codes "--max-cseq"
+bound_text bound.Table = codes "--table"
+bound_text bound.Serials = codes "--serials"
+bound_text bound.Kept = codes "--kept"
+bound_text bound.Inbox = codes "--inbox"
+bound_text bound.Outbox = codes "--outbox"
+bound_text bound.Repeats = codes "--repeats"
+bound_text bound.Linger = codes "--linger"
+
+abbrev pub flag_text : Flag → List ℕ
+flag_text (flag.Address place) = place_text place
+flag_text (flag.Number bound) = bound_text bound
+flag_text flag.MailboxFile = codes "--mailboxes"
+flag_text flag.Seed = codes "--seed"
+
+-- the least number that an option takes
+abbrev pub least : Bound → ℕ
+least bound.Repeats = 0
+least bound.Linger = 0
+least other = 1
+
+-- the greatest number that an option takes
+abbrev pub most : Bound → ℕ
+most bound.Workers = 256
+most bound.MinTime = 3600
+most bound.MaxTime = 4294967295
+most bound.DefaultTime = 4294967295
+most bound.ReferTime = 4294967295
+most bound.MaxCseq = 2147483647
+most bound.Table = 65536
+most bound.Serials = 4294967295
+most bound.Kept = 4096
+most bound.Inbox = 65536
+most bound.Outbox = 65536
+most bound.Repeats = 65536
+most bound.Linger = 32

@@ -1,0 +1,15 @@
+pub mod Choices
+pub mod Flags
+pub mod MailboxFile
+pub mod Reading
+pub mod Settings
+pub mod Tell
+pub mod TellReading
+pub mod Arguments
+pub mod ArgumentsReading
+pub mod UdpArguments
+pub mod UdpReading
+pub mod Either
+pub mod Boxes
+pub mod Status
+pub mod Setup

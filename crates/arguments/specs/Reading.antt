@@ -1,0 +1,134 @@
+-- What the reader of settings computes, piece by piece. No public contract cites this.
+use Rattle.std.specs.Prelude.{◌≡◌, ℕ, List, [], ◌∷◌, ◌++◌, if◌then◌else◌, nat_lt, Option, Some, None, Result, Ok, Err, codes, bytes_eq}
+use Rattle.std.specs.Str.{byte}
+use Rattle.hex.specs.declared.error.FromHexError.{FromHexError}
+use Rattle.hex.specs.Hex.{decode_sized}
+use Rattle.sip_text.specs.Reading.{◌>>=◌, begins, addr_of, plain_up_to}
+use Rattle.package.specs.Texts.{is_word}
+use Rattle.arguments.specs.declared.flag.Place.{Place}
+use Rattle.arguments.specs.declared.flag.Place.TheVariants as place
+use Rattle.arguments.specs.declared.flag.Bound.{Bound}
+use Rattle.arguments.specs.declared.flag.Bound.TheVariants as bound
+use Rattle.arguments.specs.declared.flag.Flag.{Flag}
+use Rattle.arguments.specs.declared.flag.Flag.TheVariants as flag
+use Rattle.arguments.specs.declared.setting.Setting.{Setting}
+use Rattle.arguments.specs.declared.setting.Setting.TheVariants as setting
+use Rattle.arguments.specs.declared.error.OptionsError.{OptionsError}
+use Rattle.arguments.specs.declared.error.OptionsError.TheVariants as error
+use Rattle.arguments.specs.Flags.{least, most, place_text, bound_text}
+
+-- ---- the option that a word is
+
+abbrev pub find_text : {X : Type 0} → (X → List ℕ) → List X → List ℕ → Option X
+find_text text [] word = None
+find_text text (x ∷ xs) word = if bytes_eq word (text x) then Some x else find_text text xs word
+
+abbrev pub places : List Place
+places = place.Listen ∷ place.Contact ∷ place.Control ∷ []
+
+abbrev pub times : List Bound
+times = bound.MinTime ∷ bound.MaxTime ∷ bound.DefaultTime ∷ bound.ReferTime ∷ bound.Linger ∷ []
+
+abbrev pub counts : List Bound
+counts = bound.Workers ∷ bound.MaxCseq ∷ bound.Table ∷ bound.Serials ∷ bound.Kept ∷ bound.Inbox ∷ bound.Outbox ∷ bound.Repeats ∷ []
+
+unfoldable pub place_of : List ℕ → Option Place
+place_of word = find_text place_text places word
+
+unfoldable pub time_of : List ℕ → Option Bound
+time_of word = find_text bound_text times word
+
+unfoldable pub count_of : List ℕ → Option Bound
+count_of word = find_text bound_text counts word
+
+abbrev pub or_else : {X : Type 0} → Option X → Option X → Option X
+or_else (Some x) other = Some x
+or_else None other = other
+
+unfoldable pub bound_of : List ℕ → Option Bound
+bound_of word = or_else (time_of word) (count_of word)
+
+abbrev pub number_flag : Option Bound → Option Flag
+number_flag (Some b) = Some (flag.Number b)
+number_flag None = None
+
+unfoldable pub other_of : List ℕ → Option Flag
+other_of word =
+    if bytes_eq word (codes "--mailboxes") then Some flag.MailboxFile
+    else if bytes_eq word (codes "--seed") then Some flag.Seed
+    else number_flag (bound_of word)
+
+abbrev pub address_flag : Option Place → Option Flag → Option Flag
+address_flag (Some p) other = Some (flag.Address p)
+address_flag None other = other
+
+unfoldable pub flag_of : List ℕ → Option Flag
+flag_of word = address_flag (place_of word) (other_of word)
+
+-- ---- values
+
+abbrev pub or_bad : Flag → Option Setting → Result Setting OptionsError
+or_bad flag (Some s) = Ok s
+or_bad flag None = Err (error.Bad flag)
+
+abbrev pub value_of : Result (List ℕ) FromHexError → Option (List ℕ)
+value_of (Ok seed) = Some seed
+value_of (Err e) = None
+
+unfoldable pub seed_of : List ℕ → Option (List ℕ)
+seed_of digits = value_of (decode_sized digits 32)
+
+-- a number from the least to the most
+unfoldable pub between : ℕ → ℕ → List ℕ → Option ℕ
+between least most word = do
+  n ← plain_up_to most word
+  if nat_lt n least then None else Some n
+
+unfoldable pub valued : Flag → List ℕ → Result Setting OptionsError
+valued (flag.Address place) value = or_bad (flag.Address place) (addr_of value >>= λ a. Some (setting.Address place a))
+valued (flag.Number bound) value = or_bad (flag.Number bound) (between (least bound) (most bound) value >>= λ n. Some (setting.Number bound n))
+valued flag.MailboxFile value = Ok (setting.MailboxFile value)
+valued flag.Seed value = or_bad flag.Seed (seed_of value >>= λ s. Some (setting.Seed s))
+
+-- a word that takes no value
+unfoldable pub alone : List ℕ → Result Setting OptionsError
+alone word =
+    if bytes_eq word (codes "--keep-subscriptions") then Ok setting.KeepSubscriptions
+    else if begins (byte "-") word then Err (error.Unknown word)
+    else if is_word word then Ok (setting.Mailbox word)
+    else Err (error.NoMailbox word)
+
+-- ---- all words
+
+abbrev pub then_more : Result Setting OptionsError → Result (List Setting) OptionsError → Result (List Setting) OptionsError
+then_more (Err e) more = Err e
+then_more (Ok s) (Ok settings) = Ok (s ∷ settings)
+then_more (Ok s) (Err e) = Err e
+
+-- what the words say from a word on that may be an option: that option waits for its value, or the word stands alone
+abbrev pub by_flag : Option Flag → Result Setting OptionsError → (Option Flag → Result (List Setting) OptionsError) → Result (List Setting) OptionsError
+by_flag (Some flag) setting more = more (Some flag)
+by_flag None setting more = then_more setting (more None)
+
+-- the settings of these words, before which an option stands that waits for its value, or none
+unfoldable pub settings_from : Option Flag → List (List ℕ) → Result (List Setting) OptionsError
+settings_from None [] = Ok []
+settings_from (Some flag) [] = Err (error.Missing flag)
+settings_from None (word ∷ words) = by_flag (flag_of word) (alone word) (λ waiting. settings_from waiting words)
+settings_from (Some flag) (word ∷ words) = then_more (valued flag word) (settings_from None words)
+
+-- settings, and then these
+abbrev pub with_front : List Setting → Result (List Setting) OptionsError → Result (List Setting) OptionsError
+with_front front (Ok settings) = Ok (front ++ settings)
+with_front front (Err e) = Err e
+
+-- ---- what code returns
+
+-- what a function returned, seen by view, is what the function on lists gives, unless memory ran out
+abbrev pub Reads : {X Y : Type 0} → (X → Y) → Result X OptionsError → Result Y OptionsError → Type 0
+Reads view (Ok x) read = read ≡ Ok (view x)
+Reads view (Err error.NoMemory) read = Unit {0}
+Reads view (Err (error.Missing flag)) read = read ≡ Err (error.Missing flag)
+Reads view (Err (error.Bad flag)) read = read ≡ Err (error.Bad flag)
+Reads view (Err (error.Unknown word)) read = read ≡ Err (error.Unknown word)
+Reads view (Err (error.NoMailbox word)) read = read ≡ Err (error.NoMailbox word)

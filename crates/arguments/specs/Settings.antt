@@ -1,0 +1,77 @@
+-- What the words of `notifyd serve` say.
+--
+--   words    = *setting
+--   setting  = ("--listen" / "--contact" / "--control") address
+--            / ("--workers" / "--min-time" / "--max-time" / "--default-time" / "--refer-time" / "--linger" / "--max-cseq" / "--table"
+--              / "--serials" / "--kept" / "--inbox" / "--outbox" / "--repeats") number
+--            / "--mailboxes" path
+--            / "--seed" digits                    ; 64 hex digits of either case
+--            / "--keep-subscriptions"
+--            / mailbox                            ; no space, no control character, and no `-` in front
+--   address  = octet "." octet "." octet "." octet ":" port
+--
+-- Numbers are decimal without leading zeros, from the least to the greatest that the option takes.
+use Rattle.std.specs.Prelude.{◌≡◌, ◌≢◌, ℕ, ◌≤◌, true, false, List, [], ◌∷◌, ◌++◌, codes, decimal, Result, Ok, Err}
+use Rattle.std.specs.Str.{byte}
+use Rattle.hex.specs.Hex.{decode_sized}
+use Rattle.sip_text.specs.Addresses.{addr_text, IsAddr}
+use Rattle.sip_text.specs.Reading.{begins}
+use Rattle.package.specs.Texts.{is_word}
+use Rattle.arguments.specs.declared.flag.Flag.{Flag}
+use Rattle.arguments.specs.declared.setting.Setting.{Setting}
+use Rattle.arguments.specs.declared.setting.Setting.TheVariants as setting
+use Rattle.arguments.specs.declared.error.OptionsError.{OptionsError}
+use Rattle.arguments.specs.declared.error.OptionsError.TheVariants as error
+use Rattle.arguments.specs.Flags.{place_text, bound_text, flag_text, least, most}
+
+-- a name that a mailbox may have
+pub record IsMailbox (name : List ℕ) : Type 0 where
+  pub word : is_word name ≡ true
+  pub no_option : begins (byte "-") name ≡ false
+
+-- the words are this setting
+abbrev pub IsSetting : List (List ℕ) → Setting → Type 0
+IsSetting words (setting.Address place addr) = IsAddr addr × (words ≡ place_text place ∷ addr_text addr ∷ [])
+IsSetting words (setting.Number bound n) = (least bound ≤ n) × (n ≤ most bound) × (words ≡ bound_text bound ∷ decimal n ∷ [])
+IsSetting words (setting.MailboxFile path) = words ≡ codes "--mailboxes" ∷ path ∷ []
+IsSetting words (setting.Seed seed) =
+    (digits : List ℕ) × (words ≡ codes "--seed" ∷ digits ∷ []) × (decode_sized digits 32 ≡ Ok seed)
+IsSetting words setting.KeepSubscriptions = words ≡ codes "--keep-subscriptions" ∷ []
+IsSetting words (setting.Mailbox name) = IsMailbox name × (words ≡ name ∷ [])
+
+-- the words are these settings, one behind the other
+abbrev pub AreSettings : List (List ℕ) → List Setting → Type 0
+AreSettings words [] = words ≡ []
+AreSettings words (s ∷ settings) =
+    (front rest : List (List ℕ)) × (words ≡ front ++ rest) × IsSetting front s × AreSettings rest settings
+
+-- the words begin with what is wrong in this way
+abbrev pub BeginsWrong : List (List ℕ) → OptionsError → Type 0
+BeginsWrong words (error.Missing flag) = words ≡ flag_text flag ∷ []
+BeginsWrong words (error.Bad flag) =
+    (value : List ℕ) × (rest : List (List ℕ)) × (words ≡ flag_text flag ∷ value ∷ rest)
+    × ((s : Setting) → ¬ (IsSetting (flag_text flag ∷ value ∷ []) s))
+BeginsWrong words (error.Unknown word) =
+    (rest : List (List ℕ)) × (words ≡ word ∷ rest) × (begins (byte "-") word ≡ true) × (word ≢ codes "--keep-subscriptions")
+    × ((flag : Flag) → word ≢ flag_text flag)
+BeginsWrong words (error.NoMailbox word) =
+    (rest : List (List ℕ)) × (words ≡ word ∷ rest) × ¬ (IsMailbox word) × (begins (byte "-") word ≡ false)
+BeginsWrong words error.NoMemory = Unit {0}
+
+-- behind words that are settings, the words are wrong in this way
+pub record AreWrong (words : List (List ℕ)) (e : OptionsError) : Type 0 where
+  pub front : List (List ℕ)
+  pub settings : List Setting
+  pub are_settings : AreSettings front settings
+  pub rest : List (List ℕ)
+  pub whole : words ≡ front ++ rest
+  pub wrong : BeginsWrong rest e
+
+-- the call answered this, seen by view, or memory ran out
+abbrev pub Answers : {X : Type 0} → (X → List Setting) → Result X OptionsError → List Setting → Type 0
+Answers view (Ok x) settings = view x ≡ settings
+Answers view (Err error.NoMemory) settings = Unit {0}
+Answers view (Err (error.Missing flag)) settings = ⊥
+Answers view (Err (error.Bad flag)) settings = ⊥
+Answers view (Err (error.Unknown word)) settings = ⊥
+Answers view (Err (error.NoMailbox word)) settings = ⊥

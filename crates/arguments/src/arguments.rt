@@ -1,0 +1,193 @@
+//! The program's arguments.
+ghost use Rattle.std.specs.Prelude.{◌≡◌, IfOk, IfErr, Some};
+ghost use Rattle.arguments.specs.declared.arguments.Arguments.{Arguments};
+ghost use Rattle.arguments.specs.declared.arguments.ArgumentsError.TheVariants.{NoMemory};
+ghost use Rattle.arguments.specs.Arguments.{default_arguments, AreArguments, AnswersArguments};
+ghost use Rattle.arguments.specs.ArgumentsReading.{seed_of, workers_of, crew_at, stop_at, script_at, arguments_of, GivesArguments};
+ghost use Rattle.sip_text.specs.Bytes.{Finds};
+ghost use Rattle.sip_text.specs.Reading.{plain_up_to};
+
+use hex::FromHex;
+use sip_text::{NoMemory as NoRoom, Text, Values, plain_number};
+use std::alloc::{AllocError, AllocFailed, Global};
+use thiserror::Error;
+
+/// What the program was asked to do.
+#[derive(Debug, Drop)]
+pub struct Arguments {
+    /// From which the words of local tags are drawn.
+    pub seed: [u8; 32],
+    /// Whether the script ends with a planned stop.
+    pub stop: bool,
+    /// 1 to 256.
+    pub workers: u32,
+    /// One or more.
+    pub mailboxes: Values<Text>,
+}
+
+/// Why arguments could not be read.
+#[derive(Clone, Copy, Debug, PartialEq, Eq, Error)]
+pub enum ArgumentsError {
+    /// They are none of the program's: a wrong word, a number out of its range, no mailbox.
+    #[error("bad arguments")]
+    Bad,
+    /// A growth was refused: there is no memory.
+    #[error("out of memory")]
+    NoMemory,
+}
+
+impl From<NoRoom> for ArgumentsError {
+    ghost from_gives = { λ _ e. e ≡ NoMemory };
+
+    fn from(_refused: NoRoom) -> ArgumentsError {
+        ArgumentsError::NoMemory
+    }
+}
+
+impl From<AllocError> for ArgumentsError {
+    ghost from_gives = { λ _ e. e ≡ NoMemory };
+
+    fn from(_refused: AllocError) -> ArgumentsError {
+        ArgumentsError::NoMemory
+    }
+}
+
+impl<T: Drop> From<AllocFailed<T>> for ArgumentsError {
+    ghost from_gives = { λ _ e. e ≡ NoMemory };
+
+    fn from(_refused: AllocFailed<T>) -> ArgumentsError {
+        ArgumentsError::NoMemory
+    }
+}
+
+/// 32 bytes from 64 hex digits.
+#[tactic(auto, unfolding(crate::specs::ArgumentsReading::seed_of))]
+pub(crate) fn seed_of(digits: &str) -> Option<[u8; 32]>
+    ensures { Finds (λ x. x) result (seed_of digits.now) }
+{
+    match <[u8; 32] as FromHex>::from_hex(digits) {
+        Ok(seed) => Some(seed),
+        Err(_) => None,
+    }
+}
+
+/// A number of workers.
+#[tactic(auto, unfolding(crate::specs::ArgumentsReading::workers_of))]
+pub(crate) fn workers_of(word: &str) -> Option<u32>
+    ensures { Finds (λ x. x) result (workers_of word.now) }
+{
+    let number = up_to_256(word.as_bytes())?;
+    if number == 0 { None } else { Some(number) }
+}
+
+#[tactic(auto, unfolding(sip_text::specs::Reading::plain_up_to))]
+fn up_to_256(word: &[u8]) -> Option<u32>
+    ensures { Finds (λ x. x) result (plain_up_to 256 word.now) }
+{
+    let number = plain_number(word)?;
+    if number <= 256 {
+        Some(number as u32)
+    } else {
+        None
+    }
+}
+
+/// Copies of these texts.
+pub(crate) fn copies_of(alloc: Global, texts: &[Text]) -> Result<Vec<Text>, ArgumentsError>
+    ensures copied { IfOk result (λ copies. copies.items ≡ texts.now) }
+    ensures no_memory { IfErr result (λ e. e ≡ ArgumentsError.NoMemory) }
+{
+    let mut copies = Vec::new(alloc);
+    for text in texts {
+        copies.push(text.copy(alloc)?)?;
+    }
+    Ok(copies)
+}
+
+/// The workers and the mailboxes.
+#[tactic(auto, unfolding(crate::specs::ArgumentsReading::crew_at))]
+fn crew_at(
+    alloc: Global,
+    seed: [u8; 32],
+    stop: bool,
+    words: &[Text],
+) -> Result<Arguments, ArgumentsError>
+    ensures { GivesArguments result (crew_at seed stop words.now) }
+{
+    let [word, mailboxes @ ..] = words else {
+        return Err(ArgumentsError::Bad);
+    };
+    let Some(workers) = workers_of(word.as_str()) else {
+        return Err(ArgumentsError::Bad);
+    };
+    if mailboxes.is_empty() {
+        return Err(ArgumentsError::Bad);
+    }
+    let mailboxes = copies_of(alloc, mailboxes)?;
+    Ok(Arguments {
+        seed,
+        stop,
+        workers,
+        mailboxes: Values::new(mailboxes),
+    })
+}
+
+/// What stands behind the seed.
+#[tactic(auto, unfolding(crate::specs::ArgumentsReading::stop_at))]
+fn stop_at(alloc: Global, seed: [u8; 32], words: &[Text]) -> Result<Arguments, ArgumentsError>
+    ensures { GivesArguments result (stop_at seed words.now) }
+{
+    match words {
+        [flag, words @ ..] if flag.is("--stop") => crew_at(alloc, seed, true, words),
+        _ => crew_at(alloc, seed, false, words),
+    }
+}
+
+/// What stands behind the first word.
+#[tactic(auto, unfolding(crate::specs::ArgumentsReading::script_at))]
+fn script_at(alloc: Global, words: &[Text]) -> Result<Arguments, ArgumentsError>
+    ensures { GivesArguments result (script_at words.now) }
+{
+    match words {
+        [flag, digits, words @ ..] if flag.is("--seed") => match seed_of(digits.as_str()) {
+            Some(seed) => stop_at(alloc, seed, words),
+            None => Err(ArgumentsError::Bad),
+        },
+        _ => stop_at(alloc, [0; 32], words),
+    }
+}
+
+/// What no arguments mean.
+fn default_arguments(alloc: Global) -> Result<Arguments, ArgumentsError>
+    ensures { GivesArguments result (Some default_arguments) }
+{
+    let mut mailboxes = Vec::new(alloc);
+    mailboxes.push(Text::of(alloc, "alice")?)?;
+    Ok(Arguments {
+        seed: [0; 32],
+        stop: false,
+        workers: 1,
+        mailboxes: Values::new(mailboxes),
+    })
+}
+
+#[tactic(auto, unfolding(crate::specs::ArgumentsReading::arguments_of))]
+fn arguments_of(alloc: Global, words: &[Text]) -> Result<Arguments, ArgumentsError>
+    ensures { GivesArguments result (arguments_of words.now) }
+{
+    match words {
+        [] => default_arguments(alloc),
+        [program, words @ ..] if program.is("script") => script_at(alloc, words),
+        _ => Err(ArgumentsError::Bad),
+    }
+}
+
+/// What the words behind the program's name ask for.
+pub fn parse_arguments(alloc: Global, words: &[Text]) -> Result<Arguments, ArgumentsError>
+    // What is answered is what the words mean.
+    ensures found { IfOk result (AreArguments words.now) }
+    // What the words mean is answered, unless memory runs out.
+    ensures only { (a : Arguments) → AreArguments words.now a → AnswersArguments result a }
+{
+    arguments_of(alloc, words)
+}

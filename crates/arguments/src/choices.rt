@@ -1,0 +1,147 @@
+//! What `notifyd serve` does by its settings.
+ghost use Rattle.std.specs.Prelude.{◌≡◌};
+ghost use Rattle.arguments.specs.Choices as spec;
+ghost use Rattle.arguments.specs.Choices.{default_choices, default_numbers, with_number, with_address, after};
+
+use crate::flag::{Bound, Place};
+use crate::setting::Setting;
+use sip_text::Addr;
+
+/// The numbers of the options; times are seconds. Which of them go together, `Limits::new` of the crate `notifier` decides.
+#[derive(Clone, Copy, Debug)]
+pub struct Numbers {
+    /// None: one a processor.
+    pub workers: Option<u32>,
+    pub min_time: u32,
+    pub max_time: u32,
+    pub default_time: u32,
+    pub refer_time: u32,
+    pub max_cseq: u32,
+    pub table: u32,
+    pub serials: u32,
+    pub kept: u32,
+    pub inbox: u32,
+    pub outbox: u32,
+    /// How many NOTIFYs at a time may wait for their answers and be sent again (RFC 3261 section 17.1.2). 0: each is sent once.
+    pub repeats: u32,
+    /// How long at most a planned stop waits for the answers to the last NOTIFYs.
+    pub linger: u32,
+}
+
+/// What the service does, but for its mailboxes.
+#[derive(Clone, Copy, Debug)]
+pub struct Choices {
+    /// Where datagrams come in.
+    pub listen: Addr,
+    /// Where phones reach the service, if that is another address.
+    pub contact: Option<Addr>,
+    /// Where control lines come in.
+    pub control: Addr,
+    pub numbers: Numbers,
+    /// From which the words of local tags are drawn. None: from the system's randomness.
+    pub seed: Option<[u8; 32]>,
+    /// Whether nobody is told at the end.
+    pub keep_subscriptions: bool,
+}
+
+/// 127.0.0.1 with this port.
+const fn loopback(port: u16) -> Addr
+    ensures { result ≡ spec.loopback port }
+{
+    Addr {
+        ip: [127, 0, 0, 1],
+        port,
+    }
+}
+
+impl Numbers {
+    /// Those of a service of which nothing was said.
+    fn defaults() -> Numbers
+        ensures { result ≡ default_numbers }
+    {
+        Numbers {
+            workers: None,
+            min_time: 60,
+            max_time: 86400,
+            default_time: 3600,
+            refer_time: 180,
+            max_cseq: 2147483647,
+            table: 16384,
+            serials: 4294967295,
+            kept: 4096,
+            inbox: 1024,
+            outbox: 1024,
+            repeats: 16384,
+            linger: 2,
+        }
+    }
+
+    fn set(&mut self, bound: Bound, number: u32)
+        ensures { self.new ≡ with_number bound number self.old }
+    {
+        match bound {
+            Bound::Workers => self.workers = Some(number),
+            Bound::MinTime => self.min_time = number,
+            Bound::MaxTime => self.max_time = number,
+            Bound::DefaultTime => self.default_time = number,
+            Bound::ReferTime => self.refer_time = number,
+            Bound::MaxCseq => self.max_cseq = number,
+            Bound::Table => self.table = number,
+            Bound::Serials => self.serials = number,
+            Bound::Kept => self.kept = number,
+            Bound::Inbox => self.inbox = number,
+            Bound::Outbox => self.outbox = number,
+            Bound::Repeats => self.repeats = number,
+            Bound::Linger => self.linger = number,
+        }
+    }
+}
+
+impl Choices {
+    /// What is done where nothing is set.
+    fn defaults() -> Choices
+        ensures { result ≡ default_choices }
+    {
+        Choices {
+            listen: loopback(5060),
+            contact: None,
+            control: loopback(5061),
+            numbers: Numbers::defaults(),
+            seed: None,
+            keep_subscriptions: false,
+        }
+    }
+
+    fn set_address(&mut self, place: Place, addr: Addr)
+        ensures { self.new ≡ with_address place addr self.old }
+    {
+        match place {
+            Place::Listen => self.listen = addr,
+            Place::Contact => self.contact = Some(addr),
+            Place::Control => self.control = addr,
+        }
+    }
+
+    fn set(&mut self, setting: &Setting)
+        ensures { self.new ≡ after self.old setting.now }
+    {
+        match setting {
+            Setting::Address(place, addr) => self.set_address(*place, *addr),
+            Setting::Number(bound, number) => self.numbers.set(*bound, *number),
+            Setting::Seed(seed) => self.seed = Some(*seed),
+            Setting::KeepSubscriptions => self.keep_subscriptions = true,
+            Setting::MailboxFile(_) | Setting::Mailbox(_) => {}
+        }
+    }
+
+    /// What the settings ask for; the last of one option counts.
+    pub fn of(settings: &[Setting]) -> Choices
+        ensures { result ≡ spec.choices_of settings.now }
+    {
+        let mut choices = Choices::defaults();
+        for setting in settings {
+            choices.set(setting);
+        }
+        choices
+    }
+}

@@ -1,0 +1,236 @@
+//! The options of `notifyd serve` that have a value.
+ghost use Rattle.std.specs.Prelude.{◌≡◌};
+ghost use Rattle.sip_text.specs.Bytes.{Finds};
+ghost use Rattle.arguments.specs.Flags as spec;
+ghost use Rattle.arguments.specs.Flags.{place_text, bound_text, flag_text};
+ghost use Rattle.arguments.specs.Reading.{place_of, time_of, count_of, bound_of, other_of, flag_of};
+
+use std::fmt;
+use std::fmt::{Display, Formatter};
+
+/// Where an address of the service is used.
+#[derive(Clone, Copy, Debug, PartialEq, Eq, Drop)]
+pub enum Place {
+    /// `--listen`: where datagrams come in.
+    Listen,
+    /// `--contact`: where phones reach the service, if that is another address.
+    Contact,
+    /// `--control`: where control lines come in.
+    Control,
+}
+
+/// An option whose value is a number.
+#[derive(Clone, Copy, Debug, PartialEq, Eq, Drop)]
+pub enum Bound {
+    Workers,
+    MinTime,
+    MaxTime,
+    DefaultTime,
+    ReferTime,
+    MaxCseq,
+    Table,
+    Serials,
+    Kept,
+    Inbox,
+    Outbox,
+    Repeats,
+    Linger,
+}
+
+/// An option that has a value.
+#[derive(Clone, Copy, Debug, PartialEq, Eq, Drop)]
+pub enum Flag {
+    Address(Place),
+    Number(Bound),
+    /// `--mailboxes`: a file that names mailboxes.
+    MailboxFile,
+    /// `--seed`: from which the words of local tags are drawn.
+    Seed,
+}
+
+impl Place {
+    /// As it is written.
+    pub fn text(self) -> &'static str
+        ensures { result.now ≡ place_text self }
+    {
+        match self {
+            Place::Listen => "--listen",
+            Place::Contact => "--contact",
+            Place::Control => "--control",
+        }
+    }
+}
+
+impl Bound {
+    /// As it is written.
+    pub fn text(self) -> &'static str
+        ensures { result.now ≡ bound_text self }
+    {
+        match self {
+            Bound::Workers => "--workers",
+            Bound::MinTime => "--min-time",
+            Bound::MaxTime => "--max-time",
+            Bound::DefaultTime => "--default-time",
+            Bound::ReferTime => "--refer-time",
+            Bound::MaxCseq => "--max-cseq",
+            Bound::Table => "--table",
+            Bound::Serials => "--serials",
+            Bound::Kept => "--kept",
+            Bound::Inbox => "--inbox",
+            Bound::Outbox => "--outbox",
+            Bound::Repeats => "--repeats",
+            Bound::Linger => "--linger",
+        }
+    }
+
+    /// The least number that it takes.
+    pub fn least(self) -> u32
+        ensures { result ≡ spec.least self }
+    {
+        match self {
+            Bound::Repeats | Bound::Linger => 0,
+            _ => 1,
+        }
+    }
+
+    /// The greatest number that it takes.
+    pub fn most(self) -> u32
+        ensures { result ≡ spec.most self }
+    {
+        match self {
+            Bound::Workers => 256,
+            Bound::MinTime => 3600,
+            Bound::MaxCseq => 2147483647,
+            Bound::Table | Bound::Inbox | Bound::Outbox | Bound::Repeats => 65536,
+            Bound::Kept => 4096,
+            Bound::Linger => 32,
+            Bound::MaxTime | Bound::DefaultTime | Bound::ReferTime | Bound::Serials => u32::MAX,
+        }
+    }
+}
+
+impl Flag {
+    /// As it is written.
+    pub fn text(self) -> &'static str
+        ensures { result.now ≡ flag_text self }
+    {
+        match self {
+            Flag::Address(place) => place.text(),
+            Flag::Number(bound) => bound.text(),
+            Flag::MailboxFile => "--mailboxes",
+            Flag::Seed => "--seed",
+        }
+    }
+}
+
+/// The option with the form of its value: `--workers <1 to 256>`.
+impl Display for Flag {
+    fn fmt<W: fmt::Write>(&self, f: &mut Formatter<W>) -> fmt::Result {
+        let text = self.text();
+        match *self {
+            Flag::Address(_) => write!(f, "{text} <a.b.c.d:port>"),
+            Flag::Number(bound) => {
+                let (least, most) = (bound.least(), bound.most());
+                write!(f, "{text} <{least} to {most}>")
+            }
+            Flag::MailboxFile => write!(f, "{text} <file>"),
+            Flag::Seed => write!(f, "{text} <64 hex digits>"),
+        }
+    }
+}
+
+#[tactic(auto, unfolding(crate::specs::Reading::place_of))]
+fn place_of(word: &str) -> Option<Place>
+    ensures { Finds (λ x. x) result (place_of word.now) }
+{
+    if word == "--listen" {
+        Some(Place::Listen)
+    } else if word == "--contact" {
+        Some(Place::Contact)
+    } else if word == "--control" {
+        Some(Place::Control)
+    } else {
+        None
+    }
+}
+
+/// An option whose value is a time in seconds.
+#[tactic(auto, unfolding(crate::specs::Reading::time_of))]
+fn time_of(word: &str) -> Option<Bound>
+    ensures { Finds (λ x. x) result (time_of word.now) }
+{
+    if word == "--min-time" {
+        Some(Bound::MinTime)
+    } else if word == "--max-time" {
+        Some(Bound::MaxTime)
+    } else if word == "--default-time" {
+        Some(Bound::DefaultTime)
+    } else if word == "--refer-time" {
+        Some(Bound::ReferTime)
+    } else if word == "--linger" {
+        Some(Bound::Linger)
+    } else {
+        None
+    }
+}
+
+/// An option whose value is a count.
+#[tactic(auto, unfolding(crate::specs::Reading::count_of))]
+fn count_of(word: &str) -> Option<Bound>
+    ensures { Finds (λ x. x) result (count_of word.now) }
+{
+    if word == "--workers" {
+        Some(Bound::Workers)
+    } else if word == "--max-cseq" {
+        Some(Bound::MaxCseq)
+    } else if word == "--table" {
+        Some(Bound::Table)
+    } else if word == "--serials" {
+        Some(Bound::Serials)
+    } else if word == "--kept" {
+        Some(Bound::Kept)
+    } else if word == "--inbox" {
+        Some(Bound::Inbox)
+    } else if word == "--outbox" {
+        Some(Bound::Outbox)
+    } else if word == "--repeats" {
+        Some(Bound::Repeats)
+    } else {
+        None
+    }
+}
+
+#[tactic(auto, unfolding(crate::specs::Reading::bound_of))]
+fn bound_of(word: &str) -> Option<Bound>
+    ensures { Finds (λ x. x) result (bound_of word.now) }
+{
+    match time_of(word) {
+        Some(bound) => Some(bound),
+        None => count_of(word),
+    }
+}
+
+/// An option whose value is no address.
+#[tactic(auto, unfolding(crate::specs::Reading::other_of))]
+fn other_of(word: &str) -> Option<Flag>
+    ensures { Finds (λ x. x) result (other_of word.now) }
+{
+    if word == "--mailboxes" {
+        Some(Flag::MailboxFile)
+    } else if word == "--seed" {
+        Some(Flag::Seed)
+    } else {
+        bound_of(word).map(Flag::Number)
+    }
+}
+
+/// The option that the word is.
+#[tactic(auto, unfolding(crate::specs::Reading::flag_of))]
+pub(crate) fn flag_of(word: &str) -> Option<Flag>
+    ensures { Finds (λ x. x) result (flag_of word.now) }
+{
+    match place_of(word) {
+        Some(place) => Some(Flag::Address(place)),
+        None => other_of(word),
+    }
+}

@@ -1,0 +1,147 @@
+//! What the words of `notifyd serve` say.
+ghost use Rattle.std.specs.Prelude.{◌≡◌, List, None, IfOk, IfErr};
+ghost use Rattle.sip_text.specs.Bytes.{Finds};
+ghost use Rattle.arguments.specs.declared.setting.Setting.{Setting};
+ghost use Rattle.arguments.specs.Settings.{AreSettings, AreWrong, Answers};
+ghost use Rattle.arguments.specs.Reading as spec;
+ghost use Rattle.arguments.specs.Reading.{seed_of, between, valued, alone, Reads};
+ghost use Rattle.sip_text.specs.Reading.{begins, plain_up_to};
+
+use crate::error::OptionsError;
+use crate::flag::{Bound, Flag, Place, flag_of};
+use hex::FromHex;
+use package::texts::is_word;
+use sip_text::{Addr, Text, plain_number};
+use std::alloc::Global;
+
+/// One thing that the words say.
+#[derive(Debug, Drop)]
+pub enum Setting {
+    /// `--listen`, `--contact` or `--control` with an address.
+    Address(Place, Addr),
+    /// An option with a number, from the least to the greatest that it takes.
+    Number(Bound, u32),
+    /// `--mailboxes` with the path of a file.
+    MailboxFile(Text),
+    /// `--seed` with 32 bytes.
+    Seed([u8; 32]),
+    /// `--keep-subscriptions`: no farewell at the end.
+    KeepSubscriptions,
+    /// The name of a mailbox.
+    Mailbox(Text),
+}
+
+/// 32 bytes from 64 hex digits.
+#[tactic(auto, unfolding(crate::specs::Reading::seed_of))]
+fn seed_of(digits: &str) -> Option<[u8; 32]>
+    ensures { Finds (λ x. x) result (seed_of digits.now) }
+{
+    match <[u8; 32] as FromHex>::from_hex(digits) {
+        Ok(seed) => Some(seed),
+        Err(_) => None,
+    }
+}
+
+#[tactic(auto, unfolding(sip_text::specs::Reading::plain_up_to))]
+fn up_to(most: u32, word: &[u8]) -> Option<u32>
+    ensures { Finds (λ x. x) result (plain_up_to most word.now) }
+{
+    let number = plain_number(word)?;
+    if number <= u64::from(most) {
+        Some(number as u32)
+    } else {
+        None
+    }
+}
+
+/// A number from the least to the most.
+#[tactic(auto, unfolding(crate::specs::Reading::between))]
+fn between(least: u32, most: u32, word: &[u8]) -> Option<u32>
+    ensures { Finds (λ x. x) result (between least most word.now) }
+{
+    let number = up_to(most, word)?;
+    if number < least { None } else { Some(number) }
+}
+
+/// What an option with this value says.
+#[tactic(auto, unfolding(crate::specs::Reading::valued))]
+fn valued(alloc: Global, flag: Flag, value: &Text) -> Result<Setting, OptionsError>
+    ensures { Reads (λ x. x) result (valued flag value.now) }
+{
+    let word = value.as_str();
+    let setting = match flag {
+        Flag::Address(place) => Addr::of(word.as_bytes()).map(|addr| Setting::Address(place, addr)),
+        Flag::Number(bound) => {
+            let number = between(bound.least(), bound.most(), word.as_bytes());
+            number.map(|number| Setting::Number(bound, number))
+        }
+        Flag::MailboxFile => Some(Setting::MailboxFile(value.copy(alloc)?)),
+        Flag::Seed => seed_of(word).map(Setting::Seed),
+    };
+    setting.ok_or(OptionsError::Bad(flag))
+}
+
+/// Whether it has `-` in front.
+pub(crate) fn is_dashed(word: &str) -> bool
+    ensures { result ≡ begins 45 word.now }
+{
+    matches!(word.as_bytes(), [b'-', ..])
+}
+
+/// What a word says that has no value behind it.
+#[tactic(auto, unfolding(crate::specs::Reading::alone))]
+fn alone(alloc: Global, word: &Text) -> Result<Setting, OptionsError>
+    ensures { Reads (λ x. x) result (alone word.now) }
+{
+    if word.is("--keep-subscriptions") {
+        return Ok(Setting::KeepSubscriptions);
+    }
+    let word = word.copy(alloc)?;
+    if is_dashed(word.as_str()) {
+        return Err(OptionsError::Unknown(word));
+    }
+    if is_word(word.as_str()) {
+        Ok(Setting::Mailbox(word))
+    } else {
+        Err(OptionsError::NoMailbox(word))
+    }
+}
+
+/// What the words say, in order.
+fn settings_of(alloc: Global, words: &[Text]) -> Result<Vec<Setting>, OptionsError>
+    ensures { Reads (λ v. v.items) result (spec.settings_from None words.now) }
+{
+    let mut settings = Vec::new(alloc);
+    let mut waiting = None;
+    for word in words {
+        match waiting.take() {
+            Some(flag) => {
+                let setting = valued(alloc, flag, word)?;
+                settings.push(setting)?;
+            }
+            None => match flag_of(word.as_str()) {
+                Some(flag) => waiting = Some(flag),
+                None => {
+                    let other = alone(alloc, word)?;
+                    settings.push(other)?;
+                }
+            },
+        }
+    }
+    match waiting {
+        Some(flag) => Err(OptionsError::Missing(flag)),
+        None => Ok(settings),
+    }
+}
+
+/// What the words behind `serve` say, in order.
+pub fn parse_settings(alloc: Global, words: &[Text]) -> Result<Vec<Setting>, OptionsError>
+    // What is answered is what the words say.
+    ensures found { IfOk result (λ settings. AreSettings words.now settings.items) }
+    // What the words say is answered, unless memory runs out.
+    ensures only { (settings : List Setting) → AreSettings words.now settings → Answers (λ v. v.items) result settings }
+    // An error names what is wrong first.
+    ensures wrong { IfErr result (AreWrong words.now) }
+{
+    settings_of(alloc, words)
+}

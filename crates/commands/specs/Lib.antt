@@ -1,0 +1,10 @@
+pub mod Plans
+pub mod Serving
+pub mod Refused
+pub mod Telling
+pub mod UdpCall
+pub mod UdpLines
+pub mod UdpHearing
+pub mod UdpServing
+pub mod UdpEnds
+pub mod UdpRunning

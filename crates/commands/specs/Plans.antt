@@ -1,0 +1,92 @@
+-- What the words behind `notifyd serve` ask for, and what its workers start from.
+use Rattle.std.specs.Prelude.{◌≡◌, ◌≢◌, ℕ, not, List, [], ◌∷◌, ◌++◌, Option, Some, None}
+use Rattle.std.specs.List.{All}
+use Rattle.sip_text.specs.declared.address.Addr.{Addr}
+use Rattle.notifier_model.specs.Limits.{Limits, AreLimits, IsWithin}
+use Rattle.notifier_model.specs.declared.place.Setup.{Setup}
+use Rattle.arguments.specs.declared.choices.Choices.{Choices}
+use Rattle.arguments.specs.declared.choices.Numbers.{Numbers}
+use Rattle.arguments.specs.declared.setting.Setting.{Setting}
+use Rattle.arguments.specs.declared.setting.Setting.TheVariants as setting
+use Rattle.arguments.specs.Choices.{choices_of}
+use Rattle.arguments.specs.Settings.{IsMailbox, AreSettings}
+use Rattle.commands.specs.declared.plan.Plan.{Plan}
+
+-- ---- mailboxes
+
+-- the setting names these mailboxes: those that a file names no contract can tell
+abbrev pub Names : Setting → List (List ℕ) → Type 0
+Names (setting.Address place addr) names = names ≡ []
+Names (setting.Number bound n) names = names ≡ []
+Names (setting.MailboxFile path) names = All IsMailbox names
+Names (setting.Seed seed) names = names ≡ []
+Names setting.KeepSubscriptions names = names ≡ []
+Names (setting.Mailbox name) names = names ≡ name ∷ []
+
+-- the settings name these, one behind the other
+abbrev pub AreNamed : List Setting → List (List ℕ) → Type 0
+AreNamed [] names = names ≡ []
+AreNamed (s ∷ settings) names = (front rest : List (List ℕ)) × (names ≡ front ++ rest) × Names s front × AreNamed settings rest
+
+-- ---- numbers
+
+abbrev pub limits_of : Numbers → Limits
+limits_of n = record {
+  min_time = n.min_time;
+  max_time = n.max_time;
+  default_time = n.default_time;
+  refer_time = n.refer_time;
+  max_cseq = n.max_cseq;
+  table = n.table;
+  serials = n.serials;
+  kept = n.kept;
+  inbox = n.inbox;
+  outbox = n.outbox;
+}
+
+-- so many workers, where a number was asked for or none
+abbrev pub IsCount : Option ℕ → ℕ → Type 0
+IsCount None n = IsWithin 1 256 n
+IsCount (Some asked) n = IsWithin 1 256 n × (IsWithin 1 256 asked → n ≡ asked)
+
+-- a seed that was asked for, or any
+abbrev pub IsSeed : Option (List ℕ) → List ℕ → Type 0
+IsSeed None seed = Unit {0}
+IsSeed (Some asked) seed = seed ≡ asked
+
+-- ---- all of it
+
+-- where a service is reached: at the address that was named for it, or else at this one
+abbrev pub reached : Option Addr → Addr → Addr
+reached (Some contact) local = contact
+reached None local = local
+
+-- phones are told an address of it, not 0.0.0.0, which is each address of a machine
+abbrev pub IsReached : Choices → Type 0
+IsReached choices = (reached choices.contact choices.listen).ip ≢ 0 ∷ 0 ∷ 0 ∷ 0 ∷ []
+
+-- the words choose this, and name these mailboxes
+pub record AreRead (words : List (List ℕ)) (choices : Choices) (mailboxes : List (List ℕ)) : Type 0 where
+  pub settings : List Setting
+  pub are_settings : AreSettings words settings
+  pub chosen : choices ≡ choices_of settings
+  pub named : AreNamed settings mailboxes
+
+-- the words ask for this
+pub record IsPlan (words : List (List ℕ)) (plan : Plan) : Type 0 where
+  pub read : AreRead words plan.choices plan.mailboxes.items
+  pub reached : IsReached plan.choices
+  pub some : plan.mailboxes.items ≢ []
+  pub limits : plan.limits ≡ limits_of plan.choices.numbers
+  pub within : AreLimits plan.limits
+  pub seed : IsSeed plan.choices.seed plan.seed
+  pub workers : IsCount plan.choices.numbers.workers plan.workers
+
+-- what the desks of the workers stand on, where the socket is here
+abbrev pub setup_of : Plan → Addr → Setup
+setup_of plan local = record {
+  limits = plan.limits;
+  seed = plan.seed;
+  me = reached plan.choices.contact local;
+  stop = not plan.choices.keep_subscriptions;
+}

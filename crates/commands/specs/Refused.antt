@@ -1,0 +1,143 @@
+-- Why no service runs, and the exit status of the program then.
+--
+--   status   cause
+--   0        none: it came to its end, and all went well
+--   1        the words ask for no service
+--   3        an address, a file, a thread or a socket can't be had, or one failed
+--   4        memory was wanting
+use Rattle.std.specs.Prelude.{◌≡◌, ◌⊎◌, ℕ, List, [], ◌∷◌, Some, slice_get, codes}
+use Rattle.notifier_model.specs.Limits.{AreLimits}
+use Rattle.arguments.specs.declared.choices.Choices.{Choices}
+use Rattle.arguments.specs.declared.error.OptionsError.{OptionsError}
+use Rattle.arguments.specs.declared.error.OptionsError.TheVariants as wrong
+use Rattle.arguments.specs.declared.flag.Flag.TheVariants as flag
+use Rattle.arguments.specs.declared.flag.Place.{Place}
+use Rattle.arguments.specs.declared.flag.Place.TheVariants as place
+use Rattle.arguments.specs.declared.setting.Setting.{Setting}
+use Rattle.arguments.specs.declared.setting.Setting.TheVariants as setting
+use Rattle.arguments.specs.MailboxFile.{IsNoLine}
+use Rattle.arguments.specs.Settings.{AreSettings, AreWrong}
+use Rattle.service.specs.declared.error.RunError.{RunError}
+use Rattle.service.specs.declared.error.RunError.TheVariants as run
+use Rattle.commands.specs.declared.error.ServeError.{ServeError}
+use Rattle.commands.specs.declared.error.ServeError.TheVariants as error
+use Rattle.commands.specs.Plans.{limits_of, IsReached, AreRead}
+use Rattle.commands.specs.Serving.{EndsWell}
+
+-- an address in another form may be a host that can't be found
+abbrev pub status_of_words : OptionsError → ℕ
+status_of_words (wrong.Missing option) = 1
+status_of_words (wrong.Bad (flag.Address place)) = 3
+status_of_words (wrong.Bad (flag.Number bound)) = 1
+status_of_words (wrong.Bad flag.MailboxFile) = 1
+status_of_words (wrong.Bad flag.Seed) = 1
+status_of_words (wrong.Unknown word) = 1
+status_of_words (wrong.NoMailbox word) = 1
+status_of_words wrong.NoMemory = 4
+
+abbrev pub status_of_line : OptionsError → ℕ
+status_of_line (wrong.Missing option) = 3
+status_of_line (wrong.Bad option) = 3
+status_of_line (wrong.Unknown word) = 3
+status_of_line (wrong.NoMailbox word) = 3
+status_of_line wrong.NoMemory = 4
+
+abbrev pub status_of : ServeError → ℕ
+status_of (error.Options e) = status_of_words e
+status_of error.Times = 1
+status_of error.NoContact = 1
+status_of error.NoMailbox = 1
+status_of (error.File path) = 3
+status_of (error.Line path line e) = status_of_line e
+status_of (error.Address place) = 3
+status_of error.System = 3
+status_of error.Device = 3
+status_of error.NoMemory = 4
+
+-- the crew of a service doesn't run for this cause
+abbrev pub of_run : RunError → ServeError
+of_run run.NoThread = error.System
+of_run run.NoMemory = error.NoMemory
+
+-- a service listens here: phones and the operator reach it by these two alone
+abbrev pub IsListened : Place → Type 0
+IsListened place.Listen = Unit {0}
+IsListened place.Contact = ⊥
+IsListened place.Control = Unit {0}
+
+-- a cause that isn't in the words
+abbrev pub IsOther : ServeError → Type 0
+IsOther (error.Options e) = ⊥
+IsOther error.Times = ⊥
+IsOther error.NoContact = ⊥
+IsOther error.NoMailbox = ⊥
+IsOther (error.File path) = ⊥
+IsOther (error.Line path line e) = ⊥
+IsOther (error.Address place) = IsListened place
+IsOther error.System = Unit {0}
+IsOther error.Device = Unit {0}
+IsOther error.NoMemory = Unit {0}
+
+-- ---- files of mailboxes
+
+-- a line names no mailbox for this cause
+abbrev pub IsOfLine : OptionsError → Type 0
+IsOfLine e = (line : List ℕ) × IsNoLine line e
+
+-- the file at this path can't be read, or a line of it, for this cause
+abbrev pub IsOfFile : List ℕ → ServeError → Type 0
+IsOfFile path (error.Options e) = ⊥
+IsOfFile path error.Times = ⊥
+IsOfFile path error.NoContact = ⊥
+IsOfFile path error.NoMailbox = ⊥
+IsOfFile path (error.File named) = named ≡ path
+IsOfFile path (error.Line named line e) = (named ≡ path) × IsOfLine e
+IsOfFile path (error.Address place) = ⊥
+IsOfFile path error.System = ⊥
+IsOfFile path error.Device = ⊥
+IsOfFile path error.NoMemory = Unit {0}
+
+-- the mailboxes of the setting can't be told for this cause
+abbrev pub IsOfSetting : Setting → ServeError → Type 0
+IsOfSetting (setting.Address place addr) e = e ≡ error.NoMemory
+IsOfSetting (setting.Number bound n) e = e ≡ error.NoMemory
+IsOfSetting (setting.MailboxFile path) e = IsOfFile path e
+IsOfSetting (setting.Seed seed) e = e ≡ error.NoMemory
+IsOfSetting setting.KeepSubscriptions e = e ≡ error.NoMemory
+IsOfSetting (setting.Mailbox name) e = e ≡ error.NoMemory
+
+-- the mailboxes of one of the settings can't be told for this cause
+abbrev pub IsOfOne : List Setting → ServeError → Type 0
+IsOfOne settings e = (k : ℕ) × (s : Setting) × (slice_get settings k ≡ Some s) × IsOfSetting s e
+
+-- the words name this file
+abbrev pub NameFile : List (List ℕ) → List ℕ → Type 0
+NameFile words path =
+    (settings : List Setting) × (k : ℕ) × AreSettings words settings × (slice_get settings k ≡ Some (setting.MailboxFile path))
+
+-- ---- all of it
+
+-- the words ask for no service for this cause. What stands in a file, and of the system and memory, no contract can tell
+abbrev pub IsRefusal : List (List ℕ) → ServeError → Type 0
+IsRefusal words (error.Options e) = AreWrong words e
+IsRefusal words error.Times =
+    (choices : Choices) × (names : List (List ℕ)) × AreRead words choices names × ¬ (AreLimits (limits_of choices.numbers))
+IsRefusal words error.NoContact = (choices : Choices) × (names : List (List ℕ)) × AreRead words choices names × ¬ (IsReached choices)
+IsRefusal words error.NoMailbox = (choices : Choices) × AreRead words choices []
+IsRefusal words (error.File path) = NameFile words path
+IsRefusal words (error.Line path line e) = NameFile words path × IsOfLine e
+IsRefusal words (error.Address place) = IsListened place
+IsRefusal words error.System = Unit {0}
+IsRefusal words error.Device = Unit {0}
+IsRefusal words error.NoMemory = Unit {0}
+
+-- ---- the exit status of `notifyd serve`
+
+-- the words ask for a text alone
+abbrev pub AskForText : List (List ℕ) → Type 0
+AskForText words = (words ≡ codes "--help" ∷ []) ⊎ (words ≡ codes "--version" ∷ [])
+
+-- 0 only where the words ask for a text, or for a service that ended well; any other is that of a cause
+abbrev pub IsStatus : List (List ℕ) → ℕ → Type 0
+IsStatus words status =
+    ((status ≡ 0) × (AskForText words ⊎ EndsWell words)) ⊎ ((e : ServeError) × IsRefusal words e × (status ≡ status_of e))

@@ -1,0 +1,24 @@
+-- What a thread hears by a wire, to its end.
+use Rattle.std.specs.Prelude.{◌≡◌, ℕ, List, Option, None}
+use Rattle.transport.specs.declared.datagram.Datagram.{Datagram}
+use Rattle.transport.specs.Wires.{Grows}
+use Rattle.crew.specs.Kept.{SameSeats}
+use Rattle.crew.specs.Ports.{PortSeats, IsShut}
+use Rattle.feeds.specs.Fed.{Log, datagrams, IsFed}
+use Rattle.feeds.specs.declared.feeding.FeedReport.{FeedReport}
+use Rattle.feeds.specs.declared.hearing.Language.{Language}
+
+-- an open port was fed with what the datagrams say that a wire gave, and then closed: each worker has its end mark then, or
+-- only some have it, and one at least has not, where a worker is gone
+pub record HearsOut (told told' : Option (List Datagram)) (language : Language) (count : ℕ) (old new : PortSeats) (report : FeedReport) : Type 0 where
+  pub log : Log
+  pub fed_to : PortSeats
+  pub given : Grows told told' (datagrams log)
+  pub fed : IsFed language count log old fed_to report
+  pub shut : new.still_open ≡ 0
+  pub ends : IsShut fed_to new
+  pub seats : SameSeats old new
+
+-- at a socket, which tells nothing of its datagrams
+abbrev pub HearsOutSocket : Language → ℕ → PortSeats → PortSeats → FeedReport → Type 0
+HearsOutSocket language count old new report = HearsOut None None language count old new report

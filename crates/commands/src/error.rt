@@ -1,0 +1,125 @@
+//! Why a service doesn't run.
+ghost use Rattle.std.specs.Prelude.{◌≡◌};
+ghost use Rattle.commands.specs.declared.error.ServeError.TheVariants as error;
+ghost use Rattle.commands.specs.Refused.{of_run, status_of, status_of_words};
+
+use arguments::{Flag, OptionsError, Place, Status};
+use service::RunError;
+use sip_text::{NoMemory, Text};
+use std::alloc::{AllocError, AllocFailed};
+use thiserror::Error;
+
+/// Why a service doesn't run, or has ended. The text is one line.
+#[derive(Debug, Drop, Error)]
+pub enum ServeError {
+    /// The arguments ask for no service.
+    #[error("{0}")]
+    Options(OptionsError),
+    /// The times of the limits don't go together.
+    #[error("times that don't go together: --min-time up to --default-time and --refer-time, and these up to --max-time")]
+    Times,
+    /// Phones would be told 0.0.0.0: it is named for them, or the service listens there and none is.
+    #[error("0.0.0.0 is no address for phones: --contact <a.b.c.d:port>")]
+    NoContact,
+    /// No mailbox is named.
+    #[error("no mailbox: name some, or a file of them with --mailboxes <file>")]
+    NoMailbox,
+    /// A file of mailboxes can't be read.
+    #[error("no such file, or it can't be read: {path}", path = .0.as_str())]
+    File(Text),
+    /// A line of a file of mailboxes names none.
+    #[error("{path}, line {line}: {error}", path = .0.as_str(), line = .1, error = .2)]
+    Line(Text, u64, OptionsError),
+    /// The address of an option can't be had: mostly its port is in use, or it isn't this machine's.
+    #[error("a port in use, or an address not of this machine: {option}", option = .0.text())]
+    Address(Place),
+    /// The system gave no thread, no socket for the bell, no clock or no randomness.
+    #[error("the system refused a thread, a socket, the clock or randomness")]
+    System,
+    /// A socket or the clock failed while the service ran, or its last lines could not be written.
+    #[error("device fault")]
+    Device,
+    /// A growth was refused: there is no memory.
+    #[error("out of memory")]
+    NoMemory,
+}
+
+/// The exit status where the words can't be read. An address in another form may be a host that can't be found.
+fn options_status(error: &OptionsError) -> u8
+    ensures { result ≡ status_of_words error.now }
+{
+    match error {
+        OptionsError::NoMemory => Status::OutOfMemory.code(),
+        OptionsError::Bad(Flag::Address(_)) => Status::DeviceFault.code(),
+        OptionsError::Bad(_)
+        | OptionsError::Missing(_)
+        | OptionsError::Unknown(_)
+        | OptionsError::NoMailbox(_) => Status::BadArguments.code(),
+    }
+}
+
+impl ServeError {
+    /// The exit status of the program: 1 where the words ask for no service, 4 where memory was wanted, and else 3, also where
+    /// an address is in another form.
+    pub fn status(&self) -> u8
+        ensures { result ≡ status_of self.now }
+    {
+        match self {
+            ServeError::Options(error) => options_status(error),
+            ServeError::Times | ServeError::NoContact | ServeError::NoMailbox => {
+                Status::BadArguments.code()
+            }
+            ServeError::Line(_, _, OptionsError::NoMemory) | ServeError::NoMemory => {
+                Status::OutOfMemory.code()
+            }
+            ServeError::Line(..)
+            | ServeError::File(_)
+            | ServeError::Address(_)
+            | ServeError::System
+            | ServeError::Device => Status::DeviceFault.code(),
+        }
+    }
+}
+
+impl From<OptionsError> for ServeError {
+    ghost from_gives = { λ wrong e. e ≡ error.Options wrong };
+
+    fn from(error: OptionsError) -> ServeError {
+        ServeError::Options(error)
+    }
+}
+
+impl From<NoMemory> for ServeError {
+    ghost from_gives = { λ _ e. e ≡ error.NoMemory };
+
+    fn from(_refused: NoMemory) -> ServeError {
+        ServeError::NoMemory
+    }
+}
+
+impl From<AllocError> for ServeError {
+    ghost from_gives = { λ _ e. e ≡ error.NoMemory };
+
+    fn from(_refused: AllocError) -> ServeError {
+        ServeError::NoMemory
+    }
+}
+
+impl<T: Drop> From<AllocFailed<T>> for ServeError {
+    ghost from_gives = { λ _ e. e ≡ error.NoMemory };
+
+    fn from(_refused: AllocFailed<T>) -> ServeError {
+        ServeError::NoMemory
+    }
+}
+
+impl From<RunError> for ServeError {
+    ghost from_gives = { λ run e. e ≡ of_run run };
+
+    fn from(error: RunError) -> ServeError {
+        match error {
+            RunError::NoThread => ServeError::System,
+            RunError::NoMemory => ServeError::NoMemory,
+        }
+    }
+}

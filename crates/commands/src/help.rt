@@ -1,0 +1,46 @@
+//! What `notifyd serve --help` and `--version` print.
+
+ghost use Rattle.std.specs.Prelude.{◌≢◌, None, IfSome};
+ghost use Rattle.commands.specs.Refused.{AskForText};
+
+use sip_text::Text;
+
+const VERSION: &str = "notifyd 1.0";
+
+const HELP: &str = "\
+usage: notifyd serve [options] [<mailbox>...]
+       notifyd tell [--control <a.b.c.d:port>] <line>
+
+  --listen <a.b.c.d:port>    where SIP datagrams come in (127.0.0.1:5060)
+  --contact <a.b.c.d:port>   where phones reach the service (as --listen)
+  --control <a.b.c.d:port>   where control lines come in (127.0.0.1:5061)
+  --workers <1 to 256>       worker threads (one a processor)
+  --mailboxes <file>         a mailbox a line; # in front: a comment
+  --seed <64 hex digits>     for local tags (the system's randomness)
+  --keep-subscriptions       no farewell at the end
+  --min-time <seconds>       the shortest time granted (60)
+  --max-time <seconds>       the longest time granted (86400)
+  --default-time <seconds>   granted to who asks for none (3600)
+  --refer-time <seconds>     granted to a REFER (180)
+  --max-cseq <number>        the last number of a NOTIFY (2147483647)
+  --table <1 to 65536>       live subscriptions of a worker (16384)
+  --serials <number>         subscriptions that a worker accepts (4294967295)
+  --kept <1 to 4096>         answers that a worker keeps (4096)
+  --inbox <1 to 65536>       places of a worker's inbox (1024)
+  --outbox <1 to 65536>      places of the outbox (1024)
+  --repeats <0 to 65536>     unanswered NOTIFYs that are sent again (16384)
+  --linger <0 to 32>         seconds that a stop waits for answers (2)
+
+Lines for tell: MAIL, PROGRESS, STATUS, CLOSE; see notifyd(8).";
+
+/// The text that the words ask for, where they ask for that alone.
+pub(crate) fn text_for(words: &[Text]) -> Option<&'static str>
+    ensures asked { IfSome result (λ _. AskForText words.now) }
+    ensures only { AskForText words.now → result ≢ None }
+{
+    match words {
+        [word] if word.is("--help") => Some(HELP),
+        [word] if word.is("--version") => Some(VERSION),
+        _ => None,
+    }
+}

@@ -1,0 +1,30 @@
+//! The commands of the program on a network: `notifyd serve`, `notifyd tell` and `notifyd udp`.
+//!
+//! [`serve`] reads the words behind it and the files that they name, binds the sockets, runs the crate `service` until a CLOSE, a
+//! fault of a socket or of the clock, or a worker that is gone, writes what its workers did, and answers the exit status of the
+//! program. [`serve_words`] is all of it up to that end, over any writer. [`tell`] sends a control line to a service that runs, and
+//! prints the answer. [`udp`] is the program for so many datagrams, at 127.0.0.1.
+//!
+//! What it isn't: what the threads of a service do is `service`'s, what the words mean `arguments`'s, and what a control line
+//! says `control_lines`'s. Of what is said on standard error, and of the answer that [`tell`] prints, no contract tells. Begin with
+//! [`serve_words`], then `specs/Plans` and `specs/Serving`, and with [`udp::run`], then `specs/UdpCall`, `specs/UdpServing` and
+//! `specs/UdpEnds`.
+#![tactic(auto)]
+
+mod asking;
+mod error;
+mod help;
+mod logging;
+mod mailboxes;
+pub mod plan;
+pub mod program;
+mod sockets;
+pub mod udp;
+mod udp_listening;
+mod udp_printing;
+mod udp_serving;
+
+pub use asking::{ask_by, tell};
+pub use error::ServeError;
+pub use plan::Plan;
+pub use program::{Served, serve, serve_words};

@@ -1,0 +1,44 @@
+//! What a service says on standard error: a line as it begins, a warning where others may reach the control address, and a line as it
+//! ends. Where nobody reads them it goes on.
+
+use service::{Bell, Shared};
+use sip_text::{Addr, NoMemory};
+use std::rt::Clock;
+use transport::UdpWire;
+
+/// Whether only this machine reaches the address.
+fn is_loopback(addr: Addr) -> bool {
+    addr.ip[0] == 127
+}
+
+/// Says where the service is, and warns of a control address that other machines may reach.
+pub(crate) fn say_hello<R: Eprint + AllocGlobal>(
+    rt: &R,
+    bell: &Bell<UdpWire>,
+    workers: u32,
+    mailboxes: usize,
+) -> Result<(), NoMemory> {
+    let sip = bell.sip.text(rt.alloc())?;
+    let control = bell.control.text(rt.alloc())?;
+    let _ = eprintln!(rt;
+        "notifyd: listening at {sip}, control at {control}, {workers} workers, {mailboxes} mailboxes"
+    );
+    if !is_loopback(bell.control) {
+        let _ = eprintln!(rt;
+            "notifyd: warning: other machines may reach the control address {control}"
+        );
+    }
+    Ok(())
+}
+
+/// Says what the service counted.
+pub(crate) fn say_goodbye<R: Eprint + Clock + AllocGlobal>(
+    rt: &R,
+    shared: &Shared,
+) -> Result<(), NoMemory> {
+    let seconds = shared.seconds(rt).unwrap_or(0);
+    let lines = shared.lines(rt.alloc(), seconds)?;
+    let line = lines.trim_end().replace(rt.alloc(), "\n", ", ")?;
+    let _ = eprintln!(rt; "notifyd: ended: {line}");
+    Ok(())
+}

@@ -1,0 +1,140 @@
+//! What a service begins with, by the words behind `serve`.
+ghost use Rattle.std.specs.Prelude.{◌≡◌, ◌↔◌, Some, IsTrue, IfOk, IfErr, OnErr};
+ghost use Rattle.notifier_model.specs.Limits.{AreLimits};
+ghost use Rattle.commands.specs.declared.error.ServeError.TheVariants as error;
+ghost use Rattle.commands.specs.Plans as spec;
+ghost use Rattle.commands.specs.Plans.{IsCount, IsSeed, IsReached, IsPlan};
+ghost use Rattle.commands.specs.Refused.{IsRefusal};
+
+use crate::error::ServeError;
+use crate::mailboxes::mailboxes_of;
+use arguments::{Choices, Numbers, parse_settings};
+use notifier_model::{Limits, Setup};
+use sip_text::{Addr, Text};
+use std::random::RandomSource;
+use std::rt::Files;
+use std::thread;
+use std::thread::Threads;
+
+/// What a service is to be, before a socket is open.
+#[derive(Drop)]
+pub struct Plan {
+    pub choices: Choices,
+    pub limits: Limits,
+    pub seed: [u8; 32],
+    pub workers: u32,
+    pub mailboxes: Vec<Text>,
+}
+
+/// The limits that the numbers ask for. Their times may not go together.
+fn limits_of(numbers: &Numbers) -> Result<Limits, ServeError>
+    ensures limits { IfOk result (λ limits. limits ≡ spec.limits_of numbers.now) }
+    ensures within { IfOk result AreLimits }
+    ensures times { OnErr result (¬ (AreLimits (spec.limits_of numbers.now))) }
+    ensures refused { IfErr result (λ e. e ≡ error.Times) }
+{
+    Limits::new(
+        numbers.min_time,
+        numbers.max_time,
+        numbers.default_time,
+        numbers.refer_time,
+        numbers.max_cseq,
+        numbers.table,
+        numbers.serials,
+        numbers.kept,
+        numbers.inbox,
+        numbers.outbox,
+    )
+    .ok_or(ServeError::Times)
+}
+
+/// The seed that was asked for, or 32 bytes of the system's randomness.
+fn seed_of<R: RandomSource>(rt: &R, asked: Option<[u8; 32]>) -> Result<[u8; 32], ServeError>
+    ensures seed { IfOk result (IsSeed asked) }
+    ensures refused { IfErr result (λ e. e ≡ error.System) }
+{
+    if let Some(seed) = asked {
+        return Ok(seed);
+    }
+    let mut seed = [0; 32];
+    match rt.fill_bytes(&mut seed) {
+        Ok(()) => Ok(seed),
+        Err(_) => Err(ServeError::System),
+    }
+}
+
+/// How many processors there are, as far as the system tells.
+fn processors<R: Threads>(rt: &R) -> u32 {
+    match thread::available_parallelism(rt) {
+        Ok(count) => u32::try_from(count.get()).unwrap_or(u32::MAX),
+        Err(_) => 1,
+    }
+}
+
+/// How many workers are asked for: without a number one a processor. From 1 to 256.
+fn workers_of<R: Threads>(rt: &R, asked: Option<u32>) -> u32
+    ensures { IsCount asked result }
+{
+    let count = match asked {
+        Some(count) => count,
+        None => processors(rt),
+    };
+    count.clamp(1, 256)
+}
+
+/// Whether phones are told an address: 0.0.0.0 is none. A service that listens at each of its addresses must name one.
+fn is_reached(choices: &Choices) -> bool
+    ensures { IsTrue result ↔ IsReached choices.now }
+{
+    choices.contact.unwrap_or(choices.listen).ip != [0; 4]
+}
+
+/// What the words ask for, but for the mailboxes of files.
+#[tactic(auto, using(crate::proofs::Refused::of_one_is))]
+fn read_words<R: Files + AllocGlobal>(
+    rt: &R,
+    words: &[Text],
+) -> Result<(Choices, Vec<Text>), ServeError>
+    ensures read { IfOk result (λ r. spec.AreRead words.now r.0 r.1.items) }
+    ensures refused { IfErr result (IsRefusal words.now) }
+{
+    let settings = parse_settings(rt.alloc(), words)?;
+    let mailboxes = mailboxes_of(rt, settings.as_slice())?;
+    Ok((Choices::of(settings.as_slice()), mailboxes))
+}
+
+/// What the words ask for: a file is read and the system is asked for randomness, and no socket is opened.
+#[tactic(auto, using(crate::proofs::Refused::other_is))]
+pub fn plan_of<R>(rt: &R, words: &[Text]) -> Result<Plan, ServeError>
+where
+    R: Threads + Files + RandomSource + AllocGlobal,
+    ensures plan { IfOk result (IsPlan words.now) }
+    ensures refused { IfErr result (IsRefusal words.now) }
+{
+    let (choices, mailboxes) = read_words(rt, words)?;
+    if !is_reached(&choices) {
+        return Err(ServeError::NoContact);
+    }
+    if mailboxes.is_empty() {
+        return Err(ServeError::NoMailbox);
+    }
+    Ok(Plan {
+        choices,
+        limits: limits_of(&choices.numbers)?,
+        seed: seed_of(rt, choices.seed)?,
+        workers: workers_of(rt, choices.numbers.workers),
+        mailboxes,
+    })
+}
+
+/// What the desks of the workers stand on. Phones reach the service at its contact, or else where its socket is.
+pub fn setup_of(plan: &Plan, local: Addr) -> Setup
+    ensures { result ≡ spec.setup_of plan.now local }
+{
+    Setup {
+        limits: plan.limits,
+        seed: plan.seed,
+        me: plan.choices.contact.unwrap_or(local),
+        stop: !plan.choices.keep_subscriptions,
+    }
+}

@@ -1,0 +1,292 @@
+//! `notifyd serve`.
+ghost use Rattle.std.specs.Prelude.{◌≡◌, ◌<◌, ◌≤◌, ◌⊎◌, true, false, get_or, map, vec_len, IfOk, IfErr, OnOk};
+ghost use Rattle.crew.specs.Ready.{start_of};
+ghost use Rattle.arguments.specs.Boxes.{box_seen};
+ghost use Rattle.arguments.specs.Setup as call;
+ghost use Rattle.service.specs.Running.{AreFaults, is_faulty};
+ghost use Rattle.commands.specs.UdpEnds as ends;
+ghost use Rattle.commands.specs.UdpEnds.{Tells};
+ghost use Rattle.commands.specs.Refused.{AskForText, IsOther, IsRefusal, IsStatus, status_of};
+ghost use Rattle.commands.specs.declared.error.ServeError.TheVariants as error;
+ghost use Rattle.commands.specs.Serving.{AreOpen, EndsWell, IsWork, Ran, Serves, new_sink};
+
+use crate::error::ServeError;
+use crate::help::text_for;
+use crate::logging::{say_goodbye, say_hello};
+use crate::plan::{Plan, plan_of, setup_of};
+use crate::sockets::{Sockets, open};
+use crate::udp::all_closed;
+use crate::udp_printing::worker_lines;
+use arguments::{Boxes, Status, boxes_for};
+use scripts::write_page;
+use service::{ControlDesk, Exit, Outcome, Shared, Work, run_crew};
+use sip_text::Text;
+use std::alloc::Global;
+use std::io;
+use std::io::Write;
+use std::net::Net;
+use std::random::RandomSource;
+use std::rt::{Clock, Files};
+use std::sync::{Arc, Wait};
+use std::thread::Threads;
+use std::time::Instant;
+use transport::{Sink, UdpWire};
+
+/// A service that has ended: what came of it, and what its lines of transfers were written to.
+#[derive(Drop)]
+pub struct Served<F> {
+    pub outcome: Outcome,
+    pub sink: Sink<F>,
+    pub shared: Arc<Shared, Global>,
+}
+
+/// What the threads of a service share, which begins now: twice.
+fn begin<R: Clock + AllocGlobal>(
+    rt: &R,
+) -> Result<(Arc<Shared, Global>, Arc<Shared, Global>), ServeError>
+    ensures { IfErr result IsOther }
+{
+    let Ok(now) = Instant::now(rt) else {
+        return Err(ServeError::System);
+    };
+    let shared = Arc::new(rt.alloc(), Shared::new(rt.alloc(), now)?)?;
+    let theirs = Arc::try_clone(&shared)?;
+    Ok((shared, theirs))
+}
+
+/// Opens the sockets that a plan asks for, and says where they are.
+fn open_for<R: Wait + Net + Eprint + AllocGlobal>(
+    rt: &R,
+    plan: &Plan,
+) -> Result<Sockets, ServeError>
+    ensures opened { IfOk result (AreOpen plan.now.choices) }
+    ensures refused { IfErr result IsOther }
+{
+    let sockets = open(rt, &plan.choices)?;
+    say_hello(rt, &sockets.bell, plan.workers, plan.mailboxes.len())?;
+    Ok(sockets)
+}
+
+/// What a service is run with, beside its plan.
+#[derive(Drop)]
+struct Fitted {
+    boxes: Vec<Boxes>,
+    shared: Arc<Shared, Global>,
+    theirs: Arc<Shared, Global>,
+    sockets: Sockets,
+}
+
+/// Makes what a service that is planned so is run with, and says where it is.
+fn fit_out<R>(rt: &R, plan: &Plan) -> Result<Fitted, ServeError>
+where
+    R: Wait + Net + Clock + Eprint + AllocGlobal,
+    requires { 0 < plan.now.workers }
+    ensures boxes { IfOk result (λ f.
+        map (λ boxes. map box_seen boxes.items) f.boxes.items
+        ≡ call.boxes_for plan.now.workers plan.now.mailboxes.items) }
+    ensures opened { IfOk result (λ f. AreOpen plan.now.choices f.sockets) }
+    ensures refused { IfErr result IsOther }
+{
+    let (shared, theirs) = begin(rt)?;
+    let boxes = boxes_for(rt.alloc(), plan.mailboxes.as_slice(), plan.workers)?;
+    let sockets = open_for(rt, plan)?;
+    Ok(Fitted {
+        boxes,
+        shared,
+        theirs,
+        sockets,
+    })
+}
+
+/// What a service works with: the plan over these sockets, and the wire by which its outs go.
+fn work_of(plan: Plan, sockets: Sockets, shared: Arc<Shared, Global>) -> (Work, UdpWire)
+    requires { AreOpen plan.choices sockets }
+    ensures work { IsWork plan sockets.bell result.0 }
+    ensures wire { result.1.local ≡ sockets.bell.sip }
+{
+    let Sockets {
+        sip,
+        outgoing,
+        lines,
+        replies,
+        bell,
+    } = sockets;
+    let setup = setup_of(&plan, bell.sip);
+    let numbers = plan.choices.numbers;
+    let desk = ControlDesk {
+        coming: lines,
+        going: replies,
+        mailboxes: plan.mailboxes,
+    };
+    let work = Work {
+        setup,
+        sip,
+        desk,
+        bell,
+        shared,
+        repeats: numbers.repeats,
+        linger: numbers.linger,
+    };
+    (work, outgoing)
+}
+
+/// Runs a service to its end, with these packages of its workers.
+fn run<R, F>(
+    rt: R,
+    boxes: Vec<Boxes>,
+    work: Work,
+    shared: Arc<Shared, Global>,
+    exit: Exit<UdpWire, F>,
+) -> Result<Served<F>, ServeError>
+where
+    R: Threads + Wait + Clock + Eprint + AllocGlobal + Copy + Send + 'static,
+    F: Write + Drop,
+    requires few_workers { vec_len boxes ≤ 256 }
+    // What the workers send leaves from where SIP comes in.
+    requires one_place { exit.wire.local ≡ work.sip.local }
+    ensures refused { IfErr result IsOther }
+    ensures ran { IfOk result (λ s. (b : _)
+        → Ran F.contents (λ w. start_of box_seen work.setup w (get_or boxes.items w b).items) (vec_len boxes)
+        work.repeats work.desk.mailboxes.items exit.sink s.sink s.outcome) }
+    ensures faults { IfOk result (λ s. AreFaults work.sip.failures work.desk.coming.failures s.outcome) }
+{
+    let mut exit = exit;
+    let outcome = run_crew(rt, rt.alloc(), boxes, work, &mut exit)?;
+    Ok(Served {
+        outcome,
+        sink: exit.sink,
+        shared,
+    })
+}
+
+/// Runs the service that the words behind `serve` ask for until a CLOSE, a fault or a worker that is gone, and says on standard error
+/// where it is.
+#[tactic(auto, using(crate::proofs::Refused::other_is))]
+pub fn serve_words<R, F>(rt: R, words: &[Text], writer: F) -> Result<Served<F>, ServeError>
+where
+    R: Threads
+        + Wait
+        + Net
+        + Clock
+        + Files
+        + RandomSource
+        + Eprint
+        + AllocGlobal
+        + Copy
+        + Send
+        + 'static,
+    F: Write + Drop,
+    // It ran as the words ask for it: what its ports sent, what its workers did with it, what became of their outs, and which
+    // faults of its sockets and of the clock it tells.
+    ensures served { IfOk result (λ s. Serves F.contents words.now (new_sink writer) s.sink s.outcome) }
+    // A cause that is in the words stands in them.
+    ensures refused { IfErr result (IsRefusal words.now) }
+{
+    let plan = plan_of(&rt, words)?;
+    let Fitted {
+        boxes,
+        shared,
+        theirs,
+        sockets,
+    } = fit_out(&rt, &plan)?;
+    let (work, wire) = work_of(plan, sockets, theirs);
+    let sink = Sink::new(writer);
+    run(rt, boxes, work, shared, Exit { wire, sink })
+}
+
+/// Writes what the workers did, says goodbye, and tells whether all went well.
+fn close_off<R, F>(rt: &R, served: &mut Served<F>) -> Result<(), ServeError>
+where
+    R: Clock + Eprint + AllocGlobal,
+    F: Write,
+    ensures no_fault { OnOk result (is_faulty served.old.outcome ≡ false) }
+    ensures closed { OnOk result (ends.all_closed served.old.outcome.report.workers.items ≡ true) }
+    ensures told { OnOk result
+        (Tells F.contents served.old.outcome.report.workers.items served.old.sink served.new.sink) }
+    ensures refused { IfErr result IsOther }
+{
+    let reports = served.outcome.report.workers.as_slice();
+    let lines = worker_lines(rt.alloc(), reports)?;
+    let is_closed = all_closed(reports);
+    let written = write_page(&mut served.sink, lines.as_bytes());
+    say_goodbye(rt, &served.shared)?;
+    if written.is_err() || served.outcome.is_faulty() {
+        return Err(ServeError::Device);
+    }
+    if is_closed {
+        Ok(())
+    } else {
+        Err(ServeError::NoMemory)
+    }
+}
+
+/// Runs the service that the words ask for, to its end.
+#[tactic(auto, using(crate::proofs::Refused::other_is))]
+fn attempt<R>(rt: R, words: &[Text]) -> Result<(), ServeError>
+where
+    R: Threads
+        + Wait
+        + Net
+        + Clock
+        + Files
+        + RandomSource
+        + Print
+        + Eprint
+        + AllocGlobal
+        + Copy
+        + Send
+        + 'static,
+    ensures well { OnOk result (EndsWell words.now) }
+    ensures refused { IfErr result (IsRefusal words.now) }
+{
+    let mut served = serve_words(rt, words, io::writer(&rt))?;
+    close_off(&rt, &mut served)
+}
+
+/// Prints a text that the words asked for alone. Answers the exit status.
+fn print_text<R: Print>(rt: &R, text: &str) -> u8
+    ensures status { (result ≡ 0) ⊎ (result ≡ status_of error.Device) }
+{
+    match println!(rt; "{text}") {
+        Ok(()) => Status::Done.code(),
+        Err(_) => Status::DeviceFault.code(),
+    }
+}
+
+/// Tells on standard error why no service runs, or has ended. Answers the exit status.
+fn tell_why<R: Eprint>(rt: &R, error: &ServeError) -> u8
+    ensures status { result ≡ status_of error.now }
+{
+    let _ = eprintln!(rt; "notifyd: {error}");
+    error.status()
+}
+
+/// `notifyd serve` with these words behind it. Answers the exit status: 0 where a service ended well, or where a text was asked for
+/// and printed, 1 where the words ask for no service, 3 where an address is of another form or a socket, a file or a thread failed,
+/// 4 where memory was wanted. What kept a service from running, or went wrong in it, is told in one line on standard error.
+pub fn serve<R>(rt: R, words: &[Text]) -> u8
+where
+    R: Threads
+        + Wait
+        + Net
+        + Clock
+        + Files
+        + RandomSource
+        + Print
+        + Eprint
+        + AllocGlobal
+        + Copy
+        + Send
+        + 'static,
+    ensures status { IsStatus words.now result }
+    // A text that is asked for is printed, or could not be.
+    ensures text { AskForText words.now → (result ≡ 0) ⊎ (result ≡ status_of error.Device) }
+{
+    if let Some(text) = text_for(words) {
+        return print_text(&rt, text);
+    }
+    match attempt(rt, words) {
+        Ok(()) => Status::Done.code(),
+        Err(error) => tell_why(&rt, &error),
+    }
+}

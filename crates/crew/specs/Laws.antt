@@ -1,0 +1,55 @@
+-- What the taker got of a crew that was joined, told by the lives of subscriptions.
+use Rattle.std.specs.Prelude.{ℕ, ◌≡◌, ◌<◌, ◌^◌, true, List, Some}
+use Rattle.sip_read.specs.declared.message.Request.{Request}
+use Rattle.queues.specs.declared.items.Item.{Item}
+use Rattle.queues.specs.Items.{items_of}
+use Rattle.queues.specs.Values.{values}
+use Rattle.notifier_model.specs.declared.event.Event.{Event}
+use Rattle.notifier_model.specs.declared.event.Out.{Out}
+use Rattle.notifier_model.specs.Start.{Start, tag_of}
+use Rattle.queues.specs.InboxEvents.{events_of}
+use Rattle.crew.specs.Worked.{handled_of}
+use Rattle.crew.specs.declared.end.End.TheVariants.{Closed}
+use Rattle.crew.specs.Started.{Hired}
+use Rattle.crew.specs.Joined.{Reported}
+use Rattle.crew.specs.declared.report.WorkerReport.{WorkerReport}
+use Rattle.life.specs.Notices.{newest_first, notices}
+use Rattle.life.specs.Laws.{IsStart, AreNotifies, notifies_with}
+use Rattle.life.specs.Own.{born_of, own}
+use Rattle.life.specs.Renaming.{renamed}
+use Rattle.life.specs.Apart.{are_apart}
+use Rattle.life.specs.IsolationLaws.{IsLike}
+
+-- the events that the worker handled
+abbrev pub events_handled : Hired → WorkerReport → List Event
+events_handled h report = handled_of h.start h.reads.ports report.receiver.taken report.handled
+
+-- the local tag of the worker's subscription
+abbrev pub its_tag : Hired → ℕ → List ℕ
+its_tag h serial = tag_of h.start.place serial
+
+-- its NOTIFYs among what the taker got of the worker
+abbrev pub its_notifies : Hired → List (Item Out) → ℕ → List Out
+its_notifies h got serial = notifies_with (its_tag h serial) (values (items_of h.posts.number got))
+
+-- A worker that ended as Closed handled all events that it took.
+abbrev pub AllLaw : Type 0
+AllLaw = (h : Hired) (got : List (Item Out)) (report : WorkerReport) → Reported h got report → report.end ≡ Closed →
+    events_handled h report ≡ events_of h.start.place.stop h.reads.ports report.receiver.taken
+
+-- What the taker got of a subscription is what its life tells over the events that its worker handled, all of it.
+abbrev pub LifeLaw : Type 0
+LifeLaw = (h : Hired) (got : List (Item Out)) (report : WorkerReport) (serial : ℕ) →
+    IsStart h.start → serial < 2 ^ 64 → Reported h got report →
+    AreNotifies (its_tag h serial) (notices h.start serial (newest_first (events_handled h report))) (its_notifies h got serial)
+
+-- It is what the subscription would be told of its own events alone: whatever other workers there were, how many, and whatever
+-- else came to its own.
+abbrev pub AloneLaw : Type 0
+AloneLaw = (h : Hired) (got : List (Item Out)) (report : WorkerReport) (other : Start) (serial : ℕ) (x : Request) →
+    IsStart h.start → serial < 2 ^ 64 → Reported h got report →
+    born_of h.start serial (newest_first (events_handled h report)) ≡ Some x → IsLike h.start other x →
+    are_apart h.start serial x (newest_first (events_handled h report)) ≡ true →
+    AreNotifies (its_tag h serial)
+    (notices other 1 (renamed (its_tag h serial) (tag_of other.place 1) (own h.start serial x (newest_first (events_handled h report)))))
+    (its_notifies h got serial)

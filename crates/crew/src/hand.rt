@@ -1,0 +1,75 @@
+//! What handles the events of a worker.
+ghost use Rattle.std.specs.Prelude.{◌≡◌, ◌+◌, Some, OnOk, OnErr};
+ghost use Rattle.notifier.specs.Standing.{Standing};
+ghost use Rattle.crew.specs.Loop.{posts_all, HandlesOne};
+
+use crate::gate::Gate;
+use notifier::{Desk, DeskError, Event, Out};
+use package::Package;
+use queues::outbox::Poster;
+use std::alloc::Global;
+use std::sync::Wait;
+
+/// The sum of two counts. It waits for good where there is none.
+fn count_up<R: Wait>(rt: &R, count: u64, more: u64) -> u64
+    ensures { result ≡ count + more }
+{
+    if let Some(sum) = count.checked_add(more) {
+        return sum;
+    }
+    for _ in rt.forever() {}
+    unreachable!()
+}
+
+/// Posts these outs.
+fn post_all<R: Wait>(rt: &R, poster: &mut Poster, outs: Vec<Out>)
+    ensures { poster.new ≡ posts_all poster.old outs.items }
+{
+    for out in outs {
+        poster.post(rt, out);
+    }
+}
+
+/// A worker's desk and its end of the outbox, and what it has counted.
+#[derive(Drop)]
+pub(crate) struct Hand<P: Package> {
+    /// The worker's number.
+    pub(crate) worker: u32,
+    /// Whether a stop is planned.
+    pub(crate) stop: bool,
+    pub(crate) desk: Desk<P>,
+    pub(crate) poster: Poster,
+    /// How many events were handled.
+    pub(crate) handled: u64,
+    /// How many outs were posted.
+    pub(crate) made: u64,
+}
+
+impl<P: Package> Hand<P> {
+    /// Passes the gate, handles one event, posts its outs, and counts it and them.
+    pub(crate) fn handle<R: Wait, G: Gate>(
+        &mut self,
+        rt: &R,
+        alloc: Global,
+        gate: &G,
+        event: Event,
+    ) -> Result<(), DeskError>
+        ensures same { (self.new.poster.outbox ≡ self.old.poster.outbox)
+            × (self.new.poster.number ≡ self.old.poster.number) }
+        ensures stop { self.new.stop ≡ self.old.stop }
+        ensures ok { OnOk result ((s : Standing) → self.old.desk ≡ Some s
+            → HandlesOne s event self.new.desk self.old.poster self.new.poster self.old.made self.new.made) }
+        ensures counted { OnOk result (self.new.handled ≡ self.old.handled + 1) }
+        ensures err { OnErr result ((self.new.poster ≡ self.old.poster)
+            × (self.new.handled ≡ self.old.handled) × (self.new.made ≡ self.old.made)) }
+    {
+        gate.pass(self.worker, self.handled);
+        let told = self.desk.handle(alloc, &event);
+        drop(event);
+        let outs = told?;
+        self.made = count_up(rt, self.made, outs.len() as u64);
+        self.handled = count_up(rt, self.handled, 1);
+        post_all(rt, &mut self.poster, outs);
+        Ok(())
+    }
+}

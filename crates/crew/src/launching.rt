@@ -1,0 +1,103 @@
+//! How one worker is started.
+ghost use Rattle.std.specs.Prelude.{◌≡◌, [], Some, IfOk};
+ghost use Rattle.notifier.specs.Standing.{first_standing};
+ghost use Rattle.notifier_model.specs.Start.{Start};
+ghost use Rattle.crew.specs.Worked.{IsWorked};
+
+use crate::end::Done;
+use crate::gate::Gate;
+use crate::hand::Hand;
+use crate::token::StartToken;
+use crate::working::work;
+use notifier::Desk;
+use package::Package;
+use queues::inbox::Receiver;
+use queues::outbox::Poster;
+use std::alloc::{AllocError, Global};
+use std::snapshot::Snapshot;
+use std::sync::{Arc, Wait};
+use std::thread;
+use std::thread::{Promise, PromisedHandle, Threads};
+
+/// What a worker began with, which contracts alone see. It is the promise under which its thread runs: what the worker
+/// leaves is what a worker with this start and these ends of the queues leaves.
+#[derive(Drop)]
+pub struct Began {
+    pub token: StartToken,
+    pub inbox: Snapshot<Receiver>,
+    pub outbox: Snapshot<Poster>,
+}
+
+impl Promise<Done> for Began {
+    ghost use Rattle.crew.specs.Worked.{IsWorked};
+
+    ghost kept_by = { λ p done. IsWorked p.token.start p.inbox.value p.outbox.value done };
+}
+
+/// What one worker is given.
+#[derive(Drop)]
+pub struct Seat<P: Package> {
+    /// The start of the desk.
+    pub token: StartToken,
+    /// The worker's number.
+    pub worker: u32,
+    /// Whether a stop is planned.
+    pub stop: bool,
+    pub desk: Desk<P>,
+    pub receiver: Receiver,
+    pub poster: Poster,
+}
+
+/// Starts one worker in a thread of its own. Where no thread can be made all that it was given is dropped.
+pub fn launch<R, P, G>(
+    rt: R,
+    alloc: Global,
+    seat: Seat<P>,
+    gate: Arc<G, Global>,
+) -> Result<PromisedHandle<Done, Began>, AllocError>
+where
+    R: Threads + Wait + Copy + Send + 'static,
+    P: Package + 'static,
+    G: Gate + Drop + 'static,
+    requires taken { seat.receiver.taken ≡ [] }
+    requires posted { seat.poster.posted ≡ [] }
+    requires desk { seat.desk ≡ Some (first_standing seat.token.start) }
+    requires stop { seat.stop ≡ seat.token.start.place.stop }
+    ensures start { IfOk result (λ h. h.promise.token.start ≡ seat.token.start) }
+    ensures inbox { IfOk result (λ h. h.promise.inbox.value ≡ seat.receiver) }
+    ensures outbox { IfOk result (λ h. h.promise.outbox.value ≡ seat.poster) }
+{
+    let Seat {
+        token,
+        worker,
+        stop,
+        desk,
+        receiver,
+        poster,
+    } = seat;
+    let began = Began {
+        token,
+        inbox: Snapshot::of(&receiver),
+        outbox: Snapshot::of(&poster),
+    };
+    let child = thread::spawn_with(
+        &rt,
+        began,
+        move || -> Done
+            requires { (receiver.taken ≡ []) × (poster.posted ≡ []) }
+            ensures { (start : Start) → desk ≡ Some (first_standing start) → stop ≡ start.place.stop
+                → IsWorked start receiver poster result }
+        {
+            let hand = Hand {
+                worker,
+                stop,
+                desk,
+                poster,
+                handled: 0,
+                made: 0,
+            };
+            work(&rt, alloc, &*gate, hand, receiver)
+        },
+    )?;
+    Ok(child)
+}

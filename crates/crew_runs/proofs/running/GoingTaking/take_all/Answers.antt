@@ -1,5 +1,0 @@
-use Rattle.queue_rule.proofs.Ended.{ended_none}
-use Rattle.crew_runs.proofs.running.GoingTaking.take_all.Goals as goal
-
-pub emit-emitted-requires-clause-none_ended : goal.emit-emitted-requires-clause-none_ended
-emit-emitted-requires-clause-none_ended g c = ended_none _ _ c.requires.none

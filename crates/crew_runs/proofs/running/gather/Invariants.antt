@@ -1,5 +1,0 @@
-use Rattle.crew.proofs.Keeping.{Taking}
-use Rattle.crew_runs.proofs.running.gather.Given as goal
-
-abbrev pub invariant-loop : goal.invariant-loop
-invariant-loop g l = Taking l.fn.taker l.taker l.left

@@ -1,0 +1,8 @@
+use Rattle.std.proofs.Common.{◌≡◌}
+use Rattle.examples_crew.proofs.queues.pipeline.work.Given as goal
+
+abbrev pub invariant-loop : goal.invariant-loop
+invariant-loop g l = record {
+  inbox : l.receiver.inbox ≡ l.fn.ends.0.inbox;
+  outbox : l.poster.outbox ≡ l.fn.ends.1.outbox;
+}

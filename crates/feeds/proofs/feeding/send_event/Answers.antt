@@ -1,0 +1,21 @@
+use Rattle.std.proofs.Common.{◌≡◌, ◌∷◌, [], MatchBool, Bool, sym, subst}
+use Rattle.notifier_model.specs.declared.event.Event.{Event}
+use Rattle.notifier_model.specs.declared.event.Event.TheVariants as event
+use Rattle.crew.proofs.Keeping.{ticked_keeps}
+use Rattle.feeds.specs.Fed.{Sends, Misses}
+use Rattle.feeds.proofs.SendingHome.{ticked_law}
+use Rattle.feeds.proofs.feeding.send_event.Goals as goal
+
+pub returns-in-Tick-clause-sent : goal.returns-in-Tick-clause-sent
+returns-in-Tick-clause-sent g c =
+    let old = c.args.port.now in
+    let new = c.tick.new.self in
+    let time = c.in-Tick.now in
+    let is : c.args.happened ≡ event.Tick time = c.in-Tick.is in
+    let P : Bool → Type 0 = λ b. MatchBool b (Sends old (event.Tick time ∷ []) new) (Misses old (event.Tick time) new) in
+    let Q : Event → Type 0 = λ e. MatchBool c.is_ok.result (Sends old (e ∷ []) new) (Misses old e new) in
+    subst Q (sym is) (subst P (sym c.is_ok.ensures.value) (ticked_law c.tick.result old new time c.requires.still_open c.tick.ensures))
+
+pub returns-in-Tick-clause-seats : goal.returns-in-Tick-clause-seats
+returns-in-Tick-clause-seats g c =
+    ticked_keeps c.tick.result c.args.port.now c.tick.new.self (event.Tick c.in-Tick.now) c.tick.ensures

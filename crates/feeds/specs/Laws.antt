@@ -1,0 +1,32 @@
+-- What was sent out of a subscription, from whichever worker of a joined crew.
+use Rattle.std.specs.Prelude.{ℕ, ◌<◌, ◌^◌, List, [], length, map, get_or}
+use Rattle.queues.specs.declared.items.Item.{Item}
+use Rattle.notifier_model.specs.declared.event.Out.{Out}
+use Rattle.notifier_model.specs.Start.{Start}
+use Rattle.feeds.specs.declared.sending.EmitReport.{EmitReport}
+use Rattle.feeds.specs.declared.sending.Fate.{Fate}
+use Rattle.feeds.specs.Emitted.{Fates, IsEmitted, WireSeen, WriterSeen}
+use Rattle.crew.specs.Started.{Hired}
+use Rattle.crew.specs.declared.report.WorkerReport.{WorkerReport}
+use Rattle.life.specs.Notices.{newest_first, notices}
+use Rattle.life.specs.Laws.{AreNotifies, notifies_with}
+use Rattle.schedules.specs.Laws.{Rise}
+use Rattle.crew.specs.Laws.{events_handled, its_tag}
+use Rattle.crew.specs.Whole.{IsCrewRun}
+
+-- the outs that met a fate
+abbrev pub outs_of : Fates → List Out
+outs_of fates = map (λ (x : Out × Fate). x.0) fates
+
+-- Where `emit` took what the workers posted, from the first on: of the outs that met a fate, the NOTIFYs with a subscription's
+-- tag are those of its life, and they rise.
+abbrev pub EmittedLaw : Type 0
+EmittedLaw = (start : ℕ → Start) (crew : List Hired) (got : List (Item Out)) (reports : List WorkerReport)
+    (w serial : ℕ) (h : Hired) (r : WorkerReport)
+    (fates : Fates) (wire wire' : WireSeen) (writer writer' : WriterSeen) (report : EmitReport) →
+    IsCrewRun start crew got reports → IsEmitted (length crew) fates [] got wire wire' writer writer' report →
+    w < length crew → serial < 2 ^ 64 →
+    AreNotifies (its_tag (get_or crew w h) serial)
+    (notices (get_or crew w h).start serial (newest_first (events_handled (get_or crew w h) (get_or reports w r))))
+    (notifies_with (its_tag (get_or crew w h) serial) (outs_of fates))
+    × Rise (notifies_with (its_tag (get_or crew w h) serial) (outs_of fates))

@@ -1,0 +1,4 @@
+pub mod Emitted
+pub mod Heard
+pub mod Fed
+pub mod Laws

@@ -1,0 +1,63 @@
+//! What datagrams say.
+ghost use Rattle.transport.specs.Wires.{datagram};
+ghost use Rattle.feeds.specs.Heard.{SipSays, ControlSays, Says};
+
+use notifier_model::Event;
+use scripts::{Control, parse_control};
+use sip_read::{Message, read};
+use sip_text::Addr;
+use std::alloc::Global;
+
+/// What is spoken on a wire.
+#[derive(Clone, Copy, Debug, PartialEq, Eq)]
+pub enum Language {
+    /// SIP messages (RFC 3261 section 7).
+    Sip,
+    /// Lines that control a running server, one in a datagram.
+    Control,
+}
+
+/// What a datagram says.
+#[derive(Debug, Drop)]
+pub enum Heard {
+    /// What happened: an event for the workers.
+    Event(Event),
+    /// Nothing that can be read, or there was no memory to read it.
+    Unread,
+    /// The server takes no more.
+    Close,
+}
+
+/// What a SIP datagram says: the message that it is. It never closes a server.
+pub fn hear_sip(alloc: Global, source: Addr, octets: &[u8]) -> Heard
+    ensures { SipSays source octets.now result }
+{
+    match read(alloc, octets) {
+        Ok(Message::Request(request)) => Heard::Event(Event::Request(source, request)),
+        Ok(Message::Response(response)) => Heard::Event(Event::Reply(response)),
+        Err(_) => Heard::Unread,
+    }
+}
+
+/// What a control line says, with its LF or without.
+pub fn hear_control(alloc: Global, octets: &[u8]) -> Heard
+    ensures { ControlSays octets.now result }
+{
+    match parse_control(alloc, octets) {
+        Ok(Control::Mail(change)) => Heard::Event(Event::Mail(change)),
+        Ok(Control::Progress(progress)) => Heard::Event(Event::Progress(progress)),
+        Ok(Control::Tick(time)) => Heard::Event(Event::Tick(time)),
+        Ok(Control::Close) => Heard::Close,
+        Err(_) => Heard::Unread,
+    }
+}
+
+/// What a datagram says in this language.
+pub fn hear(alloc: Global, language: Language, source: Addr, octets: &[u8]) -> Heard
+    ensures { Says language (datagram source octets.now) result }
+{
+    match language {
+        Language::Sip => hear_sip(alloc, source, octets),
+        Language::Control => hear_control(alloc, octets),
+    }
+}

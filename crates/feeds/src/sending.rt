@@ -1,0 +1,162 @@
+//! What sends out what workers post.
+ghost use Rattle.std.specs.Prelude.{◌≡◌, ◌⊎◌, ◌+◌, ◌∷◌, [], true, false};
+ghost use Rattle.queues.specs.Ended.{count_ended, AllEnded};
+ghost use Rattle.transport.specs.Devices.{rises};
+ghost use Rattle.transport.specs.Wires.{Grows};
+ghost use Rattle.feeds.specs.Emitted.{Fates, IsEmitted, MayMeet, Writes, counted, is_start, sent_datagrams, count, fails_to_send, fails_to_start};
+
+use crate::writing::write_start;
+use notifier_model::Out;
+use queues::outbox::{Posted, Taker};
+use std::io::Write;
+use std::rt::Clock;
+use std::sync::Wait;
+use std::thread;
+use std::time::Duration;
+use transport::{Sink, Wire};
+
+/// How often nothing may be posted before the thread sleeps.
+const TURNS: u32 = 200;
+
+/// How long it sleeps then, in microseconds: much less than a phone notices.
+const NAP: u64 = 500;
+
+/// What became of an out.
+#[derive(Clone, Copy, Debug, PartialEq, Eq)]
+pub enum Fate {
+    /// It was an answer or a NOTIFY, and was sent.
+    Sent,
+    /// It was the start of a transfer, and was written.
+    Started,
+    /// The wire or the writer failed at it.
+    Failed,
+}
+
+/// What became of all outs.
+#[derive(Clone, Copy, Debug, PartialEq, Eq)]
+pub struct EmitReport {
+    /// How many answers and NOTIFYs were sent.
+    pub sent: u64,
+    /// How many transfers were written.
+    pub starts: u64,
+    /// At how many outs the wire or the writer failed.
+    pub failed: u64,
+}
+
+/// Sends an answer or a NOTIFY, or writes the line of a transfer that starts and flushes it. It takes no memory.
+pub fn put_out<R: Wait, W: Wire, F: Write>(
+    rt: &R,
+    wire: &mut W,
+    sink: &mut Sink<F>,
+    out: &Out,
+) -> Fate
+    ensures fate { MayMeet out.now result }
+    ensures given { Grows (W.given wire.old) (W.given wire.new) [] }
+    ensures taken { Grows (W.taken wire.old) (W.taken wire.new) (sent_datagrams ((out.now, result) ∷ [])) }
+    ensures wire_failures { W.failures wire.new
+        ≡ rises (count fails_to_send ((out.now, result) ∷ [])) (W.failures wire.old) }
+    ensures failures { sink.new.failures
+        ≡ rises (count fails_to_start ((out.now, result) ∷ [])) sink.old.failures }
+    ensures writes { Writes (F.contents sink.old.writer) (F.contents sink.new.writer) out.now result }
+    ensures flushed { result ≡ Fate.Started → sink.new.is_flushed ≡ true }
+    ensures stays { is_start out.now ≡ false → sink.new ≡ sink.old }
+{
+    match out {
+        Out::Answer { to, bytes } => match wire.send(rt, *to, bytes.as_slice()) {
+            Ok(()) => Fate::Sent,
+            Err(_) => Fate::Failed,
+        },
+        Out::Notify { to, bytes, .. } => match wire.send(rt, *to, bytes.as_slice()) {
+            Ok(()) => Fate::Sent,
+            Err(_) => Fate::Failed,
+        },
+        Out::Start { tag, refer_to } => match write_start(sink, tag.as_str(), refer_to.as_str()) {
+            Ok(()) => Fate::Started,
+            Err(_) => Fate::Failed,
+        },
+    }
+}
+
+/// One more. It waits for good where there is no such number.
+fn count_up<R: Wait>(rt: &R, count: u64) -> u64
+    ensures { result ≡ count + 1 }
+{
+    if let Some(sum) = count.checked_add(1) {
+        return sum;
+    }
+    for _ in rt.forever() {}
+    unreachable!()
+}
+
+impl EmitReport {
+    /// One out more.
+    fn add<R: Wait>(&mut self, rt: &R, fate: Fate)
+        ensures { self.new ≡ counted self.old fate }
+    {
+        match fate {
+            Fate::Sent => self.sent = count_up(rt, self.sent),
+            Fate::Started => self.starts = count_up(rt, self.starts),
+            Fate::Failed => self.failed = count_up(rt, self.failed),
+        }
+    }
+}
+
+/// Waits a little where nothing was posted so many times in a row.
+fn rest<R: Clock>(rt: &R, idle: u32) {
+    if idle < TURNS {
+        thread::yield_now();
+    } else {
+        thread::sleep(rt, Duration::from_micros(NAP));
+    }
+}
+
+/// Sends out what the workers post, in the order in which it is taken, until each worker has ended: answers and NOTIFYs by the
+/// wire, and a line for each transfer that starts. What fails is counted, and the rest goes on. Where nothing is posted the
+/// thread yields, and after a while it sleeps between two looks. No worker's end mark was taken yet.
+pub fn emit<R: Wait + Clock, W: Wire, F: Write>(
+    rt: &R,
+    wire: &mut W,
+    sink: &mut Sink<F>,
+    taker: &mut Taker,
+    workers: u32,
+) -> EmitReport
+    requires workers { workers ≡ taker.old.workers }
+    requires none_ended { count_ended taker.old.workers taker.old.got ≡ 0 }
+    // Where the writer never failed, what it took is flushed.
+    ensures emitted { (log : Fates) × IsEmitted taker.old.workers log taker.old.got taker.new.got
+        (record { taken = W.taken wire.old; failures = W.failures wire.old })
+        (record { taken = W.taken wire.new; failures = W.failures wire.new })
+        (record { contents = F.contents sink.old.writer; failures = sink.old.failures })
+        (record { contents = F.contents sink.new.writer; failures = sink.new.failures }) result
+        × (count fails_to_start log ≡ 0 → (sink.new ≡ sink.old) ⊎ (sink.new.is_flushed ≡ true)) }
+    ensures given { Grows (W.given wire.old) (W.given wire.new) [] }
+    ensures outbox { taker.new.outbox ≡ taker.old.outbox }
+    ensures workers { taker.new.workers ≡ taker.old.workers }
+    ensures ended { AllEnded taker.old.workers taker.new.got }
+{
+    let mut report = EmitReport {
+        sent: 0,
+        starts: 0,
+        failed: 0,
+    };
+    let mut left = workers;
+    let mut idle = 0u32;
+    for _ in rt.forever() {
+        if left == 0 {
+            return report;
+        }
+        match taker.take(rt) {
+            Some(Posted::Ended(_)) => left -= 1,
+            Some(Posted::Out(_, out)) => {
+                idle = 0;
+                let fate = put_out(rt, wire, sink, &out);
+                report.add(rt, fate);
+            }
+            None => {
+                rest(rt, idle);
+                idle = idle.saturating_add(1);
+            }
+        }
+    }
+    unreachable!()
+}

@@ -1,0 +1,190 @@
+-- The rows of the book, as the living subscriptions by rising serial.
+use Rattle.std.proofs.Common.{◌≡◌, ℕ, ◌<◌, ◌≤◌, List, [], ◌∷◌, ◌++◌, length, Option, Some, None, Bool, true, false, not, ◌&&◌, refl, sym, ◌∙◌, ◌⊎◌, arith, append_assoc, length-append}
+use Prim.Native.Nat.{zero, suc}
+use Rattle.std.specs.Prelude.{if◌then◌else◌, ◌==◌, nat_lt, nat_le, option_to_list, bytes_eq, unwrap_or}
+use Rattle.std.proofs.lemmas.List.{append-nil}
+use Rattle.std.proofs.lemmas.Bool.Decides.{nat_tests}
+use Rattle.life.proofs.Texts.{Bytes}
+use Rattle.notifier_model.specs.Fields.{value_of, or_empty}
+use Rattle.subscription.specs.declared.terms.Usage.{Usage}
+use Rattle.subscription.specs.declared.terms.Want.{Want}
+use Rattle.subscription.specs.State.{State}
+use Rattle.notifier_model.specs.Limits.{Limits}
+use Rattle.notifier_model.specs.Start.{Start, tag_of}
+use Rattle.notifier_model.specs.Requests.{is_refer, user_part, event_of}
+use Rattle.notifier_model.specs.declared.row.Row.{Row}
+use Rattle.notifier_model.specs.Rows.{Told, left, said}
+use Rattle.notifier_model.specs.Out.{Send, Answers, Notifies, Starts, Notification, notification, notifications}
+use Rattle.life.specs.Life.{Life, Born, Then, Heard, birth, address, number, end_of_grant, is_accepted, is_gone, last_heard, one_if, unanswered}
+use Rattle.life.specs.Lives.{is_alive, count_alive}
+
+-- the CSeq that was heard last
+unfoldable pub last_cseq : Life → ℕ
+last_cseq (Born t source r) = r.head.cseq
+last_cseq (Then t (Heard source r) l) = r.head.cseq
+last_cseq (Then t deed l) = last_cseq l
+
+-- the target and the CSeq of the last accepted request, the birth included
+unfoldable pub target_of : Limits → Life → Bytes
+target_of limits (Born t source r) = or_empty (value_of r.contact)
+target_of limits (Then t (Heard source r) l) = if is_accepted limits (birth l) r then unwrap_or (value_of r.contact) (target_of limits l) else target_of limits l
+target_of limits (Then t deed l) = target_of limits l
+
+unfoldable pub accepted_cseq : Limits → Life → ℕ
+accepted_cseq limits l = (last_heard (is_accepted limits (birth l)) l).request.head.cseq
+
+unfoldable pub usage_of : Start → ℕ → Life → Usage
+usage_of start serial l = record {
+  call_id = (birth l).head.call_id;
+  local_tag = tag_of start.place serial;
+  remote_tag = or_empty (birth l).head.from.tag;
+  local = (birth l).head.to.text;
+  remote = (birth l).head.from.text;
+  target = target_of start.place.limits l;
+  routes = (birth l).record_routes;
+  remote_cseq = accepted_cseq start.place.limits l;
+}
+
+unfoldable pub want_of : Start → ℕ → Life → Want
+want_of start serial l = record {
+  event = event_of (birth l);
+  resource = if is_refer (birth l) then tag_of start.place serial else user_part (birth l).uri;
+  to = address start.place.limits l;
+  max_cseq = start.place.limits.max_cseq;
+}
+
+unfoldable pub sub_of : Start → ℕ → Life → State
+sub_of start serial l = record {
+  usage = usage_of start serial l;
+  want = want_of start serial l;
+  count = number start.place.limits l;
+  due = end_of_grant start.place.limits l;
+}
+
+-- the row of a life
+unfoldable pub row_of : Start → ℕ → Life → Row
+row_of start serial l = record {
+  serial = serial;
+  sub = sub_of start serial l;
+  last_cseq = last_cseq l;
+  unanswered = unanswered start.place.limits l;
+}
+
+unfoldable pub live_row : Start → ℕ → Option Life → Option Row
+live_row start serial None = None
+live_row start serial (Some l) = if is_gone start.place.limits l then None else Some (row_of start serial l)
+
+unfoldable pub rows_to : Start → (ℕ → Option Life) → ℕ → List Row
+rows_to start life zero = []
+rows_to start life (suc n) = rows_to start life n ++ option_to_list (live_row start (suc n) (life (suc n)))
+
+-- what a rule makes of a row that may be there
+unfoldable pub left_of : (Row → Told) → Option Row → Option Row
+left_of rule None = None
+left_of rule (Some row) = (rule row).row
+
+unfoldable pub said_of : (Row → Told) → Option Row → List Send
+said_of rule None = []
+said_of rule (Some row) = (rule row).notifies
+
+left-append : (rule : Row → Told) (xs ys : List Row) → left rule (xs ++ ys) ≡ left rule xs ++ left rule ys
+unfolding left
+left-append rule [] ys = refl
+left-append rule (x ∷ xs) ys = rw (left-append rule xs ys) (sym (append_assoc (option_to_list (rule x).row) (left rule xs) (left rule ys)))
+
+said-append : (rule : Row → Told) (xs ys : List Row) → said rule (xs ++ ys) ≡ said rule xs ++ said rule ys
+unfolding said
+said-append rule [] ys = refl
+said-append rule (x ∷ xs) ys = rw (said-append rule xs ys) (sym (append_assoc (rule x).notifies (said rule xs) (said rule ys)))
+
+left-option : (rule : Row → Told) (o : Option Row) → left rule (option_to_list o) ≡ option_to_list (left_of rule o)
+unfolding left left_of
+left-option rule None = refl
+left-option rule (Some row) = append-nil (option_to_list (rule row).row)
+
+said-option : (rule : Row → Told) (o : Option Row) → said rule (option_to_list o) ≡ said_of rule o
+unfolding said said_of
+said-option rule None = refl
+said-option rule (Some row) = append-nil (rule row).notifies
+
+-- the rows after a rule, where each life goes on as the rule says
+pub left-rows_to : (start : Start) (rule : Row → Told) (life after : ℕ → Option Life) (n : ℕ) → ((s : ℕ) → s ≤ n → left_of rule (live_row start s (life s)) ≡ live_row start s (after s)) → left rule (rows_to start life n) ≡ rows_to start after n
+unfolding rows_to left
+left-rows_to start rule life after zero h = refl
+left-rows_to start rule life after (suc n) h =
+    rw (left-append rule (rows_to start life n) (option_to_list (live_row start (suc n) (life (suc n)))), left-option rule (live_row start (suc n) (life (suc n))), h (suc n) (omega arith), left-rows_to start rule life after n (λ s le. h s (omega arith))) refl
+
+-- rows by lives that agree
+pub rows_to-same : (start : Start) (life after : ℕ → Option Life) (n : ℕ) → ((s : ℕ) → s ≤ n → live_row start s (life s) ≡ live_row start s (after s)) → rows_to start life n ≡ rows_to start after n
+unfolding rows_to
+rows_to-same start life after zero h = refl
+rows_to-same start life after (suc n) h = rw (h (suc n) (omega arith), rows_to-same start life after n (λ s le. h s (omega arith))) refl
+
+length-live_row : (start : Start) (s : ℕ) (o : Option Life) → length (option_to_list (live_row start s o)) ≡ one_if (is_alive start.place.limits o)
+unfolding live_row is_alive
+length-live_row start s None = refl
+length-live_row start s (Some l) = by_gone (is_gone start.place.limits l)
+  where
+    by_gone : (d : Bool) → length (option_to_list (if d then None else Some (row_of start s l))) ≡ one_if (not d)
+    by_gone true = refl
+    by_gone false = refl
+
+-- as many rows as live
+pub length-rows_to : (start : Start) (life : ℕ → Option Life) (n : ℕ) → length (rows_to start life n) ≡ count_alive start.place.limits life n
+unfolding rows_to count_alive
+length-rows_to start life zero = refl
+length-rows_to start life (suc n) = rw (length-append (rows_to start life n) (option_to_list (live_row start (suc n) (life (suc n)))), length-live_row start (suc n) (life (suc n)), length-rows_to start life n) refl
+
+pub notifications-append : (tag : Bytes) (xs ys : List Send) → notifications tag (xs ++ ys) ≡ notifications tag xs ++ notifications tag ys
+unfolding notifications
+notifications-append tag [] ys = refl
+notifications-append tag (Answers to bytes ∷ xs) ys = notifications-append tag xs ys
+notifications-append tag (Starts t refer_to ∷ xs) ys = notifications-append tag xs ys
+notifications-append tag (Notifies to n ∷ xs) ys = by_tag (notifications-append tag xs ys) (bytes_eq n.local_tag tag)
+  where
+    by_tag : notifications tag (xs ++ ys) ≡ notifications tag xs ++ notifications tag ys → (d : Bool) → (if d then notification to n ∷ notifications tag (xs ++ ys) else notifications tag (xs ++ ys)) ≡ (if d then notification to n ∷ notifications tag xs else notifications tag xs) ++ notifications tag ys
+    by_tag ih true = rw ih refl
+    by_tag ih false = ih
+
+is_within_n : ℕ → ℕ → Bool
+is_within_n k n = nat_lt 0 k && nat_le k n
+
+-- what is said of k: nothing by the row of anybody else
+said-within : (start : Start) (rule : Row → Told) (life : ℕ → Option Life) (tag : Bytes) (k n : ℕ) → ((s : ℕ) → s ≤ n → (s ≡ k → ⊥) → notifications tag (said_of rule (live_row start s (life s))) ≡ []) → notifications tag (said rule (rows_to start life n)) ≡ (if is_within_n k n then notifications tag (said_of rule (live_row start k (life k))) else [])
+unfolding rows_to said is_within_n notifications
+said-within start rule life tag k zero others = by_test (nat_lt 0 k && nat_le k 0) (let e : (nat_lt 0 k && nat_le k 0) ≡ false = grind (arith, nat_tests) in e)
+  where
+    by_test : (d : Bool) → d ≡ false → ◌≡◌ {A = List Notification} [] (if d then notifications tag (said_of rule (live_row start k (life k))) else [])
+    by_test true e = absurd (cc)
+    by_test false e = refl
+said-within start rule life tag k (suc n) others =
+    rw (
+      said-append rule (rows_to start life n) (option_to_list (live_row start (suc n) (life (suc n)))),
+      notifications-append tag (said rule (rows_to start life n)) (said rule (option_to_list (live_row start (suc n) (life (suc n))))),
+      said-option rule (live_row start (suc n) (life (suc n))),
+      said-within start rule life tag k n (λ s le. others s (omega arith)),
+    )
+    (by_place (k == suc n) refl)
+  where
+    by_place : (d : Bool) → (k == suc n) ≡ d → (if nat_lt 0 k && nat_le k n then notifications tag (said_of rule (live_row start k (life k))) else []) ++ notifications tag (said_of rule (live_row start (suc n) (life (suc n)))) ≡ (if nat_lt 0 k && nat_le k (suc n) then notifications tag (said_of rule (live_row start k (life k))) else [])
+    by_place true e =
+        let at : k ≡ suc n = grind (arith, nat_tests) in
+        let before : (nat_lt 0 k && nat_le k n) ≡ false = grind (arith, nat_tests) in
+        let here : (nat_lt 0 k && nat_le k (suc n)) ≡ true = grind (arith, nat_tests) in
+        rw (before, here, at) refl
+    by_place false e =
+        let other : suc n ≡ k → ⊥ = (λ at. absurd (grind (arith, nat_tests))) in
+        let same : (nat_lt 0 k && nat_le k (suc n)) ≡ (nat_lt 0 k && nat_le k n) = grind (arith, nat_tests) in
+        rw (others (suc n) (omega arith) other, same) (append-nil (if nat_lt 0 k && nat_le k n then notifications tag (said_of rule (live_row start k (life k))) else []))
+
+-- the same, where no one else has a life
+pub said-rows_to : (start : Start) (rule : Row → Told) (life : ℕ → Option Life) (tag : Bytes) (k n : ℕ) → ((s : ℕ) → s ≤ n → (s ≡ k → ⊥) → notifications tag (said_of rule (live_row start s (life s))) ≡ []) → ((s : ℕ) → (s ≡ 0) ⊎ (n < s) → life s ≡ None) → notifications tag (said rule (rows_to start life n)) ≡ notifications tag (said_of rule (live_row start k (life k)))
+unfolding live_row said_of is_within_n notifications
+said-rows_to start rule life tag k n others none = said-within start rule life tag k n others ∙ by_place (nat_lt 0 k && nat_le k n) refl
+  where
+    out_of : (nat_lt 0 k && nat_le k n) ≡ false → (k ≡ 0) ⊎ (n < k)
+    out_of e = grind (arith, nat_tests)
+
+    by_place : (d : Bool) → (nat_lt 0 k && nat_le k n) ≡ d → (if d then notifications tag (said_of rule (live_row start k (life k))) else []) ≡ notifications tag (said_of rule (live_row start k (life k)))
+    by_place true e = refl
+    by_place false e = rw (none k (out_of e)) refl

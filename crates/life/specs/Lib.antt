@@ -1,0 +1,13 @@
+pub mod Own
+pub mod Renaming
+pub mod Apart
+pub mod IsolationLaws
+pub mod Notifiers
+pub mod Together
+pub mod Past
+pub mod Life
+pub mod Lives
+pub mod Notices
+pub mod Laws
+pub mod Sentences
+pub mod TagLaws

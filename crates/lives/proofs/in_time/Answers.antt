@@ -1,5 +1,0 @@
-use Rattle.lives.proofs.Fates.{in_time_law}
-use Rattle.lives.proofs.in_time.Goals as goal
-
-pub returns : goal.returns
-returns c = in_time_law

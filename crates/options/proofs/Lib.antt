@@ -1,4 +1,0 @@
-pub mod Flags
-pub mod Words
-pub mod Settings
-pub mod Telling

@@ -1,9 +1,0 @@
-use Rattle.std.proofs.Common.{ap}
-use Rattle.queue_rule.proofs.Keeps.{begins, forks}
-use Rattle.outbox.proofs.ends.make.Goals as goal
-
-pub ruled-requires-clause-rule : goal.ruled-requires-clause-rule
-ruled-requires-clause-rule c = begins
-
-pub another-worker-requires-clause-rule : goal.another-worker-requires-clause-rule
-another-worker-requires-clause-rule c = forks _ _ (ap (λ v. v.is_receiver) c.loop-number.invariant.knows)

@@ -1,5 +1,0 @@
-use Rattle.queue_rule.proofs.Keeps.{takes, looks}
-use Rattle.outbox.proofs.ends.pop.Goals as goal
-
-pub pop_as-requires-clause-rule : goal.pop_as-requires-clause-rule
-pop_as-requires-clause-rule g c = (takes _ _ c.requires.takes, looks _ _ c.requires.takes)

@@ -1,3 +1,0 @@
-pub mod ItemLists
-pub mod Keeps
-pub mod Ended

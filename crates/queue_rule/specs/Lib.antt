@@ -1,4 +1,0 @@
-pub mod Items
-pub mod Rule
-pub mod Ended
-pub mod Values

@@ -1,0 +1,5 @@
+pub mod InboxEvents
+pub mod Tells
+pub mod ItemLists
+pub mod Keeps
+pub mod Ended

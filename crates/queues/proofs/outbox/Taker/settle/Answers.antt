@@ -1,0 +1,9 @@
+use Rattle.std.proofs.Common.{ap}
+use Rattle.queues.proofs.Keeps.{merges, compares}
+use Rattle.queues.proofs.outbox.Taker.settle.Goals as goal
+
+pub absorb-requires-clause-rule : goal.absorb-requires-clause-rule
+absorb-requires-clause-rule c = merges _ _ _ _ c.self.invariant.1 (ap (λ v. v.is_sender) c.done.invariant.1)
+
+pub learn_as-requires-clause-rule : goal.learn_as-requires-clause-rule
+learn_as-requires-clause-rule c = compares _ _ (ap (λ v. v.is_receiver) c.absorb.ensures.rule) (ap (λ v. v.is_sender) c.absorb.ensures.rule)

@@ -1,0 +1,11 @@
+pub mod InboxSeats
+pub mod InboxTook
+pub mod InboxEvents
+pub mod EndSeats
+pub mod EndTook
+pub mod OutboxSeats
+pub mod OutboxTook
+pub mod Items
+pub mod Rule
+pub mod Ended
+pub mod Values

@@ -1,2 +1,0 @@
-mod Grown
-pub mod Sent

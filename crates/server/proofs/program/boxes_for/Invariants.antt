@@ -1,8 +1,0 @@
-use Rattle.std.proofs.Common.{◌≡◌, map}
-use Rattle.std.specs.List.{range_with_len}
-use Rattle.server.specs.Boxes.{box_seen}
-use Rattle.server.specs.Call.{boxes_with, names_for}
-use Rattle.server.proofs.program.boxes_for.Given as goal
-
-abbrev pub invariant-loop-worker : goal.invariant-loop-worker
-invariant-loop-worker l = map (λ boxes. map box_seen boxes.items) l.all.items ≡ map (λ worker. boxes_with (names_for l.workers worker l.mailboxes)) (range_with_len 0 l.worker)

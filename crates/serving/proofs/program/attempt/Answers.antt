@@ -1,6 +1,0 @@
-use Rattle.serving.proofs.Refused.{ended_well}
-use Rattle.serving.proofs.program.attempt.Goals as goal
-
-pub returns-clause-well : goal.returns-clause-well
-returns-clause-well g c =
-    let off = c.close_off.ensures in ended_well _ _ c.close_off.result _ _ _ _ c.in_ok-served.ensures.served off.no_fault off.closed off.told

@@ -1,4 +1,0 @@
-use Rattle.serving.proofs.program.run.Goals as goal
-
-pub returns-clause-ran : goal.returns-clause-ran
-returns-clause-ran g c = λ b. record { wire = _; wire' = _; runs = c.in_ok-outcome.ensures.runs b }

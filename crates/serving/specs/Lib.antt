@@ -1,4 +1,0 @@
-pub mod Plans
-pub mod Serving
-pub mod Refused
-pub mod Telling

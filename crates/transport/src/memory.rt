@@ -1,0 +1,182 @@
+//! Wires in memory, for tests.
+ghost use Rattle.std.specs.Prelude.{◌≡◌, ◌≤◌, ◌++◌, ◌∷◌, [], length, reverse, Some, MatchResult};
+ghost use Rattle.transport.specs.Devices.{one_more};
+ghost use Rattle.transport.specs.Wires.{datagram};
+
+use crate::datagram::Datagram;
+use crate::wire::{Wire, WireFault};
+use sip_text::{Addr, NoMemory, Octets};
+use std::alloc::Global;
+use std::sync::Wait;
+
+/// A wire in memory, which tells what it gave and took. It gives the datagrams that it was made with, in order, and fails where
+/// none is left, or memory is wanting; a receive and a send can be set to fail.
+#[derive(Drop)]
+pub struct MemoryWire {
+    alloc: Global,
+    // the next one last
+    coming: Vec<Datagram>,
+    given: Vec<Datagram>,
+    taken: Vec<Datagram>,
+    failures: u64,
+    // how many receives and sends are left up to the one that fails
+    receives: Option<u64>,
+    sends: Option<u64>,
+}
+
+/// Counts a call, and tells whether it is the one that is to fail.
+fn is_due(left: &mut Option<u64>) -> bool {
+    match *left {
+        Some(0) => {
+            *left = None;
+            true
+        }
+        Some(count) => {
+            *left = Some(count - 1);
+            false
+        }
+        None => false,
+    }
+}
+
+impl MemoryWire {
+    /// A wire that is to give these datagrams.
+    pub fn new(alloc: Global, mut coming: Vec<Datagram>) -> MemoryWire
+        ensures coming { result.coming.items ≡ reverse coming.items }
+        ensures given { result.given.items ≡ [] }
+        ensures taken { result.taken.items ≡ [] }
+        ensures failures { result.failures ≡ 0 }
+    {
+        coming.reverse();
+        MemoryWire {
+            alloc,
+            coming,
+            given: Vec::new(alloc),
+            taken: Vec::new(alloc),
+            failures: 0,
+            receives: None,
+            sends: None,
+        }
+    }
+
+    /// Has a receive fail, after so many others.
+    pub fn fail_receive(&mut self, after: u64)
+        ensures given { self.new.given ≡ self.old.given }
+        ensures taken { self.new.taken ≡ self.old.taken }
+        ensures failures { self.new.failures ≡ self.old.failures }
+    {
+        self.receives = Some(after);
+    }
+
+    /// Has a send fail, after so many others.
+    pub fn fail_send(&mut self, after: u64)
+        ensures given { self.new.given ≡ self.old.given }
+        ensures taken { self.new.taken ≡ self.old.taken }
+        ensures failures { self.new.failures ≡ self.old.failures }
+    {
+        self.sends = Some(after);
+    }
+
+    /// The datagrams that it has given, in order.
+    pub fn given(&self) -> &[Datagram]
+        ensures { result.now ≡ self.now.given.items }
+    {
+        self.given.as_slice()
+    }
+
+    /// The datagrams that it has taken, in order.
+    pub fn taken(&self) -> &[Datagram]
+        ensures { result.now ≡ self.now.taken.items }
+    {
+        self.taken.as_slice()
+    }
+
+    /// Counts a failure.
+    fn fail(&mut self) -> WireFault
+        ensures given { self.new.given ≡ self.old.given }
+        ensures taken { self.new.taken ≡ self.old.taken }
+        ensures failures { self.new.failures ≡ one_more self.old.failures }
+    {
+        self.failures = self.failures.saturating_add(1);
+        WireFault
+    }
+
+    /// Keeps a copy of what it gives.
+    fn give(&mut self, peer: Addr, octets: &[u8]) -> Result<(), NoMemory>
+        ensures given { MatchResult result
+            (λ _. self.new.given.items ≡ self.old.given.items ++ datagram peer octets.now ∷ [])
+            (λ _. self.new.given.items ≡ self.old.given.items) }
+        ensures taken { self.new.taken ≡ self.old.taken }
+        ensures failures { self.new.failures ≡ self.old.failures }
+    {
+        let copy = Vec::from_slice(self.alloc, octets)?;
+        self.given.push(Datagram {
+            peer,
+            octets: Octets::new(copy),
+        })?;
+        Ok(())
+    }
+
+    /// Keeps a copy of what it takes.
+    fn take(&mut self, peer: Addr, octets: &[u8]) -> Result<(), NoMemory>
+        ensures taken { MatchResult result
+            (λ _. self.new.taken.items ≡ self.old.taken.items ++ datagram peer octets.now ∷ [])
+            (λ _. self.new.taken.items ≡ self.old.taken.items) }
+        ensures given { self.new.given ≡ self.old.given }
+        ensures failures { self.new.failures ≡ self.old.failures }
+    {
+        let copy = Vec::from_slice(self.alloc, octets)?;
+        self.taken.push(Datagram {
+            peer,
+            octets: Octets::new(copy),
+        })?;
+        Ok(())
+    }
+}
+
+impl Wire for MemoryWire {
+    ghost given = { λ w. Some w.given.items };
+
+    ghost taken = { λ w. Some w.taken.items };
+
+    ghost failures = { λ w. w.failures };
+
+    fn recv<R: Wait>(&mut self, _rt: &R, octets: &mut [u8]) -> Result<(usize, Addr), WireFault> {
+        if is_due(&mut self.receives) {
+            return Err(self.fail());
+        }
+        let Some(
+            Datagram {
+                peer,
+                octets: coming,
+            },
+        ) = self.coming.pop()
+        else {
+            return Err(self.fail());
+        };
+        let length = fill(octets, coming.as_slice());
+        match self.give(peer, &octets[..length]) {
+            Ok(()) => Ok((length, peer)),
+            Err(_) => Err(self.fail()),
+        }
+    }
+
+    fn send<R: Wait>(&mut self, _rt: &R, to: Addr, octets: &[u8]) -> Result<(), WireFault> {
+        if is_due(&mut self.sends) {
+            return Err(self.fail());
+        }
+        match self.take(to, octets) {
+            Ok(()) => Ok(()),
+            Err(_) => Err(self.fail()),
+        }
+    }
+}
+
+/// Copies as many bytes as there is room for, and tells how many.
+fn fill(room: &mut [u8], bytes: &[u8]) -> usize
+    ensures { result ≤ length room.new }
+{
+    let length = room.len().min(bytes.len());
+    room[..length].copy_from_slice(&bytes[..length]);
+    length
+}

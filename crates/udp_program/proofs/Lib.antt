@@ -1,5 +1,0 @@
-pub mod Printed
-pub mod Closed
-pub mod Started
-pub mod Served
-pub mod Ended

@@ -1,8 +1,0 @@
-use Rattle.udp_program.specs.Call.{start_at}
-use Rattle.udp_program.proofs.program.serve_sockets.Goals as goal
-
-pub serve-requires-clause-new : goal.serve-requires-clause-new
-serve-requires-clause-new g c κs within = (start_at c.args.call.now, c.in_ok-crew.ensures.started)
-
-pub returns-in-Ok-clause-served : goal.returns-in-Ok-clause-served
-returns-in-Ok-clause-served g c = c.in-Ok.ensures.served (start_at c.args.call.now) c.in_ok-crew.ensures.started

@@ -1,3 +1,0 @@
-pub mod Folds
-mod Loops
-mod Halting

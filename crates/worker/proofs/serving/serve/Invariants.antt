@@ -1,9 +1,0 @@
-use Rattle.std.proofs.Common.{◌≡◌}
-use Rattle.worker.proofs.Loops.{Running}
-use Rattle.worker.proofs.serving.serve.Given as goal
-
-abbrev pub invariant-loop : goal.invariant-loop
-invariant-loop g l = record {
-  running : Running l.fn.hand.desk l.fn.receiver l.receiver l.fn.hand.poster l.hand.poster l.left l.hand.desk l.hand.handled l.hand.made;
-  stop : l.hand.stop ≡ l.fn.hand.stop;
-}

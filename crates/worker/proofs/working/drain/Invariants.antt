@@ -1,5 +1,0 @@
-use Rattle.worker.proofs.Loops.{Draining}
-use Rattle.worker.proofs.working.drain.Given as goal
-
-abbrev pub invariant-loop : goal.invariant-loop
-invariant-loop g l = Draining l.fn.receiver l.receiver l.left
