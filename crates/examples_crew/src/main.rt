@@ -22,7 +22,7 @@ mod gathering;
 mod names;
 mod over_wires;
 mod page;
-mod queues;
+mod queue_runs;
 mod running;
 mod scenes;
 mod trials;
@@ -34,8 +34,8 @@ use crate::over_wires::{
     SECOND_SEND_FAILS, TRANSFERS_START, WRITER_FAILS, emit_items, feed_two, loopback,
 };
 use crate::page::Page;
-use crate::queues::measuring::measure;
-use crate::queues::queues;
+use crate::queue_runs::measuring::measure;
+use crate::queue_runs::queues;
 use crate::scenes::{SCENES, play_scene};
 use crate::trials::{refused_growths, refused_starts, restart};
 use std::alloc::{Allocator, Global};

@@ -36,7 +36,7 @@ all_push : {X : Type 0} (P : X → Type 0) (xs : List X) (y : X) → AllByRecurs
 all_push P [] y h p = (p, tt)
 all_push P (x ∷ xs) y h p = (h.0, all_push P xs y h.1 p)
 
-pub state_append : (a b : List Call) (s : State) → state_after (a ++ b) s ≡ state_after b (state_after a s)
+state_append : (a b : List Call) (s : State) → state_after (a ++ b) s ≡ state_after b (state_after a s)
 state_append [] b s = refl
 state_append (c ∷ a) b s = state_append a b (after c s)
 

@@ -1,5 +1,5 @@
 use Rattle.std.proofs.Common.{◌≡◌}
-use Rattle.examples_crew.proofs.queues.pipeline.work.Given as goal
+use Rattle.examples_crew.proofs.queue_runs.pipeline.work.Given as goal
 
 abbrev pub invariant-loop : goal.invariant-loop
 invariant-loop g l = record {

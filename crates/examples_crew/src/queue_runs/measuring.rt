@@ -1,6 +1,6 @@
 //! What an event takes on its way through both queues.
 
-use crate::queues::pipeline::hand_over;
+use crate::queue_runs::pipeline::hand_over;
 use notifier_model::{Event, Out};
 use std::alloc::Global;
 use std::rt::Runtime;

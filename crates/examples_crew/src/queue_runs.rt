@@ -9,10 +9,10 @@ pub(crate) mod measuring;
 mod pipeline;
 
 use crate::page::Page;
-use crate::queues::cases::{
+use crate::queue_runs::cases::{
     gone_late, left_late, posted_one_by_one, taken_after, without_receiver, without_senders,
 };
-use crate::queues::pipeline::hand_over;
+use crate::queue_runs::pipeline::hand_over;
 use std::alloc::Global;
 use std::sync::Wait;
 use std::thread::Threads;

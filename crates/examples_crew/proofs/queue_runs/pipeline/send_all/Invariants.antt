@@ -1,5 +1,5 @@
 use Rattle.std.proofs.Common.{◌≡◌}
-use Rattle.examples_crew.proofs.queues.pipeline.send_all.Given as goal
+use Rattle.examples_crew.proofs.queue_runs.pipeline.send_all.Given as goal
 
 abbrev pub invariant-loop-number : goal.invariant-loop-number
 invariant-loop-number g l = record {
