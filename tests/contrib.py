@@ -8,7 +8,7 @@ import signal
 import socket
 import stat
 
-from phone import PATIENCE, REPEATED, Message
+from phone import NO_MESSAGES, PATIENCE, REPEATED, Message, Phone
 from service import Service
 from suite import Ended, Running, free_port, run, same
 
@@ -100,8 +100,8 @@ begun 18
 over 17
 unread 1 2 3 4 5 6 7
 """
-COUNTERS = FEWER_COUNTERS.replace(b"unread", b"repeats 5\ngiven_up 3\nonce 4\nlost 6\nunread")
-REPEATS = {f"notifyd_{name}_total" for name in ("repeats", "given_up", "once", "lost")}
+COUNTERS = FEWER_COUNTERS.replace(b"unread", b"repeats 5\ngiven_up 3\nonce 4\nlost 6\nfailed_receives 7\ntoo_long 8\nunread")
+REPEATS = {f"notifyd_{name}_total" for name in ("repeats", "given_up", "once", "lost", "failed_receives", "too_long")}
 
 UNREAD = ("not_sip", "bad_header", "header_missing", "header_twice", "short_body", "too_long", "no_memory")
 
@@ -176,6 +176,37 @@ def metrics_of_the_program(program, folder):
         service.close()
         ended = called(folder, "notifyd-metrics", **told)
         same("status and values", (3, {"notifyd_reachable": "0"}), (ended.status, values(ended.out)))
+
+
+def stopped(program, signals, *words):
+    """A service by `notifyd-run`, to which these signals are sent while a phone watches. What it wrote."""
+    place = os.path.join(TOP, "contrib", "notifyd-run")
+    ports = free_port(), free_port()
+    places = ["--listen", f"127.0.0.1:{ports[0]}", "--control", f"127.0.0.1:{ports[1]}"]
+    with Running(place, [*places, *words], env={**os.environ, "NOTIFYD": program}) as running:
+        running.lines_until(b"listening at")
+        with Phone(ports[0], "alice") as phone:
+            phone.subscribe()
+            for number in signals:
+                running.process.send_signal(number)
+            phone.hear_farewell(NO_MESSAGES)
+        return running.end()
+
+
+def a_signal_is_a_close(program, folder):
+    for signals in [signal.SIGTERM], [signal.SIGINT], [signal.SIGTERM, signal.SIGINT, signal.SIGTERM]:
+        ended = stopped(program, signals, "--workers", "1", "alice")
+        same("the end", (0, b"WORKER 0 N 3 closed\n"), (ended.status, re.sub(rb"(?m)^(WORKER \d) \d+", rb"\1 N", ended.out)))
+
+
+def the_status_is_handed_on(program, folder):
+    ended = run(os.path.join(TOP, "contrib", "notifyd-run"), ["--port", "alice"], env={**os.environ, "NOTIFYD": program})
+    same("its end", Ended(1, b"", b"notifyd: no such option: --port (notifyd serve --help lists them)\n"), ended)
+    with Service(program, "alice") as service:
+        words = ["--listen", f"127.0.0.1:{service.sip}", "--control", f"127.0.0.1:{free_port()}", "alice"]
+        ended = run(os.path.join(TOP, "contrib", "notifyd-run"), words, env={**os.environ, "NOTIFYD": program})
+        same("its end", Ended(3, b"", b"notifyd: a port in use: --listen\n"), ended)
+        service.close()
 
 
 class Notifier:
@@ -322,7 +353,41 @@ def a_lamp_shows_a_mailbox(program, folder):
             same("its end", Ended(0, last, b""), lamp.end())
 
 
+def the_three_windows_of_readme(program, folder):
+    """The commands that README has for a first lamp, word for word but for the program's place."""
+    with open(os.path.join(TOP, "README.md")) as file:
+        text = file.read()
+    block = re.search(r"```sh\n(crates/notifyd/out/notifyd serve .*?)```", text, re.DOTALL)[1]
+    serve, watch, tell = [
+        [program if words[0].endswith("/notifyd") else os.path.join(TOP, words[0]), *words[1:]] for words in map(str.split, block.strip().split("\n"))
+    ]
+    with Running(serve[0], serve[1:]) as service:
+        try:
+            service.lines_until(b"listening")
+        except AssertionError:
+            if b"a port in use" in service.err:
+                return  # Somebody else's service holds the port on this machine.
+            raise
+        with Running(watch[0], watch[1:]) as lamp:
+            lines = [lamp.process.stdout.readline() for _ in range(2)]
+            same("what the mail is answered", Ended(0, b"ok\n", b""), run(tell[0], tell[1:]))
+            lines.append(lamp.process.stdout.readline())
+            for shown in "Messages-Waiting: no", "Messages-Waiting: yes, Voice-Message: 2/8 (0/2)":
+                assert f"`{shown}`" in text, f"README doesn't say that the lamp prints {shown}"
+                assert any(shown.encode() in line for line in lines), f"the lamp didn't print {shown}: {lines}"
+            same("what CLOSE is answered", 0, run(program, ["tell", "CLOSE"]).status)
+            lamp.end()
+
+
 def checks():
+    yield "contrib: metrics of the program", metrics_of_the_program
+    yield "contrib: a lamp shows a mailbox", a_lamp_shows_a_mailbox
+    yield "contrib: the three windows of README", the_three_windows_of_readme
+    yield "contrib: a signal to notifyd-run is a CLOSE", a_signal_is_a_close
+    yield "contrib: notifyd-run hands on the status", the_status_is_handed_on
+
+
+def checks_apart():
     yield "contrib: what Asterisk counts is told", asterisk_is_told
     yield "contrib: all mailboxes of Asterisk are told", all_mailboxes_of_asterisk_are_told
     yield "contrib: a folder of Asterisk that isn't there is not told", no_context_is_told_as_nothing
@@ -333,7 +398,6 @@ def checks():
     yield "contrib: counters that aren't told are left out of the metrics", fewer_counters_are_metrics
     yield "contrib: metrics are a file that is there as a whole, also where nobody answers", metrics_are_a_file
     yield "contrib: metrics without a folder", no_folder_for_metrics
-    yield "contrib: metrics of the program", metrics_of_the_program
     yield "contrib: a lamp asks again where the answer is lost", a_lost_answer
     yield "contrib: a lamp answers again, and shows nothing older", lost_notifies
     yield "contrib: a lamp asks for more time", more_time
@@ -341,4 +405,3 @@ def checks():
     yield "contrib: a lamp is refused", a_lamp_is_refused
     yield "contrib: a lamp where nobody listens", nobody_listens_to_a_lamp
     yield "contrib: bad words of a lamp", bad_words_of_a_lamp
-    yield "contrib: a lamp shows a mailbox", a_lamp_shows_a_mailbox

@@ -1,7 +1,7 @@
 """Scripts, and the pages that they are to have.
 
 Each run NAME, but for those of `COUNTED`, has its script in `data/NAME.script` and its page in `data/NAME.page`, with the line
-ends of SIP in their datagrams alone. The pages were put together from the layouts of `docs/FORMATS.md`, and not by the program.
+ends of SIP in their datagrams alone. The pages were put together from the layouts of `docs/protocol.md`, and not by the program.
 The runs of `data/runs` are the program's without arguments.
 """
 

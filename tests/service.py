@@ -3,6 +3,7 @@
 import os
 import re
 import socket
+import subprocess
 import time
 
 from phone import NO_MESSAGES, OVER, PATIENCE, Message, Operator, Phone, open_socket, persist
@@ -72,6 +73,9 @@ A_TEXT = "Messages-Waiting: yes\r\nText-Message: 1/0 (0/0)\r\n"
 # What STATUS says of NOTIFYs sent again, where each was answered in time.
 NOTHING_REPEATED = {"repeats": "0", "given_up": "0", "once": "0", "lost": "0"}
 
+# What it says of receives, where none failed.
+NOTHING_FAILED = {"failed_receives": "0", "too_long": "0"}
+
 
 def address(port):
     return f"127.0.0.1:{port}"
@@ -81,11 +85,11 @@ class Service:
     """A service at two ports, to be used in a `with`: it runs once this is made, and at the end of the block at the latest it
     is killed."""
 
-    def __init__(self, program, *words, ports=None, limit=LIMIT):
+    def __init__(self, program, *words, ports=None, limit=LIMIT, stdin=subprocess.DEVNULL):
         self.program = program
         self.sip, self.control = ports or (free_port(), free_port())
         places = ("--listen", address(self.sip), "--control", address(self.control))
-        self.running = Running(program, ["serve", *places, *words], limit)
+        self.running = Running(program, ["serve", *places, *words], limit, stdin)
 
     def __enter__(self):
         self.running.__enter__()
@@ -204,7 +208,7 @@ def status_counts(program, folder):
         # Four requests and an answer to each of five NOTIFYs came as SIP; of three subscriptions one was left.
         same("what the phone sent", 9 + len(UNREAD), phone.sent)
         counted = {"datagrams": "14", "events": "9", "answers": "4", "notifies": "5", "starts": "1", "failed": "0"}
-        counted = {**counted, "begun": "3", "over": "1", "unread": "1 1 1 1 1 0 0", **NOTHING_REPEATED}
+        counted = {**counted, "begun": "3", "over": "1", "unread": "1 1 1 1 1 0 0", **NOTHING_REPEATED, **NOTHING_FAILED}
         counters_become(operator, lambda: counted)
         ended = service.close(lambda: phone.hear_farewell(HEARD), lambda: phone.hear_farewell("SIP/2.0 100 Trying\r\n"))
     # Two farewells more, and the service hears their answers, or ends before.
@@ -219,7 +223,8 @@ def close_says_farewell(program, folder):
     with Service(program, *KNOWN, "--workers", "1", "alice", "bob") as service, service.phone("alice") as phone:
         phone.subscribe()
         ended = service.close(lambda: phone.hear_farewell(NO_MESSAGES))
-        hello, *more, goodbye = ended.err.decode().splitlines()
+        lines = ended.err.decode().splitlines()
+        hello, *more, goodbye = [line for line in lines if "the system gives" not in line]
         places = f"listening at {address(service.sip)}, control at {address(service.control)}"
         same("the line at the start", f"notifyd: {places}, 1 workers, 2 mailboxes", hello)
         same("the lines between", [], more)
@@ -232,7 +237,7 @@ def close_says_farewell(program, folder):
 
 def lines_are_refused_at_the_end(program, folder):
     """While nobody reads standard output a service can't write the lines of its transfers, and so not end."""
-    with Service(program, "--linger", "0", "alice") as service, service.phone("bob") as phone, service.operator() as operator:
+    with Service(program, "--linger", "0", "--max-datagram", "65507", "alice") as service, service.phone("bob") as phone, service.operator() as operator:
         for _ in range(2):
             phone.refer("sip:" + "c" * 40_000)  # more than a pipe keeps
         operator.tell("CLOSE")
@@ -299,7 +304,7 @@ def a_file_names_none(program, folder):
     ended_with(run(program, words), 3, b"", why.encode())
     with open(path, "w") as file:
         file.write("# some\nalice\nbob and dave\n")
-    why = f"notifyd: {path}, line 3: no name of a mailbox: bob and dave (one or more characters, none of them a space)\n"
+    why = f"notifyd: {path}, line 3: no name of a mailbox: bob and dave (one or more characters, none of them a space, `@` or `:`)\n"
     ended_with(run(program, words), 3, b"", why.encode())
     with open(path, "w") as file:
         file.write("# none\n\n")
@@ -345,8 +350,89 @@ def a_taken_port_is_told(program, folder):
             ports = {"--listen": free_port(), "--control": free_port(), taken: other.getsockname()[1]}
             words = [word for name, port in ports.items() for word in (name, address(port))]
             ended = run(program, ["serve", *words, "alice"])
-            why = f"notifyd: a port in use, or an address not of this machine: {taken}\n"
+            why = f"notifyd: a port in use: {taken}\n"
             ended_with(ended, 3, b"", why.encode())
+
+
+def a_file_names_ranges(program, folder):
+    path = os.path.join(folder, "mailboxes")
+    with open(path, "w") as file:
+        file.write("098-101\n555-1234\n")
+    with Service(program, "--mailboxes", path) as service, service.operator() as operator:
+        for user in ("098", "099", "100", "101", "555-1234"):
+            operator.tell(f"MAIL {user} text 1 0 0 0")
+            with service.phone(user) as phone:
+                phone.leave(phone.subscribe(A_TEXT), A_TEXT)
+        for user in ("097", "102", "98", "098-101", "0100"):
+            operator.tell(f"MAIL {user} text 1 0 0 0", "unknown mailbox")
+        service.close()
+
+
+def the_state_is_told_first(program, folder):
+    """What a file says is what the first NOTIFY tells; the rest of the mailbox is as ever."""
+    path = os.path.join(folder, "state")
+    with open(path, "w") as file:
+        file.write("# at the last end\nMAIL alice voice 1 0 0 0\nMAIL carol voice 5 5 5 5\n\nMAIL alice voice 2 8 0 2")
+    with Service(program, "--state", path, "alice", "bob") as service, service.operator() as operator:
+        with service.phone("alice") as phone:
+            dialog = phone.subscribe(HEARD)
+            operator.tell("MAIL alice voice 0 0 0 0")
+            phone.expect_notify("active", "Messages-Waiting: no\r\nVoice-Message: 0/0 (0/0)\r\n")
+            phone.leave(dialog, "Messages-Waiting: no\r\nVoice-Message: 0/0 (0/0)\r\n")
+        with service.phone("bob") as phone:
+            phone.leave(phone.subscribe(NO_MESSAGES), NO_MESSAGES)
+        service.close()
+
+
+def a_state_is_refused(program, folder):
+    path = os.path.join(folder, "state")
+    for line in "STATUS", "CLOSE", "MAIL alice voice 1", "MAIL alice voice 1 0 0 0 ", "TICK 1", "PROGRESS w0-1-a 180 Ringing":
+        with open(path, "w") as file:
+            file.write(f"MAIL alice voice 1 0 0 0\n# and\n{line}\n")
+        words = ["serve", "--listen", address(free_port()), "--control", address(free_port()), "--state", path, "alice"]
+        why = f"notifyd: {path}, line 3: no MAIL line (MAIL <mailbox> <class> <new> <old> <urgent new> <urgent old>)\n"
+        ended_with(run(program, words), 3, b"", why.encode())
+
+
+def refer_may_be_left_out(program, folder):
+    with Service(program, "--no-refer", "alice") as service:
+        with service.phone("alice") as phone:
+            phone.begin("REFER", "refer;id=1", ("Refer-To: <sip:bob@127.0.0.1>",))
+            same("the packages", "message-summary", phone.expect("SIP/2.0 489 Bad Event").value("Allow-Events"))
+            phone.leave(phone.subscribe(), NO_MESSAGES)
+        same("what is printed", 0, service.close().out.count(b"START"))
+
+
+def the_longest_time_is_an_hour(program, folder):
+    with Service(program, "alice") as service:
+        with service.phone("alice") as phone:
+            dialog = phone.ask("SIP/2.0 200 OK", "Expires: 86400")
+            phone.expect_notify("active;expires=3600", NO_MESSAGES)
+            phone.leave(dialog, NO_MESSAGES)
+        service.close()
+
+
+def the_end_of_input_closes(program, folder):
+    """What comes before the end is dropped, and then it is as at a CLOSE. Without the option its input is left alone."""
+    with Service(program, "--until-input-ends", "alice", stdin=subprocess.PIPE) as service:
+        source = service.running.process.stdin
+        with service.phone("alice") as phone:
+            phone.subscribe()
+            source.write(b"CLOSE\n" * 1000)
+            phone.leave(phone.subscribe(), NO_MESSAGES)
+            source.close()
+            phone.hear_farewell(NO_MESSAGES)
+        service.running.process.stdin = None
+        same("the exit status", 0, service.running.end().status)
+
+
+def a_close_ends_it_while_input_goes_on(program, folder):
+    with Service(program, "--until-input-ends", "alice", stdin=subprocess.PIPE) as service:
+        # Waiting for the end of the program would close it.
+        source, service.running.process.stdin = service.running.process.stdin, None
+        with source, service.phone("alice") as phone:
+            phone.subscribe()
+            service.close(lambda: phone.hear_farewell(NO_MESSAGES))
 
 
 def checks():
@@ -362,6 +448,13 @@ def checks():
     yield "serve: a control line of nine thousand octets is heard whole", a_long_reason_is_told_whole
     yield "serve: a file names mailboxes, with comments", a_file_names_mailboxes
     yield "serve: files that name none", a_file_names_none
+    yield "serve: a file names ranges of mailboxes", a_file_names_ranges
+    yield "serve: a file of MAIL lines is done first", the_state_is_told_first
+    yield "serve: files of MAIL lines that are refused", a_state_is_refused
+    yield "serve: --no-refer", refer_may_be_left_out
+    yield "serve: the longest time is an hour", the_longest_time_is_an_hour
+    yield "serve: the end of its input closes it", the_end_of_input_closes
+    yield "serve: CLOSE ends it while its input goes on", a_close_ends_it_while_input_goes_on
     yield "serve: two workers have their mailboxes", two_workers_have_homes
     yield "serve: it starts again at the same address, and knows no old dialog", it_starts_again_at_once
     yield "serve: a port in use", a_taken_port_is_told

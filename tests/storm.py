@@ -7,7 +7,6 @@ those whose NOTIFY came, and of the datagrams of SIP those that STATUS has count
 
 import re
 import selectors
-import time
 
 from phone import OVER, Operator, Phone
 from service import Service, counters_become
@@ -18,9 +17,6 @@ WORKERS = 4
 MAILBOXES = 300
 ROUNDS = 20
 VISITORS = 20
-
-# Seconds in which rounds begin, on a machine that is too slow for all of them. One in each half is always brought.
-SECONDS = 6
 
 # The class of each sender's messages, and the name of its line in a NOTIFY.
 CLASSES = (("voice", "Voice"), ("fax", "Fax"), ("pager", "Pager"), ("multimedia", "Multimedia"))
@@ -33,9 +29,9 @@ MOST_UNKNOWN = 64
 # It is asked how many were heard when so many more were sent.
 STRIDE = 24
 
-# Seconds in which nothing comes before it is missed, and behind which the service is killed. A storm takes a few.
+# Seconds in which nothing comes before it is missed, and behind which the service is killed and the storm has failed. It takes a few.
 PATIENCE = 60
-LIMIT = 300
+LIMIT = 600
 
 
 def body_of(counts):
@@ -194,9 +190,8 @@ class Storm:
             yield
 
     def mails(self):
-        """Half of the rounds, or as many of them as begin in time: one message more for each mailbox by each sender, one line with
-        each step. A visitor comes anew when the first sender brings a message for its mailbox."""
-        until = time.monotonic() + SECONDS / 2
+        """Half of the rounds: one message more for each mailbox by each sender, one line with each step. A visitor comes anew when
+        the first sender brings a message for its mailbox."""
         for _ in range(ROUNDS // 2):
             self.rounds += 1
             for turn in range(MAILBOXES):
@@ -206,8 +201,6 @@ class Storm:
                 for sender in self.senders:
                     sender.bring(turn, self.rounds)
                     yield
-            if time.monotonic() > until:
-                return
 
     def hear_counters(self):
         answer = self.operator.socket.recv(65535).decode()
@@ -266,7 +259,7 @@ class Storm:
         counted = {**counted, "starts": 0, "failed": 0, "begun": MAILBOXES + visits, "over": visits}
         # A guest that was slow to hear its NOTIFY got it again.
         counted = {**counted, "repeats": sum(guest.repeats for guest in self.guests)}
-        counted = {**counted, "given_up": 0, "once": 0, "lost": 0}
+        counted = {**counted, "given_up": 0, "once": 0, "lost": 0, "failed_receives": 0, "too_long": 0}
         return {**{name: str(count) for name, count in counted.items()}, "unread": "0 0 0 0 0 0 0"}
 
     def made(self):
@@ -293,6 +286,7 @@ def a_storm(program, folder):
         for _ in range(2):
             storm.play(storm.mails())
             storm.all_know()
+        same("the rounds", ROUNDS, storm.rounds)
         counters_become(storm.operator, storm.counted)
         ended = service.close(storm.hear_farewells)
     lines = "".join(f"WORKER {worker} N {made} closed\n" for worker, made in enumerate(storm.made()))

@@ -4,7 +4,8 @@ A part is a module with a function `checks()` that yields pairs of a name and a 
 takes the program's path and a folder of its own, which is empty and goes away behind it, and ends if all is well. If not, it
 raises `AssertionError` with a text of what was wanted and what came (`same` does), or answers that text. `tests/run` names the
 parts and runs the checks, some at a time, so a check may rely on nothing that another one does; it prints in the order of
-`checks()`.
+`checks()`. A part may have checks that don't touch the program in a function `checks_apart()`: they are run once, and get None as
+the program.
 
     def checks():
         yield "a script of nothing gives a page of one line", an_empty_script
@@ -70,11 +71,11 @@ class Running:
     `lines_until` waits for a line on standard error (a service says there that it listens), `end` for the end of the program.
     """
 
-    def __init__(self, program, words, limit=LIMIT):
+    def __init__(self, program, words, limit=LIMIT, stdin=subprocess.DEVNULL, **how):
         self.limit = limit
         self.process = started(
             # Without a buffer, so that `end` finds what `lines_until` has left.
-            [program, *words], bufsize=0, stdin=subprocess.DEVNULL, stdout=subprocess.PIPE, stderr=subprocess.PIPE
+            [program, *words], bufsize=0, stdin=stdin, stdout=subprocess.PIPE, stderr=subprocess.PIPE, **how
         )
         self.killer = threading.Timer(limit, self.process.kill)
         self.killer.daemon = True
@@ -140,7 +141,7 @@ def sip_block(datagram, source="127.0.0.1:5070"):
 
 def brief(page):
     """A page in brief: its UNREAD, WORKER and START lines, of an answer the first line behind `SIP/2.0`, of a NOTIFY its number
-    and its state. Raises AssertionError where the bytes aren't a page (`docs/FORMATS.md`)."""
+    and its state. Raises AssertionError where the bytes aren't a page (`docs/protocol.md`)."""
     told = []
     while page:
         line, feed, page = page.partition(b"\n")

@@ -3,7 +3,7 @@
 
 Each is made at a datagram's greatest length and handed to the program, in the place of a line of a good SUBSCRIBE, behind its
 lines, or as a datagram, a script or a control line of its own. What comes out says how it is read: the number of an UNREAD line,
-or what the SUBSCRIBE is answered (`docs/PROFILE.md` has the order of the refusals).
+or what the SUBSCRIBE is answered (`docs/protocol.md` has the order of the refusals).
 
     tests/texts.py TIMES [PROGRAM]
 

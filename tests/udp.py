@@ -7,7 +7,7 @@ import time
 from concurrent.futures import ThreadPoolExecutor
 
 from phone import NO_MESSAGES, OVER, Operator, Phone, open_socket
-from suite import LIMIT, ended_with, free_port, run, same
+from suite import LIMIT, Running, ended_with, free_port, run, same
 from tags import local_tag
 
 SEED = "00112233445566778899aabbccddeeffFFEEDDCCBBAA99887766554433221100"
@@ -23,6 +23,9 @@ PARTY = 3 * 8 + 3
 # How long a line of a SUBSCRIBE must be for a NOTIFY with it to be too long for a datagram, where the SUBSCRIBE isn't.
 LONG = 65_050
 
+# The greatest number of a port.
+LAST_PORT = 65535
+
 # Words that ask for no run.
 BAD = (
     "udp",
@@ -36,6 +39,16 @@ BAD = (
     f"udp --stop --seed {SEED} 5060 5061 1 1 alice",
     "script 5060 5061 1 1 alice",
 )
+
+
+def find(phone, is_running):
+    """Waits until somebody hears this phone, which an OPTIONS tells: it is answered by a refusal, and counts as a datagram."""
+    question = phone.request("OPTIONS", f"OPTIONS{phone.user}", 1, "", ())
+    until = time.monotonic() + LIMIT
+    while not phone.is_heard(question):
+        if time.monotonic() > until or not is_running():
+            raise AssertionError("nobody listens at the port for SIP")
+        time.sleep(0.005)
 
 
 class Run:
@@ -76,13 +89,8 @@ class Run:
                 time.sleep(0.01)
 
     def find(self, phone):
-        """Waits until the run hears this phone, which an OPTIONS tells: it is answered by a refusal, and counts as a datagram."""
-        question = phone.request("OPTIONS", f"OPTIONS{phone.user}", 1, "", ())
-        until = time.monotonic() + LIMIT
-        while not phone.is_heard(question):
-            if time.monotonic() > until or not self.thread.is_alive():
-                raise AssertionError(f"nobody listens at the port for SIP: {self.ended}")
-            time.sleep(0.005)
+        """Waits until the run hears this phone."""
+        find(phone, self.thread.is_alive)
 
     def phone(self, user):
         """A phone that this run hears."""
@@ -198,14 +206,31 @@ def none_is_read(program, folder):
         ended_with(errand.ended, 0, lines.encode(), b"")
 
 
-def the_last_numbers_are_read(program, folder):
-    """The greatest numbers are good words: then it is the port for control lines that can't be had."""
-    with socket.socket(socket.AF_INET, socket.SOCK_DGRAM) as other:
-        try:
-            other.bind(("127.0.0.1", 65535))
-        except OSError:
-            pass  # somebody else has it
-        ended_with(run(program, "udp --stop 1 65535 256 4294967295 bob".split()), 3, b"", DEVICE_FAULT)
+def until_free(port):
+    """Waits until nobody has this port of 127.0.0.1."""
+    until = time.monotonic() + LIMIT
+    while True:
+        with socket.socket(socket.AF_INET, socket.SOCK_DGRAM) as other:
+            try:
+                return other.bind(("127.0.0.1", port))
+            except OSError:
+                if time.monotonic() > until:
+                    raise
+        time.sleep(0.05)
+
+
+def the_greatest_numbers_are_heard(program, folder):
+    """256 workers for 4,294,967,295 datagrams, and the last port: once that for SIP, once that for control lines. So many datagrams
+    never come, so each run is killed."""
+    for sip, control in ((LAST_PORT, free_port()), (free_port(), LAST_PORT)):
+        until_free(LAST_PORT)
+        words = ["udp", "--stop", str(sip), str(control), "256", "4294967295", "bob"]
+        with Running(program, words) as errand, Phone(sip, "bob") as phone:
+            find(phone, lambda: errand.process.poll() is None)
+            phone.subscribe()
+            with Operator(control) as operator:
+                operator.say("MAIL bob voice 1 0 0 0")
+            phone.expect_notify("active;expires=3600", "Messages-Waiting: yes\r\nVoice-Message: 1/0 (0/0)\r\n")
 
 
 def seed_and_stop(program, folder):
@@ -241,6 +266,6 @@ def checks():
     yield "udp: words that ask for no run", words_ask_for_none
     yield "udp: so many datagrams are read", so_many_are_read
     yield "udp: no datagram is read, by 2 workers and by 256", none_is_read
-    yield "udp: the greatest numbers are good words", the_last_numbers_are_read
+    yield "udp: the greatest numbers of workers, datagrams and ports are heard", the_greatest_numbers_are_heard
     yield "udp: tags by --seed, and a farewell by --stop", seed_and_stop
     yield "udp: time comes by control lines", time_comes_by_lines

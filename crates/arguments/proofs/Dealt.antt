@@ -21,7 +21,7 @@ new_entries : (names : List (String Global)) → map {B = List ℕ × Content} (
 new_entries [] = refl
 new_entries (name ∷ names) = ap (λ entries. (string_bytes name, OfMail unset) ∷ entries) (new_entries names)
 
-new_mailboxes-named : (names : List (String Global)) → new_mailboxes names ≡ mailboxes_named (map string_bytes names)
+pub new_mailboxes-named : (names : List (String Global)) → new_mailboxes names ≡ mailboxes_named (map string_bytes names)
 new_mailboxes-named names =
     ap (λ entries. let m : Seen = record { name = mail_package; content_type = mail_type; contents = from_entries entries } in m) (new_entries names)
 

@@ -5,3 +5,6 @@ pub mod Telling
 pub mod Calls
 pub mod UdpCalls
 pub mod Dealt
+pub mod Numerals
+pub mod LineNames
+pub mod ToldBoxes

@@ -1,14 +1,13 @@
 -- What the words say: what is found is so, what is so is found, and an error names what is wrong first.
-use Rattle.std.proofs.Common.{◌≡◌, ◌≢◌, ℕ, ◌≤◌, Bool, true, false, cond, List, [], ◌∷◌, ◌++◌, Option, Some, None, Result, Ok, Err, refl, sym, ap, subst, ◌∙◌, arith, append_assoc}
-use Rattle.std.specs.Prelude.{codes, decimal, bytes_eq, nat_lt, IfOk, IfErr}
+use Rattle.std.proofs.Common.{◌≡◌, ◌≢◌, ℕ, ◌≤◌, Bool, true, false, cond, List, [], ◌∷◌, ◌++◌, Option, Some, None, Result, Ok, Err, ◌⊎◌, inl, inr, refl, sym, ap, subst, ◌∙◌, arith, append_assoc}
+use Rattle.std.specs.Prelude.{codes, decimal, ◌&&◌, nat_lt, IfOk, IfErr}
 use Rattle.std.proofs.lemmas.Bool.Decides.{nat_tests}
-use Rattle.std.proofs.lemmas.Slice.Eq.{bytes_eq-Decides}
 use Rattle.hex.specs.declared.error.FromHexError.{FromHexError}
 use Rattle.hex.specs.Hex.{decode_sized}
 use Rattle.sip_text.specs.declared.address.Addr.{Addr}
 use Rattle.sip_text.specs.Addresses.{addr_text, IsAddr}
 use Rattle.sip_text.specs.Reading.{◌>>=◌, begins, addr_of, plain_up_to}
-use Rattle.sip_text.proofs.Pieces.{bind_some, some_is}
+use Rattle.sip_text.proofs.Pieces.{bind_some, some_is, and_both}
 use Rattle.sip_text.proofs.PlainNumbers.{up_to_takes, up_to_again}
 use Rattle.sip_text.proofs.Addresses.{addr_takes, addr_again}
 use Rattle.package.specs.Texts.{is_word}
@@ -18,14 +17,16 @@ use Rattle.arguments.specs.declared.flag.Place.{Place}
 use Rattle.arguments.specs.declared.flag.Place.TheVariants as place
 use Rattle.arguments.specs.declared.flag.Flag.{Flag}
 use Rattle.arguments.specs.declared.flag.Flag.TheVariants as flag
+use Rattle.arguments.specs.declared.switch.Switch.{Switch}
+use Rattle.arguments.specs.declared.switch.Switch.TheVariants as switch
 use Rattle.arguments.specs.declared.setting.Setting.{Setting}
 use Rattle.arguments.specs.declared.setting.Setting.TheVariants as setting
 use Rattle.arguments.specs.declared.error.OptionsError.{OptionsError}
 use Rattle.arguments.specs.declared.error.OptionsError.TheVariants as error
-use Rattle.arguments.specs.Flags.{flag_text, least, most}
-use Rattle.arguments.specs.Settings.{IsMailbox, IsSetting, AreSettings, BeginsWrong, AreWrong, Answers}
-use Rattle.arguments.specs.Reading.{place_of, time_of, count_of, bound_of, other_of, flag_of, or_bad, value_of, seed_of, between, valued, alone, then_more, by_flag, settings_from, Reads}
-use Rattle.arguments.proofs.Flags.{same_text, flag_takes, flag_again, no_flag}
+use Rattle.arguments.specs.Flags.{place_text, bound_text, flag_text, switch_text, least, most}
+use Rattle.arguments.specs.Settings.{is_user, joined, AreOption, IsMailbox, IsSetting, AreSettings, BeginsWrong, AreWrong, Answers}
+use Rattle.arguments.specs.Reading.{flag_of, joined_of, switch_of, or_bad, value_of, seed_of, between, valued, named, by_switch, by_joined, alone, then_more, by_flag, settings_from, Reads}
+use Rattle.arguments.proofs.Flags.{flag_takes, flag_again, no_flag, joined_takes, joined_again, no_joined, joined_is_no_flag, switch_takes, switch_again, no_switch, switch_is_no_flag}
 
 -- ---- numbers and seeds
 
@@ -56,6 +57,8 @@ most_is_small bound.Inbox = omega arith
 most_is_small bound.Outbox = omega arith
 most_is_small bound.Repeats = omega arith
 most_is_small bound.Linger = omega arith
+most_is_small bound.MaxDatagram = omega arith
+most_is_small bound.ReceiveBuffer = omega arith
 
 between_again : (least most n : ℕ) → least ≤ n → n ≤ most → most ≤ 4294967295 → between least most (decimal n) ≡ Some n
 unfolding between
@@ -87,22 +90,21 @@ or_bad_ok : (f : Flag) (o : Option Setting) (s : Setting) → or_bad f o ≡ Ok 
 or_bad_ok f (Some x) s e = ap (λ (y : Setting). Some y) (ok_is x s e)
 or_bad_ok f None s e = absurd cc
 
-valued_takes : (f : Flag) (value : List ℕ) (s : Setting) → valued f value ≡ Ok s → IsSetting (flag_text f ∷ value ∷ []) s
+valued_takes : (f : Flag) (words : List (List ℕ)) (value : List ℕ) (s : Setting) → AreOption words (flag_text f) value → valued f value ≡ Ok s → IsSetting words s
 unfolding valued
-valued_takes (flag.Address place) value s e =
+valued_takes (flag.Address place) words value s are e =
     let p = bind_some (addr_of value) (λ a. Some (setting.Address place a)) s (or_bad_ok (flag.Address place) (addr_of value >>= λ a. Some (setting.Address place a)) s e) in
     let a = addr_takes value p.0 p.1 in
-    subst (IsSetting (flag_text (flag.Address place) ∷ value ∷ [])) (some_is (setting.Address place p.0) s p.2)
-    (a.1, ap (λ (v : List ℕ). flag_text (flag.Address place) ∷ v ∷ []) a.0)
-valued_takes (flag.Number bound) value s e =
+    subst (IsSetting words) (some_is (setting.Address place p.0) s p.2) (a.1, subst (AreOption words (place_text place)) a.0 are)
+valued_takes (flag.Number bound) words value s are e =
     let p = bind_some (between (least bound) (most bound) value) (λ n. Some (setting.Number bound n)) s (or_bad_ok (flag.Number bound) (between (least bound) (most bound) value >>= λ n. Some (setting.Number bound n)) s e) in
     let n = between_takes (least bound) (most bound) value p.0 p.1 in
-    subst (IsSetting (flag_text (flag.Number bound) ∷ value ∷ [])) (some_is (setting.Number bound p.0) s p.2)
-    (n.1, n.2, ap (λ (v : List ℕ). flag_text (flag.Number bound) ∷ v ∷ []) n.0)
-valued_takes flag.MailboxFile value s e = subst (IsSetting (codes "--mailboxes" ∷ value ∷ [])) (ok_is (setting.MailboxFile value) s e) refl
-valued_takes flag.Seed value s e =
+    subst (IsSetting words) (some_is (setting.Number bound p.0) s p.2) (n.1, n.2, subst (AreOption words (bound_text bound)) n.0 are)
+valued_takes flag.MailboxFile words value s are e = subst (IsSetting words) (ok_is (setting.MailboxFile value) s e) are
+valued_takes flag.StateFile words value s are e = subst (IsSetting words) (ok_is (setting.StateFile value) s e) are
+valued_takes flag.Seed words value s are e =
     let p = bind_some (seed_of value) (λ x. Some (setting.Seed x)) s (or_bad_ok flag.Seed (seed_of value >>= λ x. Some (setting.Seed x)) s e) in
-    subst (IsSetting (codes "--seed" ∷ value ∷ [])) (some_is (setting.Seed p.0) s p.2) (value, refl, seed_takes value p.0 p.1)
+    subst (IsSetting words) (some_is (setting.Seed p.0) s p.2) (value, are, seed_takes value p.0 p.1)
 
 or_bad_err : (f : Flag) (o : Option Setting) (e : OptionsError) → or_bad f o ≡ Err e → error.Bad f ≡ e
 or_bad_err f (Some x) e k = absurd cc
@@ -113,59 +115,40 @@ unfolding valued
 valued_wrong (flag.Address place) value e k = or_bad_err (flag.Address place) (addr_of value >>= λ a. Some (setting.Address place a)) e k
 valued_wrong (flag.Number bound) value e k = or_bad_err (flag.Number bound) (between (least bound) (most bound) value >>= λ n. Some (setting.Number bound n)) e k
 valued_wrong flag.MailboxFile value e k = absurd cc
+valued_wrong flag.StateFile value e k = absurd cc
 valued_wrong flag.Seed value e k = or_bad_err flag.Seed (seed_of value >>= λ x. Some (setting.Seed x)) e k
 
-abbrev keeping : List ℕ
-keeping = codes "--keep-subscriptions"
+abbrev by_name : List ℕ → Result Setting OptionsError
+by_name word = cond (is_word word && is_user word) (Ok (setting.Mailbox word)) (Err (error.NoMailbox word))
 
-abbrev by_word : List ℕ → Result Setting OptionsError
-by_word word = cond (is_word word) (Ok (setting.Mailbox word)) (Err (error.NoMailbox word))
+named_takes : (word : List ℕ) (s : Setting) → named word ≡ Ok s → IsSetting (word ∷ []) s
+unfolding named
+named_takes word s e = dashed (begins 45 word) refl e where
+  by_test : (b : Bool) → (is_word word && is_user word) ≡ b → begins 45 word ≡ false → cond {A = Result Setting OptionsError} b (Ok (setting.Mailbox word)) (Err (error.NoMailbox word)) ≡ Ok s → IsSetting (word ∷ []) s
+  by_test true is plain k =
+      let both = and_both (is_word word) (is_user word) is in
+      subst (IsSetting (word ∷ [])) (ok_is (setting.Mailbox word) s k) (record { word = both.0; user = both.1; no_option = plain }, refl)
+  by_test false is plain k = absurd cc
 
-abbrev by_dash : List ℕ → Result Setting OptionsError
-by_dash word = cond (begins 45 word) (Err (error.Unknown word)) (by_word word)
+  dashed : (b : Bool) → begins 45 word ≡ b → cond b (Err (error.Unknown word)) (by_name word) ≡ Ok s → IsSetting (word ∷ []) s
+  dashed true is k = absurd cc
+  dashed false is k = by_test (is_word word && is_user word) refl is k
 
 alone_takes : (word : List ℕ) (s : Setting) → alone word ≡ Ok s → IsSetting (word ∷ []) s
 unfolding alone
-alone_takes word s e = keep (bytes_eq word keeping) refl e where
-  named : (b : Bool) → is_word word ≡ b → begins 45 word ≡ false → cond {A = Result Setting OptionsError} b (Ok (setting.Mailbox word)) (Err (error.NoMailbox word)) ≡ Ok s → IsSetting (word ∷ []) s
-  named true is plain k = subst (IsSetting (word ∷ [])) (ok_is (setting.Mailbox word) s k) (record { word = is; no_option = plain }, refl)
-  named false is plain k = absurd cc
+alone_takes word s e = step (joined_of word) refl e where
+  by_switches : (o : Option Switch) → switch_of word ≡ o → by_switch o word ≡ Ok s → IsSetting (word ∷ []) s
+  by_switches (Some x) is k = subst (IsSetting (word ∷ [])) (ok_is (setting.Switch x) s k) (ap (λ (w : List ℕ). w ∷ []) (switch_takes word x is))
+  by_switches None is k = named_takes word s k
 
-  dashed : (b : Bool) → begins 45 word ≡ b → cond b (Err (error.Unknown word)) (by_word word) ≡ Ok s → IsSetting (word ∷ []) s
-  dashed true is k = absurd cc
-  dashed false is k = named (is_word word) refl is k
+  step : (o : Option (Flag × List ℕ)) → joined_of word ≡ o → by_joined o word ≡ Ok s → IsSetting (word ∷ []) s
+  step (Some (f, value)) is k = valued_takes f (word ∷ []) value s (inr (ap (λ (w : List ℕ). w ∷ []) (joined_takes word f value is))) k
+  step None is k = by_switches (switch_of word) refl k
 
-  keep : (b : Bool) → bytes_eq word keeping ≡ b → cond b (Ok setting.KeepSubscriptions) (by_dash word) ≡ Ok s → IsSetting (word ∷ []) s
-  keep true is k = subst (IsSetting (word ∷ [])) (ok_is setting.KeepSubscriptions s k) (ap (λ (w : List ℕ). w ∷ []) (same_text word keeping is))
-  keep false is k = dashed (begins 45 word) refl k
-
-same_texts : (a b : List ℕ) → a ≡ b → bytes_eq a b ≡ true
-same_texts a b e = (bytes_eq-Decides a b).1 e
-
-no_mailbox : (word : List ℕ) → is_word word ≡ false → ¬ (IsMailbox word)
-no_mailbox word is h = absurd (clash (sym is ∙ h.word)) where
+no_mailbox : (word : List ℕ) → (is_word word && is_user word) ≡ false → ¬ (IsMailbox word)
+no_mailbox word is h = absurd (clash (sym is ∙ ap (λ b. b && is_user word) h.word ∙ h.user)) where
   clash : false ≡ true → ⊥
   clash e = absurd cc
-
-alone_wrong : (word : List ℕ) (words : List (List ℕ)) (e : OptionsError) → flag_of word ≡ None → alone word ≡ Err e → BeginsWrong (word ∷ words) e
-unfolding alone
-alone_wrong word words e none k = keep (bytes_eq word keeping) refl k where
-  named : (b : Bool) → is_word word ≡ b → begins 45 word ≡ false → cond {A = Result Setting OptionsError} b (Ok (setting.Mailbox word)) (Err (error.NoMailbox word)) ≡ Err e → BeginsWrong (word ∷ words) e
-  named true is plain k = absurd cc
-  named false is plain k = subst (BeginsWrong (word ∷ words)) (err_is (error.NoMailbox word) e k) (words, refl, no_mailbox word is, plain)
-
-  unlike : bytes_eq word keeping ≡ false → word ≢ keeping
-  unlike is same = clash (sym is ∙ same_texts word keeping same) where
-    clash : false ≡ true → ⊥
-    clash e = absurd cc
-
-  dashed : (b : Bool) → begins 45 word ≡ b → bytes_eq word keeping ≡ false → cond b (Err (error.Unknown word)) (by_word word) ≡ Err e → BeginsWrong (word ∷ words) e
-  dashed true is other k = subst (BeginsWrong (word ∷ words)) (err_is (error.Unknown word) e k) (words, refl, is, unlike other, no_flag word none)
-  dashed false is other k = named (is_word word) refl is k
-
-  keep : (b : Bool) → bytes_eq word keeping ≡ b → cond b (Ok setting.KeepSubscriptions) (by_dash word) ≡ Err e → BeginsWrong (word ∷ words) e
-  keep true is k = absurd cc
-  keep false is k = dashed (begins 45 word) refl is k
 
 -- ---- a setting is read again
 
@@ -186,8 +169,22 @@ flag_begins (flag.Number bound.Inbox) = refl
 flag_begins (flag.Number bound.Outbox) = refl
 flag_begins (flag.Number bound.Repeats) = refl
 flag_begins (flag.Number bound.Linger) = refl
+flag_begins (flag.Number bound.MaxDatagram) = refl
+flag_begins (flag.Number bound.ReceiveBuffer) = refl
 flag_begins flag.MailboxFile = refl
+flag_begins flag.StateFile = refl
 flag_begins flag.Seed = refl
+
+joined_begins : (f : Flag) (value : List ℕ) → begins 45 (joined (flag_text f) value) ≡ true
+joined_begins f value = step (flag_text f) (flag_begins f) where
+  step : (text : List ℕ) → begins 45 text ≡ true → begins 45 (joined text value) ≡ true
+  step [] h = absurd cc
+  step (x ∷ xs) h = h
+
+switch_begins : (s : Switch) → begins 45 (switch_text s) ≡ true
+switch_begins switch.KeepSubscriptions = refl
+switch_begins switch.NoRefer = refl
+switch_begins switch.UntilInputEnds = refl
 
 plain_is_no_flag : (word : List ℕ) → begins 45 word ≡ false → flag_of word ≡ None
 plain_is_no_flag word plain = step (flag_of word) refl where
@@ -198,18 +195,27 @@ plain_is_no_flag word plain = step (flag_of word) refl where
   step None is = refl
   step (Some f) is = absurd (clash (sym plain ∙ ap (begins 45) (flag_takes word f is) ∙ flag_begins f))
 
-plain_is_no_keeping : (word : List ℕ) → begins 45 word ≡ false → bytes_eq word keeping ≡ false
-plain_is_no_keeping word plain = step (bytes_eq word keeping) refl where
+plain_is_not_joined : (word : List ℕ) → begins 45 word ≡ false → joined_of word ≡ None
+plain_is_not_joined word plain = step (joined_of word) refl where
   clash : false ≡ true → ⊥
   clash e = absurd cc
 
-  step : (b : Bool) → bytes_eq word keeping ≡ b → b ≡ false
-  step false is = refl
-  step true is = absurd (clash (sym plain ∙ ap (begins 45) (same_text word keeping is)))
+  step : (o : Option (Flag × List ℕ)) → joined_of word ≡ o → o ≡ None
+  step None is = refl
+  step (Some (f, value)) is = absurd (clash (sym plain ∙ ap (begins 45) (joined_takes word f value is) ∙ joined_begins f value))
+
+plain_is_no_switch : (word : List ℕ) → begins 45 word ≡ false → switch_of word ≡ None
+plain_is_no_switch word plain = step (switch_of word) refl where
+  clash : false ≡ true → ⊥
+  clash e = absurd cc
+
+  step : (o : Option Switch) → switch_of word ≡ o → o ≡ None
+  step None is = refl
+  step (Some s) is = absurd (clash (sym plain ∙ ap (begins 45) (switch_takes word s is) ∙ switch_begins s))
 
 mailbox_again : (name : List ℕ) → IsMailbox name → alone name ≡ Ok (setting.Mailbox name)
-unfolding alone
-mailbox_again name h = rw (plain_is_no_keeping name h.no_option, h.no_option, h.word) refl
+unfolding alone named
+mailbox_again name h = rw (plain_is_not_joined name h.no_option, plain_is_no_switch name h.no_option, h.no_option, h.word, h.user) refl
 
 address_again : (p : Place) (a : Addr) → IsAddr a → valued (flag.Address p) (addr_text a) ≡ Ok (setting.Address p a)
 unfolding valued
@@ -223,13 +229,21 @@ file_again : (path : List ℕ) → valued flag.MailboxFile path ≡ Ok (setting.
 unfolding valued
 file_again path = refl
 
+state_again : (path : List ℕ) → valued flag.StateFile path ≡ Ok (setting.StateFile path)
+unfolding valued
+state_again path = refl
+
 seeds_again : (digits seed : List ℕ) → decode_sized digits 32 ≡ Ok seed → valued flag.Seed digits ≡ Ok (setting.Seed seed)
 unfolding valued
 seeds_again digits seed e = rw (seed_again digits seed e) refl
 
-keeping_again : (flag_of keeping ≡ None) × (alone keeping ≡ Ok setting.KeepSubscriptions)
-unfolding alone flag_of place_of other_of bound_of time_of count_of
-keeping_again = (refl, refl)
+switches_again : (s : Switch) → alone (switch_text s) ≡ Ok (setting.Switch s)
+unfolding alone
+switches_again s = ap (λ o. by_joined o (switch_text s)) (switch_is_no_flag s).1 ∙ ap (λ o. by_switch o (switch_text s)) (switch_again s)
+
+pair_again : (f : Flag) (value : List ℕ) → alone (joined (flag_text f) value) ≡ valued f value
+unfolding alone
+pair_again f value = ap (λ o. by_joined o (joined (flag_text f) value)) (joined_again f value)
 
 -- an option with its value
 option_again : (f : Flag) (value : List ℕ) (rest : List (List ℕ)) → settings_from None (flag_text f ∷ value ∷ rest) ≡ then_more (valued f value) (settings_from None rest)
@@ -241,17 +255,20 @@ alone_again : (word : List ℕ) (rest : List (List ℕ)) → flag_of word ≡ No
 unfolding settings_from
 alone_again word rest none = ap (λ o. by_flag o (alone word) (λ waiting. settings_from waiting rest)) none
 
+options_again : (f : Flag) (value : List ℕ) (front rest : List (List ℕ)) → AreOption front (flag_text f) value → settings_from None (front ++ rest) ≡ then_more (valued f value) (settings_from None rest)
+options_again f value front rest (inl two) = ap (λ (l : List (List ℕ)). settings_from None (l ++ rest)) two ∙ option_again f value rest
+options_again f value front rest (inr one) =
+    ap (λ (l : List (List ℕ)). settings_from None (l ++ rest)) one ∙ alone_again (joined (flag_text f) value) rest (joined_is_no_flag f value)
+    ∙ ap (λ r. then_more r (settings_from None rest)) (pair_again f value)
+
 setting_again : (s : Setting) (front rest : List (List ℕ)) → IsSetting front s → settings_from None (front ++ rest) ≡ then_more (Ok s) (settings_from None rest)
-setting_again (setting.Address p a) front rest h =
-    ap (λ (l : List (List ℕ)). settings_from None (l ++ rest)) h.1 ∙ option_again (flag.Address p) (addr_text a) rest ∙ ap (λ r. then_more r (settings_from None rest)) (address_again p a h.0)
-setting_again (setting.Number b n) front rest h =
-    ap (λ (l : List (List ℕ)). settings_from None (l ++ rest)) h.2 ∙ option_again (flag.Number b) (decimal n) rest ∙ ap (λ r. then_more r (settings_from None rest)) (number_again b n h.0 h.1)
-setting_again (setting.MailboxFile path) front rest h =
-    ap (λ (l : List (List ℕ)). settings_from None (l ++ rest)) h ∙ option_again flag.MailboxFile path rest ∙ ap (λ r. then_more r (settings_from None rest)) (file_again path)
-setting_again (setting.Seed seed) front rest h =
-    ap (λ (l : List (List ℕ)). settings_from None (l ++ rest)) h.1 ∙ option_again flag.Seed h.0 rest ∙ ap (λ r. then_more r (settings_from None rest)) (seeds_again h.0 seed h.2)
-setting_again setting.KeepSubscriptions front rest h =
-    ap (λ (l : List (List ℕ)). settings_from None (l ++ rest)) h ∙ alone_again keeping rest keeping_again.0 ∙ ap (λ r. then_more r (settings_from None rest)) keeping_again.1
+setting_again (setting.Address p a) front rest h = options_again (flag.Address p) (addr_text a) front rest h.1 ∙ ap (λ r. then_more r (settings_from None rest)) (address_again p a h.0)
+setting_again (setting.Number b n) front rest h = options_again (flag.Number b) (decimal n) front rest h.2 ∙ ap (λ r. then_more r (settings_from None rest)) (number_again b n h.0 h.1)
+setting_again (setting.MailboxFile path) front rest h = options_again flag.MailboxFile path front rest h ∙ ap (λ r. then_more r (settings_from None rest)) (file_again path)
+setting_again (setting.StateFile path) front rest h = options_again flag.StateFile path front rest h ∙ ap (λ r. then_more r (settings_from None rest)) (state_again path)
+setting_again (setting.Seed seed) front rest h = options_again flag.Seed h.0 front rest h.1 ∙ ap (λ r. then_more r (settings_from None rest)) (seeds_again h.0 seed h.2)
+setting_again (setting.Switch x) front rest h =
+    ap (λ (l : List (List ℕ)). settings_from None (l ++ rest)) h ∙ alone_again (switch_text x) rest (switch_is_no_flag x).0 ∙ ap (λ r. then_more r (settings_from None rest)) (switches_again x)
 setting_again (setting.Mailbox name) front rest h =
     ap (λ (l : List (List ℕ)). settings_from None (l ++ rest)) h.1 ∙ alone_again name rest (plain_is_no_flag name h.0.no_option) ∙ ap (λ r. then_more r (settings_from None rest)) (mailbox_again name h.0)
 
@@ -288,7 +305,7 @@ takes_from None [] settings e = subst (AreSettings []) (ok_is [] settings e) ref
 takes_from (Some f) [] settings e = absurd cc
 takes_from (Some f) (w ∷ ws) settings e =
     let m = more_ok (valued f w) (settings_from None ws) settings e in
-    subst (AreSettings (flag_text f ∷ w ∷ ws)) m.all (flag_text f ∷ w ∷ [], ws, refl, valued_takes f w m.one m.one_is, takes_from None ws m.others m.others_are)
+    subst (AreSettings (flag_text f ∷ w ∷ ws)) m.all (flag_text f ∷ w ∷ [], ws, refl, valued_takes f (flag_text f ∷ w ∷ []) w m.one (inl refl) m.one_is, takes_from None ws m.others m.others_are)
 takes_from None (w ∷ ws) settings e = step (flag_of w) refl (λ o more k. takes_from o ws more k) e where
   step : (o : Option Flag) → flag_of w ≡ o → ((p : Option Flag) (more : List Setting) → settings_from p ws ≡ Ok more → AreSettings (with_waiting p ws) more)
       → by_flag o (alone w) (λ waiting. settings_from waiting ws) ≡ Ok settings → AreSettings (w ∷ ws) settings
@@ -315,14 +332,39 @@ behind s front words e is h = record {
   wrong = h.wrong;
 }
 
-no_setting : (f : Flag) (value : List ℕ) (e : OptionsError) → valued f value ≡ Err e → (s : Setting) → ¬ (IsSetting (flag_text f ∷ value ∷ []) s)
-no_setting f value e k s h =
-    clash (then_more (Ok s) (Ok [])) refl (sym (ap (then_more (Ok s)) no_words) ∙ sym (setting_again s (flag_text f ∷ value ∷ []) [] h) ∙ option_again f value [] ∙ ap (λ r. then_more r (settings_from None [])) k) where
+no_setting : (f : Flag) (value : List ℕ) (front : List (List ℕ)) (e : OptionsError) → AreOption front (flag_text f) value → valued f value ≡ Err e → (s : Setting) → ¬ (IsSetting front s)
+no_setting f value front e are k s h =
+    clash (then_more (Ok s) (Ok [])) refl (sym (ap (then_more (Ok s)) no_words) ∙ sym (setting_again s front [] h) ∙ options_again f value front [] are ∙ ap (λ r. then_more r (settings_from None [])) k) where
       clash : (r : Result (List Setting) OptionsError) → r ≡ Ok (s ∷ []) → r ≡ Err e → ⊥
       clash r a b = absurd cc
 
+begins_bad : (f : Flag) (value : List ℕ) (front rest : List (List ℕ)) (e : OptionsError) → AreOption front (flag_text f) value → valued f value ≡ Err e → BeginsWrong (front ++ rest) e
+begins_bad f value front rest e are k = subst (BeginsWrong (front ++ rest)) (valued_wrong f value e k) (front, rest, value, refl, are, no_setting f value front e are k)
+
 is_bad : (f : Flag) (w : List ℕ) (ws : List (List ℕ)) (e : OptionsError) → valued f w ≡ Err e → AreWrong (flag_text f ∷ w ∷ ws) e
-is_bad f w ws e k = subst (AreWrong (flag_text f ∷ w ∷ ws)) (valued_wrong f w e k) (at_once (flag_text f ∷ w ∷ ws) (error.Bad f) (w, ws, refl, no_setting f w e k))
+is_bad f w ws e k = at_once (flag_text f ∷ w ∷ ws) e (begins_bad f w (flag_text f ∷ w ∷ []) ws e (inl refl) k)
+
+named_wrong : (word : List ℕ) (words : List (List ℕ)) (e : OptionsError) → flag_of word ≡ None → joined_of word ≡ None → switch_of word ≡ None → named word ≡ Err e → BeginsWrong (word ∷ words) e
+unfolding named
+named_wrong word words e none apart other k = dashed (begins 45 word) refl k where
+  by_test : (b : Bool) → (is_word word && is_user word) ≡ b → begins 45 word ≡ false → cond {A = Result Setting OptionsError} b (Ok (setting.Mailbox word)) (Err (error.NoMailbox word)) ≡ Err e → BeginsWrong (word ∷ words) e
+  by_test true is plain k = absurd cc
+  by_test false is plain k = subst (BeginsWrong (word ∷ words)) (err_is (error.NoMailbox word) e k) (words, refl, no_mailbox word is, plain)
+
+  dashed : (b : Bool) → begins 45 word ≡ b → cond b (Err (error.Unknown word)) (by_name word) ≡ Err e → BeginsWrong (word ∷ words) e
+  dashed true is k = subst (BeginsWrong (word ∷ words)) (err_is (error.Unknown word) e k) (words, refl, is, no_switch word other, no_flag word none, no_joined word apart)
+  dashed false is k = by_test (is_word word && is_user word) refl is k
+
+alone_wrong : (word : List ℕ) (words : List (List ℕ)) (e : OptionsError) → flag_of word ≡ None → alone word ≡ Err e → BeginsWrong (word ∷ words) e
+unfolding alone
+alone_wrong word words e none k = step (joined_of word) refl k where
+  by_switches : (o : Option Switch) → switch_of word ≡ o → joined_of word ≡ None → by_switch o word ≡ Err e → BeginsWrong (word ∷ words) e
+  by_switches (Some x) is apart k = absurd cc
+  by_switches None is apart k = named_wrong word words e none apart is k
+
+  step : (o : Option (Flag × List ℕ)) → joined_of word ≡ o → by_joined o word ≡ Err e → BeginsWrong (word ∷ words) e
+  step (Some (f, value)) is k = begins_bad f value (word ∷ []) words e (inr (ap (λ (w : List ℕ). w ∷ []) (joined_takes word f value is))) k
+  step None is k = by_switches (switch_of word) refl is k
 
 wrong_from : (o : Option Flag) (words : List (List ℕ)) (e : OptionsError) → settings_from o words ≡ Err e → AreWrong (with_waiting o words) e
 unfolding settings_from
@@ -333,7 +375,7 @@ wrong_from (Some f) (w ∷ ws) e k = step (valued f w) refl (λ j. wrong_from No
       → then_more r more ≡ Err e → AreWrong (flag_text f ∷ w ∷ ws) e
   step (Err x) is again more m j = is_bad f w ws e (is ∙ ap (λ (y : OptionsError). Err y) (err_is x e j))
   step (Ok s) is again (Ok others) m j = absurd cc
-  step (Ok s) is again (Err x) m j = behind s (flag_text f ∷ w ∷ []) ws e (valued_takes f w s is) (again (m ∙ ap (λ (y : OptionsError). Err y) (err_is x e j)))
+  step (Ok s) is again (Err x) m j = behind s (flag_text f ∷ w ∷ []) ws e (valued_takes f (flag_text f ∷ w ∷ []) w s (inl refl) is) (again (m ∙ ap (λ (y : OptionsError). Err y) (err_is x e j)))
 wrong_from None (w ∷ ws) e k = first (flag_of w) refl (λ o j. wrong_from o ws e j) k where
   second : (r : Result Setting OptionsError) → flag_of w ≡ None → alone w ≡ r → (settings_from None ws ≡ Err e → AreWrong ws e) → (more : Result (List Setting) OptionsError) → settings_from None ws ≡ more
       → then_more r more ≡ Err e → AreWrong (w ∷ ws) e
@@ -366,6 +408,9 @@ only_is view (Err (error.Unknown w)) words settings h are = other (settings_from
 only_is view (Err (error.NoMailbox w)) words settings h are = other (settings_from None words) h (settings_again words settings are) where
   other : (r : Result (List Setting) OptionsError) → r ≡ Err (error.NoMailbox w) → r ≡ Ok settings → ⊥
   other r a b = absurd cc
+only_is view (Err (error.NoRange w)) words settings h are = other (settings_from None words) h (settings_again words settings are) where
+  other : (r : Result (List Setting) OptionsError) → r ≡ Err (error.NoRange w) → r ≡ Ok settings → ⊥
+  other r a b = absurd cc
 
 pub wrong_is : {X : Type 0} (view : X → List Setting) (r : Result X OptionsError) (words : List (List ℕ)) → Reads view r (settings_from None words) → IfErr r (AreWrong words)
 wrong_is view (Ok x) words h = tt
@@ -374,3 +419,4 @@ wrong_is view (Err (error.Missing f)) words h = wrong_from None words (error.Mis
 wrong_is view (Err (error.Bad f)) words h = wrong_from None words (error.Bad f) h
 wrong_is view (Err (error.Unknown w)) words h = wrong_from None words (error.Unknown w) h
 wrong_is view (Err (error.NoMailbox w)) words h = wrong_from None words (error.NoMailbox w) h
+wrong_is view (Err (error.NoRange w)) words h = wrong_from None words (error.NoRange w) h

@@ -53,6 +53,7 @@ fails_too (error.Missing f) piece total go h = go h
 fails_too (error.Bad f) piece total go h = go h
 fails_too (error.Unknown w) piece total go h = go h
 fails_too (error.NoMailbox w) piece total go h = go h
+fails_too (error.NoRange w) piece total go h = go h
 
 pub at_the_end : (front : List Setting) (total : Result (List Setting) OptionsError) → with_front front (settings_from None []) ≡ total → total ≡ Ok front
 unfolding settings_from

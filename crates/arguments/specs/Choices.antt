@@ -6,6 +6,8 @@ use Rattle.arguments.specs.declared.flag.Place.{Place}
 use Rattle.arguments.specs.declared.flag.Place.TheVariants as place
 use Rattle.arguments.specs.declared.flag.Bound.{Bound}
 use Rattle.arguments.specs.declared.flag.Bound.TheVariants as bound
+use Rattle.arguments.specs.declared.switch.Switch.{Switch}
+use Rattle.arguments.specs.declared.switch.Switch.TheVariants as switch
 use Rattle.arguments.specs.declared.setting.Setting.{Setting}
 use Rattle.arguments.specs.declared.setting.Setting.TheVariants as setting
 use Rattle.arguments.specs.declared.choices.Numbers.{Numbers}
@@ -20,7 +22,7 @@ abbrev pub default_numbers : Numbers
 default_numbers = record {
   workers = None;
   min_time = 60;
-  max_time = 86400;
+  max_time = 3600;
   default_time = 3600;
   refer_time = 180;
   max_cseq = 2147483647;
@@ -31,6 +33,8 @@ default_numbers = record {
   outbox = 1024;
   repeats = 16384;
   linger = 2;
+  max_datagram = 8192;
+  receive_buffer = 4194304;
 }
 
 -- what is done where nothing is set
@@ -42,6 +46,8 @@ default_choices = record {
   numbers = default_numbers;
   seed = None;
   keep_subscriptions = false;
+  no_refer = false;
+  until_input_ends = false;
 }
 
 abbrev pub with_number : Bound → ℕ → Numbers → Numbers
@@ -58,28 +64,50 @@ with_number bound.Inbox n numbers = record numbers { inbox = n }
 with_number bound.Outbox n numbers = record numbers { outbox = n }
 with_number bound.Repeats n numbers = record numbers { repeats = n }
 with_number bound.Linger n numbers = record numbers { linger = n }
+with_number bound.MaxDatagram n numbers = record numbers { max_datagram = n }
+with_number bound.ReceiveBuffer n numbers = record numbers { receive_buffer = n }
 
 abbrev pub with_address : Place → Addr → Choices → Choices
 with_address place.Listen addr choices = record choices { listen = addr }
 with_address place.Contact addr choices = record choices { contact = Some addr }
 with_address place.Control addr choices = record choices { control = addr }
 
--- the choices after this setting. Mailboxes and files of them are gathered apart
+abbrev pub with_switch : Switch → Choices → Choices
+with_switch switch.KeepSubscriptions choices = record choices { keep_subscriptions = true }
+with_switch switch.NoRefer choices = record choices { no_refer = true }
+with_switch switch.UntilInputEnds choices = record choices { until_input_ends = true }
+
+-- the choices after this setting. Mailboxes and files are gathered apart
 abbrev pub after : Choices → Setting → Choices
 after choices (setting.Address place addr) = with_address place addr choices
 after choices (setting.Number bound n) = record choices { numbers = with_number bound n choices.numbers }
 after choices (setting.MailboxFile path) = choices
+after choices (setting.StateFile path) = choices
 after choices (setting.Seed seed) = record choices { seed = Some seed }
-after choices setting.KeepSubscriptions = record choices { keep_subscriptions = true }
+after choices (setting.Switch switch) = with_switch switch choices
 after choices (setting.Mailbox name) = choices
 
 abbrev pub choices_of : List Setting → Choices
 choices_of settings = fold after default_choices settings
 
+-- the path of a file of MAIL lines, if a setting before this one or this one names it
+abbrev pub with_state : Option (List ℕ) → Setting → Option (List ℕ)
+with_state path (setting.Address place addr) = path
+with_state path (setting.Number bound n) = path
+with_state path (setting.MailboxFile file) = path
+with_state path (setting.StateFile file) = Some file
+with_state path (setting.Seed seed) = path
+with_state path (setting.Switch switch) = path
+with_state path (setting.Mailbox name) = path
+
+abbrev pub state_of : List Setting → Option (List ℕ)
+state_of settings = fold with_state None settings
+
 abbrev pub mailbox_in : Setting → Option (List ℕ)
 mailbox_in (setting.Address place addr) = None
 mailbox_in (setting.Number bound n) = None
 mailbox_in (setting.MailboxFile path) = None
+mailbox_in (setting.StateFile path) = None
 mailbox_in (setting.Seed seed) = None
-mailbox_in setting.KeepSubscriptions = None
+mailbox_in (setting.Switch switch) = None
 mailbox_in (setting.Mailbox name) = Some name

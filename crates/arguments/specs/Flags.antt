@@ -1,10 +1,12 @@
--- The options of `notifyd serve` that have a value: how each is written, and which numbers it takes.
+-- The options of `notifyd serve`: how each is written, and which numbers it takes.
 use Rattle.std.specs.Prelude.{ℕ, List, codes}
 use Rattle.arguments.specs.declared.flag.Place.{Place}
 use Rattle.arguments.specs.declared.flag.Place.TheVariants as place
 use Rattle.arguments.specs.declared.flag.Bound.{Bound}
 use Rattle.arguments.specs.declared.flag.Bound.TheVariants as bound
 use Rattle.arguments.specs.declared.flag.Flag.{Flag}
+use Rattle.arguments.specs.declared.switch.Switch.{Switch}
+use Rattle.arguments.specs.declared.switch.Switch.TheVariants as switch
 use Rattle.arguments.specs.declared.flag.Flag.TheVariants as flag
 
 abbrev pub place_text : Place → List ℕ
@@ -26,17 +28,28 @@ bound_text bound.Inbox = codes "--inbox"
 bound_text bound.Outbox = codes "--outbox"
 bound_text bound.Repeats = codes "--repeats"
 bound_text bound.Linger = codes "--linger"
+bound_text bound.MaxDatagram = codes "--max-datagram"
+bound_text bound.ReceiveBuffer = codes "--receive-buffer"
 
 abbrev pub flag_text : Flag → List ℕ
 flag_text (flag.Address place) = place_text place
 flag_text (flag.Number bound) = bound_text bound
 flag_text flag.MailboxFile = codes "--mailboxes"
+flag_text flag.StateFile = codes "--state"
 flag_text flag.Seed = codes "--seed"
+
+-- the options without a value
+abbrev pub switch_text : Switch → List ℕ
+switch_text switch.KeepSubscriptions = codes "--keep-subscriptions"
+switch_text switch.NoRefer = codes "--no-refer"
+switch_text switch.UntilInputEnds = codes "--until-input-ends"
 
 -- the least number that an option takes
 abbrev pub least : Bound → ℕ
 least bound.Repeats = 0
 least bound.Linger = 0
+least bound.MaxDatagram = 512
+least bound.ReceiveBuffer = 4096
 least other = 1
 
 -- the greatest number that an option takes
@@ -54,3 +67,5 @@ most bound.Inbox = 65536
 most bound.Outbox = 65536
 most bound.Repeats = 65536
 most bound.Linger = 32
+most bound.MaxDatagram = 65507
+most bound.ReceiveBuffer = 1073741824

@@ -1,5 +1,6 @@
 pub mod Choices
 pub mod Flags
+pub mod NumberRanges
 pub mod MailboxFile
 pub mod Reading
 pub mod Settings
@@ -13,3 +14,4 @@ pub mod Either
 pub mod Boxes
 pub mod Status
 pub mod Setup
+pub mod Told

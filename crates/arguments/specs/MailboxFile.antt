@@ -1,27 +1,53 @@
 -- A file that names mailboxes, line by line.
 --
 --   file = *(line LF) [line]
---   line = "" / "#" text / mailbox
-use Rattle.std.specs.Prelude.{◌≡◌, ℕ, true, false, List, [], Option, Some, None, ◌⊎◌}
+--   line = "" / "#" text / range / mailbox
+--
+-- A range, as 1000-1999, names each number from the first to the last, in as many digits. It is never a mailbox's name itself.
+use Rattle.std.specs.Prelude.{◌≡◌, ℕ, true, false, List, [], ◌∷◌, ◌⊎◌}
 use Rattle.std.specs.Str.{byte}
 use Rattle.sip_text.specs.Reading.{begins}
 use Rattle.arguments.specs.declared.error.OptionsError.{OptionsError}
 use Rattle.arguments.specs.declared.error.OptionsError.TheVariants as error
+use Rattle.arguments.specs.NumberRanges.{IsNumberRange, IsFair, numerals}
 use Rattle.arguments.specs.Settings.{IsMailbox}
 
 -- it names nothing
 abbrev pub IsBlank : List ℕ → Type 0
 IsBlank line = (line ≡ []) ⊎ (begins (byte "#") line ≡ true)
 
--- the line names this, or nothing
-abbrev pub Names : List ℕ → Option (List ℕ) → Type 0
-Names line None = IsBlank line
-Names line (Some name) = (name ≡ line) × IsMailbox line × (begins (byte "#") line ≡ false)
+-- it names a mailbox by its name
+pub record IsName (line : List ℕ) : Type 0 where
+  pub mailbox : IsMailbox line
+  pub no_comment : begins (byte "#") line ≡ false
+  pub no_range : (width first last : ℕ) → ¬ (IsNumberRange line width first last)
+
+-- it names these numbers
+pub record IsRange (line : List ℕ) (names : List (List ℕ)) : Type 0 where
+  pub width : ℕ
+  pub first : ℕ
+  pub last : ℕ
+  pub range : IsNumberRange line width first last
+  pub fair : IsFair first last
+  pub numbers : names ≡ numerals width first last
+
+-- the line names these, one behind the other
+abbrev pub Names : List ℕ → List (List ℕ) → Type 0
+Names line names = (IsBlank line × (names ≡ [])) ⊎ (IsName line × (names ≡ line ∷ [])) ⊎ IsRange line names
+
+-- it is a range of no numbers, or of too many
+pub record IsUnfair (line : List ℕ) : Type 0 where
+  pub width : ℕ
+  pub first : ℕ
+  pub last : ℕ
+  pub range : IsNumberRange line width first last
+  pub unfair : ¬ (IsFair first last)
 
 -- the line is none of a file, or memory ran out
 abbrev pub IsNoLine : List ℕ → OptionsError → Type 0
 IsNoLine line error.NoMemory = Unit {0}
 IsNoLine line (error.NoMailbox word) = (word ≡ line) × ¬ (IsBlank line) × ¬ (IsMailbox line)
+IsNoLine line (error.NoRange word) = (word ≡ line) × IsUnfair line
 IsNoLine line (error.Missing flag) = ⊥
 IsNoLine line (error.Bad flag) = ⊥
 IsNoLine line (error.Unknown word) = ⊥

@@ -1,6 +1,7 @@
 -- What the reader of settings computes, piece by piece. No public contract cites this.
-use Rattle.std.specs.Prelude.{◌≡◌, ℕ, List, [], ◌∷◌, ◌++◌, if◌then◌else◌, nat_lt, Option, Some, None, Result, Ok, Err, codes, bytes_eq}
+use Rattle.std.specs.Prelude.{◌≡◌, ℕ, Bool, ◌==◌, ◌&&◌, length, List, [], ◌∷◌, ◌++◌, if◌then◌else◌, nat_lt, Option, Some, None, Result, Ok, Err, codes, bytes_eq}
 use Rattle.std.specs.Str.{byte}
+use Rattle.std.specs.List.{position_or_len, before_first, after_first}
 use Rattle.hex.specs.declared.error.FromHexError.{FromHexError}
 use Rattle.hex.specs.Hex.{decode_sized}
 use Rattle.sip_text.specs.Reading.{◌>>=◌, begins, addr_of, plain_up_to}
@@ -11,11 +12,14 @@ use Rattle.arguments.specs.declared.flag.Bound.{Bound}
 use Rattle.arguments.specs.declared.flag.Bound.TheVariants as bound
 use Rattle.arguments.specs.declared.flag.Flag.{Flag}
 use Rattle.arguments.specs.declared.flag.Flag.TheVariants as flag
+use Rattle.arguments.specs.declared.switch.Switch.{Switch}
+use Rattle.arguments.specs.declared.switch.Switch.TheVariants as switch
 use Rattle.arguments.specs.declared.setting.Setting.{Setting}
 use Rattle.arguments.specs.declared.setting.Setting.TheVariants as setting
 use Rattle.arguments.specs.declared.error.OptionsError.{OptionsError}
 use Rattle.arguments.specs.declared.error.OptionsError.TheVariants as error
-use Rattle.arguments.specs.Flags.{least, most, place_text, bound_text}
+use Rattle.arguments.specs.Flags.{least, most, place_text, bound_text, switch_text}
+use Rattle.arguments.specs.Settings.{is_user}
 
 -- ---- the option that a word is
 
@@ -32,6 +36,9 @@ times = bound.MinTime ∷ bound.MaxTime ∷ bound.DefaultTime ∷ bound.ReferTim
 abbrev pub counts : List Bound
 counts = bound.Workers ∷ bound.MaxCseq ∷ bound.Table ∷ bound.Serials ∷ bound.Kept ∷ bound.Inbox ∷ bound.Outbox ∷ bound.Repeats ∷ []
 
+abbrev pub sizes : List Bound
+sizes = bound.MaxDatagram ∷ bound.ReceiveBuffer ∷ []
+
 unfoldable pub place_of : List ℕ → Option Place
 place_of word = find_text place_text places word
 
@@ -41,12 +48,18 @@ time_of word = find_text bound_text times word
 unfoldable pub count_of : List ℕ → Option Bound
 count_of word = find_text bound_text counts word
 
+unfoldable pub size_of : List ℕ → Option Bound
+size_of word = find_text bound_text sizes word
+
 abbrev pub or_else : {X : Type 0} → Option X → Option X → Option X
 or_else (Some x) other = Some x
 or_else None other = other
 
+unfoldable pub number_of : List ℕ → Option Bound
+number_of word = or_else (count_of word) (size_of word)
+
 unfoldable pub bound_of : List ℕ → Option Bound
-bound_of word = or_else (time_of word) (count_of word)
+bound_of word = or_else (time_of word) (number_of word)
 
 abbrev pub number_flag : Option Bound → Option Flag
 number_flag (Some b) = Some (flag.Number b)
@@ -55,6 +68,7 @@ number_flag None = None
 unfoldable pub other_of : List ℕ → Option Flag
 other_of word =
     if bytes_eq word (codes "--mailboxes") then Some flag.MailboxFile
+    else if bytes_eq word (codes "--state") then Some flag.StateFile
     else if bytes_eq word (codes "--seed") then Some flag.Seed
     else number_flag (bound_of word)
 
@@ -64,6 +78,25 @@ address_flag None other = other
 
 unfoldable pub flag_of : List ℕ → Option Flag
 flag_of word = address_flag (place_of word) (other_of word)
+
+-- the option before the first `=` of a word, and the value behind it
+abbrev pub is_equals : ℕ → Bool
+is_equals b = b == byte "="
+
+abbrev pub with_value : Option Flag → List ℕ → Option (Flag × List ℕ)
+with_value (Some f) value = Some (f, value)
+with_value None value = None
+
+unfoldable pub joined_of : List ℕ → Option (Flag × List ℕ)
+joined_of word =
+    if position_or_len is_equals word == length word then None
+    else with_value (flag_of (before_first is_equals word)) (after_first is_equals word)
+
+abbrev pub switches : List Switch
+switches = switch.KeepSubscriptions ∷ switch.NoRefer ∷ switch.UntilInputEnds ∷ []
+
+unfoldable pub switch_of : List ℕ → Option Switch
+switch_of word = find_text switch_text switches word
 
 -- ---- values
 
@@ -88,15 +121,27 @@ unfoldable pub valued : Flag → List ℕ → Result Setting OptionsError
 valued (flag.Address place) value = or_bad (flag.Address place) (addr_of value >>= λ a. Some (setting.Address place a))
 valued (flag.Number bound) value = or_bad (flag.Number bound) (between (least bound) (most bound) value >>= λ n. Some (setting.Number bound n))
 valued flag.MailboxFile value = Ok (setting.MailboxFile value)
+valued flag.StateFile value = Ok (setting.StateFile value)
 valued flag.Seed value = or_bad flag.Seed (seed_of value >>= λ s. Some (setting.Seed s))
 
--- a word that takes no value
-unfoldable pub alone : List ℕ → Result Setting OptionsError
-alone word =
-    if bytes_eq word (codes "--keep-subscriptions") then Ok setting.KeepSubscriptions
-    else if begins (byte "-") word then Err (error.Unknown word)
-    else if is_word word then Ok (setting.Mailbox word)
+-- a word that is no option
+unfoldable pub named : List ℕ → Result Setting OptionsError
+named word =
+    if begins (byte "-") word then Err (error.Unknown word)
+    else if is_word word && is_user word then Ok (setting.Mailbox word)
     else Err (error.NoMailbox word)
+
+abbrev pub by_switch : Option Switch → List ℕ → Result Setting OptionsError
+by_switch (Some s) word = Ok (setting.Switch s)
+by_switch None word = named word
+
+abbrev pub by_joined : Option (Flag × List ℕ) → List ℕ → Result Setting OptionsError
+by_joined (Some joined) word = valued joined.0 joined.1
+by_joined None word = by_switch (switch_of word) word
+
+-- a word that has no value behind it
+unfoldable pub alone : List ℕ → Result Setting OptionsError
+alone word = by_joined (joined_of word) word
 
 -- ---- all words
 
@@ -132,3 +177,4 @@ Reads view (Err (error.Missing flag)) read = read ≡ Err (error.Missing flag)
 Reads view (Err (error.Bad flag)) read = read ≡ Err (error.Bad flag)
 Reads view (Err (error.Unknown word)) read = read ≡ Err (error.Unknown word)
 Reads view (Err (error.NoMailbox word)) read = read ≡ Err (error.NoMailbox word)
+Reads view (Err (error.NoRange word)) read = read ≡ Err (error.NoRange word)

@@ -3,40 +3,59 @@
 --   words    = *setting
 --   setting  = ("--listen" / "--contact" / "--control") address
 --            / ("--workers" / "--min-time" / "--max-time" / "--default-time" / "--refer-time" / "--linger" / "--max-cseq" / "--table"
---              / "--serials" / "--kept" / "--inbox" / "--outbox" / "--repeats") number
---            / "--mailboxes" path
+--              / "--serials" / "--kept" / "--inbox" / "--outbox" / "--repeats" / "--max-datagram" / "--receive-buffer") number
+--            / ("--mailboxes" / "--state") path
 --            / "--seed" digits                    ; 64 hex digits of either case
---            / "--keep-subscriptions"
---            / mailbox                            ; no space, no control character, and no `-` in front
+--            / "--keep-subscriptions" / "--no-refer" / "--until-input-ends"
+--            / mailbox                            ; no space, control character, `@` or `:`, and no `-` in front
+--
+-- An option and its value are two words, or one with `=` between.
+--
 --   address  = octet "." octet "." octet "." octet ":" port
 --
 -- Numbers are decimal without leading zeros, from the least to the greatest that the option takes.
-use Rattle.std.specs.Prelude.{◌≡◌, ◌≢◌, ℕ, ◌≤◌, true, false, List, [], ◌∷◌, ◌++◌, codes, decimal, Result, Ok, Err}
+use Rattle.std.specs.Prelude.{◌≡◌, ◌≢◌, ℕ, ◌≤◌, ◌⊎◌, Bool, true, false, not, ◌&&◌, ◌==◌, List, [], ◌∷◌, ◌++◌, codes, decimal, Result, Ok, Err}
 use Rattle.std.specs.Str.{byte}
+use Rattle.std.specs.List.{list_all}
 use Rattle.hex.specs.Hex.{decode_sized}
 use Rattle.sip_text.specs.Addresses.{addr_text, IsAddr}
 use Rattle.sip_text.specs.Reading.{begins}
 use Rattle.package.specs.Texts.{is_word}
 use Rattle.arguments.specs.declared.flag.Flag.{Flag}
+use Rattle.arguments.specs.declared.switch.Switch.{Switch}
 use Rattle.arguments.specs.declared.setting.Setting.{Setting}
 use Rattle.arguments.specs.declared.setting.Setting.TheVariants as setting
 use Rattle.arguments.specs.declared.error.OptionsError.{OptionsError}
 use Rattle.arguments.specs.declared.error.OptionsError.TheVariants as error
-use Rattle.arguments.specs.Flags.{place_text, bound_text, flag_text, least, most}
+use Rattle.arguments.specs.Flags.{place_text, bound_text, flag_text, switch_text, least, most}
+
+-- no `@` and no `:`, which end the user of an address (RFC 3261 section 19.1.1)
+abbrev pub is_user : List ℕ → Bool
+is_user text = list_all (λ b. not (b == byte "@") && not (b == byte ":")) text
 
 -- a name that a mailbox may have
 pub record IsMailbox (name : List ℕ) : Type 0 where
   pub word : is_word name ≡ true
+  pub user : is_user name ≡ true
   pub no_option : begins (byte "-") name ≡ false
+
+-- an option and its value as one word
+abbrev pub joined : List ℕ → List ℕ → List ℕ
+joined option value = option ++ byte "=" ∷ value
+
+-- the words are this option and this value
+abbrev pub AreOption : List (List ℕ) → List ℕ → List ℕ → Type 0
+AreOption words option value = (words ≡ option ∷ value ∷ []) ⊎ (words ≡ joined option value ∷ [])
 
 -- the words are this setting
 abbrev pub IsSetting : List (List ℕ) → Setting → Type 0
-IsSetting words (setting.Address place addr) = IsAddr addr × (words ≡ place_text place ∷ addr_text addr ∷ [])
-IsSetting words (setting.Number bound n) = (least bound ≤ n) × (n ≤ most bound) × (words ≡ bound_text bound ∷ decimal n ∷ [])
-IsSetting words (setting.MailboxFile path) = words ≡ codes "--mailboxes" ∷ path ∷ []
+IsSetting words (setting.Address place addr) = IsAddr addr × AreOption words (place_text place) (addr_text addr)
+IsSetting words (setting.Number bound n) = (least bound ≤ n) × (n ≤ most bound) × AreOption words (bound_text bound) (decimal n)
+IsSetting words (setting.MailboxFile path) = AreOption words (codes "--mailboxes") path
+IsSetting words (setting.StateFile path) = AreOption words (codes "--state") path
 IsSetting words (setting.Seed seed) =
-    (digits : List ℕ) × (words ≡ codes "--seed" ∷ digits ∷ []) × (decode_sized digits 32 ≡ Ok seed)
-IsSetting words setting.KeepSubscriptions = words ≡ codes "--keep-subscriptions" ∷ []
+    (digits : List ℕ) × AreOption words (codes "--seed") digits × (decode_sized digits 32 ≡ Ok seed)
+IsSetting words (setting.Switch switch) = words ≡ switch_text switch ∷ []
 IsSetting words (setting.Mailbox name) = IsMailbox name × (words ≡ name ∷ [])
 
 -- the words are these settings, one behind the other
@@ -49,13 +68,15 @@ AreSettings words (s ∷ settings) =
 abbrev pub BeginsWrong : List (List ℕ) → OptionsError → Type 0
 BeginsWrong words (error.Missing flag) = words ≡ flag_text flag ∷ []
 BeginsWrong words (error.Bad flag) =
-    (value : List ℕ) × (rest : List (List ℕ)) × (words ≡ flag_text flag ∷ value ∷ rest)
-    × ((s : Setting) → ¬ (IsSetting (flag_text flag ∷ value ∷ []) s))
+    (front rest : List (List ℕ)) × (value : List ℕ) × (words ≡ front ++ rest) × AreOption front (flag_text flag) value
+    × ((s : Setting) → ¬ (IsSetting front s))
 BeginsWrong words (error.Unknown word) =
-    (rest : List (List ℕ)) × (words ≡ word ∷ rest) × (begins (byte "-") word ≡ true) × (word ≢ codes "--keep-subscriptions")
-    × ((flag : Flag) → word ≢ flag_text flag)
+    (rest : List (List ℕ)) × (words ≡ word ∷ rest) × (begins (byte "-") word ≡ true)
+    × ((switch : Switch) → word ≢ switch_text switch) × ((flag : Flag) → word ≢ flag_text flag)
+    × ((flag : Flag) (value : List ℕ) → word ≢ joined (flag_text flag) value)
 BeginsWrong words (error.NoMailbox word) =
     (rest : List (List ℕ)) × (words ≡ word ∷ rest) × ¬ (IsMailbox word) × (begins (byte "-") word ≡ false)
+BeginsWrong words (error.NoRange word) = ⊥
 BeginsWrong words error.NoMemory = Unit {0}
 
 -- behind words that are settings, the words are wrong in this way
@@ -75,3 +96,4 @@ Answers view (Err (error.Missing flag)) settings = ⊥
 Answers view (Err (error.Bad flag)) settings = ⊥
 Answers view (Err (error.Unknown word)) settings = ⊥
 Answers view (Err (error.NoMailbox word)) settings = ⊥
+Answers view (Err (error.NoRange word)) settings = ⊥

@@ -1,10 +1,11 @@
 //! What `notifyd serve` does by its settings.
 ghost use Rattle.std.specs.Prelude.{◌≡◌};
 ghost use Rattle.arguments.specs.Choices as spec;
-ghost use Rattle.arguments.specs.Choices.{default_choices, default_numbers, with_number, with_address, after};
+ghost use Rattle.arguments.specs.Choices.{default_choices, default_numbers, with_number, with_address, with_switch, after};
 
 use crate::flag::{Bound, Place};
 use crate::setting::Setting;
+use crate::switch::Switch;
 use sip_text::Addr;
 
 /// The numbers of the options; times are seconds. Which of them go together, `Limits::new` of the crate `notifier` decides.
@@ -26,6 +27,10 @@ pub struct Numbers {
     pub repeats: u32,
     /// How long at most a planned stop waits for the answers to the last NOTIFYs.
     pub linger: u32,
+    /// How many octets a SIP datagram has at most that is read.
+    pub max_datagram: u32,
+    /// For how many octets of datagrams that wait the system is asked for room.
+    pub receive_buffer: u32,
 }
 
 /// What the service does, but for its mailboxes.
@@ -42,6 +47,10 @@ pub struct Choices {
     pub seed: Option<[u8; 32]>,
     /// Whether nobody is told at the end.
     pub keep_subscriptions: bool,
+    /// Whether the package `refer` is left out.
+    pub no_refer: bool,
+    /// Whether the service closes where its standard input ends.
+    pub until_input_ends: bool,
 }
 
 /// 127.0.0.1 with this port.
@@ -62,7 +71,7 @@ impl Numbers {
         Numbers {
             workers: None,
             min_time: 60,
-            max_time: 86400,
+            max_time: 3600,
             default_time: 3600,
             refer_time: 180,
             max_cseq: 2147483647,
@@ -73,6 +82,8 @@ impl Numbers {
             outbox: 1024,
             repeats: 16384,
             linger: 2,
+            max_datagram: 8192,
+            receive_buffer: 4194304,
         }
     }
 
@@ -93,6 +104,8 @@ impl Numbers {
             Bound::Outbox => self.outbox = number,
             Bound::Repeats => self.repeats = number,
             Bound::Linger => self.linger = number,
+            Bound::MaxDatagram => self.max_datagram = number,
+            Bound::ReceiveBuffer => self.receive_buffer = number,
         }
     }
 }
@@ -109,6 +122,8 @@ impl Choices {
             numbers: Numbers::defaults(),
             seed: None,
             keep_subscriptions: false,
+            no_refer: false,
+            until_input_ends: false,
         }
     }
 
@@ -122,6 +137,16 @@ impl Choices {
         }
     }
 
+    fn set_switch(&mut self, switch: Switch)
+        ensures { self.new ≡ with_switch switch self.old }
+    {
+        match switch {
+            Switch::KeepSubscriptions => self.keep_subscriptions = true,
+            Switch::NoRefer => self.no_refer = true,
+            Switch::UntilInputEnds => self.until_input_ends = true,
+        }
+    }
+
     fn set(&mut self, setting: &Setting)
         ensures { self.new ≡ after self.old setting.now }
     {
@@ -129,8 +154,8 @@ impl Choices {
             Setting::Address(place, addr) => self.set_address(*place, *addr),
             Setting::Number(bound, number) => self.numbers.set(*bound, *number),
             Setting::Seed(seed) => self.seed = Some(*seed),
-            Setting::KeepSubscriptions => self.keep_subscriptions = true,
-            Setting::MailboxFile(_) | Setting::Mailbox(_) => {}
+            Setting::Switch(switch) => self.set_switch(*switch),
+            Setting::MailboxFile(_) | Setting::StateFile(_) | Setting::Mailbox(_) => {}
         }
     }
 

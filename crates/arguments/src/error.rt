@@ -20,8 +20,11 @@ pub enum OptionsError {
     #[error("no such option: {word} (notifyd serve --help lists them)", word = .0.as_str())]
     Unknown(Text),
     /// A word that can't name a mailbox.
-    #[error("no name of a mailbox: {word} (one or more characters, none of them a space)", word = .0.as_str())]
+    #[error("no name of a mailbox: {word} (one or more characters, none of them a space, `@` or `:`)", word = .0.as_str())]
     NoMailbox(Text),
+    /// A line of a file that is a range, but names no numbers or more than a million.
+    #[error("no range of mailboxes: {word} (from a number up to one of as many digits, a million of them at most)", word = .0.as_str())]
+    NoRange(Text),
     /// A growth was refused: there is no memory.
     #[error("out of memory")]
     NoMemory,

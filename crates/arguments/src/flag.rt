@@ -3,7 +3,7 @@ ghost use Rattle.std.specs.Prelude.{◌≡◌};
 ghost use Rattle.sip_text.specs.Bytes.{Finds};
 ghost use Rattle.arguments.specs.Flags as spec;
 ghost use Rattle.arguments.specs.Flags.{place_text, bound_text, flag_text};
-ghost use Rattle.arguments.specs.Reading.{place_of, time_of, count_of, bound_of, other_of, flag_of};
+ghost use Rattle.arguments.specs.Reading.{place_of, time_of, count_of, size_of, number_of, bound_of, other_of, flag_of, joined_of};
 
 use std::fmt;
 use std::fmt::{Display, Formatter};
@@ -35,6 +35,8 @@ pub enum Bound {
     Outbox,
     Repeats,
     Linger,
+    MaxDatagram,
+    ReceiveBuffer,
 }
 
 /// An option that has a value.
@@ -44,6 +46,8 @@ pub enum Flag {
     Number(Bound),
     /// `--mailboxes`: a file that names mailboxes.
     MailboxFile,
+    /// `--state`: a file of MAIL lines that are done before the first datagram of SIP is heard.
+    StateFile,
     /// `--seed`: from which the words of local tags are drawn.
     Seed,
 }
@@ -80,6 +84,8 @@ impl Bound {
             Bound::Outbox => "--outbox",
             Bound::Repeats => "--repeats",
             Bound::Linger => "--linger",
+            Bound::MaxDatagram => "--max-datagram",
+            Bound::ReceiveBuffer => "--receive-buffer",
         }
     }
 
@@ -89,6 +95,8 @@ impl Bound {
     {
         match self {
             Bound::Repeats | Bound::Linger => 0,
+            Bound::MaxDatagram => 512,
+            Bound::ReceiveBuffer => 4096,
             _ => 1,
         }
     }
@@ -104,6 +112,8 @@ impl Bound {
             Bound::Table | Bound::Inbox | Bound::Outbox | Bound::Repeats => 65536,
             Bound::Kept => 4096,
             Bound::Linger => 32,
+            Bound::MaxDatagram => 65507,
+            Bound::ReceiveBuffer => 1073741824,
             Bound::MaxTime | Bound::DefaultTime | Bound::ReferTime | Bound::Serials => u32::MAX,
         }
     }
@@ -118,6 +128,7 @@ impl Flag {
             Flag::Address(place) => place.text(),
             Flag::Number(bound) => bound.text(),
             Flag::MailboxFile => "--mailboxes",
+            Flag::StateFile => "--state",
             Flag::Seed => "--seed",
         }
     }
@@ -133,7 +144,7 @@ impl Display for Flag {
                 let (least, most) = (bound.least(), bound.most());
                 write!(f, "{text} <{least} to {most}>")
             }
-            Flag::MailboxFile => write!(f, "{text} <file>"),
+            Flag::MailboxFile | Flag::StateFile => write!(f, "{text} <file>"),
             Flag::Seed => write!(f, "{text} <64 hex digits>"),
         }
     }
@@ -200,13 +211,38 @@ fn count_of(word: &str) -> Option<Bound>
     }
 }
 
+/// An option whose value is a size in octets.
+#[tactic(auto, unfolding(crate::specs::Reading::size_of))]
+fn size_of(word: &str) -> Option<Bound>
+    ensures { Finds (λ x. x) result (size_of word.now) }
+{
+    if word == "--max-datagram" {
+        Some(Bound::MaxDatagram)
+    } else if word == "--receive-buffer" {
+        Some(Bound::ReceiveBuffer)
+    } else {
+        None
+    }
+}
+
+/// An option whose value is a count or a size.
+#[tactic(auto, unfolding(crate::specs::Reading::number_of))]
+fn number_of(word: &str) -> Option<Bound>
+    ensures { Finds (λ x. x) result (number_of word.now) }
+{
+    match count_of(word) {
+        Some(bound) => Some(bound),
+        None => size_of(word),
+    }
+}
+
 #[tactic(auto, unfolding(crate::specs::Reading::bound_of))]
 fn bound_of(word: &str) -> Option<Bound>
     ensures { Finds (λ x. x) result (bound_of word.now) }
 {
     match time_of(word) {
         Some(bound) => Some(bound),
-        None => count_of(word),
+        None => number_of(word),
     }
 }
 
@@ -217,11 +253,23 @@ fn other_of(word: &str) -> Option<Flag>
 {
     if word == "--mailboxes" {
         Some(Flag::MailboxFile)
+    } else if word == "--state" {
+        Some(Flag::StateFile)
     } else if word == "--seed" {
         Some(Flag::Seed)
     } else {
         bound_of(word).map(Flag::Number)
     }
+}
+
+/// The option that stands before the first `=` of the word, and the value behind it.
+#[tactic(auto, unfolding(crate::specs::Reading::joined_of))]
+pub(crate) fn joined_of(word: &str) -> Option<(Flag, &str)>
+    ensures { Finds (λ x. (x.0, x.1.now)) result (joined_of word.now) }
+{
+    let (name, value) = word.split_once('=')?;
+    let flag = flag_of(name)?;
+    Some((flag, value))
 }
 
 /// The option that the word is.

@@ -2,7 +2,7 @@
 //!
 //! [`parse_arguments`] reads the words that ask for a script, [`parse_udp_arguments`] those behind `udp`, and
 //! [`parse_settings`] what stands behind `serve`: a list of [`Setting`]s, or the first thing that is wrong, with
-//! the right form of an option that has a value. [`Choices::of`] tells what the settings ask for, [`mailbox_in`] which mailbox a line of
+//! the right form of an option that has a value. [`Choices::of`] tells what the settings ask for, [`mailboxes_in`] which mailboxes a line of
 //! a file names, and [`parse_tell`] reads what stands behind `tell`. [`setup_at`] and [`boxes_for`] make what workers start
 //! from, and a [`Status`] is how a run ends. It starts nothing and opens no file.
 //!
@@ -16,10 +16,13 @@ pub mod either;
 pub mod error;
 pub mod flag;
 pub mod mailbox_file;
+mod number_range;
 pub mod setting;
 pub mod setup;
 pub mod status;
+pub mod switch;
 pub mod tell;
+pub mod told;
 pub mod udp_arguments;
 
 pub use arguments::{Arguments, ArgumentsError, parse_arguments};
@@ -27,9 +30,11 @@ pub use choices::{Choices, Numbers};
 pub use either::EitherPackage;
 pub use error::OptionsError;
 pub use flag::{Bound, Flag, Place};
-pub use mailbox_file::mailbox_in;
+pub use mailbox_file::{is_blank, mailboxes_in};
 pub use setting::{Setting, parse_settings};
 pub use setup::{Boxes, boxes_for, boxes_with, names_for, setup_at};
 pub use status::Status;
+pub use switch::Switch;
 pub use tell::{TellCall, TellError, parse_tell};
+pub use told::all_told;
 pub use udp_arguments::{UdpArguments, parse_udp_arguments};

@@ -1,40 +1,54 @@
-//! A file that names mailboxes, a mailbox a line.
+//! A file that names mailboxes, by a name or a range of numbers a line.
 ghost use Rattle.std.specs.Prelude.{◌↔◌, IsTrue, IfOk, IfErr};
+ghost use Rattle.std.specs.List.{All};
+ghost use Rattle.arguments.specs.NumberRanges.{IsNumberRange};
 ghost use Rattle.arguments.specs.Settings.{IsMailbox};
-ghost use Rattle.arguments.specs.MailboxFile.{IsBlank, Names, IsNoLine};
+ghost use Rattle.arguments.specs.MailboxFile.{IsBlank, IsRange, IsUnfair, Names, IsNoLine};
 
 use crate::error::OptionsError;
-use crate::setting::is_dashed;
-use package::texts::is_word;
+use crate::number_range::{NumberRange, range_in};
+use crate::setting::is_mailbox;
 use sip_text::Text;
 use std::alloc::Global;
 
 /// Whether a line names nothing: an empty one, or a comment.
-fn is_blank(line: &str) -> bool
+pub fn is_blank(line: &str) -> bool
     ensures { IsTrue result ↔ IsBlank line.now }
 {
     matches!(line.as_bytes(), [] | [b'#', ..])
 }
 
-/// Whether it may name a mailbox.
-fn is_mailbox(word: &str) -> bool
-    ensures { IsTrue result ↔ IsMailbox word.now }
+/// The mailboxes of a range that a line says.
+fn numbers_of(alloc: Global, line: &str, range: NumberRange) -> Result<Vec<Text>, OptionsError>
+    requires { IsNumberRange line.now range.width range.first range.last }
+    ensures names { IfOk result (λ names. IsRange line.now names.items) }
+    ensures wrong { IfErr result (IsNoLine line.now) }
 {
-    is_word(word) && !is_dashed(word)
+    if !range.is_fair() {
+        return Err(OptionsError::NoRange(Text::of(alloc, line)?));
+    }
+    Ok(range.numerals(alloc)?)
 }
 
-/// The mailbox that a line names, without its line feed. An empty line and a comment, which begins with `#`, name none.
-pub fn mailbox_in(alloc: Global, line: &str) -> Result<Option<Text>, OptionsError>
-    ensures names { IfOk result (Names line.now) }
+/// The mailboxes that a line names, without its line feed, in order: a range, as `1000-1999`, each number from the first to the last
+/// in as many digits. An empty line and a comment, which begins with `#`, name none. An error where the line can't name a mailbox, or
+/// is a range whose last number is below its first, or of more than a million numbers.
+pub fn mailboxes_in(alloc: Global, line: &str) -> Result<Vec<Text>, OptionsError>
+    ensures names { IfOk result (λ names. Names line.now names.items) }
+    ensures mailboxes { IfOk result (λ names. All IsMailbox names.items) }
     ensures wrong { IfErr result (IsNoLine line.now) }
 {
     if is_blank(line) {
-        return Ok(None);
+        return Ok(Vec::new(alloc));
+    }
+    if let Some(range) = range_in(line.as_bytes()) {
+        return numbers_of(alloc, line, range);
     }
     let name = Text::of(alloc, line)?;
-    if is_mailbox(line) {
-        Ok(Some(name))
-    } else {
-        Err(OptionsError::NoMailbox(name))
+    if !is_mailbox(line) {
+        return Err(OptionsError::NoMailbox(name));
     }
+    let mut names = Vec::new(alloc);
+    names.push(name)?;
+    Ok(names)
 }

@@ -1,14 +1,15 @@
 //! What the words of `notifyd serve` say.
-ghost use Rattle.std.specs.Prelude.{◌≡◌, List, None, IfOk, IfErr};
+ghost use Rattle.std.specs.Prelude.{◌≡◌, ◌↔◌, List, None, IsTrue, IfOk, IfErr};
 ghost use Rattle.sip_text.specs.Bytes.{Finds};
 ghost use Rattle.arguments.specs.declared.setting.Setting.{Setting};
-ghost use Rattle.arguments.specs.Settings.{AreSettings, AreWrong, Answers};
+ghost use Rattle.arguments.specs.Settings.{is_user, IsMailbox, AreSettings, AreWrong, Answers};
 ghost use Rattle.arguments.specs.Reading as spec;
-ghost use Rattle.arguments.specs.Reading.{seed_of, between, valued, alone, Reads};
+ghost use Rattle.arguments.specs.Reading.{seed_of, between, valued, named, alone, Reads};
 ghost use Rattle.sip_text.specs.Reading.{begins, plain_up_to};
 
 use crate::error::OptionsError;
-use crate::flag::{Bound, Flag, Place, flag_of};
+use crate::flag::{Bound, Flag, Place, flag_of, joined_of};
+use crate::switch::{Switch, switch_of};
 use hex::FromHex;
 use package::texts::is_word;
 use sip_text::{Addr, Text, plain_number};
@@ -23,10 +24,12 @@ pub enum Setting {
     Number(Bound, u32),
     /// `--mailboxes` with the path of a file.
     MailboxFile(Text),
+    /// `--state` with the path of a file.
+    StateFile(Text),
     /// `--seed` with 32 bytes.
     Seed([u8; 32]),
-    /// `--keep-subscriptions`: no farewell at the end.
-    KeepSubscriptions,
+    /// An option without a value.
+    Switch(Switch),
     /// The name of a mailbox.
     Mailbox(Text),
 }
@@ -65,18 +68,20 @@ fn between(least: u32, most: u32, word: &[u8]) -> Option<u32>
 
 /// What an option with this value says.
 #[tactic(auto, unfolding(crate::specs::Reading::valued))]
-fn valued(alloc: Global, flag: Flag, value: &Text) -> Result<Setting, OptionsError>
+fn valued(alloc: Global, flag: Flag, value: &str) -> Result<Setting, OptionsError>
     ensures { Reads (λ x. x) result (valued flag value.now) }
 {
-    let word = value.as_str();
     let setting = match flag {
-        Flag::Address(place) => Addr::of(word.as_bytes()).map(|addr| Setting::Address(place, addr)),
+        Flag::Address(place) => Addr::of(value.as_bytes()).map(|addr| Setting::Address(
+            place, addr,
+        )),
         Flag::Number(bound) => {
-            let number = between(bound.least(), bound.most(), word.as_bytes());
+            let number = between(bound.least(), bound.most(), value.as_bytes());
             number.map(|number| Setting::Number(bound, number))
         }
-        Flag::MailboxFile => Some(Setting::MailboxFile(value.copy(alloc)?)),
-        Flag::Seed => seed_of(word).map(Setting::Seed),
+        Flag::MailboxFile => Some(Setting::MailboxFile(Text::of(alloc, value)?)),
+        Flag::StateFile => Some(Setting::StateFile(Text::of(alloc, value)?)),
+        Flag::Seed => seed_of(value).map(Setting::Seed),
     };
     setting.ok_or(OptionsError::Bad(flag))
 }
@@ -88,22 +93,47 @@ pub(crate) fn is_dashed(word: &str) -> bool
     matches!(word.as_bytes(), [b'-', ..])
 }
 
+/// Whether it may stand before the `@` of an address as it is: no `@`, and no `:`, behind which a password stands.
+fn is_user(word: &str) -> bool
+    ensures { result ≡ is_user word.now }
+{
+    word.bytes().all(|byte| byte != b'@' && byte != b':')
+}
+
+/// Whether it may name a mailbox.
+pub(crate) fn is_mailbox(word: &str) -> bool
+    ensures { IsTrue result ↔ IsMailbox word.now }
+{
+    is_word(word) && is_user(word) && !is_dashed(word)
+}
+
+/// What a word says that is no option: the name of a mailbox.
+#[tactic(auto, unfolding(crate::specs::Reading::named))]
+fn named(alloc: Global, word: &Text) -> Result<Setting, OptionsError>
+    ensures { Reads (λ x. x) result (named word.now) }
+{
+    let word = word.copy(alloc)?;
+    if is_dashed(word.as_str()) {
+        return Err(OptionsError::Unknown(word));
+    }
+    if is_word(word.as_str()) && is_user(word.as_str()) {
+        Ok(Setting::Mailbox(word))
+    } else {
+        Err(OptionsError::NoMailbox(word))
+    }
+}
+
 /// What a word says that has no value behind it.
 #[tactic(auto, unfolding(crate::specs::Reading::alone))]
 fn alone(alloc: Global, word: &Text) -> Result<Setting, OptionsError>
     ensures { Reads (λ x. x) result (alone word.now) }
 {
-    if word.is("--keep-subscriptions") {
-        return Ok(Setting::KeepSubscriptions);
+    if let Some((flag, value)) = joined_of(word.as_str()) {
+        return valued(alloc, flag, value);
     }
-    let word = word.copy(alloc)?;
-    if is_dashed(word.as_str()) {
-        return Err(OptionsError::Unknown(word));
-    }
-    if is_word(word.as_str()) {
-        Ok(Setting::Mailbox(word))
-    } else {
-        Err(OptionsError::NoMailbox(word))
+    match switch_of(word.as_str()) {
+        Some(switch) => Ok(Setting::Switch(switch)),
+        None => named(alloc, word),
     }
 }
 
@@ -116,7 +146,7 @@ fn settings_of(alloc: Global, words: &[Text]) -> Result<Vec<Setting>, OptionsErr
     for word in words {
         match waiting.take() {
             Some(flag) => {
-                let setting = valued(alloc, flag, word)?;
+                let setting = valued(alloc, flag, word.as_str())?;
                 settings.push(setting)?;
             }
             None => match flag_of(word.as_str()) {

@@ -1,4 +1,5 @@
 pub mod Named
+pub mod ToldLines
 pub mod Started
 pub mod Refused
 pub mod UdpPrinted

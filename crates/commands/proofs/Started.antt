@@ -13,8 +13,9 @@ use Rattle.notifier_model.specs.Start.{Start, place_of}
 use Rattle.crew.specs.Ready.{start_of}
 use Rattle.crew.proofs.Starting.{element}
 use Rattle.feeds.specs.Emitted.{WireSeen, WriterSeen}
-use Rattle.arguments.specs.Setup.{boxes_with, boxes_for, names_for}
-use Rattle.arguments.proofs.Dealt.{boxes-len}
+use Rattle.arguments.specs.Setup.{names_for}
+use Rattle.arguments.specs.Told.{boxes_told, all_told}
+use Rattle.arguments.proofs.ToldBoxes.{told-len}
 use Rattle.service.specs.declared.running.Outcome.{Outcome}
 use Rattle.service.specs.Running.{Runs}
 use Rattle.commands.proofs.UdpStarted.{started_as}
@@ -56,16 +57,16 @@ runs_as {start' = start'} {workers' = workers'} same each r = record {
 }
 
 module _ {P : Type 0} (seen : P → Seen) (setup : Setup) (boxes : List (Vec P Global)) (plan : Plan) (local : Addr) (is_setup : setup ≡ setup_of plan local)
-    (are_boxes : map (λ (held : Vec P Global). map seen held.items) boxes ≡ boxes_for plan.workers plan.mailboxes.items) where
+    (are_boxes : map (λ (held : Vec P Global). map seen held.items) boxes ≡ all_told plan.workers plan.choices.no_refer plan.changes.items plan.mailboxes.items) where
   pub workers_are : length boxes ≡ plan.workers
-  workers_are = boxes-len (λ (held : Vec P Global). map seen held.items) boxes plan.workers plan.mailboxes.items are_boxes
+  workers_are = told-len (λ (held : Vec P Global). map seen held.items) boxes plan.workers plan.choices.no_refer plan.changes.items plan.mailboxes.items are_boxes
 
-  boxes_at : (w : ℕ) (held : Vec P Global) → w < length boxes → map seen (get_or boxes w held).items ≡ boxes_with (names_for plan.workers w plan.mailboxes.items)
+  boxes_at : (w : ℕ) (held : Vec P Global) → w < length boxes → map seen (get_or boxes w held).items ≡ boxes_told plan.choices.no_refer plan.changes.items (names_for plan.workers w plan.mailboxes.items)
   boxes_at w held low =
       let len = workers_are in
       sym (get_or-map (λ (h : Vec P Global). map seen h.items) boxes w held (map seen held.items) low)
       ∙ ap (λ (all : List (List Seen)). get_or all w (map seen held.items)) are_boxes
-      ∙ get_or-map-range_with_len (λ v. boxes_with (names_for plan.workers v plan.mailboxes.items)) 0 plan.workers w w (map seen held.items) (omega (arith, len, low)) (omega arith)
+      ∙ get_or-map-range_with_len (λ v. boxes_told plan.choices.no_refer plan.changes.items (names_for plan.workers v plan.mailboxes.items)) 0 plan.workers w w (map seen held.items) (omega (arith, len, low)) (omega arith)
 
   -- each worker starts as it was asked for
   starts_are : (held : Vec P Global) (w : ℕ) → w < length boxes → start_of seen setup w (get_or boxes w held).items ≡ start_at plan local w

@@ -1,3 +1,4 @@
+pub mod State
 pub mod Plans
 pub mod Serving
 pub mod Refused

@@ -4,12 +4,15 @@ use Rattle.std.specs.List.{All}
 use Rattle.sip_text.specs.declared.address.Addr.{Addr}
 use Rattle.notifier_model.specs.Limits.{Limits, AreLimits, IsWithin}
 use Rattle.notifier_model.specs.declared.place.Setup.{Setup}
+use Rattle.package.specs.declared.change.Change.{Change}
 use Rattle.arguments.specs.declared.choices.Choices.{Choices}
 use Rattle.arguments.specs.declared.choices.Numbers.{Numbers}
 use Rattle.arguments.specs.declared.setting.Setting.{Setting}
 use Rattle.arguments.specs.declared.setting.Setting.TheVariants as setting
-use Rattle.arguments.specs.Choices.{choices_of}
+use Rattle.arguments.specs.Choices.{choices_of, state_of}
+use Rattle.commands.specs.State.{IsState}
 use Rattle.arguments.specs.Settings.{IsMailbox, AreSettings}
+use Rattle.arguments.specs.MailboxFile as file
 use Rattle.commands.specs.declared.plan.Plan.{Plan}
 
 -- ---- mailboxes
@@ -19,9 +22,16 @@ abbrev pub Names : Setting → List (List ℕ) → Type 0
 Names (setting.Address place addr) names = names ≡ []
 Names (setting.Number bound n) names = names ≡ []
 Names (setting.MailboxFile path) names = All IsMailbox names
+Names (setting.StateFile path) names = names ≡ []
 Names (setting.Seed seed) names = names ≡ []
-Names setting.KeepSubscriptions names = names ≡ []
+Names (setting.Switch switch) names = names ≡ []
 Names (setting.Mailbox name) names = names ≡ name ∷ []
+
+-- the mailboxes with those that one line more of a file names
+pub record AddsNames (line : List ℕ) (old new : List (List ℕ)) : Type 0 where
+  pub more : List (List ℕ)
+  pub names : file.Names line more
+  pub added : new ≡ old ++ more
 
 -- the settings name these, one behind the other
 abbrev pub AreNamed : List Setting → List (List ℕ) → Type 0
@@ -72,9 +82,16 @@ pub record AreRead (words : List (List ℕ)) (choices : Choices) (mailboxes : Li
   pub chosen : choices ≡ choices_of settings
   pub named : AreNamed settings mailboxes
 
+-- the words name a file of changes with these, or none
+pub record AreChanges (words : List (List ℕ)) (changes : List Change) : Type 0 where
+  pub settings : List Setting
+  pub are_settings : AreSettings words settings
+  pub state : IsState (state_of settings) changes
+
 -- the words ask for this
 pub record IsPlan (words : List (List ℕ)) (plan : Plan) : Type 0 where
   pub read : AreRead words plan.choices plan.mailboxes.items
+  pub changes : AreChanges words plan.changes.items
   pub reached : IsReached plan.choices
   pub some : plan.mailboxes.items ≢ []
   pub limits : plan.limits ≡ limits_of plan.choices.numbers

@@ -5,7 +5,7 @@
 --   1        the words ask for no service
 --   3        an address, a file, a thread or a socket can't be had, or one failed
 --   4        memory was wanting
-use Rattle.std.specs.Prelude.{◌≡◌, ◌⊎◌, ℕ, List, [], ◌∷◌, Some, slice_get, codes}
+use Rattle.std.specs.Prelude.{◌≡◌, ◌⊎◌, ℕ, ℤ, pos, Bool, true, ◌||◌, List, [], ◌∷◌, Option, Some, slice_get, codes, bytes_eq}
 use Rattle.notifier_model.specs.Limits.{AreLimits}
 use Rattle.arguments.specs.declared.choices.Choices.{Choices}
 use Rattle.arguments.specs.declared.error.OptionsError.{OptionsError}
@@ -16,12 +16,14 @@ use Rattle.arguments.specs.declared.flag.Place.TheVariants as place
 use Rattle.arguments.specs.declared.setting.Setting.{Setting}
 use Rattle.arguments.specs.declared.setting.Setting.TheVariants as setting
 use Rattle.arguments.specs.MailboxFile.{IsNoLine}
+use Rattle.arguments.specs.Choices.{state_of}
 use Rattle.arguments.specs.Settings.{AreSettings, AreWrong}
 use Rattle.service.specs.declared.error.RunError.{RunError}
 use Rattle.service.specs.declared.error.RunError.TheVariants as run
 use Rattle.commands.specs.declared.error.ServeError.{ServeError}
 use Rattle.commands.specs.declared.error.ServeError.TheVariants as error
 use Rattle.commands.specs.Plans.{limits_of, IsReached, AreRead}
+use Rattle.commands.specs.State.{IsNoChange}
 use Rattle.commands.specs.Serving.{EndsWell}
 
 -- an address in another form may be a host that can't be found
@@ -30,9 +32,11 @@ status_of_words (wrong.Missing option) = 1
 status_of_words (wrong.Bad (flag.Address place)) = 3
 status_of_words (wrong.Bad (flag.Number bound)) = 1
 status_of_words (wrong.Bad flag.MailboxFile) = 1
+status_of_words (wrong.Bad flag.StateFile) = 1
 status_of_words (wrong.Bad flag.Seed) = 1
 status_of_words (wrong.Unknown word) = 1
 status_of_words (wrong.NoMailbox word) = 1
+status_of_words (wrong.NoRange word) = 1
 status_of_words wrong.NoMemory = 4
 
 abbrev pub status_of_line : OptionsError → ℕ
@@ -40,6 +44,7 @@ status_of_line (wrong.Missing option) = 3
 status_of_line (wrong.Bad option) = 3
 status_of_line (wrong.Unknown word) = 3
 status_of_line (wrong.NoMailbox word) = 3
+status_of_line (wrong.NoRange word) = 3
 status_of_line wrong.NoMemory = 4
 
 abbrev pub status_of : ServeError → ℕ
@@ -49,7 +54,11 @@ status_of error.NoContact = 1
 status_of error.NoMailbox = 1
 status_of (error.File path) = 3
 status_of (error.Line path line e) = status_of_line e
+status_of (error.StateLine path line) = 3
 status_of (error.Address place) = 3
+status_of (error.NotHere place) = 3
+status_of (error.Denied place) = 3
+status_of error.Descriptors = 3
 status_of error.System = 3
 status_of error.Device = 3
 status_of error.NoMemory = 4
@@ -73,10 +82,37 @@ IsOther error.NoContact = ⊥
 IsOther error.NoMailbox = ⊥
 IsOther (error.File path) = ⊥
 IsOther (error.Line path line e) = ⊥
+IsOther (error.StateLine path line) = ⊥
 IsOther (error.Address place) = IsListened place
+IsOther (error.NotHere place) = IsListened place
+IsOther (error.Denied place) = IsListened place
+IsOther error.Descriptors = Unit {0}
 IsOther error.System = Unit {0}
 IsOther error.Device = Unit {0}
 IsOther error.NoMemory = Unit {0}
+
+-- ---- sockets
+
+-- too many files are open: by the program (EMFILE, 24), or by all (ENFILE, 23)
+abbrev pub IsTooMany : Option ℤ → Type 0
+IsTooMany number = (number ≡ Some (pos 23)) ⊎ (number ≡ Some (pos 24))
+
+-- no socket is to be had where this option says, for this cause
+abbrev pub IsNoSocket : Place → ServeError → Type 0
+IsNoSocket place (error.Options e) = ⊥
+IsNoSocket place error.Times = ⊥
+IsNoSocket place error.NoContact = ⊥
+IsNoSocket place error.NoMailbox = ⊥
+IsNoSocket place (error.File path) = ⊥
+IsNoSocket place (error.Line path line e) = ⊥
+IsNoSocket place (error.StateLine path line) = ⊥
+IsNoSocket place (error.Address named) = named ≡ place
+IsNoSocket place (error.NotHere named) = named ≡ place
+IsNoSocket place (error.Denied named) = named ≡ place
+IsNoSocket place error.Descriptors = Unit {0}
+IsNoSocket place error.System = Unit {0}
+IsNoSocket place error.Device = ⊥
+IsNoSocket place error.NoMemory = ⊥
 
 -- ---- files of mailboxes
 
@@ -92,7 +128,11 @@ IsOfFile path error.NoContact = ⊥
 IsOfFile path error.NoMailbox = ⊥
 IsOfFile path (error.File named) = named ≡ path
 IsOfFile path (error.Line named line e) = (named ≡ path) × IsOfLine e
+IsOfFile path (error.StateLine named line) = ⊥
 IsOfFile path (error.Address place) = ⊥
+IsOfFile path (error.NotHere place) = ⊥
+IsOfFile path (error.Denied place) = ⊥
+IsOfFile path error.Descriptors = ⊥
 IsOfFile path error.System = ⊥
 IsOfFile path error.Device = ⊥
 IsOfFile path error.NoMemory = Unit {0}
@@ -102,8 +142,9 @@ abbrev pub IsOfSetting : Setting → ServeError → Type 0
 IsOfSetting (setting.Address place addr) e = e ≡ error.NoMemory
 IsOfSetting (setting.Number bound n) e = e ≡ error.NoMemory
 IsOfSetting (setting.MailboxFile path) e = IsOfFile path e
+IsOfSetting (setting.StateFile path) e = e ≡ error.NoMemory
 IsOfSetting (setting.Seed seed) e = e ≡ error.NoMemory
-IsOfSetting setting.KeepSubscriptions e = e ≡ error.NoMemory
+IsOfSetting (setting.Switch switch) e = e ≡ error.NoMemory
 IsOfSetting (setting.Mailbox name) e = e ≡ error.NoMemory
 
 -- the mailboxes of one of the settings can't be told for this cause
@@ -115,6 +156,33 @@ abbrev pub NameFile : List (List ℕ) → List ℕ → Type 0
 NameFile words path =
     (settings : List Setting) × (k : ℕ) × AreSettings words settings × (slice_get settings k ≡ Some (setting.MailboxFile path))
 
+-- ---- the file of changes
+
+-- the file of changes at this path can't be read, or a line of it, for this cause
+abbrev pub IsOfState : List ℕ → ServeError → Type 0
+IsOfState path (error.Options e) = ⊥
+IsOfState path error.Times = ⊥
+IsOfState path error.NoContact = ⊥
+IsOfState path error.NoMailbox = ⊥
+IsOfState path (error.File named) = named ≡ path
+IsOfState path (error.Line named line e) = ⊥
+IsOfState path (error.StateLine named number) = (named ≡ path) × (line : List ℕ) × IsNoChange line
+IsOfState path (error.Address place) = ⊥
+IsOfState path (error.NotHere place) = ⊥
+IsOfState path (error.Denied place) = ⊥
+IsOfState path error.Descriptors = ⊥
+IsOfState path error.System = ⊥
+IsOfState path error.Device = ⊥
+IsOfState path error.NoMemory = Unit {0}
+
+-- the changes of the file that the settings name can't be told for this cause
+abbrev pub IsOfNamedState : List Setting → ServeError → Type 0
+IsOfNamedState settings e = (e ≡ error.NoMemory) ⊎ ((path : List ℕ) × (state_of settings ≡ Some path) × IsOfState path e)
+
+-- the words name this file of changes
+abbrev pub NameState : List (List ℕ) → List ℕ → Type 0
+NameState words path = (settings : List Setting) × AreSettings words settings × (state_of settings ≡ Some path)
+
 -- ---- all of it
 
 -- the words ask for no service for this cause. What stands in a file, and of the system and memory, no contract can tell
@@ -124,18 +192,26 @@ IsRefusal words error.Times =
     (choices : Choices) × (names : List (List ℕ)) × AreRead words choices names × ¬ (AreLimits (limits_of choices.numbers))
 IsRefusal words error.NoContact = (choices : Choices) × (names : List (List ℕ)) × AreRead words choices names × ¬ (IsReached choices)
 IsRefusal words error.NoMailbox = (choices : Choices) × AreRead words choices []
-IsRefusal words (error.File path) = NameFile words path
+IsRefusal words (error.File path) = NameFile words path ⊎ NameState words path
 IsRefusal words (error.Line path line e) = NameFile words path × IsOfLine e
+IsRefusal words (error.StateLine path number) = NameState words path × (line : List ℕ) × IsNoChange line
 IsRefusal words (error.Address place) = IsListened place
+IsRefusal words (error.NotHere place) = IsListened place
+IsRefusal words (error.Denied place) = IsListened place
+IsRefusal words error.Descriptors = Unit {0}
 IsRefusal words error.System = Unit {0}
 IsRefusal words error.Device = Unit {0}
 IsRefusal words error.NoMemory = Unit {0}
 
 -- ---- the exit status of `notifyd serve`
 
+-- a word that asks for a text
+abbrev pub asks_for_text : List ℕ → Bool
+asks_for_text word = bytes_eq word (codes "--help") || (bytes_eq word (codes "-h") || bytes_eq word (codes "--version"))
+
 -- the words ask for a text alone
 abbrev pub AskForText : List (List ℕ) → Type 0
-AskForText words = (words ≡ codes "--help" ∷ []) ⊎ (words ≡ codes "--version" ∷ [])
+AskForText words = (word : List ℕ) × (words ≡ word ∷ []) × (asks_for_text word ≡ true)
 
 -- 0 only where the words ask for a text, or for a service that ended well; any other is that of a cause
 abbrev pub IsStatus : List (List ℕ) → ℕ → Type 0

@@ -4,17 +4,19 @@ use Rattle.std.specs.Io.KnownBytes.{Appends}
 use Rattle.sip_text.specs.declared.address.Addr.{Addr}
 use Rattle.transport.specs.Devices.{SinkSeen}
 use Rattle.notifier_model.specs.Start.{Start, place_of}
-use Rattle.arguments.specs.Setup.{boxes_with, names_for}
+use Rattle.arguments.specs.Setup.{names_for}
+use Rattle.arguments.specs.Told.{boxes_told}
 use Rattle.feeds.specs.Emitted.{WireSeen, WriterSeen}
 use Rattle.commands.specs.UdpEnds.{all_closed}
 use Rattle.commands.specs.UdpLines.{worker_lines}
 use Rattle.commands.specs.UdpServing.{writer_seen}
-use Rattle.service.specs.declared.outs.Bell.{Bell}
 use Rattle.service.specs.declared.running.Outcome.{Outcome}
 use Rattle.service.specs.declared.running.Work.{Work}
+use Rattle.service.specs.Listening.{IsDeaf}
 use Rattle.service.specs.Running.{Runs, AreFaults, is_faulty}
 use Rattle.arguments.specs.declared.choices.Choices.{Choices}
-use Rattle.transport.specs.declared.udp.UdpWire.{UdpWire}
+use Rattle.transport.specs.Ears.{no_misses}
+use Rattle.transport.specs.Sockets.{misses}
 use Rattle.commands.specs.declared.plan.Plan.{Plan}
 use Rattle.commands.specs.declared.sockets.Sockets.{Sockets}
 use Rattle.commands.specs.Plans.{IsPlan, setup_of}
@@ -24,37 +26,34 @@ pub record IsAt (asked local : Addr) : Type 0 where
   pub ip : local.ip ≡ asked.ip
   pub port : asked.port ≢ 0 → local.port ≡ asked.port
 
--- a worker, with the mailboxes whose keys go to it, each with no class set, and no transfer
+-- a worker, with the mailboxes whose keys go to it, each with the counts that the changes say and no other class set, and no transfer
 abbrev pub start_at : Plan → Addr → ℕ → Start
 start_at plan local worker = record {
   place = place_of (setup_of plan local) worker;
-  boxes = boxes_with (names_for plan.workers worker plan.mailboxes.items);
+  boxes = boxes_told plan.choices.no_refer plan.changes.items (names_for plan.workers worker plan.mailboxes.items);
 }
 
--- the sockets that were chosen: each of the two addresses has a wire that receives, which hasn't failed yet, and one that sends,
--- and the bell wakes what receives there
+-- the sockets that were chosen: each of the two addresses has a wire that receives, which hasn't failed yet, and one that sends
 pub record AreOpen (choices : Choices) (s : Sockets) : Type 0 where
-  pub at : IsAt choices.listen s.bell.sip
-  pub control : IsAt choices.control s.bell.control
-  pub sip : s.sip.local ≡ s.bell.sip
-  pub outgoing : s.outgoing.local ≡ s.bell.sip
-  pub lines : s.lines.local ≡ s.bell.control
-  pub replies : s.replies.local ≡ s.bell.control
-  pub sip_failures : s.sip.failures ≡ 0
-  pub line_failures : s.lines.failures ≡ 0
+  pub at : IsAt choices.listen s.sip.local
+  pub control : IsAt choices.control s.lines.local
+  pub outgoing : s.outgoing.local ≡ s.sip.local
+  pub replies : s.replies.local ≡ s.lines.local
+  pub sip_misses : misses s.sip ≡ no_misses
+  pub line_misses : misses s.lines ≡ no_misses
 
--- what the plan asks for, where this bell wakes it
-pub record IsWork (plan : Plan) (bell : Bell UdpWire) (work : Work) : Type 0 where
-  pub setup : work.setup ≡ setup_of plan bell.sip
+-- what the plan asks for, over the sockets that were chosen
+pub record IsWork (plan : Plan) (work : Work) : Type 0 where
+  pub setup : work.setup ≡ setup_of plan work.sip.coming.local
   pub mailboxes : work.desk.mailboxes.items ≡ plan.mailboxes.items
-  pub sip : work.sip.local ≡ bell.sip
-  pub lines : work.desk.coming.local ≡ bell.control
-  pub replies : work.desk.going.local ≡ bell.control
-  pub woken_by : work.bell ≡ bell
+  pub sip : IsAt plan.choices.listen work.sip.coming.local
+  pub lines : IsAt plan.choices.control work.desk.coming.local
+  pub replies : work.desk.going.local ≡ work.desk.coming.local
+  pub longest : work.sip.longest ≡ plan.choices.numbers.max_datagram
   pub repeats : work.repeats ≡ plan.choices.numbers.repeats
   pub linger : work.linger ≡ plan.choices.numbers.linger
-  pub sip_failures : work.sip.failures ≡ 0
-  pub line_failures : work.desk.coming.failures ≡ 0
+  pub sip_misses : misses work.sip.coming ≡ no_misses
+  pub line_misses : misses work.desk.coming ≡ no_misses
 
 -- a writer that was not written to
 abbrev pub new_sink : {W : Type 0} → W → SinkSeen W
@@ -74,10 +73,10 @@ module _ {W : Type 0} (contents : W → Option (List ℕ)) where
     pub local : Addr
     pub is_at : IsAt plan.choices.listen local
     pub ran : Ran (start_at plan local) plan.workers plan.choices.numbers.repeats plan.mailboxes.items before after outcome
-    pub faults : AreFaults 0 0 outcome
+    pub faults : AreFaults no_misses no_misses outcome
 
--- the words ask for a service, which ran to its end, and all went well: no read of its two sockets failed and none of the clock,
--- no thread tells of a fault, each worker came to the end of what was sent to it, and the lines of the workers were written
+-- the words ask for a service, which ran to its end, and all went well: neither of its two sockets was deaf, no read of the clock
+-- failed, no thread tells of a fault, each worker came to the end of what was sent to it, and the lines of the workers were written
 pub record EndsWell (words : List (List ℕ)) : Type 0 where
   pub plan : Plan
   pub is_plan : IsPlan words plan
@@ -89,8 +88,8 @@ pub record EndsWell (words : List (List ℕ)) : Type 0 where
   pub writer : WriterSeen
   pub writer' : WriterSeen
   pub runs : Runs (start_at plan local) plan.workers plan.choices.numbers.repeats plan.mailboxes.items wire wire' writer writer' outcome
-  pub sip_failures : outcome.wire.failures ≡ 0
-  pub line_failures : outcome.desk.coming.failures ≡ 0
+  pub sip_hears : IsDeaf (misses outcome.sip_desk.coming) → ⊥
+  pub lines_hear : IsDeaf (misses outcome.desk.coming) → ⊥
   pub clock_failures : outcome.stopwatch.failures ≡ 0
   pub no_fault : is_faulty outcome ≡ false
   pub closed : all_closed outcome.report.workers.items ≡ true

@@ -30,10 +30,22 @@ pub enum ServeError {
     /// A line of a file of mailboxes names none.
     #[error("{path}, line {line}: {error}", path = .0.as_str(), line = .1, error = .2)]
     Line(Text, u64, OptionsError),
-    /// The address of an option can't be had: mostly its port is in use, or it isn't this machine's.
-    #[error("a port in use, or an address not of this machine: {option}", option = .0.text())]
+    /// A line of a file of changes is no MAIL line.
+    #[error("{path}, line {line}: no MAIL line (MAIL <mailbox> <class> <new> <old> <urgent new> <urgent old>)", path = .0.as_str(), line = .1)]
+    StateLine(Text, u64),
+    /// The port of an option is in use.
+    #[error("a port in use: {option}", option = .0.text())]
     Address(Place),
-    /// The system gave no thread, no socket for the bell, no clock or no randomness.
+    /// The address of an option isn't this machine's.
+    #[error("an address not of this machine: {option}", option = .0.text())]
+    NotHere(Place),
+    /// The user of the program may not listen at the address of an option, mostly since its port is below 1024.
+    #[error("a port that this user may not listen at: {option}", option = .0.text())]
+    Denied(Place),
+    /// The program, or the system, has too many files open.
+    #[error("too few file descriptors: raise the limit of open files (ulimit -n)")]
+    Descriptors,
+    /// The system gave no thread, no socket, no clock or no randomness.
     #[error("the system refused a thread, a socket, the clock or randomness")]
     System,
     /// A socket or the clock failed while the service ran, or its last lines could not be written.
@@ -54,7 +66,8 @@ fn options_status(error: &OptionsError) -> u8
         OptionsError::Bad(_)
         | OptionsError::Missing(_)
         | OptionsError::Unknown(_)
-        | OptionsError::NoMailbox(_) => Status::BadArguments.code(),
+        | OptionsError::NoMailbox(_)
+        | OptionsError::NoRange(_) => Status::BadArguments.code(),
     }
 }
 
@@ -74,7 +87,11 @@ impl ServeError {
             }
             ServeError::Line(..)
             | ServeError::File(_)
+            | ServeError::StateLine(..)
             | ServeError::Address(_)
+            | ServeError::NotHere(_)
+            | ServeError::Denied(_)
+            | ServeError::Descriptors
             | ServeError::System
             | ServeError::Device => Status::DeviceFault.code(),
         }

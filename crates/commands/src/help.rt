@@ -1,25 +1,28 @@
-//! What `notifyd serve --help` and `--version` print.
+//! What `notifyd serve --help`, `-h` and `--version` print.
 
-ghost use Rattle.std.specs.Prelude.{◌≢◌, None, IfSome};
-ghost use Rattle.commands.specs.Refused.{AskForText};
+ghost use Rattle.std.specs.Prelude.{◌≡◌, ◌≢◌, true, None, IfSome};
+ghost use Rattle.commands.specs.Refused.{asks_for_text, AskForText};
 
 use sip_text::Text;
 
 const VERSION: &str = "notifyd 1.0";
 
-const HELP: &str = "\
-usage: notifyd serve [options] [<mailbox>...]
+pub(crate) const HELP: &str = "\
+usage: notifyd serve [options] [<mailbox>...]      (also --option=value)
        notifyd tell [--control <a.b.c.d:port>] <line>
 
   --listen <a.b.c.d:port>    where SIP datagrams come in (127.0.0.1:5060)
   --contact <a.b.c.d:port>   where phones reach the service (as --listen)
   --control <a.b.c.d:port>   where control lines come in (127.0.0.1:5061)
   --workers <1 to 256>       worker threads (one a processor)
-  --mailboxes <file>         a mailbox a line; # in front: a comment
+  --mailboxes <file>         a mailbox a line, or 1000-1999; # in front: a comment
+  --state <file>             MAIL lines that are done first; # in front: a comment
   --seed <64 hex digits>     for local tags (the system's randomness)
   --keep-subscriptions       no farewell at the end
+  --no-refer                 no package refer: a REFER is answered 489
+  --until-input-ends         closes where standard input ends; see notifyd-run
   --min-time <seconds>       the shortest time granted (60)
-  --max-time <seconds>       the longest time granted (86400)
+  --max-time <seconds>       the longest time granted (3600)
   --default-time <seconds>   granted to who asks for none (3600)
   --refer-time <seconds>     granted to a REFER (180)
   --max-cseq <number>        the last number of a NOTIFY (2147483647)
@@ -30,8 +33,24 @@ usage: notifyd serve [options] [<mailbox>...]
   --outbox <1 to 65536>      places of the outbox (1024)
   --repeats <0 to 65536>     unanswered NOTIFYs that are sent again (16384)
   --linger <0 to 32>         seconds that a stop waits for answers (2)
+  --max-datagram <octets>    the longest SIP datagram that is read (8192)
+  --receive-buffer <octets>  room asked for datagrams that wait (4194304)
 
 Lines for tell: MAIL, PROGRESS, STATUS, CLOSE; see notifyd(8).";
+
+/// The text that a word asks for.
+fn text_of(word: &str) -> Option<&'static str>
+    ensures asked { IfSome result (λ _. asks_for_text word.now ≡ true) }
+    ensures only { asks_for_text word.now ≡ true → result ≢ None }
+{
+    if word == "--help" || word == "-h" {
+        Some(HELP)
+    } else if word == "--version" {
+        Some(VERSION)
+    } else {
+        None
+    }
+}
 
 /// The text that the words ask for, where they ask for that alone.
 pub(crate) fn text_for(words: &[Text]) -> Option<&'static str>
@@ -39,8 +58,7 @@ pub(crate) fn text_for(words: &[Text]) -> Option<&'static str>
     ensures only { AskForText words.now → result ≢ None }
 {
     match words {
-        [word] if word.is("--help") => Some(HELP),
-        [word] if word.is("--version") => Some(VERSION),
+        [word] => text_of(word.as_str()),
         _ => None,
     }
 }

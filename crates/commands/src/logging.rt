@@ -1,10 +1,10 @@
 //! What a service says on standard error: a line as it begins, a warning where others may reach the control address, and a line as it
 //! ends. Where nobody reads them it goes on.
 
-use service::{Bell, Shared};
+use arguments::Place;
+use service::Shared;
 use sip_text::{Addr, NoMemory};
 use std::rt::Clock;
-use transport::UdpWire;
 
 /// Whether only this machine reaches the address.
 fn is_loopback(addr: Addr) -> bool {
@@ -14,21 +14,33 @@ fn is_loopback(addr: Addr) -> bool {
 /// Says where the service is, and warns of a control address that other machines may reach.
 pub(crate) fn say_hello<R: Eprint + AllocGlobal>(
     rt: &R,
-    bell: &Bell<UdpWire>,
+    sip: Addr,
+    control: Addr,
     workers: u32,
     mailboxes: usize,
 ) -> Result<(), NoMemory> {
-    let sip = bell.sip.text(rt.alloc())?;
-    let control = bell.control.text(rt.alloc())?;
+    let is_local = is_loopback(control);
+    let sip = sip.text(rt.alloc())?;
+    let control = control.text(rt.alloc())?;
     let _ = eprintln!(rt;
         "notifyd: listening at {sip}, control at {control}, {workers} workers, {mailboxes} mailboxes"
     );
-    if !is_loopback(bell.control) {
+    if !is_local {
         let _ = eprintln!(rt;
             "notifyd: warning: other machines may reach the control address {control}"
         );
     }
     Ok(())
+}
+
+/// Says where the system gives less room for datagrams that wait than was asked for.
+pub(crate) fn say_room<R: Eprint>(rt: &R, place: Place, asked: u32, got: u32) {
+    if got < asked {
+        let option = place.text();
+        let _ = eprintln!(rt;
+            "notifyd: the system gives the socket of {option} room for {got} octets, not for {asked}"
+        );
+    }
 }
 
 /// Says what the service counted.

@@ -3,12 +3,12 @@ ghost use Rattle.std.specs.Prelude.{◌≡◌, IfOk, IfErr, OnOk};
 ghost use Rattle.std.specs.IoError.{error_kind};
 ghost use Rattle.std.specs.List.{All};
 ghost use Rattle.arguments.specs.Settings.{IsMailbox};
-ghost use Rattle.commands.specs.Plans.{Names, AreNamed};
+ghost use Rattle.commands.specs.Plans.{Names, AddsNames, AreNamed};
 ghost use Rattle.commands.specs.declared.error.ServeError.TheVariants as error;
-ghost use Rattle.commands.specs.Refused.{IsOfFile, IsOfSetting, IsOfOne};
+ghost use Rattle.commands.specs.Refused.{IsOfFile, IsOfState, IsOfSetting, IsOfOne};
 
 use crate::error::ServeError;
-use arguments::{Setting, mailbox_in};
+use arguments::{Setting, mailboxes_in};
 use sip_text::Text;
 use std::alloc::Global;
 use std::io::{BufRead, BufReader, ErrorKind};
@@ -16,8 +16,9 @@ use std::rt::Files;
 use std::{fs, io};
 
 /// Why the file at this path can't be read, where it failed so: want of memory is no fault of the file.
-fn unread(alloc: Global, path: &Text, fault: &io::Error) -> ServeError
+pub(crate) fn unread(alloc: Global, path: &Text, fault: &io::Error) -> ServeError
     ensures of_file { IsOfFile path.now result }
+    ensures of_state { IsOfState path.now result }
     ensures memory { error_kind fault.now ≡ ErrorKind.OutOfMemory → result ≡ error.NoMemory }
 {
     if fault.kind() == ErrorKind::OutOfMemory {
@@ -29,7 +30,7 @@ fn unread(alloc: Global, path: &Text, fault: &io::Error) -> ServeError
     }
 }
 
-/// Adds the mailbox that a line of a file names, if it names one. The line has this number in the file at this path.
+/// Adds the mailboxes that a line of a file names. The line has this number in the file at this path.
 fn add_named(
     alloc: Global,
     names: &mut Vec<Text>,
@@ -39,13 +40,14 @@ fn add_named(
 ) -> Result<(), ServeError>
     requires { All IsMailbox names.old.items }
     ensures names { OnOk result (All IsMailbox names.new.items) }
+    ensures added { OnOk result (AddsNames line.now names.old.items names.new.items) }
     ensures refused { IfErr result (IsOfFile path.now) }
 {
-    match mailbox_in(alloc, line) {
-        Ok(Some(name)) => names.push(name)?,
-        Ok(None) => {}
+    let mut more = match mailboxes_in(alloc, line) {
+        Ok(more) => more,
         Err(error) => return Err(ServeError::Line(path.copy(alloc)?, number, error)),
-    }
+    };
+    names.append(&mut more)?;
     Ok(())
 }
 
@@ -101,8 +103,9 @@ fn names_of<R: Files + AllocGlobal>(rt: &R, setting: &Setting) -> Result<Vec<Tex
         Setting::MailboxFile(path) => names_at(rt, path),
         Setting::Address(..)
         | Setting::Number(..)
+        | Setting::StateFile(_)
         | Setting::Seed(_)
-        | Setting::KeepSubscriptions => { Ok(Vec::new(rt.alloc())) }
+        | Setting::Switch(_) => { Ok(Vec::new(rt.alloc())) }
     }
 }
 

@@ -8,8 +8,10 @@ ghost use Rattle.commands.specs.Refused.{IsRefusal};
 
 use crate::error::ServeError;
 use crate::mailboxes::mailboxes_of;
+use crate::state::changes_of;
 use arguments::{Choices, Numbers, parse_settings};
 use notifier_model::{Limits, Setup};
+use package::Change;
 use sip_text::{Addr, Text};
 use std::random::RandomSource;
 use std::rt::Files;
@@ -24,6 +26,8 @@ pub struct Plan {
     pub seed: [u8; 32],
     pub workers: u32,
     pub mailboxes: Vec<Text>,
+    /// What is told of mailboxes before the first datagram is heard.
+    pub changes: Vec<Change>,
 }
 
 /// The limits that the numbers ask for. Their times may not go together.
@@ -89,18 +93,29 @@ fn is_reached(choices: &Choices) -> bool
     choices.contact.unwrap_or(choices.listen).ip != [0; 4]
 }
 
-/// What the words ask for, but for the mailboxes of files.
-#[tactic(auto, using(crate::proofs::Refused::of_one_is))]
-fn read_words<R: Files + AllocGlobal>(
-    rt: &R,
-    words: &[Text],
-) -> Result<(Choices, Vec<Text>), ServeError>
-    ensures read { IfOk result (λ r. spec.AreRead words.now r.0 r.1.items) }
+/// What the words ask for, but for what stands in files.
+#[derive(Drop)]
+struct Read {
+    choices: Choices,
+    mailboxes: Vec<Text>,
+    changes: Vec<Change>,
+}
+
+/// What the words ask for, and what stands in the files that they name.
+#[tactic(auto, using(crate::proofs::Refused::of_one_is, crate::proofs::Refused::of_state_is))]
+fn read_words<R: Files + AllocGlobal>(rt: &R, words: &[Text]) -> Result<Read, ServeError>
+    ensures read { IfOk result (λ r. spec.AreRead words.now r.choices r.mailboxes.items) }
+    ensures changes { IfOk result (λ r. spec.AreChanges words.now r.changes.items) }
     ensures refused { IfErr result (IsRefusal words.now) }
 {
     let settings = parse_settings(rt.alloc(), words)?;
     let mailboxes = mailboxes_of(rt, settings.as_slice())?;
-    Ok((Choices::of(settings.as_slice()), mailboxes))
+    let changes = changes_of(rt, settings.as_slice())?;
+    Ok(Read {
+        choices: Choices::of(settings.as_slice()),
+        mailboxes,
+        changes,
+    })
 }
 
 /// What the words ask for: a file is read and the system is asked for randomness, and no socket is opened.
@@ -111,7 +126,11 @@ where
     ensures plan { IfOk result (IsPlan words.now) }
     ensures refused { IfErr result (IsRefusal words.now) }
 {
-    let (choices, mailboxes) = read_words(rt, words)?;
+    let Read {
+        choices,
+        mailboxes,
+        changes,
+    } = read_words(rt, words)?;
     if !is_reached(&choices) {
         return Err(ServeError::NoContact);
     }
@@ -124,6 +143,7 @@ where
         seed: seed_of(rt, choices.seed)?,
         workers: workers_of(rt, choices.numbers.workers),
         mailboxes,
+        changes,
     })
 }
 

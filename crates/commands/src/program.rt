@@ -2,7 +2,8 @@
 ghost use Rattle.std.specs.Prelude.{◌≡◌, ◌<◌, ◌≤◌, ◌⊎◌, true, false, get_or, map, vec_len, IfOk, IfErr, OnOk};
 ghost use Rattle.crew.specs.Ready.{start_of};
 ghost use Rattle.arguments.specs.Boxes.{box_seen};
-ghost use Rattle.arguments.specs.Setup as call;
+ghost use Rattle.arguments.specs.Told as call;
+ghost use Rattle.transport.specs.Sockets.{misses};
 ghost use Rattle.service.specs.Running.{AreFaults, is_faulty};
 ghost use Rattle.commands.specs.UdpEnds as ends;
 ghost use Rattle.commands.specs.UdpEnds.{Tells};
@@ -11,15 +12,16 @@ ghost use Rattle.commands.specs.declared.error.ServeError.TheVariants as error;
 ghost use Rattle.commands.specs.Serving.{AreOpen, EndsWell, IsWork, Ran, Serves, new_sink};
 
 use crate::error::ServeError;
-use crate::help::text_for;
+use crate::help::{HELP, text_for};
+use crate::input::Watch;
 use crate::logging::{say_goodbye, say_hello};
 use crate::plan::{Plan, plan_of, setup_of};
 use crate::sockets::{Sockets, open};
 use crate::udp::all_closed;
 use crate::udp_printing::worker_lines;
-use arguments::{Boxes, Status, boxes_for};
+use arguments::{Boxes, Status, all_told};
 use scripts::write_page;
-use service::{ControlDesk, Exit, Outcome, Shared, Work, run_crew};
+use service::{ControlDesk, Exit, Outcome, Shared, SipDesk, Work, run_crew};
 use sip_text::Text;
 use std::alloc::Global;
 use std::io;
@@ -63,7 +65,8 @@ fn open_for<R: Wait + Net + Eprint + AllocGlobal>(
     ensures refused { IfErr result IsOther }
 {
     let sockets = open(rt, &plan.choices)?;
-    say_hello(rt, &sockets.bell, plan.workers, plan.mailboxes.len())?;
+    let (sip, control) = (sockets.sip.local(), sockets.lines.local());
+    say_hello(rt, sip, control, plan.workers, plan.mailboxes.len())?;
     Ok(sockets)
 }
 
@@ -83,12 +86,18 @@ where
     requires { 0 < plan.now.workers }
     ensures boxes { IfOk result (λ f.
         map (λ boxes. map box_seen boxes.items) f.boxes.items
-        ≡ call.boxes_for plan.now.workers plan.now.mailboxes.items) }
+        ≡ call.all_told plan.now.workers plan.now.choices.no_refer plan.now.changes.items plan.now.mailboxes.items) }
     ensures opened { IfOk result (λ f. AreOpen plan.now.choices f.sockets) }
     ensures refused { IfErr result IsOther }
 {
     let (shared, theirs) = begin(rt)?;
-    let boxes = boxes_for(rt.alloc(), plan.mailboxes.as_slice(), plan.workers)?;
+    let boxes = all_told(
+        rt.alloc(),
+        plan.mailboxes.as_slice(),
+        plan.workers,
+        plan.changes.as_slice(),
+        plan.choices.no_refer,
+    )?;
     let sockets = open_for(rt, plan)?;
     Ok(Fitted {
         boxes,
@@ -101,28 +110,30 @@ where
 /// What a service works with: the plan over these sockets, and the wire by which its outs go.
 fn work_of(plan: Plan, sockets: Sockets, shared: Arc<Shared, Global>) -> (Work, UdpWire)
     requires { AreOpen plan.choices sockets }
-    ensures work { IsWork plan sockets.bell result.0 }
-    ensures wire { result.1.local ≡ sockets.bell.sip }
+    ensures work { IsWork plan result.0 }
+    ensures wire { result.1.local ≡ result.0.sip.coming.local }
 {
     let Sockets {
         sip,
         outgoing,
         lines,
         replies,
-        bell,
     } = sockets;
-    let setup = setup_of(&plan, bell.sip);
+    let setup = setup_of(&plan, sip.local());
     let numbers = plan.choices.numbers;
     let desk = ControlDesk {
         coming: lines,
         going: replies,
         mailboxes: plan.mailboxes,
     };
+    let sip = SipDesk {
+        coming: sip,
+        longest: numbers.max_datagram,
+    };
     let work = Work {
         setup,
         sip,
         desk,
-        bell,
         shared,
         repeats: numbers.repeats,
         linger: numbers.linger,
@@ -143,12 +154,12 @@ where
     F: Write + Drop,
     requires few_workers { vec_len boxes ≤ 256 }
     // What the workers send leaves from where SIP comes in.
-    requires one_place { exit.wire.local ≡ work.sip.local }
+    requires one_place { exit.wire.local ≡ work.sip.coming.local }
     ensures refused { IfErr result IsOther }
     ensures ran { IfOk result (λ s. (b : _)
         → Ran F.contents (λ w. start_of box_seen work.setup w (get_or boxes.items w b).items) (vec_len boxes)
         work.repeats work.desk.mailboxes.items exit.sink s.sink s.outcome) }
-    ensures faults { IfOk result (λ s. AreFaults work.sip.failures work.desk.coming.failures s.outcome) }
+    ensures faults { IfOk result (λ s. AreFaults (misses work.sip.coming) (misses work.desk.coming) s.outcome) }
 {
     let mut exit = exit;
     let outcome = run_crew(rt, rt.alloc(), boxes, work, &mut exit)?;
@@ -189,9 +200,13 @@ where
         theirs,
         sockets,
     } = fit_out(&rt, &plan)?;
+    let is_watched = plan.choices.until_input_ends;
     let (work, wire) = work_of(plan, sockets, theirs);
     let sink = Sink::new(writer);
-    run(rt, boxes, work, shared, Exit { wire, sink })
+    let watch = Watch::begin(rt, &shared, is_watched)?;
+    let served = run(rt, boxes, work, shared, Exit { wire, sink });
+    watch.end(&rt);
+    served
 }
 
 /// Writes what the workers did, says goodbye, and tells whether all went well.
@@ -251,6 +266,13 @@ fn print_text<R: Print>(rt: &R, text: &str) -> u8
         Ok(()) => Status::Done.code(),
         Err(_) => Status::DeviceFault.code(),
     }
+}
+
+/// Prints what the program does. Answers the exit status: 3 where it could not be printed.
+pub fn print_help<R: Print>(rt: &R) -> u8
+    ensures status { (result ≡ 0) ⊎ (result ≡ status_of error.Device) }
+{
+    print_text(rt, HELP)
 }
 
 /// Tells on standard error why no service runs, or has ended. Answers the exit status.

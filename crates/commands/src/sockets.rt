@@ -1,14 +1,19 @@
 //! The sockets of a service.
-ghost use Rattle.std.specs.Prelude.{◌≡◌, IfOk, IfErr};
+ghost use Rattle.std.specs.Prelude.{◌≡◌, ◌↔◌, IsTrue, IfOk, IfErr};
+ghost use Rattle.std.specs.IoError.{error_kind, raw_os_error};
+ghost use Rattle.transport.specs.Ears.{no_misses};
+ghost use Rattle.transport.specs.Sockets.{misses};
 ghost use Rattle.commands.specs.declared.error.ServeError.TheVariants as error;
-ghost use Rattle.commands.specs.Refused.{IsOther};
+ghost use Rattle.commands.specs.Refused.{IsTooMany, IsNoSocket, IsOther};
 ghost use Rattle.commands.specs.Serving.{IsAt, AreOpen};
 
 use crate::error::ServeError;
+use crate::logging::say_room;
 use arguments::{Choices, Place};
-use service::Bell;
 use sip_text::Addr;
-use std::net::Net;
+use std::io;
+use std::io::ErrorKind;
+use std::net::{IpAddr, Ipv4Addr, Net, SocketAddr, UdpSocket};
 use std::sync::Wait;
 use transport::UdpWire;
 
@@ -19,53 +24,105 @@ pub(crate) struct Sockets {
     pub(crate) outgoing: UdpWire,
     pub(crate) lines: UdpWire,
     pub(crate) replies: UdpWire,
-    pub(crate) bell: Bell<UdpWire>,
 }
 
-/// Two wires over a socket at this address, which an option named. Each refusal is told as that of the address, also where the
-/// system has no memory or no descriptor left.
+/// This address as the system's.
+fn system_addr(addr: Addr) -> SocketAddr {
+    SocketAddr::new(IpAddr::V4(Ipv4Addr::from_octets(addr.ip)), addr.port)
+}
+
+/// Whether the system says that the program, or all of them, have too many files open.
+fn is_too_many(fault: &io::Error) -> bool
+    ensures { IsTrue result ↔ IsTooMany (raw_os_error fault.now) }
+{
+    matches!(fault.raw_os_error(), Some(23 | 24))
+}
+
+/// Why there is no socket where an option says, by what the system said.
+fn refusal_of(place: Place, fault: &io::Error) -> ServeError
+    ensures too_many { IsTooMany (raw_os_error fault.now) → result ≡ error.Descriptors }
+    ensures in_use { ¬ (IsTooMany (raw_os_error fault.now)) → error_kind fault.now ≡ ErrorKind.AddrInUse
+        → result ≡ error.Address place }
+    ensures not_here { ¬ (IsTooMany (raw_os_error fault.now)) → error_kind fault.now ≡ ErrorKind.AddrNotAvailable
+        → result ≡ error.NotHere place }
+    ensures denied { ¬ (IsTooMany (raw_os_error fault.now)) → error_kind fault.now ≡ ErrorKind.PermissionDenied
+        → result ≡ error.Denied place }
+    ensures none { IsNoSocket place result }
+{
+    let kind = fault.kind();
+    if is_too_many(fault) {
+        ServeError::Descriptors
+    } else if kind == ErrorKind::AddrInUse {
+        ServeError::Address(place)
+    } else if kind == ErrorKind::AddrNotAvailable {
+        ServeError::NotHere(place)
+    } else if kind == ErrorKind::PermissionDenied {
+        ServeError::Denied(place)
+    } else {
+        ServeError::System
+    }
+}
+
+/// Asks the system once more for two descriptors of a socket where an option says, to learn why it gave none.
+fn why_none<R: Wait + Net>(rt: &R, place: Place, addr: Addr) -> ServeError
+    ensures { IsNoSocket place result }
+{
+    let socket = match UdpSocket::bind(rt, system_addr(addr)) {
+        Ok(socket) => socket,
+        Err(fault) => return refusal_of(place, &fault),
+    };
+    match socket.try_clone() {
+        Ok(_) => ServeError::System,
+        Err(fault) => refusal_of(place, &fault),
+    }
+}
+
+/// Two wires over a socket at this address, which an option named.
 fn bind<R: Wait + Net>(rt: &R, place: Place, addr: Addr) -> Result<(UdpWire, UdpWire), ServeError>
     ensures at { IfOk result (λ r. IsAt addr r.0.local) }
     ensures same { IfOk result (λ r. r.1.local ≡ r.0.local) }
-    ensures failures { IfOk result (λ r. r.0.failures ≡ 0) }
-    ensures refused { IfErr result (λ e. e ≡ error.Address place) }
+    ensures misses { IfOk result (λ r. misses r.0 ≡ no_misses) }
+    ensures refused { IfErr result (IsNoSocket place) }
 {
     match UdpWire::bind_at(rt, addr) {
         Ok(wires) => Ok(wires),
-        Err(_) => Err(ServeError::Address(place)),
+        Err(_) => Err(why_none(rt, place, addr)),
     }
 }
 
-/// What wakes the threads that listen at these addresses.
-fn bell_for<R: Wait + Net>(rt: &R, sip: Addr, control: Addr) -> Result<Bell<UdpWire>, ServeError>
-    ensures sip { IfOk result (λ bell. bell.sip ≡ sip) }
-    ensures control { IfOk result (λ bell. bell.control ≡ control) }
+/// Has the receives by this wire look up as they wait, and asks for room for so many octets that wait. Less is told on standard error.
+fn prepare<R: Wait + Eprint>(
+    rt: &R,
+    wire: &UdpWire,
+    place: Place,
+    room: u32,
+) -> Result<(), ServeError>
     ensures refused { IfErr result IsOther }
 {
-    let any = Addr {
-        ip: [0; 4],
-        port: 0,
-    };
-    match UdpWire::bind_at(rt, any) {
-        Ok((wire, _)) => Ok(Bell { wire, sip, control }),
-        Err(_) => Err(ServeError::System),
+    if wire.limit_waits().is_err() {
+        return Err(ServeError::System);
     }
+    if let Ok(got) = wire.ask_for_room(room) {
+        say_room(rt, place, room, got);
+    }
+    Ok(())
 }
 
 /// Opens the sockets.
-#[tactic(auto, using(crate::proofs::Refused::address_is))]
-pub(crate) fn open<R: Wait + Net>(rt: &R, choices: &Choices) -> Result<Sockets, ServeError>
+#[tactic(auto, using(crate::proofs::Refused::no_socket_is))]
+pub(crate) fn open<R: Wait + Net + Eprint>(rt: &R, choices: &Choices) -> Result<Sockets, ServeError>
     ensures opened { IfOk result (AreOpen choices.now) }
     ensures refused { IfErr result IsOther }
 {
     let (sip, outgoing) = bind(rt, Place::Listen, choices.listen)?;
     let (lines, replies) = bind(rt, Place::Control, choices.control)?;
-    let bell = bell_for(rt, sip.local(), lines.local())?;
+    let room = choices.numbers.receive_buffer;
+    prepare(rt, &sip, Place::Listen, room)?;
+    prepare(rt, &lines, Place::Control, room)?;
     Ok(Sockets {
         sip,
         outgoing,
         lines,
         replies,
-        bell,
     })
 }

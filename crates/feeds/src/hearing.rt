@@ -1,10 +1,12 @@
 //! What datagrams say.
+ghost use Rattle.std.specs.Prelude.{ℕ, List};
 ghost use Rattle.transport.specs.Wires.{datagram};
+ghost use Rattle.sip_read.specs.Message.{IsReading};
 ghost use Rattle.feeds.specs.Heard.{SipSays, ControlSays, Says};
 
 use notifier_model::Event;
 use scripts::{Control, parse_control};
-use sip_read::{Message, read};
+use sip_read::{Message, ReadError, read};
 use sip_text::Addr;
 use std::alloc::Global;
 
@@ -28,15 +30,22 @@ pub enum Heard {
     Close,
 }
 
-/// What a SIP datagram says: the message that it is. It never closes a server.
-pub fn hear_sip(alloc: Global, source: Addr, octets: &[u8]) -> Heard
-    ensures { SipSays source octets.now result }
+/// What a SIP datagram from this source says that was read so.
+pub fn hear_message(source: Addr, message: Result<Message, ReadError>) -> Heard
+    ensures { (octets : List ℕ) → IsReading octets message → SipSays source octets result }
 {
-    match read(alloc, octets) {
+    match message {
         Ok(Message::Request(request)) => Heard::Event(Event::Request(source, request)),
         Ok(Message::Response(response)) => Heard::Event(Event::Reply(response)),
         Err(_) => Heard::Unread,
     }
+}
+
+/// What a SIP datagram says: the message that it is. It never closes a server.
+pub fn hear_sip(alloc: Global, source: Addr, octets: &[u8]) -> Heard
+    ensures { SipSays source octets.now result }
+{
+    hear_message(source, read(alloc, octets))
 }
 
 /// What a control line says, with its LF or without.

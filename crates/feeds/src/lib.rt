@@ -23,6 +23,6 @@ mod writing;
 pub use feeding::{
     FeedEnd, FeedReport, MOST_CONTROL_LINES, Told, control, feed, listen, send_event, tell,
 };
-pub use hearing::{Heard, Language, hear, hear_sip};
+pub use hearing::{Heard, Language, hear, hear_message, hear_sip};
 pub use sending::{EmitReport, Fate, emit, put_out};
 pub use transport::{Datagram, MemoryWire, UdpWire, Wire, WireFault};

@@ -12,7 +12,7 @@
 #![tactic(auto)]
 
 use arguments::Status;
-use commands::{serve, tell, udp};
+use commands::{print_help, serve, tell, udp};
 use sip_text::Text;
 use std::process::ExitCode;
 use std::rt::Env;
@@ -47,7 +47,7 @@ fn end(rt: &impl Eprint, status: Status) -> ExitCode {
 
 /// Whether the word is one that asks for a text alone.
 fn asks_for_text(word: &Text) -> bool {
-    word.is("--help") || word.is("--version")
+    word.is("--help") || word.is("-h") || word.is("--version")
 }
 
 fn main(rt: HostRuntime) -> ExitCode {
@@ -58,6 +58,7 @@ fn main(rt: HostRuntime) -> ExitCode {
     let mut sink = Sink::new(io::writer(&rt));
     let status = match words.as_slice() {
         [word] if asks_for_text(word) => return ExitCode::from(serve(rt, words.as_slice())),
+        [word] if word.is("help") => return ExitCode::from(print_help(&rt)),
         [word, rest @ ..] if word.is("serve") => return ExitCode::from(serve(rt, rest)),
         [word, rest @ ..] if word.is("tell") => return ExitCode::from(tell(&rt, rest)),
         [word, ..] if word.is("udp") => { udp::run(rt, rt.alloc(), words.as_slice(), &mut sink) }

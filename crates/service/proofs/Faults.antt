@@ -1,5 +1,7 @@
 -- The faults that a service tells.
-use Rattle.std.proofs.Common.{◌≡◌, ℕ, Bool, true, false, ◌||◌, refl, sym, ap, ◌∙◌, subst}
+use Rattle.std.proofs.Common.{◌≡◌, ◌≤◌, ℕ, Bool, true, false, ◌||◌, refl, sym, ap, ◌∙◌, subst, arith, ⊎_elim}
+use Rattle.transport.specs.Ears.{Misses, no_misses}
+use Rattle.transport.specs.Sockets.{misses}
 use Rattle.transport.specs.declared.udp.UdpWire.{UdpWire}
 use Rattle.feeds.specs.declared.feeding.FeedEnd.{FeedEnd}
 use Rattle.feeds.specs.declared.feeding.FeedEnd.TheVariants as ends
@@ -8,16 +10,17 @@ use Rattle.service.specs.declared.clock.Stopwatch.{Stopwatch}
 use Rattle.service.specs.declared.feeding.Fed.{Fed}
 use Rattle.service.specs.declared.feeding.Task.{Task}
 use Rattle.service.specs.declared.feeding.Task.TheVariants as task
+use Rattle.service.specs.declared.datagrams.SipDesk.{SipDesk}
 use Rattle.service.specs.declared.lines.ControlDesk.{ControlDesk}
 use Rattle.service.specs.declared.running.Feeders.{Feeders}
 use Rattle.service.specs.declared.running.Outcome.{Outcome}
 use Rattle.service.specs.Handing.{AreErrands}
 use Rattle.service.specs.Running.{FailsFor, AreFaults, is_fault, is_faulty}
-use Rattle.service.specs.Taken.{failures_then}
+use Rattle.service.specs.Listening.{IsDeaf, ListensOn}
 use Rattle.service.specs.Ticks.{new_stopwatch}
 
-same_wire : (a b : UdpWire) → task.Datagrams a ≡ task.Datagrams b → a ≡ b
-same_wire a b e = cc
+same_phones : (a b : SipDesk UdpWire) → task.Datagrams a ≡ task.Datagrams b → a ≡ b
+same_phones a b e = cc
 
 same_desk : (a b : ControlDesk UdpWire) → task.Lines a ≡ task.Lines b → a ≡ b
 same_desk a b e = cc
@@ -26,9 +29,9 @@ same_stopwatch : (a b : Stopwatch) → task.Time a ≡ task.Time b → a ≡ b
 same_stopwatch a b e = cc
 
 -- what each of them left, once their errands are known
-module _ {wire : UdpWire} {desk : ControlDesk UdpWire} {f : Feeders} (are : AreErrands wire desk f) (fed : Fed) where
-  pub left_wire : FailsFor f.sip.promise.task.value fed → FailsFor (task.Datagrams wire) fed
-  left_wire fails = let P : Task → Type 0 = λ t. FailsFor t fed in subst P are.sip fails
+module _ {phones : SipDesk UdpWire} {desk : ControlDesk UdpWire} {f : Feeders} (are : AreErrands phones desk f) (fed : Fed) where
+  pub left_phones : FailsFor f.sip.promise.task.value fed → FailsFor (task.Datagrams phones) fed
+  left_phones fails = let P : Task → Type 0 = λ t. FailsFor t fed in subst P are.sip fails
 
   pub left_desk : FailsFor f.lines.promise.task.value fed → FailsFor (task.Lines desk) fed
   left_desk fails = let P : Task → Type 0 = λ t. FailsFor t fed in subst P are.lines fails
@@ -36,15 +39,16 @@ module _ {wire : UdpWire} {desk : ControlDesk UdpWire} {f : Feeders} (are : AreE
   pub left_stopwatch : FailsFor f.time.promise.task.value fed → FailsFor (task.Time new_stopwatch) fed
   left_stopwatch fails = let P : Task → Type 0 = λ t. FailsFor t fed in subst P are.time fails
 
-pub wire_failed : (wire left : UdpWire) (fed : Fed) → FailsFor (task.Datagrams wire) fed → fed.left ≡ task.Datagrams left
-    → left.failures ≡ failures_then fed.fails_late (failures_at fed.end wire.failures)
-wire_failed wire left fed fails is =
-    let P : UdpWire → Type 0 = λ w. w.failures ≡ failures_then fed.fails_late (failures_at fed.end wire.failures) in subst P (same_wire fails.0 left (sym fails.1 ∙ is)) fails.2
+pub phones_heard : (phones left : SipDesk UdpWire) (fed : Fed) → FailsFor (task.Datagrams phones) fed → fed.left ≡ task.Datagrams left
+    → ListensOn fed.end fed.fails_late (misses phones.coming) (misses left.coming)
+phones_heard phones left fed fails is =
+    let P : SipDesk UdpWire → Type 0 = λ d. ListensOn fed.end fed.fails_late (misses phones.coming) (misses d.coming) in
+    subst P (same_phones fails.0 left (sym fails.1 ∙ is)) fails.2
 
-pub desk_failed : (desk left : ControlDesk UdpWire) (fed : Fed) → FailsFor (task.Lines desk) fed → fed.left ≡ task.Lines left
-    → left.coming.failures ≡ failures_then fed.fails_late (failures_at fed.end desk.coming.failures)
-desk_failed desk left fed fails is =
-    let P : ControlDesk UdpWire → Type 0 = λ d. d.coming.failures ≡ failures_then fed.fails_late (failures_at fed.end desk.coming.failures) in
+pub desk_heard : (desk left : ControlDesk UdpWire) (fed : Fed) → FailsFor (task.Lines desk) fed → fed.left ≡ task.Lines left
+    → ListensOn fed.end fed.fails_late (misses desk.coming) (misses left.coming)
+desk_heard desk left fed fails is =
+    let P : ControlDesk UdpWire → Type 0 = λ d. ListensOn fed.end fed.fails_late (misses desk.coming) (misses d.coming) in
     subst P (same_desk fails.0 left (sym fails.1 ∙ is)) fails.2
 
 pub clock_failed : (left : Stopwatch) (fed : Fed) → FailsFor (task.Time new_stopwatch) fed → fed.left ≡ task.Time left
@@ -54,12 +58,14 @@ clock_failed left fed fails is =
 
 -- ---- what they say of sockets that had not failed before
 
-pub faults_new : {m n : ℕ} {o : Outcome} → m ≡ 0 → n ≡ 0 → AreFaults m n o → AreFaults 0 0 o
-faults_new {o = o} none none' are = record {
-  sip = are.sip ∙ ap (λ k. failures_then o.sip_fails_late (failures_at o.sip k)) none;
-  lines = are.lines ∙ ap (λ k. failures_then o.lines_fail_late (failures_at o.lines k)) none';
-  time = are.time;
-}
+pub faults_new : {m n : Misses} {o : Outcome} → m ≡ no_misses → n ≡ no_misses → AreFaults m n o → AreFaults no_misses no_misses o
+faults_new {o = o} none none' are =
+    let P : Misses → Type 0 = λ m. ListensOn o.sip o.sip_fails_late m (misses o.sip_desk.coming) in
+    let Q : Misses → Type 0 = λ n. ListensOn o.lines o.lines_fail_late n (misses o.desk.coming) in record {
+      sip = subst P none are.sip;
+      lines = subst Q none' are.lines;
+      time = are.time;
+    }
 
 none_of : (a b c d e : Bool) → (a || b || c || d || e) ≡ false → (a ≡ false) × (b ≡ false) × (c ≡ false) × (d ≡ false) × (e ≡ false)
 none_of false false false false e none = (refl, refl, refl, refl, none)
@@ -73,12 +79,21 @@ no_more ends.Done n none = refl
 no_more ends.Fault n none = absurd cc
 no_more ends.Gone n none = refl
 
--- where no fault is told no read failed
-pub unfailed : (o : Outcome) → AreFaults 0 0 o → is_faulty o ≡ false
-    → (o.wire.failures ≡ 0) × (o.desk.coming.failures ≡ 0) × (o.stopwatch.failures ≡ 0)
+not_deaf : IsDeaf no_misses → ⊥
+not_deaf deaf = ⊎_elim (λ (many : 1000 ≤ 0). absurd (omega (arith, many))) (λ (lost : false ≡ true). absurd cc) deaf
+
+hears : (end : FeedEnd) (late : Bool) (new : Misses) → is_fault end ≡ false → late ≡ false → ListensOn end late no_misses new → IsDeaf new → ⊥
+hears ends.Done false new none none' on deaf = not_deaf (on.1 (on.2 deaf))
+hears ends.Gone false new none none' on deaf = not_deaf (on.1 (on.2 deaf))
+hears ends.Fault false new none none' on deaf = absurd cc
+hears end true new none none' on deaf = absurd cc
+
+-- where no fault is told no socket is deaf and no read of the clock failed
+pub unfailed : (o : Outcome) → AreFaults no_misses no_misses o → is_faulty o ≡ false
+    → (IsDeaf (misses o.sip_desk.coming) → ⊥) × (IsDeaf (misses o.desk.coming) → ⊥) × (o.stopwatch.failures ≡ 0)
 unfailed o are no_fault =
     let none = none_of (is_fault o.sip) o.sip_fails_late (is_fault o.lines) o.lines_fail_late (is_fault o.time) no_fault in (
-      are.sip ∙ ap (λ late. failures_then late (failures_at o.sip 0)) none.1 ∙ no_more o.sip 0 none.0,
-      are.lines ∙ ap (λ late. failures_then late (failures_at o.lines 0)) none.3 ∙ no_more o.lines 0 none.2,
+      hears o.sip o.sip_fails_late (misses o.sip_desk.coming) none.0 none.1 are.sip,
+      hears o.lines o.lines_fail_late (misses o.desk.coming) none.2 none.3 are.lines,
       are.time ∙ no_more o.time 0 none.4,
     )

@@ -6,6 +6,7 @@ pub mod Repeats
 pub mod Ran
 pub mod Faults
 pub mod Ticking
+pub mod Receiving
 pub mod Hearing
 pub mod Taking
 pub mod Refusing

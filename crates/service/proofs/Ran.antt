@@ -14,6 +14,7 @@ use Rattle.feeds.specs.Emitted.{WireSeen, WriterSeen}
 use Rattle.feeds.specs.declared.feeding.FeedEnd.{FeedEnd}
 use Rattle.transport.specs.declared.udp.UdpWire.{UdpWire}
 use Rattle.service.specs.declared.feeding.Task.{Task}
+use Rattle.service.specs.declared.datagrams.SipDesk.{SipDesk}
 use Rattle.service.specs.declared.lines.ControlDesk.{ControlDesk}
 use Rattle.service.specs.declared.running.Feeders.{Feeders}
 use Rattle.service.specs.declared.running.Outcome.{Outcome}
@@ -57,7 +58,7 @@ leaves {crew = crew} {ports = ports} {taker = taker} is {wire = wire} {wire' = w
     }
 
 -- what each thread sent, once its errand is known
-module _ {wire : UdpWire} {desk : ControlDesk UdpWire} {f : Feeders} (are : AreErrands wire desk f) (end : FeedEnd) (old new : PortSeats) where
+module _ {phones : SipDesk UdpWire} {desk : ControlDesk UdpWire} {f : Feeders} (are : AreErrands phones desk f) (end : FeedEnd) (old new : PortSeats) where
   pub sent_datagrams : ThenCloses (SendsFor f.sip.promise.task.value end) old new → ThenCloses (SendsDatagrams end) old new
   sent_datagrams sends = let P : Task → Type 0 = λ t. ThenCloses (SendsFor t end) old new in subst P are.sip sends
 

@@ -3,7 +3,6 @@ use Rattle.std.proofs.Common.{◌≡◌, ◌<◌, ◌≤◌, take, ℕ, true, fa
 use Rattle.std.specs.List.{filter, AllByRecursion}
 use Rattle.std.proofs.lemmas.List.{append-nil, length-take-le}
 use Rattle.std.proofs.lemmas.List.Elements.{filter-append}
-use Rattle.transport.specs.Devices.{one_more}
 use Rattle.transport.specs.declared.datagram.Datagram.{Datagram}
 use Rattle.transport.specs.Wires.{Grows}
 use Rattle.feeds.proofs.Telling.{grows_none, grows_more, grows_same}
@@ -13,15 +12,7 @@ use Rattle.service.specs.declared.lines.Done.TheVariants as did
 use Rattle.service.specs.Taken.{Line, MayReply, Replies, Offers, datagrams_of, has_octets, is_line, AreAnswered, AreRefused}
 use Rattle.service.proofs.Taking.{all_more, came_more, answered_more}
 
-pub record Refusing (given given' taken taken' : Option (List Datagram)) (failures failures' : ℕ) : Type 0 where
-  pub came : List Datagram
-  pub gave : Grows given given' came
-  pub log : List Line
-  pub lines : datagrams_of log ≡ filter is_line came
-  pub each : AllByRecursion (λ (l : Line). MayReply (did.Answered answer.Closed) l.reply) log
-  pub answered : AreAnswered log taken taken' failures failures'
-
-pub refusing_none : (given taken : Option (List Datagram)) (failures : ℕ) → Refusing given given taken taken failures failures
+pub refusing_none : (given taken : Option (List Datagram)) (failures : ℕ) → AreRefused given given taken taken failures failures
 refusing_none given taken failures = record {
   came = [];
   gave = grows_none given;
@@ -52,9 +43,9 @@ one_line d is = rw is refl
 no_line : (d : Datagram) → is_line d ≡ false → filter is_line (d ∷ []) ≡ []
 no_line d is = rw is refl
 
-module _ {given given' taken taken' : Option (List Datagram)} {failures failures' : ℕ} (was : Refusing given given' taken taken' failures failures')
+module _ {given given' taken taken' : Option (List Datagram)} {failures failures' : ℕ} (was : AreRefused given given' taken taken' failures failures')
     (after : Option (List Datagram)) (d : Datagram) (gave : Grows given' after (d ∷ [])) where
-  pub refusing_blank : is_line d ≡ false → Refusing given after taken taken' failures failures'
+  pub refusing_blank : is_line d ≡ false → AreRefused given after taken taken' failures failures'
   refusing_blank blank = record {
     came = was.came ++ d ∷ [];
     gave = grows_more given given' after was.came (d ∷ []) was.gave gave;
@@ -65,7 +56,7 @@ module _ {given given' taken taken' : Option (List Datagram)} {failures failures
   }
 
   replied : (reply : Option (List ℕ)) (after' : Option (List Datagram)) (more : ℕ) → is_line d ≡ true
-      → MayReply (did.Answered answer.Closed) reply → Replies d.peer reply taken' after' failures' more → Refusing given after taken after' failures more
+      → MayReply (did.Answered answer.Closed) reply → Replies d.peer reply taken' after' failures' more → AreRefused given after taken after' failures more
   replied reply after' more is may replies =
       let line : Line = record { came = d; event = None; done = did.Answered answer.Closed; reply = reply } in record {
         came = was.came ++ d ∷ [];
@@ -77,36 +68,17 @@ module _ {given given' taken taken' : Option (List Datagram)} {failures failures
       }
 
   pub refusing_more : (after' : Option (List Datagram)) (more : ℕ) → is_line d ≡ true
-      → Offers d.peer (answer_text answer.Closed) taken' after' failures' more → Refusing given after taken after' failures more
+      → Offers d.peer (answer_text answer.Closed) taken' after' failures' more → AreRefused given after taken after' failures more
   refusing_more after' more is offers =
       ⊎_elim (λ k. replied (Some (answer_text answer.Closed)) after' more is refl k) (λ k. replied None after' more is tt k) offers
 
-  -- all was sent out: this one was dropped
-  pub refused_dropped : (faults faults' : ℕ) → faults' ≡ faults → AreRefused given after faults faults' taken taken' failures failures'
-  refused_dropped faults faults' same = record {
-    came = was.came;
-    dropped = d ∷ [];
-    one = omega arith;
-    gave = grows_more given given' after was.came (d ∷ []) was.gave gave;
-    ended = same;
-    log = was.log;
-    lines = was.lines;
-    each = was.each;
-    answered = was.answered;
-  }
-
-pub refused_fault : {given given' taken taken' : Option (List Datagram)} {failures failures' : ℕ} → Refusing given given' taken taken' failures failures'
-    → (after : Option (List Datagram)) → Grows given' after [] → (faults faults' : ℕ) → faults' ≡ one_more faults
-    → AreRefused given after faults faults' taken taken' failures failures'
-refused_fault {given = given} {given' = given'} was after none faults faults' failed =
-    let P : List Datagram → Type 0 = λ l. Grows given after l in record {
-      came = was.came;
-      dropped = [];
-      one = omega arith;
-      gave = subst P (sym (append-nil was.came)) (grows_same given given' after was.came was.gave none);
-      ended = failed;
-      log = was.log;
-      lines = was.lines;
-      each = was.each;
-      answered = was.answered;
-    }
+pub refusing_silent : {given given' taken taken' : Option (List Datagram)} {failures failures' : ℕ} → AreRefused given given' taken taken' failures failures'
+    → (after : Option (List Datagram)) → Grows given' after [] → AreRefused given after taken taken' failures failures'
+refusing_silent {given = given} {given' = given'} was after none = record {
+  came = was.came;
+  gave = grows_same given given' after was.came was.gave none;
+  log = was.log;
+  lines = was.lines;
+  each = was.each;
+  answered = was.answered;
+}

@@ -7,6 +7,7 @@ use Rattle.notifier_model.specs.declared.event.Event.{Event}
 use Rattle.crew.specs.Ports.{PortSeats}
 use Rattle.transport.specs.Devices.{one_more, rises}
 use Rattle.transport.specs.declared.datagram.Datagram.{Datagram}
+use Rattle.transport.specs.Ears.{Misses}
 use Rattle.transport.specs.Wires.{Grows}
 use Rattle.feeds.proofs.Telling.{grows_none, grows_more, grows_same}
 use Rattle.feeds.specs.declared.feeding.FeedEnd.{FeedEnd}
@@ -14,9 +15,10 @@ use Rattle.feeds.specs.declared.feeding.FeedEnd.TheVariants as ends
 use Rattle.feeds.specs.Fed.{Sends}
 use Rattle.feeds.proofs.SendingHome.{sends_none, sends_more}
 use Rattle.control_lines.specs.declared.answer.Answer.TheVariants as answer
+use Rattle.service.specs.Listening.{IsDeaf, ListensUntil}
 use Rattle.service.specs.declared.lines.Done.{Done}
 use Rattle.service.specs.declared.lines.Done.TheVariants as did
-use Rattle.service.specs.Taken.{Line, IsLine, IsMeant, IsDone, end_after, MayReply, Replies, datagrams_of, events, replies, reply_to, is_none, unanswered, AllGoOn, EndsWith, Gave, AreTaken, AreAnswered}
+use Rattle.service.specs.Taken.{Line, IsLine, IsMeant, IsDone, end_after, MayReply, Replies, datagrams_of, events, replies, reply_to, is_none, unanswered, AllGoOn, EndsWith, AreTaken, AreAnswered}
 
 pub all_more : (P : Line → Type 0) (log more : List Line) → AllByRecursion P log → AllByRecursion P more → AllByRecursion P (log ++ more)
 all_more P [] more a b = b
@@ -130,7 +132,7 @@ module _ {mailboxes : List (List ℕ)} {old now : PortSeats} {given given' taken
     taking_more did.Gone is may replied on = absurd cc
 
     pub taken_close : IsDone mailboxes d.octets now next did.Closing → MayReply did.Closing reply → Replies d.peer reply taken' after' failures' more
-        → (log : List Line) × Gave given after log ends.Done × AreTaken mailboxes log old next ends.Done × AreAnswered log taken after' failures more
+        → (log : List Line) × Grows given after (datagrams_of log) × AreTaken mailboxes log old next ends.Done × AreAnswered log taken after' failures more
     taken_close is may replied =
         let line : Line = record { came = d; event = None; done = did.Closing; reply = reply } in
         let book = book_more was.book after after' more d None did.Closing reply gave (refl, is.0) may replied in
@@ -138,7 +140,7 @@ module _ {mailboxes : List (List ℕ)} {old now : PortSeats} {given given' taken
         let Q : PortSeats → Type 0 = λ p. Sends old (events (was.log ++ line ∷ [])) p in
         let last : EndsWith did.Closing (was.log ++ line ∷ []) = record { before = was.log; last = line; whole = refl; on = was.on; is = refl } in (
           was.log ++ line ∷ [],
-          inl (last, book.came_are),
+          book.came_are,
           record {
             each = book.each;
             stops = inl last;
@@ -148,7 +150,7 @@ module _ {mailboxes : List (List ℕ)} {old now : PortSeats} {given given' taken
         )
 
     pub taken_gone : IsDone mailboxes d.octets now next did.Gone → MayReply did.Gone reply → Replies d.peer reply taken' after' failures' more
-        → (log : List Line) × Gave given after log ends.Gone × AreTaken mailboxes log old next ends.Gone × AreAnswered log taken after' failures more
+        → (log : List Line) × Grows given after (datagrams_of log) × AreTaken mailboxes log old next ends.Gone × AreAnswered log taken after' failures more
     taken_gone is may replied =
         let line : Line = record { came = d; event = Some is.0; done = did.Gone; reply = reply } in
         let book = book_more was.book after after' more d (Some is.0) did.Gone reply gave (is.0, refl, is.1) may replied in (
@@ -162,21 +164,28 @@ module _ {mailboxes : List (List ℕ)} {old now : PortSeats} {given given' taken
           book.answered,
         )
 
-  -- the service closed: one datagram more came, and was dropped
-  pub taken_dropped : (after : Option (List Datagram)) (d : Datagram) → Grows given' after (d ∷ [])
-      → (log : List Line) × Gave given after log ends.Done × AreTaken mailboxes log old now ends.Done × AreAnswered log taken taken' failures failures'
-  taken_dropped after d gave = (
-    was.log,
-    inr (d, was.on, grows_more given given' after (datagrams_of was.log) (d ∷ []) was.book.came_are gave),
-    record { each = was.book.each; stops = inr was.on; sends = was.sends },
-    was.book.answered,
-  )
+  -- nothing came yet
+  pub taking_silent : (after : Option (List Datagram)) → Grows given' after [] → Taking mailboxes old now given after taken taken' failures failures'
+  taking_silent after none = record {
+    log = was.log;
+    book = record {
+      each = was.book.each;
+      came_are = grows_same given given' after (datagrams_of was.log) was.book.came_are none;
+      answered = was.book.answered;
+    };
+    on = was.on;
+    sends = was.sends;
+  }
+
+  -- the service closed for another cause than a line
+  pub taken_done : (log : List Line) × Grows given given' (datagrams_of log) × AreTaken mailboxes log old now ends.Done × AreAnswered log taken taken' failures failures'
+  taken_done = (was.log, was.book.came_are, record { each = was.book.each; stops = inr was.on; sends = was.sends }, was.book.answered)
 
   pub taking_open : now.still_open ≡ old.still_open
   taking_open = was.sends.still_open
 
   pub taken_fault : (after : Option (List Datagram)) → Grows given' after []
-      → (log : List Line) × Gave given after log ends.Fault × AreTaken mailboxes log old now ends.Fault × AreAnswered log taken taken' failures failures'
+      → (log : List Line) × Grows given after (datagrams_of log) × AreTaken mailboxes log old now ends.Fault × AreAnswered log taken taken' failures failures'
   taken_fault after none = (
     was.log,
     grows_same given given' after (datagrams_of was.log) was.book.came_are none,
@@ -187,17 +196,26 @@ module _ {mailboxes : List (List ℕ)} {old now : PortSeats} {given given' taken
 end_is : (x y : FeedEnd) → Some x ≡ Some y → x ≡ y
 end_is x y e = cc
 
+-- a wire that is not deaf behind such a line
+pub until_last : (d : Done) (end : FeedEnd) (old new : Misses) → end_after d ≡ Some end → (IsDeaf new → ⊥) → ListensUntil end old new
+until_last (did.Answered a) end old new e hears = absurd cc
+until_last did.Counters end old new e hears = absurd cc
+until_last did.Closing end old new e hears =
+    let P : FeedEnd → Type 0 = λ z. ListensUntil z old new in subst P (end_is ends.Done end e) (λ deaf. absurd (hears deaf))
+until_last did.Gone end old new e hears =
+    let P : FeedEnd → Type 0 = λ z. ListensUntil z old new in subst P (end_is ends.Gone end e) (λ deaf. absurd (hears deaf))
+
 -- a line after which no more are taken
 module _ {mailboxes : List (List ℕ)} {old now : PortSeats} {given given' taken taken' : Option (List Datagram)} {failures failures' : ℕ}
     (was : Taking mailboxes old now given given' taken taken' failures failures')
     (next : PortSeats) (after after' : Option (List Datagram)) (more : ℕ) (d : Datagram) (reply : Option (List ℕ)) (gave : Grows given' after (d ∷ [])) where
   pub taken_last : (x : Done) (end : FeedEnd) → end_after x ≡ Some end → IsDone mailboxes d.octets now next x → MayReply x reply → Replies d.peer reply taken' after' failures' more
-      → (log : List Line) × Gave given after log end × AreTaken mailboxes log old next end × AreAnswered log taken after' failures more
+      → (log : List Line) × Grows given after (datagrams_of log) × AreTaken mailboxes log old next end × AreAnswered log taken after' failures more
   taken_last (did.Answered a) end e is may replied = absurd cc
   taken_last did.Counters end e is may replied = absurd cc
   taken_last did.Closing end e is may replied =
-      let P : FeedEnd → Type 0 = λ z. (log : List Line) × Gave given after log z × AreTaken mailboxes log old next z × AreAnswered log taken after' failures more in
+      let P : FeedEnd → Type 0 = λ z. (log : List Line) × Grows given after (datagrams_of log) × AreTaken mailboxes log old next z × AreAnswered log taken after' failures more in
       subst P (end_is ends.Done end e) (taken_close was next after after' more d reply gave is may replied)
   taken_last did.Gone end e is may replied =
-      let P : FeedEnd → Type 0 = λ z. (log : List Line) × Gave given after log z × AreTaken mailboxes log old next z × AreAnswered log taken after' failures more in
+      let P : FeedEnd → Type 0 = λ z. (log : List Line) × Grows given after (datagrams_of log) × AreTaken mailboxes log old next z × AreAnswered log taken after' failures more in
       subst P (end_is ends.Gone end e) (taken_gone was next after after' more d reply gave is may replied)

@@ -5,6 +5,7 @@ use Rattle.crew.specs.Ports.{PortSeats}
 use Rattle.crew.specs.Started.{IsStarted}
 use Rattle.transport.specs.declared.udp.UdpWire.{UdpWire}
 use Rattle.service.specs.declared.feeding.Task.TheVariants as task
+use Rattle.service.specs.declared.datagrams.SipDesk.{SipDesk}
 use Rattle.service.specs.declared.lines.ControlDesk.{ControlDesk}
 use Rattle.service.specs.declared.running.Feeders.{Feeders}
 use Rattle.service.specs.declared.running.Running.{Running}
@@ -27,8 +28,8 @@ NoneClosed ports = (k : ℕ) (p : PortSeats) → k < length ports → 0 < (get_o
 abbrev pub AreLent : List PortSeats → Feeders → Type 0
 AreLent ports f = ports ≡ f.sip.promise.port.value ∷ f.lines.promise.port.value ∷ f.time.promise.port.value ∷ []
 
--- what they are to send: what comes by this wire, what this desk takes, and the time
-pub record AreErrands (wire : UdpWire) (desk : ControlDesk UdpWire) (f : Feeders) : Type 0 where
-  pub sip : f.sip.promise.task.value ≡ task.Datagrams wire
+-- what they are to send: what these two desks take, and the time
+pub record AreErrands (phones : SipDesk UdpWire) (desk : ControlDesk UdpWire) (f : Feeders) : Type 0 where
+  pub sip : f.sip.promise.task.value ≡ task.Datagrams phones
   pub lines : f.lines.promise.task.value ≡ task.Lines desk
   pub time : f.time.promise.task.value ≡ task.Time new_stopwatch

@@ -1,7 +1,7 @@
 pub mod Ticks
+pub mod Listening
 pub mod Served
 pub mod Taken
-pub mod Rung
 pub mod Noted
 pub mod Sending
 pub mod Handing

@@ -20,16 +20,20 @@ use Rattle.feeds.specs.Emitted.{WireSeen, WriterSeen}
 use Rattle.feeds.specs.declared.feeding.FeedEnd.{FeedEnd}
 use Rattle.feeds.specs.declared.feeding.FeedEnd.TheVariants as ends
 use Rattle.feeds.specs.Fed.{Log, failures_at}
+use Rattle.transport.specs.Ears.{Misses}
+use Rattle.transport.specs.Sockets.{misses}
 use Rattle.transport.specs.declared.udp.UdpWire.{UdpWire}
 use Rattle.service.specs.declared.clock.Stopwatch.{Stopwatch}
 use Rattle.service.specs.declared.feeding.Fed.{Fed}
 use Rattle.service.specs.declared.feeding.Task.{Task}
 use Rattle.service.specs.declared.feeding.Task.TheVariants as task
+use Rattle.service.specs.declared.datagrams.SipDesk.{SipDesk}
 use Rattle.service.specs.declared.lines.ControlDesk.{ControlDesk}
 use Rattle.service.specs.declared.running.Outcome.{Outcome}
 use Rattle.service.specs.Sending.{Act, IsSentOut}
 use Rattle.service.specs.Served.{AreServed}
-use Rattle.service.specs.Taken.{Line, AreTaken, failures_then}
+use Rattle.service.specs.Listening.{ListensOn}
+use Rattle.service.specs.Taken.{Line, AreTaken}
 use Rattle.service.specs.Ticks.{rises_from, AreTold}
 
 -- ---- what a thread sends through its port until it ends
@@ -44,7 +48,7 @@ abbrev pub SendsTicks : FeedEnd → PortSeats → PortSeats → Type 0
 SendsTicks end old new = (times : List ℕ) × rises_from 0 times × AreTold times old new end
 
 abbrev pub SendsFor : Task → FeedEnd → PortSeats → PortSeats → Type 0
-SendsFor (task.Datagrams wire) end old new = SendsDatagrams end old new
+SendsFor (task.Datagrams desk) end old new = SendsDatagrams end old new
 SendsFor (task.Lines desk) end old new = SendsLines desk.mailboxes.items end old new
 SendsFor (task.Time stopwatch) end old new = SendsTicks end old new
 
@@ -57,14 +61,15 @@ pub record ThenCloses (sends : PortSeats → PortSeats → Type 0) (old new : Po
   pub ends : IsShut fed_to new
   pub seats : SameSeats old new
 
--- what a thread leaves of what it was to send: what it read by failed once more where it tells of a fault, and not else
+-- what a thread leaves of what it was to send: what it read by was deaf where it tells of a fault, and not else. A clock that
+-- failed once is one
 abbrev pub FailsFor : Task → Fed → Type 0
-FailsFor (task.Datagrams wire) fed =
-    (left : UdpWire) × (fed.left ≡ task.Datagrams left)
-    × (left.failures ≡ failures_then fed.fails_late (failures_at fed.end wire.failures))
+FailsFor (task.Datagrams desk) fed =
+    (left : SipDesk UdpWire) × (fed.left ≡ task.Datagrams left)
+    × ListensOn fed.end fed.fails_late (misses desk.coming) (misses left.coming)
 FailsFor (task.Lines desk) fed =
     (left : ControlDesk UdpWire) × (fed.left ≡ task.Lines left)
-    × (left.coming.failures ≡ failures_then fed.fails_late (failures_at fed.end desk.coming.failures))
+    × ListensOn fed.end fed.fails_late (misses desk.coming) (misses left.coming)
 FailsFor (task.Time stopwatch) fed =
     (left : Stopwatch) × (fed.left ≡ task.Time left) × (left.failures ≡ failures_at fed.end stopwatch.failures)
 
@@ -80,15 +85,15 @@ is_fault ends.Done = false
 is_fault ends.Fault = true
 is_fault ends.Gone = false
 
--- did a wire by which something comes in, or the clock, fail?
+-- was a wire deaf by which something comes in, or did the clock fail?
 abbrev pub is_faulty : Outcome → Bool
 is_faulty o = is_fault o.sip || o.sip_fails_late || is_fault o.lines || o.lines_fail_late || is_fault o.time
 
--- each fault is told, and no other: of the wire by which SIP came in and of the one by which lines did, which had failed m and n
--- times before, and of the clock
-pub record AreFaults (m n : ℕ) (o : Outcome) : Type 0 where
-  pub sip : o.wire.failures ≡ failures_then o.sip_fails_late (failures_at o.sip m)
-  pub lines : o.desk.coming.failures ≡ failures_then o.lines_fail_late (failures_at o.lines n)
+-- each fault is told, and no other: of the wire by which SIP came in and of the one by which lines did, with what was so of their
+-- receives before, and of the clock
+pub record AreFaults (phones operators : Misses) (o : Outcome) : Type 0 where
+  pub sip : ListensOn o.sip o.sip_fails_late phones (misses o.sip_desk.coming)
+  pub lines : ListensOn o.lines o.lines_fail_late operators (misses o.desk.coming)
   pub time : o.stopwatch.failures ≡ failures_at o.time 0
 
 -- ---- all of it

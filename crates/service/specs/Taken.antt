@@ -190,14 +190,6 @@ Stops log ends.Done = EndsWith did.Closing log ⊎ AllGoOn log
 Stops log ends.Fault = AllGoOn log
 Stops log ends.Gone = EndsWith did.Gone log
 
--- the wire gave these lines, and one more, which was dropped, where the service closed for another cause than a CLOSE of them
-abbrev pub Gave : Option (List Datagram) → Option (List Datagram) → List Line → FeedEnd → Type 0
-Gave old new log ends.Done =
-    (EndsWith did.Closing log × Grows old new (datagrams_of log))
-    ⊎ ((dropped : Datagram) × AllGoOn log × Grows old new (datagrams_of log ++ dropped ∷ []))
-Gave old new log ends.Fault = Grows old new (datagrams_of log)
-Gave old new log ends.Gone = Grows old new (datagrams_of log)
-
 -- each of these lines was done as it asks, until one ended it, and the port has sent their events
 pub record AreTaken (mailboxes : List (List ℕ)) (log : List Line) (old new : PortSeats) (end : FeedEnd) : Type 0 where
   pub each : AllByRecursion (IsLine mailboxes) log
@@ -223,19 +215,11 @@ abbrev pub failures_then : Bool → ℕ → ℕ
 failures_then false n = n
 failures_then true n = one_more n
 
--- the failures of a wire that gave this last, or failed where it gave none
-abbrev pub failures_by : List Datagram → ℕ → ℕ
-failures_by [] n = one_more n
-failures_by (d ∷ ds) n = n
-
--- what came until all was sent out, and one datagram more, which was dropped, or until the wire failed: each that isn't empty was
--- answered `closed`, or the other wire failed at it, and nothing else was sent
-pub record AreRefused (given given' : Option (List Datagram)) (faults faults' : ℕ) (taken taken' : Option (List Datagram)) (failures failures' : ℕ) : Type 0 where
+-- what came until all was sent out, or until nothing could come any more: each that isn't empty was answered `closed`, or the other
+-- wire failed at it, and nothing else was sent
+pub record AreRefused (given given' taken taken' : Option (List Datagram)) (failures failures' : ℕ) : Type 0 where
   pub came : List Datagram
-  pub dropped : List Datagram
-  pub one : length dropped ≤ 1
-  pub gave : Grows given given' (came ++ dropped)
-  pub ended : faults' ≡ failures_by dropped faults
+  pub gave : Grows given given' came
   pub log : List Line
   pub lines : datagrams_of log ≡ filter is_line came
   pub each : AllByRecursion (λ (l : Line). MayReply (did.Answered answer.Closed) l.reply) log

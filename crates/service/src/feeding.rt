@@ -6,7 +6,7 @@ ghost use Rattle.service.specs.declared.feeding.Task.TheVariants as tasks;
 ghost use Rattle.service.specs.Running.{Keeps};
 
 use crate::clock::{Stopwatch, tell_time};
-use crate::datagrams::{hear_answers, hear_datagrams};
+use crate::datagrams::SipDesk;
 use crate::lines::ControlDesk;
 use crate::shared::Shared;
 use crew::Port;
@@ -23,7 +23,7 @@ use transport::UdpWire;
 #[derive(Drop)]
 pub(crate) enum Task {
     /// What SIP datagrams say.
-    Datagrams(UdpWire),
+    Datagrams(SipDesk<UdpWire>),
     /// What control lines tell.
     Lines(ControlDesk<UdpWire>),
     /// The time.
@@ -35,7 +35,7 @@ pub(crate) enum Task {
 pub(crate) struct Fed {
     pub(crate) port: Port,
     pub(crate) end: FeedEnd,
-    /// Whether the wire failed behind this end, while the service closed.
+    /// Whether the wire was deaf behind this end, while the service closed.
     pub(crate) fails_late: bool,
     /// What was to be sent, as it is left.
     pub(crate) left: Task,
@@ -80,29 +80,29 @@ fn shut<R: Wait>(rt: &R, mut port: Port, shared: &Shared) -> Port
 }
 
 /// Sends what SIP datagrams say until the service closes, and closes the port. Answers to NOTIFYs are heard until all was sent out.
-fn hear_whole<R: Wait>(
+fn hear_whole<R: Wait + Clock + Eprint>(
     rt: &R,
     alloc: Global,
     mut port: Port,
-    mut wire: UdpWire,
+    mut desk: SipDesk<UdpWire>,
     shared: &Shared,
 ) -> Fed
     requires { 0 < port.still_open }
-    ensures { Keeps (tasks.Datagrams wire) port result }
+    ensures { Keeps (tasks.Datagrams desk) port result }
 {
-    let end = hear_datagrams(rt, alloc, &mut wire, &mut port, shared);
+    let end = desk.hear_datagrams(rt, alloc, &mut port, shared);
     let port = shut(rt, port, shared);
-    let fails_late = hear_answers(rt, alloc, &mut wire, shared);
+    let fails_late = desk.hear_answers(rt, alloc, shared);
     Fed {
         port,
         end,
         fails_late,
-        left: Task::Datagrams(wire),
+        left: Task::Datagrams(desk),
     }
 }
 
 /// Sends what control lines tell until the service closes, and closes the port. Lines are answered until all was sent out.
-fn take_whole<R: Wait + Clock>(
+fn take_whole<R: Wait + Clock + Eprint>(
     rt: &R,
     alloc: Global,
     mut port: Port,
@@ -155,7 +155,7 @@ fn do_task<R: Wait + Clock + Eprint>(
     ensures { Keeps task port result }
 {
     match task {
-        Task::Datagrams(wire) => hear_whole(rt, alloc, port, wire, shared),
+        Task::Datagrams(desk) => hear_whole(rt, alloc, port, desk, shared),
         Task::Lines(desk) => take_whole(rt, alloc, port, desk, shared),
         Task::Time(stopwatch) => tell_whole(rt, port, stopwatch, shared),
     }

@@ -1,12 +1,24 @@
 //! A service: the threads that feed a crew for as long as it runs, and the one that sends what it posts.
 //!
-//! Three threads feed the ports of a crew: one with the SIP datagrams of a socket (`hear_datagrams`), one with control
+//! Three threads feed the ports of a crew: one with the SIP datagrams of a socket ([`SipDesk`]), one with control
 //! lines, each of which it answers ([`ControlDesk`]), one with the time (`tell_time`). The calling thread sends out what the
-//! workers post (`send_outs`). [`run_crew`] starts all of them, and ends at CLOSE, a fault of a socket or of the clock, or a
+//! workers post (`send_outs`). [`run_crew`] starts all of them, and ends at CLOSE, a deaf socket, a fault of the clock, or a
 //! worker that is gone.
 //!
+//! ```text
+//!   SIP datagrams        control lines        the clock
+//!        |                    |                   |
+//!   hear_datagrams       ControlDesk          tell_time       a thread each, with a port each
+//!        |      |             |                   |
+//!  notes |      +------ ports of the crew --------+
+//!  of    |                    |
+//!  answers                 workers                            a thread each, of `crew`
+//!        |                    |  outbox
+//!        +---------------> send_outs                          the calling thread: wire, START lines
+//! ```
+//!
 //! What it isn't: what the workers do is `notifier`'s, what a port sends `crew`'s, and what a datagram says `feeds`'s; the
-//! counters of [`Shared`] are no part of any contract. Begin with [`run_crew`], then `specs/Ticks`, `specs/Served`,
+//! counters of [`Shared`] are no part of any contract. Begin with [`run_crew`], then `specs/Ticks`, `specs/Listening`, `specs/Served`,
 //! `specs/Taken` and `specs/Running`.
 #![tactic(auto)]
 
@@ -16,6 +28,7 @@ mod error;
 mod feeding;
 pub mod laws;
 mod lines;
+mod listening;
 mod notes;
 mod outs;
 mod running;
@@ -23,8 +36,9 @@ mod sending;
 mod shared;
 
 pub use clock::Stopwatch;
+pub use datagrams::SipDesk;
 pub use error::RunError;
 pub use lines::ControlDesk;
-pub use outs::{Bell, Exit};
+pub use outs::Exit;
 pub use running::{Outcome, Work, run_crew};
 pub use shared::Shared;

@@ -3,11 +3,12 @@ ghost use Rattle.std.specs.Prelude.{◌≡◌, ◌<◌, List, [], IfOk, IfSome, 
 ghost use Rattle.std.specs.List.{list_any};
 ghost use Rattle.transport.specs.Wires.{Grows};
 ghost use Rattle.crew.specs.Kept.{SameSeats};
-ghost use Rattle.feeds.specs.Fed.{failures_at};
 ghost use Rattle.control_lines.specs.Lines.{answer_text};
 ghost use Rattle.service.specs.Taken as spec;
-ghost use Rattle.service.specs.Taken.{Line, IsSent, IsChanged, IsDone, IsReport, Offers, IsAnswered, Gave, AreTaken, AreAnswered, AreRefused, failures_then};
+ghost use Rattle.service.specs.Taken.{Line, IsSent, IsChanged, IsDone, IsReport, Offers, IsAnswered, datagrams_of, AreTaken, AreAnswered, AreRefused};
+ghost use Rattle.service.specs.Listening.{ListensUntil, ListensStill};
 
+use crate::listening::{FaultLog, receive};
 use crate::shared::{Counter, Shared};
 use control_lines::{Answer, Asked, hear_line};
 use crew::Port;
@@ -18,7 +19,7 @@ use sip_text::{Addr, NoMemory, Text};
 use std::alloc::Global;
 use std::rt::Clock;
 use std::sync::Wait;
-use transport::Wire;
+use transport::{Ear, Wire};
 
 /// The room for a control line: as long as a datagram may be. A line that were cut might still be read, with a wrong number.
 const ROOM: usize = 65536;
@@ -196,10 +197,12 @@ impl<W: Wire> ControlDesk<W> {
             Done::Gone => self.say(rt, shared, to, Answer::Closed),
         }
     }
+}
 
+impl<W: Ear> ControlDesk<W> {
     /// Takes control lines and answers each to its sender, until one is CLOSE, the service closes for another cause, the wire
-    /// fails or a worker is gone. The line that comes after a close for another cause is dropped. The port isn't closed.
-    pub fn take_lines<R: Wait + Clock>(
+    /// is deaf or a worker is gone. The port isn't closed.
+    pub fn take_lines<R: Wait + Clock + Eprint>(
         &mut self,
         rt: &R,
         alloc: Global,
@@ -208,25 +211,29 @@ impl<W: Wire> ControlDesk<W> {
     ) -> FeedEnd
         requires still_open { 0 < port.old.still_open }
         ensures taken { (log : List Line)
-            × Gave (W.given self.old.coming) (W.given self.new.coming) log result
+            × Grows (W.given self.old.coming) (W.given self.new.coming) (datagrams_of log)
             × AreTaken self.old.mailboxes.items log port.old port.new result
             × AreAnswered log (W.taken self.old.going) (W.taken self.new.going)
             (W.failures self.old.going) (W.failures self.new.going) }
         // Nothing is sent where lines come in, and nothing is received where answers go.
         ensures coming { Grows (W.taken self.old.coming) (W.taken self.new.coming) [] }
-        ensures failures { W.failures self.new.coming ≡ failures_at result (W.failures self.old.coming) }
+        ensures until { ListensUntil result (W.misses self.old.coming) (W.misses self.new.coming) }
         ensures going { Grows (W.given self.old.going) (W.given self.new.going) [] }
         ensures mailboxes { self.new.mailboxes ≡ self.old.mailboxes }
         ensures seats { SameSeats port.old port.new }
     {
         let mut octets = [0; ROOM];
+        let mut log = FaultLog::new();
         for _ in rt.forever() {
-            let Ok((length, source)) = self.coming.recv(rt, &mut octets) else {
-                return FeedEnd::Fault;
-            };
             if shared.is_closing() {
                 return FeedEnd::Done;
             }
+            let Ok(came) = receive(rt, &mut self.coming, &mut log, shared, &mut octets) else {
+                return FeedEnd::Fault;
+            };
+            let Some((length, source)) = came else {
+                continue;
+            };
             let mailboxes = self.mailboxes.as_slice();
             let done = take_line(rt, alloc, port, mailboxes, &octets[..length]);
             self.answer(rt, alloc, shared, source, done);
@@ -237,26 +244,28 @@ impl<W: Wire> ControlDesk<W> {
         unreachable!()
     }
 
-    /// Answers `closed` to whoever asks, until all was sent out or the wire fails: true then. An empty datagram is not answered.
-    /// The datagram that comes after all was sent out is dropped.
-    pub fn refuse_lines<R: Wait>(&mut self, rt: &R, shared: &Shared) -> bool
+    /// Answers `closed` to whoever asks, until all was sent out or the wire is deaf: true then. An empty datagram is not answered.
+    pub fn refuse_lines<R: Wait + Clock + Eprint>(&mut self, rt: &R, shared: &Shared) -> bool
         ensures refused { AreRefused (W.given self.old.coming) (W.given self.new.coming)
-            (W.failures self.old.coming) (W.failures self.new.coming)
             (W.taken self.old.going) (W.taken self.new.going)
             (W.failures self.old.going) (W.failures self.new.going) }
         ensures coming { Grows (W.taken self.old.coming) (W.taken self.new.coming) [] }
-        ensures failures { W.failures self.new.coming ≡ failures_then result (W.failures self.old.coming) }
+        ensures until { ListensStill result (W.misses self.old.coming) (W.misses self.new.coming) }
         ensures going { Grows (W.given self.old.going) (W.given self.new.going) [] }
         ensures mailboxes { self.new.mailboxes ≡ self.old.mailboxes }
     {
         let mut octets = [0; ROOM];
+        let mut log = FaultLog::new();
         for _ in rt.forever() {
-            let Ok((length, source)) = self.coming.recv(rt, &mut octets) else {
-                return true;
-            };
             if shared.is_finished() {
                 return false;
             }
+            let Ok(came) = receive(rt, &mut self.coming, &mut log, shared, &mut octets) else {
+                return true;
+            };
+            let Some((length, source)) = came else {
+                continue;
+            };
             if length > 0 {
                 self.say(rt, shared, source, Answer::Closed);
             }

@@ -6,8 +6,6 @@ ghost use Rattle.transport.specs.Wires.{Grows};
 ghost use Rattle.feeds.specs.declared.sending.EmitReport.{EmitReport};
 ghost use Rattle.feeds.specs.Emitted as spec;
 ghost use Rattle.transactions.specs.Machine.{empty};
-ghost use Rattle.service.specs.Taken.{Offers};
-ghost use Rattle.service.specs.Rung.{Rings};
 ghost use Rattle.service.specs.Sending.{Act, IsSentOut, fates};
 
 use crate::sending::{Waiting, Watch};
@@ -15,13 +13,12 @@ use crate::shared::{Counter, Shared};
 use feeds::{Fate, put_out};
 use notifier_model::Out;
 use queues::outbox::{Posted, Taker};
-use sip_text::Addr;
 use std::io::Write;
 use std::rt::Clock;
 use std::sync::Wait;
 use std::thread;
 use std::time::Duration;
-use transport::{Sink, UdpWire, Wire};
+use transport::{Sink, Wire};
 
 /// How often nothing may be posted before the thread sleeps.
 const TURNS: u32 = 200;
@@ -54,37 +51,6 @@ fn count(shared: &Shared, out: &Out, fate: Fate) {
     shared.count(counter_for(out, fate));
 }
 
-/// What wakes the threads that wait for a datagram, by an empty one at the address of each, so that they see that the service
-/// closes.
-#[derive(Drop)]
-pub struct Bell<W> {
-    pub wire: W,
-    pub sip: Addr,
-    pub control: Addr,
-}
-
-/// Sends an empty datagram.
-fn wake<R: Wait, W: Wire>(rt: &R, wire: &mut W, to: Addr)
-    ensures { Offers to [] (W.taken wire.old) (W.taken wire.new) (W.failures wire.old) (W.failures wire.new) }
-{
-    match wire.send(rt, to, b"") {
-        Ok(()) | Err(_) => {}
-    }
-}
-
-impl<W: Wire> Bell<W> {
-    /// Sends an empty datagram to each address. One that isn't sent is sent again at the next ring.
-    pub fn ring<R: Wait>(&mut self, rt: &R)
-        ensures rung { Rings self.old.sip self.old.control
-            (W.taken self.old.wire) (W.taken self.new.wire) (W.failures self.old.wire) (W.failures self.new.wire) }
-        ensures sip { self.new.sip ≡ self.old.sip }
-        ensures control { self.new.control ≡ self.old.control }
-    {
-        wake(rt, &mut self.wire, self.sip);
-        wake(rt, &mut self.wire, self.control);
-    }
-}
-
 /// What comes next of so many workers that haven't ended, if anything was posted.
 fn next_posted<R: Wait>(rt: &R, taker: &mut Taker, left: u32) -> Option<Posted>
     ensures next { IfSome result (λ posted. Took taker.old posted taker.new) }
@@ -102,11 +68,8 @@ fn idle_turns(idle: u32, was_due: bool) -> u32 {
     if was_due { 0 } else { idle }
 }
 
-/// Waits a little where nothing was posted and nothing was due so many times in a row, and rings while the service closes.
-fn rest<R: Wait + Clock>(rt: &R, bell: &mut Bell<UdpWire>, shared: &Shared, idle: u32) {
-    if shared.is_closing() && (idle == 0 || idle >= TURNS) {
-        bell.ring(rt);
-    }
+/// Waits a little where nothing was posted and nothing was due so many times in a row.
+fn rest<R: Wait + Clock>(rt: &R, idle: u32) {
     if idle < TURNS {
         thread::yield_now();
         return;
@@ -133,13 +96,12 @@ pub(crate) struct Outgoing {
 
 /// Sends out what the workers post, in the order in which it is taken, until each has ended: answers and NOTIFYs by the wire,
 /// and a line for each transfer that starts. What fails is counted, and the rest goes on. Between them it takes notes of answers, and
-/// sends a NOTIFY again whose time has come; where all workers have ended it waits a while for the answers to the last ones. While
-/// the service closes, who listens is woken. No worker's end mark was taken yet, and no NOTIFY waits.
+/// sends a NOTIFY again whose time has come; where all workers have ended it waits a while for the answers to the last ones. No
+/// worker's end mark was taken yet, and no NOTIFY waits.
 pub(crate) fn send_outs<R: Wait + Clock + Eprint, W: Wire, F: Write>(
     rt: &R,
     exit: &mut Exit<W, F>,
     outgoing: &mut Outgoing,
-    bell: &mut Bell<UdpWire>,
     shared: &Shared,
 )
     requires workers { outgoing.old.workers ≡ outgoing.old.taker.workers }
@@ -179,9 +141,11 @@ pub(crate) fn send_outs<R: Wait + Clock + Eprint, W: Wire, F: Write>(
                 let fate = put_out(rt, &mut exit.wire, &mut exit.sink, &out);
                 count(shared, &out, fate);
                 outgoing.waiting.keep(watch.now(), out, shared);
+                watch.count_out();
             }
             None => {
-                rest(rt, bell, shared, idle);
+                watch.pause();
+                rest(rt, idle);
                 idle = idle.saturating_add(1);
             }
         }

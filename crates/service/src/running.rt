@@ -9,15 +9,18 @@ ghost use Rattle.service.specs.Running as spec;
 ghost use Rattle.service.specs.declared.clock.Stopwatch.{Stopwatch};
 ghost use Rattle.service.specs.declared.error.RunError.TheVariants as error;
 ghost use Rattle.service.specs.declared.feeding.Task.TheVariants as tasks;
+ghost use Rattle.service.specs.declared.datagrams.SipDesk.{SipDesk};
 ghost use Rattle.service.specs.declared.lines.ControlDesk.{ControlDesk};
+ghost use Rattle.transport.specs.Sockets.{misses};
 ghost use Rattle.transport.specs.declared.udp.UdpWire.{UdpWire};
 ghost use Rattle.service.specs.Running.{Runs, Leaves, AreFaults, is_faulty};
 
 use crate::clock::Stopwatch;
+use crate::datagrams::SipDesk;
 use crate::error::RunError;
 use crate::feeding::{Feeder, Task, start_feeder};
 use crate::lines::ControlDesk;
-use crate::outs::{Bell, Exit, Outgoing, send_outs};
+use crate::outs::{Exit, Outgoing, send_outs};
 use crate::sending::Waiting;
 use crate::shared::Shared;
 use crew::{Crew, Open, Port, Report};
@@ -37,12 +40,10 @@ use transport::{UdpWire, Wire};
 #[derive(Drop)]
 pub struct Work {
     pub setup: Setup,
-    /// Where SIP datagrams come in.
-    pub sip: UdpWire,
+    /// What hears SIP datagrams.
+    pub sip: SipDesk<UdpWire>,
     /// What takes control lines.
     pub desk: ControlDesk<UdpWire>,
-    /// What wakes those two.
-    pub bell: Bell<UdpWire>,
     pub shared: Arc<Shared, Global>,
     /// How many NOTIFYs may wait for their answers at once, and are sent again until these come. 0: each is sent once.
     pub repeats: u32,
@@ -55,18 +56,18 @@ pub struct Work {
 pub struct Outcome {
     /// Why no more SIP datagrams were taken.
     pub sip: FeedEnd,
-    /// Whether the wire by which they come failed behind that, while answers were heard.
+    /// Whether the wire by which they come was deaf behind that, while answers were heard.
     pub sip_fails_late: bool,
     /// Why no more control lines were.
     pub lines: FeedEnd,
-    /// Whether the wire by which they come failed behind that, while lines were refused.
+    /// Whether the wire by which they come was deaf behind that, while lines were refused.
     pub lines_fail_late: bool,
     /// Why no more time was told.
     pub time: FeedEnd,
     /// What each worker did.
     pub report: Report,
-    /// Where SIP datagrams came in, as it is left.
-    pub wire: UdpWire,
+    /// What heard SIP datagrams, as it is left.
+    pub sip_desk: SipDesk<UdpWire>,
     /// What took control lines, as it is left.
     pub desk: ControlDesk<UdpWire>,
     /// What the time was read by, as it is left.
@@ -83,7 +84,7 @@ fn is_fault(end: FeedEnd) -> bool
 }
 
 impl Outcome {
-    /// Whether a wire by which something comes in, or the clock, failed.
+    /// Whether a wire by which something comes in was deaf, or the clock failed.
     pub fn is_faulty(&self) -> bool
         ensures { result ≡ is_faulty self.now }
     {
@@ -100,14 +101,13 @@ impl Outcome {
 pub(crate) struct Running {
     pub(crate) crew: Crew,
     pub(crate) outgoing: Outgoing,
-    pub(crate) bell: Bell<UdpWire>,
     pub(crate) shared: Arc<Shared, Global>,
 }
 
 /// What it listens with.
 #[derive(Drop)]
 pub(crate) struct Ears {
-    pub(crate) sip: UdpWire,
+    pub(crate) sip: SipDesk<UdpWire>,
     pub(crate) desk: ControlDesk<UdpWire>,
 }
 
@@ -128,15 +128,13 @@ pub(crate) struct Begun {
 
 impl Begun {
     /// Waits for their ends, once the service closes and is finished, and lets their ports go: while an end of a closed port is
-    /// kept, workers wait for a port that went away unclosed. The one for lines is woken twice: it takes none, and refuses none.
-    fn end<R: Threads + Wait>(self, rt: &R, bell: &mut Bell<UdpWire>) {
+    /// kept, workers wait for a port that went away unclosed.
+    fn end<R: Threads + Wait>(self, rt: &R) {
         let Begun { time, lines } = self;
         if let Some(time) = time {
             drop(time.join(rt));
         }
         if let Some(lines) = lines {
-            bell.ring(rt);
-            bell.ring(rt);
             drop(lines.join(rt));
         }
     }
@@ -219,26 +217,25 @@ fn wind_up<R: Threads + Wait + Clock + Eprint, W: Wire, F: Write>(
     let Running {
         crew,
         mut outgoing,
-        mut bell,
         shared,
     } = running;
     shared.close();
     shared.finish();
-    begun.end(rt, &mut bell);
-    send_outs(rt, exit, &mut outgoing, &mut bell, &shared);
+    begun.end(rt);
+    send_outs(rt, exit, &mut outgoing, &shared);
     let report = crew.join(rt, Vec::new(alloc), outgoing.taker);
     drop(report);
 }
 
-/// The wire of a thread that heard by it.
-fn wire_of(task: Task) -> UdpWire
-    requires { (wire : UdpWire) × (task ≡ tasks.Datagrams wire) }
+/// The desk of a thread that heard SIP datagrams by it.
+fn sip_desk_of(task: Task) -> SipDesk<UdpWire>
+    requires { (desk : SipDesk UdpWire) × (task ≡ tasks.Datagrams desk) }
     ensures { task ≡ tasks.Datagrams result }
 {
-    let Task::Datagrams(wire) = task else {
+    let Task::Datagrams(desk) = task else {
         unreachable!()
     };
-    wire
+    desk
 }
 
 /// The desk of a thread that took lines by it.
@@ -272,12 +269,12 @@ fn serve_to_end<R: Threads + Wait + Clock + Eprint, W: Wire, F: Write>(
     exit: &mut Exit<W, F>,
 ) -> Outcome
     requires new { (start : ℕ → Start) × (lent : List PortSeats) × IsNew start lent running × AreLent lent feeders }
-    requires errands { (wire : UdpWire) × (desk : ControlDesk UdpWire) × AreErrands wire desk feeders }
+    requires errands { (phones : SipDesk UdpWire) × (desk : ControlDesk UdpWire) × AreErrands phones desk feeders }
     requires room { (vec_len ports ≡ 0) × (3 ≤ vec_capacity ports) }
-    ensures faults { (wire : UdpWire) (desk : ControlDesk UdpWire) → AreErrands wire desk feeders
-        → AreFaults wire.failures desk.coming.failures result }
-    ensures runs { (start : ℕ → Start) (lent : List PortSeats) (wire : UdpWire) (desk : ControlDesk UdpWire) (repeats : ℕ)
-        → IsNew start lent running → NoneWaits repeats running → AreLent lent feeders → AreErrands wire desk feeders
+    ensures faults { (phones : SipDesk UdpWire) (desk : ControlDesk UdpWire) → AreErrands phones desk feeders
+        → AreFaults (misses phones.coming) (misses desk.coming) result }
+    ensures runs { (start : ℕ → Start) (lent : List PortSeats) (phones : SipDesk UdpWire) (desk : ControlDesk UdpWire) (repeats : ℕ)
+        → IsNew start lent running → NoneWaits repeats running → AreLent lent feeders → AreErrands phones desk feeders
         → Runs start running.outgoing.workers repeats desk.mailboxes.items
         (record { taken = W.taken exit.old.wire; failures = W.failures exit.old.wire })
         (record { taken = W.taken exit.new.wire; failures = W.failures exit.new.wire })
@@ -287,14 +284,10 @@ fn serve_to_end<R: Threads + Wait + Clock + Eprint, W: Wire, F: Write>(
     let Running {
         crew,
         mut outgoing,
-        mut bell,
         shared,
     } = running;
-    send_outs(rt, exit, &mut outgoing, &mut bell, &shared);
+    send_outs(rt, exit, &mut outgoing, &shared);
     shared.finish();
-    // Twice, since no later ring sends again what one fails to send.
-    bell.ring(rt);
-    bell.ring(rt);
     let Feeders { sip, lines, time } = feeders;
     let sip = sip.join(rt);
     let lines = lines.join(rt);
@@ -310,7 +303,7 @@ fn serve_to_end<R: Threads + Wait + Clock + Eprint, W: Wire, F: Write>(
         lines_fail_late: lines.fails_late,
         time: time.end,
         report,
-        wire: wire_of(sip.left),
+        sip_desk: sip_desk_of(sip.left),
         desk: desk_of(lines.left),
         stopwatch: stopwatch_of(time.left),
     }
@@ -338,7 +331,7 @@ where
         (record { taken = W.taken exit.new.wire; failures = W.failures exit.new.wire })
         (record { contents = F.contents exit.old.sink.writer; failures = exit.old.sink.failures })
         (record { contents = F.contents exit.new.sink.writer; failures = exit.new.sink.failures }) o) }
-    ensures faults { IfOk result (AreFaults ears.sip.failures ears.desk.coming.failures) }
+    ensures faults { IfOk result (AreFaults (misses ears.sip.coming) (misses ears.desk.coming)) }
     ensures refused { IfErr result (λ e. e ≡ error.NoThread) }
     ensures left { OnErr result ((start : ℕ → Start) (repeats : ℕ) → IsNew start ports.items running
         → NoneWaits repeats running → Leaves start running.outgoing.workers repeats
@@ -398,8 +391,8 @@ where
         (record { taken = W.taken exit.new.wire; failures = W.failures exit.new.wire })
         (record { contents = F.contents exit.old.sink.writer; failures = exit.old.sink.failures })
         (record { contents = F.contents exit.new.sink.writer; failures = exit.new.sink.failures }) o) }
-    // It tells of a fault exactly where a read of a socket or of the clock failed.
-    ensures faults { IfOk result (AreFaults work.sip.failures work.desk.coming.failures) }
+    // It tells of a fault exactly where a socket was deaf or a read of the clock failed.
+    ensures faults { IfOk result (AreFaults (misses work.sip.coming) (misses work.desk.coming)) }
     // Without memory nothing is started, and nothing leaves. Where a thread is refused only outs of workers with these starts do.
     ensures no_memory { result ≡ Err error.NoMemory → exit.new ≡ exit.old }
     ensures no_thread { OnErr result ((exit.new ≡ exit.old) ⊎ ((b : _)
@@ -415,7 +408,6 @@ where
     let Work {
         sip,
         desk,
-        bell,
         shared,
         repeats,
         linger,
@@ -430,7 +422,6 @@ where
     let running = Running {
         crew,
         outgoing,
-        bell,
         shared,
     };
     serve(rt, alloc, running, ports, Ears { sip, desk }, exit)

@@ -22,6 +22,9 @@ const NOTES_AT_ONCE: u32 = 16;
 /// socket by which they come, and what the workers post never waits behind them.
 const PACE: u32 = 8;
 
+/// How many outs that follow one another are sent between two looks at the clock, the notes and what is due.
+const OUTS_AT_ONCE: u32 = 16;
+
 /// How many milliseconds pass between two lines on NOTIFYs that were given up.
 const MINUTE: u64 = 60_000;
 
@@ -32,6 +35,8 @@ pub(crate) struct Watch {
     moment: u64,
     /// How many NOTIFYs may be sent again in it.
     repeats: u32,
+    /// How many outs followed one another since that look.
+    outs: u32,
     /// For how many milliseconds at most the answers to the last NOTIFYs are waited for, and until when.
     linger: u64,
     until: Option<u64>,
@@ -43,6 +48,7 @@ impl Watch {
         Watch {
             moment: 0,
             repeats: PACE,
+            outs: 0,
             linger,
             until: None,
         }
@@ -55,8 +61,27 @@ impl Watch {
         self.moment.min(LAST_MOMENT)
     }
 
-    /// Looks at the clock. Where that can't be read no answer is waited for.
+    /// Counts an out that was sent.
+    pub(crate) fn count_out(&mut self) {
+        self.outs = self.outs.saturating_add(1);
+    }
+
+    /// Nothing was posted, so the next turn looks again.
+    pub(crate) fn pause(&mut self) {
+        self.outs = 0;
+    }
+
+    /// Whether outs follow one another, and few since the last look: so a change to many phones costs few looks.
+    pub(crate) fn is_busy(&self) -> bool {
+        0 < self.outs && self.outs < OUTS_AT_ONCE
+    }
+
+    /// Looks at the clock, unless outs follow one another. Where the clock can't be read no answer is waited for.
     pub(crate) fn look<R: Clock>(&mut self, rt: &R, shared: &Shared) {
+        if self.is_busy() {
+            return;
+        }
+        self.outs = 0;
         match shared.moment(rt) {
             Some(moment) if moment > self.moment => {
                 self.moment = moment;
@@ -227,7 +252,7 @@ impl Waiting {
     }
 
     /// Takes notes of answers, and then sends a NOTIFY again that is due, or gives it up: false where none is due, or no more may be
-    /// sent again in this moment.
+    /// sent again in this moment. Nothing of that while outs follow one another.
     pub(crate) fn tend<R: Wait + Eprint, W: Wire>(
         &mut self,
         rt: &R,
@@ -241,6 +266,9 @@ impl Waiting {
             (record { taken = W.taken wire.new; failures = W.failures wire.new }) }
         ensures given { Grows (W.given wire.old) (W.given wire.new) [] }
     {
+        if watch.is_busy() {
+            return false;
+        }
         self.take_notes(rt, &shared.notes);
         if watch.repeats == 0 {
             return false;

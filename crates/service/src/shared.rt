@@ -32,6 +32,8 @@ pub struct Shared {
     given_up: AtomicU64,
     once: AtomicU64,
     lost: AtomicU64,
+    failed_receives: AtomicU64,
+    too_long: AtomicU64,
 }
 
 /// What is counted, each by one.
@@ -55,6 +57,10 @@ pub enum Counter {
     GivenUp,
     /// A NOTIFY is not sent again, since as many others wait for their answers as may.
     Once,
+    /// A receive failed.
+    FailedReceive,
+    /// A datagram was dropped since it was too long.
+    TooLong,
 }
 
 /// Appends what was counted by this name, on a line of its own.
@@ -108,6 +114,8 @@ impl Shared {
             given_up: AtomicU64::new(0),
             once: AtomicU64::new(0),
             lost: AtomicU64::new(0),
+            failed_receives: AtomicU64::new(0),
+            too_long: AtomicU64::new(0),
         })
     }
 
@@ -165,6 +173,8 @@ impl Shared {
             Counter::Repeat => &self.repeats,
             Counter::GivenUp => &self.given_up,
             Counter::Once => &self.once,
+            Counter::FailedReceive => &self.failed_receives,
+            Counter::TooLong => &self.too_long,
         };
         counted.fetch_add(1, Ordering::SeqCst);
     }
@@ -221,6 +231,8 @@ impl Shared {
             ("given_up", &self.given_up),
             ("once", &self.once),
             ("lost", &self.lost),
+            ("failed_receives", &self.failed_receives),
+            ("too_long", &self.too_long),
         ];
         for (name, counted) in named {
             add_line(alloc, text, name, counted)?;

@@ -1,3 +1,4 @@
 pub mod Devices
 pub mod Wires
+pub mod Ears
 pub mod Sockets

@@ -1,16 +1,24 @@
 //! Wires in memory, for tests.
-ghost use Rattle.std.specs.Prelude.{◌≡◌, ◌≤◌, ◌++◌, ◌∷◌, [], length, reverse, Some, MatchResult};
+ghost use Rattle.std.specs.Prelude.{◌≡◌, ◌≤◌, ◌++◌, ◌∷◌, [], false, length, reverse, Some, MatchResult};
 ghost use Rattle.transport.specs.Devices.{one_more};
+ghost use Rattle.transport.specs.Ears.{is_lost};
 ghost use Rattle.transport.specs.Wires.{datagram};
 
 use crate::datagram::Datagram;
+use crate::ear::{Ear, ReceiveFault};
 use crate::wire::{Wire, WireFault};
 use sip_text::{Addr, NoMemory, Octets};
 use std::alloc::Global;
 use std::sync::Wait;
 
+/// The number of the fault where none is left: EBADF, that of a descriptor that is closed.
+const NONE_LEFT: u32 = 9;
+
+/// The number of a fault that passes: ENOBUFS, where the system has no room.
+const NO_ROOM: u32 = 105;
+
 /// A wire in memory, which tells what it gave and took. It gives the datagrams that it was made with, in order, and fails where
-/// none is left, or memory is wanting; a receive and a send can be set to fail.
+/// none is left, or memory is wanting; a receive and a send can be set to fail, and a receive in time to give nothing yet.
 #[derive(Drop)]
 pub struct MemoryWire {
     alloc: Global,
@@ -19,9 +27,12 @@ pub struct MemoryWire {
     given: Vec<Datagram>,
     taken: Vec<Datagram>,
     failures: u64,
-    // how many receives and sends are left up to the one that fails
+    row: u64,
+    is_lost: bool,
+    // how many receives and sends are left up to the one that fails, and how many receives in time up to the one that gives nothing
     receives: Option<u64>,
     sends: Option<u64>,
+    silences: Option<u64>,
 }
 
 /// Counts a call, and tells whether it is the one that is to fail.
@@ -46,6 +57,8 @@ impl MemoryWire {
         ensures given { result.given.items ≡ [] }
         ensures taken { result.taken.items ≡ [] }
         ensures failures { result.failures ≡ 0 }
+        ensures row { result.row ≡ 0 }
+        ensures lost { result.is_lost ≡ false }
     {
         coming.reverse();
         MemoryWire {
@@ -54,8 +67,11 @@ impl MemoryWire {
             given: Vec::new(alloc),
             taken: Vec::new(alloc),
             failures: 0,
+            row: 0,
+            is_lost: false,
             receives: None,
             sends: None,
+            silences: None,
         }
     }
 
@@ -77,6 +93,15 @@ impl MemoryWire {
         self.sends = Some(after);
     }
 
+    /// Has a receive in time give nothing yet, after so many others.
+    pub fn fall_silent(&mut self, after: u64)
+        ensures given { self.new.given ≡ self.old.given }
+        ensures taken { self.new.taken ≡ self.old.taken }
+        ensures failures { self.new.failures ≡ self.old.failures }
+    {
+        self.silences = Some(after);
+    }
+
     /// The datagrams that it has given, in order.
     pub fn given(&self) -> &[Datagram]
         ensures { result.now ≡ self.now.given.items }
@@ -96,9 +121,38 @@ impl MemoryWire {
         ensures given { self.new.given ≡ self.old.given }
         ensures taken { self.new.taken ≡ self.old.taken }
         ensures failures { self.new.failures ≡ one_more self.old.failures }
+        ensures row { self.new.row ≡ self.old.row }
+        ensures lost { self.new.is_lost ≡ self.old.is_lost }
     {
         self.failures = self.failures.saturating_add(1);
         WireFault
+    }
+
+    /// Counts a receive in time that failed so.
+    fn miss(&mut self, number: Option<u32>) -> ReceiveFault
+        ensures given { self.new.given ≡ self.old.given }
+        ensures taken { self.new.taken ≡ self.old.taken }
+        ensures failures { self.new.failures ≡ one_more self.old.failures }
+        ensures row { self.new.row ≡ one_more self.old.row }
+        ensures lost { self.new.is_lost ≡ is_lost result }
+    {
+        let fault = ReceiveFault { number };
+        let _ = self.fail();
+        self.row = self.row.saturating_add(1);
+        self.is_lost = fault.is_lost();
+        fault
+    }
+
+    /// Counts a receive in time that didn't fail.
+    fn hear(&mut self)
+        ensures given { self.new.given ≡ self.old.given }
+        ensures taken { self.new.taken ≡ self.old.taken }
+        ensures failures { self.new.failures ≡ self.old.failures }
+        ensures row { self.new.row ≡ 0 }
+        ensures lost { self.new.is_lost ≡ false }
+    {
+        self.row = 0;
+        self.is_lost = false;
     }
 
     /// Keeps a copy of what it gives.
@@ -108,6 +162,8 @@ impl MemoryWire {
             (λ _. self.new.given.items ≡ self.old.given.items) }
         ensures taken { self.new.taken ≡ self.old.taken }
         ensures failures { self.new.failures ≡ self.old.failures }
+        ensures row { self.new.row ≡ self.old.row }
+        ensures lost { self.new.is_lost ≡ self.old.is_lost }
     {
         let copy = Vec::from_slice(self.alloc, octets)?;
         self.given.push(Datagram {
@@ -124,6 +180,8 @@ impl MemoryWire {
             (λ _. self.new.taken.items ≡ self.old.taken.items) }
         ensures given { self.new.given ≡ self.old.given }
         ensures failures { self.new.failures ≡ self.old.failures }
+        ensures row { self.new.row ≡ self.old.row }
+        ensures lost { self.new.is_lost ≡ self.old.is_lost }
     {
         let copy = Vec::from_slice(self.alloc, octets)?;
         self.taken.push(Datagram {
@@ -169,6 +227,47 @@ impl Wire for MemoryWire {
             Ok(()) => Ok(()),
             Err(_) => Err(self.fail()),
         }
+    }
+}
+
+impl Ear for MemoryWire {
+    ghost misses = { λ w. record { row = w.row; lost = w.is_lost } };
+
+    fn place(&self) -> Option<Addr> {
+        None
+    }
+
+    fn row(&self) -> u64 {
+        self.row
+    }
+
+    fn recv_in_time<R: Wait>(
+        &mut self,
+        _rt: &R,
+        octets: &mut [u8],
+    ) -> Result<Option<(usize, Addr)>, ReceiveFault> {
+        if is_due(&mut self.receives) {
+            return Err(self.miss(Some(NO_ROOM)));
+        }
+        if is_due(&mut self.silences) {
+            self.hear();
+            return Ok(None);
+        }
+        let Some(
+            Datagram {
+                peer,
+                octets: coming,
+            },
+        ) = self.coming.pop()
+        else {
+            return Err(self.miss(Some(NONE_LEFT)));
+        };
+        let length = fill(octets, coming.as_slice());
+        if self.give(peer, &octets[..length]).is_err() {
+            return Err(self.miss(None));
+        }
+        self.hear();
+        Ok(Some((length, peer)))
     }
 }
 

@@ -1,12 +1,21 @@
 //! Sockets as wires.
-ghost use Rattle.std.specs.Prelude.{◌≡◌, IfOk};
-ghost use Rattle.transport.specs.Sockets.{loopback, IsNew, failed};
+ghost use Rattle.std.specs.Prelude.{◌≡◌, ◌≤◌, IfOk, Some};
+ghost use Rattle.transport.specs.Sockets.{loopback, IsNew, failed, missed, heard};
+ghost use Rattle.transport.specs.Ears.{is_lost};
 
+use crate::ear::{Ear, ReceiveFault};
 use crate::wire::{Wire, WireFault};
+use libc::net as c;
 use sip_text::Addr;
 use std::io;
+use std::io::ErrorKind;
 use std::net::{IpAddr, Ipv4Addr, Net, SocketAddr, UdpSocket};
+use std::os::fd::AsRawFd;
 use std::sync::Wait;
+use std::time::Duration;
+
+/// For how long a receive in time waits, in milliseconds: so a service that closes is seen to within a quarter of a second.
+const WAIT: u64 = 250;
 
 /// A UDP socket (IPv4) as a wire. It tells how often it failed, and nothing of its datagrams. The socket is closed once its
 /// wires are dropped.
@@ -15,6 +24,8 @@ pub struct UdpWire {
     socket: UdpSocket,
     local: Addr,
     failures: u64,
+    row: u64,
+    is_lost: bool,
 }
 
 /// This address as the system's.
@@ -72,11 +83,15 @@ impl UdpWire {
             socket,
             local,
             failures: 0,
+            row: 0,
+            is_lost: false,
         };
         let second = UdpWire {
             socket: other,
             local,
             failures: 0,
+            row: 0,
+            is_lost: false,
         };
         Ok((first, second))
     }
@@ -86,6 +101,61 @@ impl UdpWire {
         ensures { result ≡ self.now.local }
     {
         self.local
+    }
+
+    /// Has each receive of its socket wait for a quarter of a second at most: [`Ear::recv_in_time`] then gives nothing yet, and
+    /// [`Wire::recv`] fails.
+    pub fn limit_waits(&self) -> Result<(), WireFault> {
+        self.socket
+            .set_read_timeout(Some(Duration::from_millis(WAIT)))?;
+        Ok(())
+    }
+
+    /// Asks for room for so many bytes of datagrams that came and wait to be received. Answers for how many the system gives room,
+    /// which may be less. Linux counts its own bookkeeping in, and so gives and tells twice what is asked for.
+    pub fn ask_for_room(&self, bytes: u32) -> Result<u32, WireFault>
+        ensures { IfOk result (λ got. got ≤ bytes) }
+    {
+        let descriptor = self.socket.as_raw_fd();
+        let mut value = [0; 16];
+        value[..4].copy_from_slice(&bytes.to_ne_bytes());
+        if unsafe { c::setsockopt(descriptor, c::SOL_SOCKET, c::SO_RCVBUF, &value, 4) } != 0 {
+            return Err(WireFault);
+        }
+        let mut length = 4;
+        let told = unsafe {
+            c::getsockopt(
+                descriptor,
+                c::SOL_SOCKET,
+                c::SO_RCVBUF,
+                &mut value,
+                &mut length,
+            )
+        };
+        if told != 0 {
+            return Err(WireFault);
+        }
+        let [first, second, third, fourth, ..] = value;
+        Ok((u32::from_ne_bytes([first, second, third, fourth]) / 2).min(bytes))
+    }
+
+    /// Counts a receive in time that failed so.
+    fn miss(&mut self, fault: ReceiveFault) -> ReceiveFault
+        ensures missed { self.new ≡ missed (is_lost fault) self.old }
+        ensures fault { result ≡ fault }
+    {
+        let _ = self.fail();
+        self.row = self.row.saturating_add(1);
+        self.is_lost = fault.is_lost();
+        fault
+    }
+
+    /// Counts a receive in time that didn't fail.
+    fn hear(&mut self)
+        ensures { self.new ≡ heard self.old }
+    {
+        self.row = 0;
+        self.is_lost = false;
     }
 
     /// Counts a failure.
@@ -114,6 +184,41 @@ impl Wire for UdpWire {
         match self.socket.send_to(octets, system_addr(to)) {
             Ok(length) if length == octets.len() => Ok(()),
             Ok(_) | Err(_) => Err(self.fail()),
+        }
+    }
+}
+
+impl Ear for UdpWire {
+    ghost misses = { λ w. record { row = w.row; lost = w.is_lost } };
+
+    ghost at = { λ w. Some w.local };
+
+    fn place(&self) -> Option<Addr> {
+        Some(self.local)
+    }
+
+    fn row(&self) -> u64 {
+        self.row
+    }
+
+    fn recv_in_time<R: Wait>(
+        &mut self,
+        _rt: &R,
+        octets: &mut [u8],
+    ) -> Result<Option<(usize, Addr)>, ReceiveFault> {
+        match self.socket.recv_from(octets) {
+            Ok((length, source)) => match addr_of(source) {
+                Ok(source) => {
+                    self.hear();
+                    Ok(Some((length, source)))
+                }
+                Err(_) => Err(self.miss(ReceiveFault { number: None })),
+            },
+            Err(error) if error.kind() == ErrorKind::WouldBlock => {
+                self.hear();
+                Ok(None)
+            }
+            Err(error) => Err(self.miss(ReceiveFault::from(error))),
         }
     }
 }

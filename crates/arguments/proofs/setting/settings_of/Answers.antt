@@ -18,7 +18,7 @@ returns-in_err-setting-in-Some c =
     let P : Option Flag → Type 0 = λ o. with_front front (settings_from o (word ∷ rest)) ≡ total in
     let so_far = subst P waits (at_word front c.loop-word.waiting c.args.words.now c.loop-word.word-index word total c.loop-word-test.true c.word-item.is c.loop-word.invariant) in
     let p = err_from_is_err_and c.from_residual.result c.from_residual.ensures.1 in
-    rw (p.1, p.2) (fails_too c.in_err-setting-in-Some.field-0.0 (valued f word) total (λ e. bad_value front f word rest c.in_err-setting-in-Some.field-0.0 total e so_far) c.in_err-setting-in-Some.ensures)
+    rw (p.1, p.2) (fails_too c.in_err-setting-in-Some.field-0.0 (valued f word) total (λ e. bad_value front f word rest c.in_err-setting-in-Some.field-0.0 total e so_far) (rw c.as_str.ensures at c.in_err-setting-in-Some.ensures))
 
 pub returns-in_err-other-in-None-flag_of : goal.returns-in_err-other-in-None-flag_of
 returns-in_err-other-in-None-flag_of c =
@@ -30,7 +30,7 @@ returns-in_err-other-in-None-flag_of c =
     let P : Option Flag → Type 0 = λ o. with_front front (settings_from o (word ∷ rest)) ≡ total in
     let so_far = subst P waits (at_word front c.loop-word.waiting c.args.words.now c.loop-word.word-index word total c.loop-word-test.true c.word-item.is c.loop-word.invariant) in
     let p = err_from_is_err_and c.from_residual-in_err-other-in-None-flag_of.result c.from_residual-in_err-other-in-None-flag_of.ensures.1 in
-    rw (p.1, p.2) (fails_too c.in_err-other-in-None-flag_of.field-0.0 (alone word) total (λ e. bad_word front word rest c.in_err-other-in-None-flag_of.field-0.0 total (ap flag_of (sym c.as_str.ensures) ∙ c.in-None-flag_of.ensures) e so_far) c.in_err-other-in-None-flag_of.ensures)
+    rw (p.1, p.2) (fails_too c.in_err-other-in-None-flag_of.field-0.0 (alone word) total (λ e. bad_word front word rest c.in_err-other-in-None-flag_of.field-0.0 total (ap flag_of (sym c.as_str-in-None.ensures) ∙ c.in-None-flag_of.ensures) e so_far) c.in_err-other-in-None-flag_of.ensures)
 
 pub loop-word-preserved : goal.loop-word-preserved
 loop-word-preserved c =
@@ -45,15 +45,15 @@ loop-word-preserved c =
           (let waits : c.loop-word.waiting ≡ Some w.in-Some.flag = (let a = c.take.ensures.value in let b = w.in-Some.is in cc) in
           let none = c.take.ensures.after in
           let more = w.in_ok-push-in-Some.ensures.items in
-          rw (w.settings-is, w.waiting-is, none, more) (value_goes_on front w.in-Some.flag word rest w.in_ok-setting-in-Some.setting total w.in_ok-setting-in-Some.ensures (subst P waits so_far)))
+          rw (w.settings-is, w.waiting-is, none, more) (value_goes_on front w.in-Some.flag word rest w.in_ok-setting-in-Some.setting total (rw w.as_str.ensures at w.in_ok-setting-in-Some.ensures) (subst P waits so_far)))
       | in-None+in-Some-flag_of w ↦
           (let waits : c.loop-word.waiting ≡ None = (let a = c.take.ensures.value in let b = w.in-None.is in cc) in
-          rw (w.settings-is, w.waiting-is) (flag_goes_on front word rest w.in-Some-flag_of.flag total (ap flag_of (sym w.as_str.ensures) ∙ w.in-Some-flag_of.ensures) (subst P waits so_far)))
+          rw (w.settings-is, w.waiting-is) (flag_goes_on front word rest w.in-Some-flag_of.flag total (ap flag_of (sym w.as_str-in-None.ensures) ∙ w.in-Some-flag_of.ensures) (subst P waits so_far)))
       | in-None+in-None-flag_of+in_ok-other-in-None-flag_of+in_ok-push-in-None-flag_of w ↦
           (let waits : c.loop-word.waiting ≡ None = (let a = c.take.ensures.value in let b = w.in-None.is in cc) in
           let none = c.take.ensures.after in
           let more = w.in_ok-push-in-None-flag_of.ensures.items in
-          rw (w.settings-is, w.waiting-is, none, more) (word_goes_on front word rest w.in_ok-other-in-None-flag_of.other total (ap flag_of (sym w.as_str.ensures) ∙ w.in-None-flag_of.ensures) w.in_ok-other-in-None-flag_of.ensures (subst P waits so_far)))
+          rw (w.settings-is, w.waiting-is, none, more) (word_goes_on front word rest w.in_ok-other-in-None-flag_of.other total (ap flag_of (sym w.as_str-in-None.ensures) ∙ w.in-None-flag_of.ensures) w.in_ok-other-in-None-flag_of.ensures (subst P waits so_far)))
     ]
 
 pub returns-in-Some-waiting : goal.returns-in-Some-waiting

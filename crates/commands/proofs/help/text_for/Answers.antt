@@ -1,10 +1,13 @@
-use Rattle.std.proofs.Common.{inl, inr}
-use Rattle.commands.proofs.Refused.{only_word}
+use Rattle.std.proofs.Common.{◌≡◌, ◌∷◌, [], ap, sym, ◌∙◌, subst}
+use Rattle.commands.proofs.Refused.{only_word, asked_alone, alone_asks}
 use Rattle.commands.proofs.help.text_for.Goals as goal
 
 pub returns-in-len1-clause-asked : goal.returns-in-len1-clause-asked
-returns-in-len1-clause-asked c = inl (only_word _ _ _ _ c.in-len1.len_at_least c.in-len1.len_below c.word-item.is c.is.ensures c.if-is.true)
+returns-in-len1-clause-asked c =
+    let alone = only_word c.args.words.now c.word-item.result c.in-len1.len_at_least c.in-len1.len_below c.word-item.is in
+    asked_alone c.args.words.now c.word-item.result c.text_of.result alone (rw c.as_str.ensures at c.text_of.ensures.asked)
 
-pub returns-in-len1-2-clause-asked : goal.returns-in-len1-2-clause-asked
-returns-in-len1-2-clause-asked c =
-    inr (only_word _ _ _ _ c.in-len1.len_at_least c.in-len1.len_below c.word-item-then-words-lt2.is c.is-then-words-lt2.ensures c.if-is-2.true)
+pub returns-in-len1-clause-only : goal.returns-in-len1-clause-only
+returns-in-len1-clause-only c = λ asked.
+    let alone = only_word c.args.words.now c.word-item.result c.in-len1.len_at_least c.in-len1.len_below c.word-item.is in
+    (rw c.as_str.ensures at c.text_of.ensures.only) (alone_asks c.args.words.now c.word-item.result alone asked)

@@ -5,29 +5,29 @@ use Rattle.commands.proofs.Refused.{others_are}
 use Rattle.commands.proofs.Started.{count_is, workers_are, ran_is, if_both}
 use Rattle.commands.proofs.program.serve_words.Goals as goal
 
-pub run-requires-clause-few_workers : goal.run-requires-clause-few_workers
-run-requires-clause-few_workers g c κs within =
+pub run-served-requires-clause-few_workers : goal.run-served-requires-clause-few_workers
+run-served-requires-clause-few_workers g c κs within =
     let plan = c.in_ok-plan.plan in let fitted = c.in_ok-boxes.field-0 in let boxes = fitted.boxes in let size = boxes.ok.0 in
     let few = count_is plan.choices.numbers.workers plan.workers c.in_ok-plan.ensures.plan.workers in
-    let len = workers_are box_seen c.work_of-work.result.0.setup boxes.items plan fitted.sockets.bell.sip c.work_of-work.ensures.work.setup c.in_ok-boxes.ensures.boxes in
+    let len = workers_are box_seen c.work_of-work.result.0.setup boxes.items plan c.work_of-work.result.0.sip.coming.local c.work_of-work.ensures.work.setup c.in_ok-boxes.ensures.boxes in
     omega (arith, few.1)
 
 pub returns-clause-served : goal.returns-clause-served
 returns-clause-served g c =
-    let plan = c.in_ok-plan.plan in let fitted = c.in_ok-boxes.field-0 in let boxes = fitted.boxes in let local = fitted.sockets.bell.sip in
+    let plan = c.in_ok-plan.plan in let fitted = c.in_ok-boxes.field-0 in let boxes = fitted.boxes in let local = c.work_of-work.result.0.sip.coming.local in
     let few = count_is plan.choices.numbers.workers plan.workers c.in_ok-plan.ensures.plan.workers in
     let work = c.work_of-work.ensures.work in
-    if_both c.run.result (rw c.new-sink.ensures at c.run.ensures.ran) c.run.ensures.faults
+    if_both c.run-served.result (rw c.new-sink.ensures at c.run-served.ensures.ran) c.run-served.ensures.faults
     (λ served ran faults. record {
       plan = plan;
       is_plan = c.in_ok-plan.ensures.plan;
       local = local;
-      is_at = c.in_ok-boxes.ensures.opened.at;
+      is_at = work.sip;
       ran =
           ran_is box_seen c.work_of-work.result.0.setup boxes.items plan local work.setup c.in_ok-boxes.ensures.boxes
           g.F.Write.contents _ boxes.ok.0 (omega (arith, few.0)) work.repeats work.mailboxes ran;
-      faults = faults_new work.sip_failures work.line_failures faults;
+      faults = faults_new work.sip_misses work.line_misses faults;
     })
 
 pub returns-clause-refused : goal.returns-clause-refused
-returns-clause-refused g c = others_are _ c.run.result c.run.ensures.refused
+returns-clause-refused g c = others_are _ c.run-served.result c.run-served.ensures.refused

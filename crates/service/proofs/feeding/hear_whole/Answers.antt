@@ -1,5 +1,5 @@
-use Rattle.std.proofs.Common.{refl, ap, ◌∙◌}
-use Rattle.service.specs.Taken.{failures_then}
+use Rattle.std.proofs.Common.{refl, ◌∙◌}
+use Rattle.transport.specs.Sockets.{misses}
 use Rattle.service.proofs.feeding.hear_whole.Goals as goal
 
 pub returns : goal.returns
@@ -7,10 +7,10 @@ returns g c =
     let heard = c.hear_datagrams-end.ensures in let shut = c.shut-port.ensures in let late = c.hear_answers-fails_late in record {
       sends = record {
         fed_to = c.hear_datagrams-end.new.port;
-        fed = (heard.served.0, heard.served.2);
+        fed = (heard.served.1, heard.served.4);
         shut = shut.shut;
         ends = shut.ends;
         seats = shut.seats ∙ heard.seats;
       };
-      fails = (late.new.wire, refl, late.ensures.failures ∙ ap (failures_then late.result) heard.failures);
+      fails = (late.new.self, refl, (misses c.hear_datagrams-end.new.self.coming, heard.until, late.ensures.until));
     }

@@ -1,5 +1,5 @@
-use Rattle.std.proofs.Common.{refl, ap, ◌∙◌}
-use Rattle.service.specs.Taken.{failures_then}
+use Rattle.std.proofs.Common.{refl, ◌∙◌}
+use Rattle.transport.specs.Sockets.{misses}
 use Rattle.service.proofs.feeding.take_whole.Goals as goal
 
 pub returns : goal.returns
@@ -12,5 +12,5 @@ returns g c =
         ends = shut.ends;
         seats = shut.seats ∙ took.seats;
       };
-      fails = (late.new.self, refl, late.ensures.failures ∙ ap (failures_then late.result) took.failures);
+      fails = (late.new.self, refl, (misses c.take_lines-end.new.self.coming, took.until, late.ensures.until));
     }

@@ -4,7 +4,7 @@ use Rattle.crew.specs.Ports.{PortSeats}
 use Rattle.service.specs.Handing.{IsNew}
 use Rattle.service.proofs.Closed.{taker_new, taker_workers, ports_closed, pushed_three}
 use Rattle.service.proofs.Ran.{sent_datagrams, sent_lines, sent_ticks, runs_are}
-use Rattle.service.proofs.Faults.{left_wire, left_desk, left_stopwatch, wire_failed, desk_failed, clock_failed}
+use Rattle.service.proofs.Faults.{left_phones, left_desk, left_stopwatch, phones_heard, desk_heard, clock_failed}
 use Rattle.service.proofs.running.serve_to_end.Goals as goal
 
 pub send_outs-requires-clause-workers : goal.send_outs-requires-clause-workers
@@ -27,9 +27,9 @@ join-report-requires-clause-ports g c p q low =
 pub join-report-requires-clause-ended : goal.join-report-requires-clause-ended
 join-report-requires-clause-ended g c = started_end c.requires.new.2 c.send_outs.new.outgoing.taker c.send_outs.ensures.outbox c.send_outs.ensures.ended
 
-pub wire_of-requires : goal.wire_of-requires
-wire_of-requires g c =
-    let its = left_wire c.requires.errands.2 c.join-sip.result c.join-sip.ensures.fails in (its.0, its.1)
+pub sip_desk_of-requires : goal.sip_desk_of-requires
+sip_desk_of-requires g c =
+    let its = left_phones c.requires.errands.2 c.join-sip.result c.join-sip.ensures.fails in (its.0, its.1)
 
 pub desk_of-requires : goal.desk_of-requires
 desk_of-requires g c =
@@ -40,14 +40,14 @@ stopwatch_of-requires g c =
     let its = left_stopwatch c.requires.errands.2 c.join-time.result c.join-time.ensures.fails in (its.0, its.1)
 
 pub returns-clause-faults : goal.returns-clause-faults
-returns-clause-faults g c = λ wire desk errands. record {
-  sip = wire_failed wire c.wire_of.result c.join-sip.result (left_wire errands c.join-sip.result c.join-sip.ensures.fails) c.wire_of.ensures;
-  lines = desk_failed desk c.desk_of.result c.join-lines.result (left_desk errands c.join-lines.result c.join-lines.ensures.fails) c.desk_of.ensures;
+returns-clause-faults g c = λ phones desk errands. record {
+  sip = phones_heard phones c.sip_desk_of.result c.join-sip.result (left_phones errands c.join-sip.result c.join-sip.ensures.fails) c.sip_desk_of.ensures;
+  lines = desk_heard desk c.desk_of.result c.join-lines.result (left_desk errands c.join-lines.result c.join-lines.ensures.fails) c.desk_of.ensures;
   time = clock_failed c.stopwatch_of.result c.join-time.result (left_stopwatch errands c.join-time.result c.join-time.ensures.fails) c.stopwatch_of.ensures;
 }
 
 pub returns-clause-runs : goal.returns-clause-runs
-returns-clause-runs g c = λ start lent wire desk repeats is none lent_are errands.
+returns-clause-runs g c = λ start lent phones desk repeats is none lent_are errands.
     let sip = c.join-sip in let lines = c.join-lines in let time = c.join-time in
     let room = c.requires.room in let size = c.args.ports.ok.0 in
     let one = c.push_reserved.new.self in let two = c.push_reserved-2.new.self in let three = c.push_reserved-3.new.self in

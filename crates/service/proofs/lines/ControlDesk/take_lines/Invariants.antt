@@ -1,6 +1,7 @@
 use Rattle.std.proofs.Common.{◌≡◌, ◌<◌, []}
 use Rattle.transport.specs.Wires.{Grows}
 use Rattle.crew.specs.Kept.{SameSeats}
+use Rattle.service.specs.Listening.{IsDeaf}
 use Rattle.service.proofs.Taking.{Taking}
 use Rattle.service.proofs.lines.ControlDesk.take_lines.Given as goal
 
@@ -10,7 +11,7 @@ invariant-loop g l = record {
   seats : SameSeats l.fn.port l.port;
   mailboxes : l.self.mailboxes ≡ l.fn.self.mailboxes;
   coming : Grows (g.W.Wire.taken l.fn.self.coming) (g.W.Wire.taken l.self.coming) [];
-  failures : g.W.Wire.failures l.self.coming ≡ g.W.Wire.failures l.fn.self.coming;
+  until : IsDeaf (g.W.Ear.misses l.self.coming) → IsDeaf (g.W.Ear.misses l.fn.self.coming);
   going : Grows (g.W.Wire.given l.fn.self.going) (g.W.Wire.given l.self.going) [];
   taking : Taking l.fn.self.mailboxes.items l.fn.port l.port (g.W.Wire.given l.fn.self.coming) (g.W.Wire.given l.self.coming)
       (g.W.Wire.taken l.fn.self.going) (g.W.Wire.taken l.self.going) (g.W.Wire.failures l.fn.self.going) (g.W.Wire.failures l.self.going);

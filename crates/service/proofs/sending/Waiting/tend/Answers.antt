@@ -1,6 +1,9 @@
-use Rattle.std.proofs.Common.{◌++◌, map}
+use Rattle.std.proofs.Common.{◌++◌, [], map, refl}
 use Rattle.service.proofs.Acts.{noted, noted_fates, none_more, does_notes, does_more}
 use Rattle.service.proofs.sending.Waiting.tend.Goals as goal
+
+pub returns-then-is_busy-clause-does : goal.returns-then-is_busy-clause-does
+returns-then-is_busy-clause-does g c = ([], refl, does_notes [] _ _ _ refl)
 
 pub returns-then-watch-eq0-clause-does : goal.returns-then-watch-eq0-clause-does
 returns-then-watch-eq0-clause-does g c =

@@ -1,0 +1,60 @@
+-- The boxes of workers that were told of changes.
+use Rattle.std.proofs.Common.{◌≡◌, ℕ, ◌+◌, ◌<◌, Bool, true, false, List, [], ◌∷◌, ◌++◌, length, map, take, get_or, string_bytes, String, refl, sym, ap, ◌∙◌, arith}
+use Rattle.std.specs.Prelude.{fold, if◌then◌else◌}
+use Rattle.std.specs.declared.alloc.Global.{Global}
+use Rattle.std.specs.List.{range_with_len}
+use Rattle.std.proofs.lemmas.List.{map-append, length-map}
+use Rattle.std.proofs.lemmas.List.Sums.{fold_more}
+use Rattle.std.proofs.lemmas.List.FromFn.{map-range_with_len_more, length-map-range_with_len}
+use Rattle.package.specs.declared.change.Change.{Change}
+use Rattle.package.specs.declared.change.Outcome.{Outcome}
+use Rattle.package.specs.Content.{Seen}
+use Rattle.package.specs.Changes.{change_of}
+use Rattle.refer.specs.Transfers.{new_transfers}
+use Rattle.arguments.specs.declared.either.EitherPackage.{EitherPackage}
+use Rattle.arguments.specs.declared.either.EitherPackage.TheVariants.{First, Second}
+use Rattle.arguments.specs.Either.{seen_as}
+use Rattle.arguments.specs.Setup.{mailboxes_named, names_for}
+use Rattle.arguments.specs.Told.{told, boxes_told, all_told}
+
+-- one change more
+pub told_more : (changes : List Change) (i : ℕ) (c : Change) (first box after : Seen) (outcome : Outcome) → i < length changes → c ≡ get_or changes i c
+    → box ≡ told (take i changes) first → (outcome, after) ≡ change_of box c → after ≡ told (take (i + 1) changes) first
+told_more changes i c first box after outcome below is so_far changed =
+    ap (λ (r : Outcome × Seen). r.1) changed
+    ∙ ap (λ (b : Seen). (change_of b c).1) so_far
+    ∙ ap (λ (x : Change). (change_of (told (take i changes) first) x).1) is
+    ∙ sym (fold_more (λ (b : Seen) c. (change_of b c).1) first changes i c below)
+
+pub all-push : {X : Type 0} (seen : X → List Seen) (all : List X) (boxes : X) (n worker : ℕ) (no_refer : Bool) (changes : List Change) (names its : List (List ℕ))
+    → map seen all ≡ map (λ w. boxes_told no_refer changes (names_for n w names)) (range_with_len 0 worker)
+    → seen boxes ≡ boxes_told no_refer changes its → its ≡ names_for n worker names
+    → map seen (all ++ boxes ∷ []) ≡ map (λ w. boxes_told no_refer changes (names_for n w names)) (range_with_len 0 (worker + 1))
+all-push seen all boxes n worker no_refer changes names its so_far new named =
+    map-append seen all (boxes ∷ [])
+    ∙ ap (λ (b : List Seen). map seen all ++ b ∷ []) (new ∙ ap (boxes_told no_refer changes) named)
+    ∙ ap (λ (bs : List (List Seen)). bs ++ boxes_told no_refer changes (names_for n worker names) ∷ []) so_far
+    ∙ sym (map-range_with_len_more (λ w. boxes_told no_refer changes (names_for n w names)) 0 worker worker (omega arith))
+
+pub told-len : {X : Type 0} (seen : X → List Seen) (all : List X) (n : ℕ) (no_refer : Bool) (changes : List Change) (names : List (List ℕ))
+    → map seen all ≡ all_told n no_refer changes names → length all ≡ n
+told-len seen all n no_refer changes names are =
+    sym (length-map all seen) ∙ ap length are ∙ length-map-range_with_len (λ w. boxes_told no_refer changes (names_for n w names)) 0 n
+
+-- the mailboxes alone
+pub one_box : {A B : Type 0} (first : A → Seen) (second : B → Seen) (boxes : List (EitherPackage A B)) (a : A) (no_refer : Bool) (changes : List Change) (names : List (List ℕ))
+    → no_refer ≡ true → boxes ≡ First a ∷ [] → first a ≡ told changes (mailboxes_named names) → map (seen_as first second) boxes ≡ boxes_told no_refer changes names
+one_box first second boxes a no_refer changes names without are mail =
+    ap (map (seen_as first second)) are
+    ∙ ap (λ (m : Seen). m ∷ []) mail
+    ∙ ap (λ (b : Bool). told changes (mailboxes_named names) ∷ (if b then [] else new_transfers ∷ [])) (sym without)
+
+-- and with transfers
+pub two_boxes : {A B : Type 0} (first : A → Seen) (second : B → Seen) (boxes : List (EitherPackage A B)) (a : A) (b : B) (no_refer : Bool) (changes : List Change) (names : List (List ℕ))
+    → no_refer ≡ false → boxes ≡ First a ∷ Second b ∷ [] → first a ≡ told changes (mailboxes_named names) → second b ≡ new_transfers
+    → map (seen_as first second) boxes ≡ boxes_told no_refer changes names
+two_boxes first second boxes a b no_refer changes names with_it are mail transfers =
+    ap (map (seen_as first second)) are
+    ∙ ap (λ (m : Seen). m ∷ second b ∷ []) mail
+    ∙ ap (λ (t : Seen). told changes (mailboxes_named names) ∷ t ∷ []) transfers
+    ∙ ap (λ (b : Bool). told changes (mailboxes_named names) ∷ (if b then [] else new_transfers ∷ [])) (sym with_it)

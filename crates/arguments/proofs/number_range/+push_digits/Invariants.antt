@@ -1,0 +1,4 @@
+use Rattle.arguments.proofs.number_range.«+push_digits».Given as goal
+
+abbrev pub decreases-push_digits : goal.decreases-push_digits
+decreases-push_digits l = l.width

@@ -1,0 +1,164 @@
+"""`notifyd serve` where the system fails: receives that fail and pass, a socket that is lost, datagrams that are too long, an address
+that is taken away. Receives are made to fail by `strace`, and an address is taken away in a network namespace: where one of these
+can't be had, a line says what wasn't tried."""
+
+import os
+import shutil
+import subprocess
+import time
+
+from phone import PATIENCE
+from service import SUBSCRIBE, Service, address, last_counters
+from suite import Running, free_port, run, same
+
+# A seldom receive of a thread fails: each one looks up some times a second.
+PASSING = ("ENOBUFS", "ENOMEM", "ECONNREFUSED", "EHOSTUNREACH", "EINTR", "ENETDOWN", "EIO", "EPERM", "ETIMEDOUT", "EFAULT")
+
+LOST = ("EBADF", "ENOTSOCK")
+
+PLACE = "10.99.7.1"
+
+
+class Failing(Service):
+    """A service whose receives fail as `strace` is asked for."""
+
+    def __init__(self, program, inject, *words):
+        self.program, self.sip, self.control = program, free_port(), free_port()
+        traced = ["-f", "-qq", "-o", "/dev/null", "-e", "trace=recvfrom", "-e", f"inject=recvfrom:{inject}"]
+        places = ("--listen", address(self.sip), "--control", address(self.control))
+        self.running = Running("strace", [*traced, program, "serve", *places, *words])
+
+
+def failing(*errors):
+    """A check of receives that fail by each of these errors, once in a while, and that of no more than a line."""
+
+    def passes(program, folder):
+        for error in errors:
+            with Failing(program, f"error={error}:when=3+4", "alice") as service, service.phone("alice") as phone, service.operator() as operator:
+                phone.subscribe()
+                operator.tell("MAIL alice voice 2 8 0 2")
+                phone.expect_notify("active", "Messages-Waiting: yes\r\nVoice-Message: 2/8 (0/2)\r\n")
+                until = time.monotonic() + PATIENCE
+                while operator.counters()["failed_receives"] == "0" and time.monotonic() < until:
+                    time.sleep(0.1)
+                ended = service.close(lambda: phone.hear_farewell("Messages-Waiting: yes\r\nVoice-Message: 2/8 (0/2)\r\n"))
+            lines = [line for line in ended.err.decode().splitlines() if "a receive at" in line]
+            same(f"whether {error} is told with its number and the address, and seldom", True, 1 <= len(lines) <= 4)
+            same(f"whether {error} is counted", True, last_counters(ended)["failed_receives"] != "0")
+
+    return passes
+
+
+def a_lost_socket_ends_it(program, folder):
+    for error in LOST:
+        with Failing(program, f"error={error}:when=3+", "alice") as service:
+            ended = service.running.end()
+            same(f"the exit status at {error}", 3, ended.status)
+            same(f"whether {error} is told", True, b"a receive at 127.0.0.1:" in ended.err)
+
+
+def a_deaf_socket_ends_it(program, folder):
+    """Each receive fails from the third on: that is borne for ten seconds."""
+    began = time.monotonic()
+    with Failing(program, "error=ENOBUFS:when=3+", "alice") as service:
+        ended = service.running.end()
+    same("the exit status", 3, ended.status)
+    same("whether it bore that for ten seconds", True, time.monotonic() - began >= 10)
+
+
+def long_datagrams_are_dropped(program, folder):
+    with Service(program, "alice") as service, service.phone("alice") as phone, service.operator() as operator:
+        phone.send(SUBSCRIBE.replace(b"Max-Forwards: 70\r\n", b"Max-Forwards: 70\r\nSubject: " + b"s" * 8000 + b"\r\n"))
+        until = time.monotonic() + PATIENCE
+        while operator.counters()["too_long"] != "1" and time.monotonic() < until:
+            time.sleep(0.05)
+        counted = operator.counters()
+        same("what is counted of a long datagram", ("1", "1", "0"), (counted["datagrams"], counted["too_long"], counted["events"]))
+        phone.leave(phone.subscribe(), "Messages-Waiting: no\r\n")
+        service.close()
+    with Service(program, "--max-datagram", "9000", "alice") as service, service.phone("alice") as phone, service.operator() as operator:
+        phone.send(SUBSCRIBE.replace(b"Max-Forwards: 70\r\n", b"Max-Forwards: 70\r\nSubject: " + b"s" * 8000 + b"\r\n"))
+        same("the answer to a datagram that may be as long", b"SIP/2.0 200 OK", phone.socket.recv(65535).split(b"\r\n")[0])
+        same("what is counted as too long", "0", operator.counters()["too_long"])
+        service.close()
+
+
+def less_room_is_told(program, folder):
+    """As much as a socket may ask for no system gives."""
+    with Service(program, "--receive-buffer", str(1 << 30), "alice") as service:
+        told = service.running.err
+        service.close()
+    with open("/proc/sys/net/core/rmem_max", encoding="ascii") as limit:
+        got = int(limit.read())
+    line = f"notifyd: the system gives the socket of --listen room for {got} octets, not for {1 << 30}\n"
+    same("whether less room is told", got < 1 << 30, line.encode() in told)
+
+
+class Place:
+    """A network namespace with an address that can be taken away."""
+
+    def __init__(self):
+        self.name = f"notifyd-{os.getpid()}-{free_port()}"
+
+    def ip(self, *words):
+        subprocess.run(["ip", "-n", self.name, *words], check=True, capture_output=True)
+
+    def __enter__(self):
+        subprocess.run(["ip", "netns", "add", self.name], check=True, capture_output=True)
+        self.ip("link", "set", "lo", "up")
+        self.ip("address", "add", f"{PLACE}/32", "dev", "lo")
+        return self
+
+    def __exit__(self, *_):
+        subprocess.run(["ip", "netns", "delete", self.name], check=False, capture_output=True)
+
+    def inside(self, *words):
+        return ["netns", "exec", self.name, *words]
+
+
+def an_address_is_taken_away(program, folder):
+    with Place() as place:
+        words = ["serve", "--listen", f"{PLACE}:5060", "--control", "127.0.0.1:5061", "alice"]
+        with Running("ip", place.inside(program, *words)) as running:
+            running.lines_until(b"listening at")
+            place.ip("address", "delete", f"{PLACE}/32", "dev", "lo")
+            told = run("ip", place.inside(program, "tell", "CLOSE"))
+            same("the answer to CLOSE", b"ok\n", told.out)
+            began = time.monotonic()
+            same("the exit status", 0, running.end().status)
+            same("whether it ended at once", True, time.monotonic() - began < 10)
+
+
+def can_trace():
+    """Whether `strace` may make calls fail here."""
+    if not shutil.which("strace"):
+        return False
+    words = ["strace", "-qq", "-o", "/dev/null", "-e", "inject=getcwd:error=EIO", "true"]
+    return subprocess.run(words, capture_output=True, check=False).returncode == 0
+
+
+def can_separate():
+    """Whether a network namespace may be made here."""
+    if not shutil.which("ip"):
+        return False
+    try:
+        with Place():
+            return True
+    except (OSError, subprocess.CalledProcessError):
+        return False
+
+
+def checks():
+    yield "serve: datagrams that are too long are dropped and counted", long_datagrams_are_dropped
+    yield "serve: less room for datagrams than asked for is told", less_room_is_told
+    if can_trace():
+        yield "serve: receives that fail are tried again, told and counted", failing(*PASSING[:5])
+        yield "serve: other receives that fail are tried again, told and counted", failing(*PASSING[5:])
+        yield "serve: a lost socket ends it", a_lost_socket_ends_it
+        yield "serve: a socket that fails for ten seconds ends it", a_deaf_socket_ends_it
+    else:
+        print("  faults: failed receives were not tried: strace can't be had", flush=True)
+    if can_separate():
+        yield "serve: it closes where its address was taken away", an_address_is_taken_away
+    else:
+        print("  faults: an address that is taken away was not tried: no network namespace can be had", flush=True)
