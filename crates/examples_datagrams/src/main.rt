@@ -3,7 +3,7 @@
 //!
 //! - `data/table` has a line for each message of RFC 4475, the torture tests of SIP, each whole as a datagram: the name that the
 //!   RFC gives it, the section, what it is read as, and why. They were written down from memory of the RFC, and not compared
-//!   with its archive of files; the table was written by its sections and `docs/FORMATS.md`, not by the program. Of the RFC's 49
+//!   with its archive of files; the table was written by its sections and `docs/protocol.md`, not by the program. Of the RFC's 49
 //!   messages one is left out, the multipart body of section 3.1.1.11 with its signature: a body is bytes here, whatever stands in it.
 //! - `data/errors`, `data/lines` and `data/torture` have a line for each short datagram, and `data/vias` for each answer to one:
 //!   [`tables`] says how they are written.

@@ -37,8 +37,8 @@ fn event_of(alloc: Global, block: Block) -> Result<Event, NoMemory> {
     }
 }
 
-/// The events of a script, and a planned stop. No script here is bad, so what is not read is want of memory.
-fn events_of(alloc: Global, script: &[u8]) -> Result<Vec<Event>, NoMemory> {
+/// The events of a script. No script here is bad, so what is not read is want of memory.
+pub(crate) fn heard(alloc: Global, script: &[u8]) -> Result<Vec<Event>, NoMemory> {
     let Ok(blocks) = parse_script(alloc, script) else {
         return Err(NoMemory);
     };
@@ -46,7 +46,6 @@ fn events_of(alloc: Global, script: &[u8]) -> Result<Vec<Event>, NoMemory> {
     for block in blocks {
         events.push(event_of(alloc, block)?)?;
     }
-    events.push(Event::Shut)?;
     Ok(events)
 }
 
@@ -92,14 +91,15 @@ fn is_replayed(alloc: Global, events: Vec<Event>) -> Result<bool, NoMemory> {
 /// Whether a desk with presence alone refuses the one request of these events, and tells nothing else.
 fn is_refused(alloc: Global, events: &[Event]) -> Result<bool, NoMemory> {
     let mut boxes: Vec<Box<dyn Package>> = Vec::new(alloc);
-    boxes.push(Box::new(alloc, Presence)?)?;
+    boxes.push(Box::new(alloc, Presence::new(alloc)?)?)?;
     let outs = play_boxes(alloc, &setup_at(5060, [0; 32], false), 0, boxes, events)?;
     Ok(outs.len() == 1)
 }
 
-/// Whether a script goes as it should.
+/// Whether a script, and a planned stop behind it, goes as it should.
 fn goes(alloc: Global, script: &[u8]) -> Result<bool, NoMemory> {
-    let events = events_of(alloc, script)?;
+    let mut events = heard(alloc, script)?;
+    events.push(Event::Shut)?;
     let is_refused = is_refused(alloc, events.as_slice());
     let is_played = is_played(alloc, events.as_slice());
     let is_replayed = is_replayed(alloc, events);

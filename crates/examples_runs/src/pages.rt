@@ -1,7 +1,7 @@
 //! Runs over packages in boxes, one of them neither mailboxes nor transfers, and all but one with other limits than the program's.
 //!
 //! Each run NAME has its script in `data/NAME.script` and its page in `data/NAME.page`, with the line ends of SIP in their datagrams
-//! alone. The pages were put together from the layouts of `docs/FORMATS.md`, and not by the program. For each run a line says
+//! alone. The pages were put together from the layouts of `docs/protocol.md`, and not by the program. For each run a line says
 //! whether the notifier writes its page.
 
 use crate::presence::Presence;
@@ -75,7 +75,7 @@ fn is_page_of(
     for package in boxes_of(alloc)? {
         boxes.push(Box::new(alloc, package)?)?;
     }
-    boxes.push(Box::new(alloc, Presence)?)?;
+    boxes.push(Box::new(alloc, Presence::new(alloc)?)?)?;
     let mut sink = Sink::new(Vec::new(alloc));
     script_one(alloc, &mut Source::new(script), &mut sink, setup, boxes)?;
     Ok(sink.writer().as_slice() == wanted)
