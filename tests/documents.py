@@ -1,0 +1,352 @@
+"""What README.md and docs/ say is there, and is short enough to be read.
+
+It touches no program, so its checks are made once. Each file, heading, crate, function, definition and option that a page cites
+has to exist, by its name:
+
+- a link leads to a file, and to a heading of it where it has a `#`;
+- words in backquotes that look like a path (`crates/life/specs/Life`, `life/specs/Life`, `tests/run`) are a file or a folder, where an
+  ending may be left out and `{A, B}` stands for both; `a::b` of a crate stands in that crate; every other name stands somewhere in
+  the repository outside these pages;
+- in a row of a table whose first cell is a file of definitions or code, the names of the second cell stand in that file, and so do
+  those behind `file:` in an item that begins so;
+- a block of commands (```sh) is read by the shell, its targets of make and its programs exist, and so do their options.
+
+What docs/operating.md says of options and counters is compared with the program's texts. Beside these it says what the pages may not
+become: longer than WORDS in all, README longer than LINES, a sentence outside tables and code longer than SENTENCE words. Names that
+stand nowhere in the repository, since they are of a tool, a language or a protocol, stand in FOREIGN.
+"""
+
+import functools
+import glob
+import itertools
+import os
+import re
+import shlex
+import subprocess
+
+TOP = os.path.dirname(os.path.dirname(os.path.abspath(__file__)))
+
+PAGES = ["architecture", "decisions", "definitions", "measurements", "operating", "proofs", "protocol", "testing"]
+
+WORDS = 18_000
+
+LINES = 130
+
+SENTENCE = 40
+
+# Names in backquotes that stand nowhere in the repository, since they are of a tool, a language or a protocol.
+FOREIGN = {"unsafe", "Z9HG4BK", "skmem", "--nproc", "TheSendSync"}
+
+# Programs of the system that a block of commands may name.
+PROGRAMS = {
+    "apt", "cat", "cd", "echo", "install", "journalctl", "make", "notifyd", "nstat", "podman", "printf", "read", "rt", "ss",
+    "sysctl", "systemctl", "wc", "inotifywait", "maildir-notify", "export",
+}
+
+# Where a path may begin that is one of this repository.
+ROOTS = ("crates", "docs", "tests", "contrib", "bench", "field", ".ci")
+
+ENDINGS = ("", ".antt", ".rt", ".edit", ".py", ".page", ".script", ".md")
+
+NAME = re.compile(r"[A-Za-z_][A-Za-z0-9_]*(?:::[A-Za-z_][A-Za-z0-9_]*)*(?:\(\))?$")
+
+SPAN = re.compile(r"(?<!`)(`+)(?!`)(.+?)(?<!`)\1(?!`)")
+
+
+@functools.cache
+def read(path):
+    with open(os.path.join(TOP, path), encoding="utf-8", errors="replace") as file:
+        return file.read()
+
+
+def pages():
+    """The pages, as paths from the top of the repository."""
+    return ["README.md", *(f"docs/{name}.md" for name in PAGES)]
+
+
+@functools.cache
+def crates():
+    return {os.path.basename(path) for path in glob.glob(f"{TOP}/crates/*")}
+
+
+@functools.cache
+def words_of(*roots):
+    """Every word that stands in a file below these folders, or in its name, but not in a comment of code."""
+    found = set()
+    for root in roots:
+        place = os.path.join(TOP, root)
+        if os.path.isfile(place):
+            found |= set(re.findall(r"\w+", read(root)))
+        for folder, folders, files in os.walk(place):
+            folders[:] = [it for it in folders if it not in ("out", "__pycache__", "data")]
+            found |= set(itertools.chain.from_iterable(re.findall(r"\w+", it) for it in [*folders, *files]))
+            for name in files:
+                # Not this one, whose texts are those of the checks.
+                found |= set(re.findall(r"\w+", code(os.path.join(folder, name)))) if name != "documents.py" else set()
+    return found
+
+
+def code(path):
+    """The text of a file, that of code and definitions without what comments say."""
+    comment = {".rt": r"//.*", ".antt": r"--.*"}.get(os.path.splitext(path)[1])
+    return re.sub(comment, "", read(path)) if comment else read(path)
+
+
+def prose(text):
+    """The text without its blocks of code."""
+    return re.sub(r"^```.*?^```$", "", text, flags=re.M | re.S)
+
+
+def blocks(text, language):
+    """The blocks of code in this language."""
+    return re.findall(rf"^```{language}\n(.*?)^```$", text, flags=re.M | re.S)
+
+
+def spans(text):
+    """What stands in backquotes outside blocks of code."""
+    return [it[1].strip() for it in SPAN.findall(prose(text))]
+
+
+def told(wrong):
+    """Fails with all that is wrong."""
+    assert not wrong, "; ".join(wrong[:12])
+
+
+def there_are_eight(_program, _folder):
+    there = sorted(os.path.basename(it)[:-3] for it in glob.glob(f"{TOP}/docs/*"))
+    assert there == PAGES, f"docs/ has {there}"
+
+
+def words_are_few(_program, _folder):
+    count = sum(len(read(page).split()) for page in pages())
+    assert count <= WORDS, f"{count} words in all, where {WORDS} may stand"
+
+
+def the_first_page_is_short(_program, _folder):
+    count = read("README.md").count("\n")
+    assert count <= LINES, f"README.md has {count} lines, where {LINES} may stand"
+
+
+def sentences(text):
+    """The sentences of a page outside tables and code, headings and items apart."""
+    for part in re.split(r"\n\s*\n|\n(?=\s*(?:[-*]|\d+\.) )|\n(?=#)", prose(text)):
+        lines = [it for it in part.split("\n") if not it.lstrip().startswith("|") and not it.startswith(("#", "    "))]
+        yield from re.split(r"(?<=[.?!:;])\s+(?=[^a-z])|(?<=[.?!])\s", " ".join(lines).strip())
+
+
+def sentences_are_short(page):
+    def check(_program, _folder):
+        long = [it for it in sentences(read(page)) if len(it.split()) > SENTENCE]
+        told([f"{len(it.split())} words: {it[:70]} .." for it in long])
+
+    return check
+
+
+def anchor(heading):
+    """The name by which a heading is linked to."""
+    return re.sub(r"[^\w\- ]", "", heading.replace("`", "").strip().lower()).replace(" ", "-")
+
+
+def links_lead_somewhere(page):
+    def check(_program, _folder):
+        wrong = re.findall(r"^(?:<{7}|={7}|>{7}).*$", read(page), flags=re.M)
+        for target in re.findall(r"\]\(([^)\s]+)\)", prose(read(page))):
+            if target.startswith(("http:", "https:")):
+                continue
+            path, _, part = target.partition("#")
+            place = os.path.normpath(os.path.join(os.path.dirname(page), path)) if path else page
+            if not os.path.exists(os.path.join(TOP, place)):
+                wrong.append(f"no file {place}")
+            elif part and part not in {anchor(it) for it in re.findall(r"^#+ (.*)$", prose(read(place)), flags=re.M)}:
+                wrong.append(f"no heading #{part} in {place}")
+        told(wrong)
+
+    return check
+
+
+def is_there(path):
+    """Whether a path is that of a file or folder; of a crate `crates/` may be left out, and of a file its ending."""
+    prefix = "" if path.split("/")[0] in ROOTS else "crates/"
+    return any(glob.glob(f"{TOP}/{prefix}{path.rstrip('/')}{ending}") for ending in ENDINGS)
+
+
+def files_of(span):
+    """The paths that stand in a span, with braces taken apart; none where it is no path of this repository."""
+    first = span.split("/")[0]
+    if "/" not in span or not (first in ROOTS or first in crates()) or re.search(r"[<>$ ](?![^{]*\})", span):
+        return []
+    braces = re.search(r"\{(.*?)\}", span)
+    if not braces:
+        return [span]
+    return [span.replace(braces[0], it.strip()) for it in braces[1].split(",")]
+
+
+def unknown(span):
+    """What of a span in backquotes is nowhere to be found, or None."""
+    paths = files_of(span)
+    if paths:
+        # What is built stands in a folder that isn't kept.
+        return next((it for it in paths if "/out/" not in it and not is_there(it)), None)
+    if not NAME.match(span):
+        return None
+    first, *others = span.rstrip("()").split("::")
+    if others and first in crates():
+        return next((f"{it} of {first}" for it in others if it not in words_of_crate(first)), None)
+    return next((it for it in [first, *others] if it not in all_words()), None)
+
+
+@functools.cache
+def words_of_crate(crate):
+    """The words of a crate, and of those whose names it may hand on."""
+    line = next(it for it in read("crates.txt").split("\n") if it.startswith(f"{crate}:"))
+    return words_of(f"crates/{crate}", *(f"crates/{it}/src" for it in line.split(":")[1].split() if it in crates()))
+
+
+@functools.cache
+def all_words():
+    """The words of the repository outside these pages."""
+    return words_of(*(it for it in ROOTS if it != "docs"), "Makefile", "crates.txt", "HANDLES") | FOREIGN
+
+
+def names_exist(page):
+    def check(_program, _folder):
+        told([f"no {it}" for it in map(unknown, spans(read(page))) if it])
+
+    return check
+
+
+def rows(page):
+    """The rows of tables, each a list of its cells, and items that begin with names: what stands before a colon, and behind it."""
+    for line in prose(read(page)).split("\n"):
+        if line.startswith("- `"):
+            first, _, names = line[2:].partition(": ")
+            yield [first, names.partition(". ")[0]]
+        if line.startswith("|") and not set(line) <= set("|-: "):
+            yield [it.strip() for it in re.split(r"(?<!\\)\|", line.strip().strip("|"))]
+
+
+def rows_name_their_file(page):
+    def check(_program, _folder):
+        wrong = []
+        for cells in rows(page):
+            paths = [it for span in spans(cells[0]) for it in files_of(span)]
+            texts = [read(it) for path in paths if path.split("/")[0] in {"crates"} | crates() for it in text_files(path)]
+            if not texts or len(cells) < 2:
+                continue
+            known = set(re.findall(r"\w+", " ".join(texts)))
+            wrong += [f"no {it} in {cells[0]}" for it in spans(cells[1]) if NAME.match(it) and it.split("::")[-1] not in known]
+        told(wrong)
+
+    return check
+
+
+def text_files(path):
+    """The files of definitions and code that a path names."""
+    prefix = "" if path.split("/")[0] in ROOTS else "crates/"
+    return [f"{prefix}{path}{it}" for it in ("", ".antt", ".rt") if os.path.isfile(f"{TOP}/{prefix}{path}{it}")]
+
+
+def commands(block):
+    """The commands of a block, as lists of words."""
+    for line in block.replace("\\\n", " ").split("\n"):
+        line = line.split(" # ")[0]
+        if line.strip() and not line.startswith("#"):
+            for part in re.split(r"\s(?:\||&&|;|do)\s", line):
+                words = shlex.split(part, comments=True)
+                if words:
+                    yield words
+
+
+def options_of(name):
+    """The text in which the options of a program stand."""
+    if name == "notifyd":
+        return read("crates/commands/src/help.rt") + read("crates/arguments/src/arguments.rt") + read("crates/arguments/src/udp_arguments.rt")
+    return read(name) if os.path.isfile(f"{TOP}/{name}") else None
+
+
+def wrong_command(words):
+    """What is wrong with a command, or None."""
+    name = words[0]
+    if name == "make":
+        goals = [it for it in words[1:] if re.match(r"[a-z]+$", it)]
+        ended = subprocess.run(["make", "-n", *goals], cwd=TOP, capture_output=True, text=True)
+        return None if ended.returncode == 0 else f"make {goals}: {ended.stderr.strip()}"
+    lost = next((it for it in words if it.split("/")[0] in ROOTS and "/" in it and "/out/" not in it and not is_there(it)), None)
+    if lost:
+        return f"no file {lost}"
+    if "/" not in name and name not in PROGRAMS:
+        return f"no program {name} that is known"
+    known = options_of("notifyd" if os.path.basename(name) == "notifyd" else name)
+    missing = [it for it in words[1:] if known and re.match(r"--[a-z]", it) and it.split("=")[0] not in known]
+    return f"{name} has no {missing}" if missing else None
+
+
+def commands_can_be_typed(page):
+    def check(_program, _folder):
+        wrong = []
+        for block in blocks(read(page), "sh"):
+            ended = subprocess.run(["bash", "-n"], input=block, capture_output=True, text=True)
+            wrong += [ended.stderr.strip()] if ended.returncode else []
+            wrong += [it for it in map(wrong_command, commands(block)) if it]
+        told(wrong)
+
+    return check
+
+
+def options_stand_in_the_manual(_program, _folder):
+    manual = read("contrib/notifyd.8").replace("\\-", "-")
+    told([f"{it} isn't in contrib/notifyd.8" for it in re.findall(r"^  (--[a-z-]+)", read("crates/commands/src/help.rt"), flags=re.M) if it not in manual])
+
+
+def options_exist(_program, _folder):
+    known = " ".join(read(it) for it in ["crates/commands/src/help.rt", "contrib/notifyd.8", *scripts()]).replace("\\-", "-")
+    named = [(page, it) for page in pages() for span in spans(read(page)) for it in re.findall(r"(?<!\w)--[a-z][a-z-]+", span)]
+    told([f"{page}: {it}" for page, it in named if it not in known and it not in FOREIGN])
+
+
+def defaults_are_the_programs(_program, _folder):
+    helped = dict(re.findall(r"^  (--[a-z-]+) .*\((\d+)\)$", read("crates/commands/src/help.rt"), flags=re.M))
+    told_of = {}
+    for block in blocks(read("docs/operating.md"), "text"):
+        told_of |= {it[0]: it[2] for it in (re.split(r"\s{2,}", line) for line in block.split("\n")) if it[0].startswith("--")}
+    told([f"{it} is {helped[it]} by --help and {told_of.get(it)} in docs/operating.md" for it in helped if told_of.get(it) != helped[it]])
+
+
+def scripts():
+    """The scripts of the repository."""
+    return [os.path.relpath(it, TOP) for root in ("tests", "contrib", "bench", "field", ".ci") for it in glob.glob(f"{TOP}/{root}/*") if os.path.isfile(it)] + [
+        "crates/arguments/src/arguments.rt", "crates/arguments/src/udp_arguments.rt"
+    ]
+
+
+def counters_are_explained(_program, _folder):
+    names = re.findall(r'\("([a-z_0-9]+)", &self\.', read("crates/service/src/shared.rt"))
+    known = {it for cells in rows("docs/operating.md") for it in spans(cells[0])}
+    told([f"{it} isn't in docs/operating.md" for it in names if it not in known])
+
+
+def others_cite_what_is_there(_program, _folder):
+    wrong = []
+    files = subprocess.run(["git", "ls-files"], cwd=TOP, capture_output=True, text=True).stdout.split("\n")
+    for path in files:
+        if path and not path.startswith("docs/") and os.path.isfile(f"{TOP}/{path}"):
+            cited = re.findall(r"\bdocs/([A-Za-z]+)(?:\.md)?\b", read(path))
+            wrong += [f"{path} cites docs/{it}" for it in cited if it not in PAGES and path != "tests/documents.py"]
+    told(wrong)
+
+
+def checks_apart():
+    yield "docs/ has its eight pages", there_are_eight
+    yield f"at most {WORDS} words in all", words_are_few
+    yield f"README.md has at most {LINES} lines", the_first_page_is_short
+    for page in pages():
+        yield f"{page}: no sentence is longer than {SENTENCE} words", sentences_are_short(page)
+        yield f"{page}: its links lead somewhere", links_lead_somewhere(page)
+        yield f"{page}: what it names exists", names_exist(page)
+        yield f"{page}: its tables name what stands in the file", rows_name_their_file(page)
+        yield f"{page}: its commands can be typed", commands_can_be_typed(page)
+    yield "each option stands in the manual", options_stand_in_the_manual
+    yield "each option that a page names exists", options_exist
+    yield "what options are without a number is what --help says", defaults_are_the_programs
+    yield "each counter is explained", counters_are_explained
+    yield "what other files cite of docs/ exists", others_cite_what_is_there
