@@ -6,6 +6,7 @@ whoever reads it fails. What good lines of a script say is seen by their pages, 
 """
 
 import os
+import re
 import resource
 import socket
 import sys
@@ -201,7 +202,7 @@ MAILBOX_FILES = [
     ("0000000-1000000\n", None, "line 1: no range of mailboxes: 0000000-1000000" + SPAN),
 ]
 
-USAGE = b"notifyd: usage: notifyd tell [--control <a.b.c.d:port>] <line>\n"
+USAGE = b"notifyd: usage: notifyd tell [--json] [--control <a.b.c.d:port>] <line>\n"
 
 # Words behind `tell` that are no call of it.
 BAD_TELLS = [[], ["--control", "127.0.0.1:7000"], ["--control", "localhost:7000", "STATUS"], ["--contact", "STATUS"]]
@@ -507,11 +508,16 @@ def answered_at_the_third_try(answer, status):
         with service, Running(program, [*words, "MAIL", "alice", "voice 1 0", "0", "0"]) as teller:
             for _ in range(3):
                 line, source = service.recvfrom(65536)
-                same("the line", b"MAIL alice voice 1 0 0 0", line)
+                same("the line", b"@N MAIL alice voice 1 0 0 0", untokened(line))
             service.sendto(answer, source)
             ended_with(teller.end(), status, answer + b"\n", b"")
 
     return check
+
+
+def untokened(line):
+    """The line with N for the sixteen hex digits of its token."""
+    return re.sub(rb"\A@[0-9a-f]{16} ", b"@N ", line)
 
 
 def never_answered(program, _):
@@ -520,7 +526,9 @@ def never_answered(program, _):
     with service:
         ended_with(run(program, [*words, "STATUS"]), 3, b"", b"notifyd: nobody answered\n")
         service.setblocking(False)
-        same("the lines", [b"STATUS"] * 5, [service.recv(65536) for _ in range(5)])
+        lines = [service.recv(65536) for _ in range(5)]
+        same("the lines, each behind the same token", [b"@N STATUS"] * 5, [untokened(line) for line in lines])
+        same("how many tokens there are", 1, len(set(lines)))
         try:
             raise AssertionError(f"a sixth line: {shown(service.recv(65536))}")
         except BlockingIOError:

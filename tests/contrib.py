@@ -100,13 +100,26 @@ begun 18
 over 17
 unread 1 2 3 4 5 6 7
 """
-COUNTERS = FEWER_COUNTERS.replace(b"unread", b"repeats 5\ngiven_up 3\nonce 4\nlost 6\nfailed_receives 7\ntoo_long 8\nunread")
-REPEATS = {f"notifyd_{name}_total" for name in ("repeats", "given_up", "once", "lost", "failed_receives", "too_long")}
+MORE = b"repeats 5\ngiven_up 3\nonce 4\nlost 6\ngone_by_481 9\nfailed_receives 7\ntoo_long 8\nforeign 10\nlimited 11\nchallenged 12\nwrong 13\nstale 14\nforbidden 15\ncontrol_lines 8\nworkers_ended 0\n"
+COUNTERS = FEWER_COUNTERS.replace(b"unread", MORE + b"unread") + b"""\
+workers 2
+live 1
+answers_200 18
+answers_503 2
+unread_not_sip 1
+unread_bad_header 2
+"""
+ALSO = ("repeats", "given_up", "once", "lost", "gone_by_481", "failed_receives", "too_long", "foreign", "limited", "challenged", "wrong", "stale", "forbidden", "control_lines", "workers_ended")
+REPEATS = {f"notifyd_{name}_total" for name in ALSO}
+GAUGES = {"notifyd_live": "1", "notifyd_workers": "2"}
+CODES = {f'notifyd_answers_by_code_total{{code="{code}"}}': count for code, count in (("200", "18"), ("503", "2"))}
+REPEATS |= {*GAUGES, *CODES}
 
 UNREAD = ("not_sip", "bad_header", "header_missing", "header_twice", "short_body", "too_long", "no_memory")
 
 VALUES = {"notifyd_reachable": "1", "notifyd_up_seconds": "120"}
-VALUES |= {f"notifyd_{name}_total": number for name, number in re.findall(r"(?m)^((?!up|unread)\w+) (\d+)$", COUNTERS.decode())}
+VALUES |= {f"notifyd_{name}_total": number for name, number in re.findall(r"(?m)^((?!up|unread|live|workers |answers_)\w+) (\d+)$", COUNTERS.decode())}
+VALUES |= GAUGES | CODES
 VALUES |= {f'notifyd_unread_total{{cause="{cause}"}}': str(number) for number, cause in enumerate(UNREAD, 1)}
 
 
@@ -338,7 +351,7 @@ def nobody_listens_to_a_lamp(program, folder):
 
 def bad_words_of_a_lamp(program, folder):
     for words in [], ["127.0.0.1:5060"], ["127.0.0.1", "alice"], ["localhost:5060", "alice"], ["127.0.0.1:5060", "a b"], ["127.0.0.1:5060", "alice", "bob"]:
-        same(f"its end at {words}", Ended(1, b"", b"lamp: it wants: <a.b.c.d:port of the notifier> <mailbox>\n"), called(folder, "lamp", *words))
+        same(f"its end at {words}", Ended(1, b"", b"lamp: it wants: [--user <user>] [--password <password>] <a.b.c.d:port of the notifier> <mailbox>\n"), called(folder, "lamp", *words))
 
 
 def a_lamp_shows_a_mailbox(program, folder):

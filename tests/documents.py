@@ -39,7 +39,7 @@ FOREIGN = {"unsafe", "Z9HG4BK", "skmem", "--nproc", "TheSendSync"}
 
 # Programs of the system that a block of commands may name.
 PROGRAMS = {
-    "apt", "cat", "cd", "echo", "install", "journalctl", "make", "notifyd", "nstat", "podman", "printf", "read", "rt", "ss",
+    "apt", "cat", "cd", "echo", "htdigest", "install", "journalctl", "make", "notifyd", "nstat", "podman", "printf", "read", "rt", "ss",
     "sysctl", "systemctl", "wc", "inotifywait", "maildir-notify", "export",
 }
 

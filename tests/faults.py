@@ -1,15 +1,18 @@
 """`notifyd serve` where the system fails: receives that fail and pass, a socket that is lost, datagrams that are too long, an address
-that is taken away. Receives are made to fail by `strace`, and an address is taken away in a network namespace: where one of these
-can't be had, a line says what wasn't tried."""
+that is taken away, a worker that runs out of memory. Receives are made to fail by `strace`, and an address is taken away in a network
+namespace: where one of these can't be had, a line says what wasn't tried."""
 
 import os
+import re
+import resource
 import shutil
 import subprocess
 import time
 
-from phone import PATIENCE
+from phone import PATIENCE, open_socket, persist
 from service import SUBSCRIBE, Service, address, last_counters
-from suite import Running, free_port, run, same
+from suite import LONG_LIMIT, Running, free_port, run, same
+from tags import home_of
 
 # A seldom receive of a thread fails: each one looks up some times a second.
 PASSING = ("ENOBUFS", "ENOMEM", "ECONNREFUSED", "EHOSTUNREACH", "EINTR", "ENETDOWN", "EIO", "EPERM", "ETIMEDOUT", "EFAULT")
@@ -17,6 +20,15 @@ PASSING = ("ENOBUFS", "ENOMEM", "ECONNREFUSED", "EHOSTUNREACH", "EINTR", "ENETDO
 LOST = ("EBADF", "ENOTSOCK")
 
 PLACE = "10.99.7.1"
+
+# Where allocations are checked none of more bytes succeeds: a worker's table outgrows them at 2,048 subscriptions.
+CHECKED = {"ASAN_OPTIONS": "allocator_may_return_null=1:max_allocation_size_mb=1:symbolize=0"}
+
+# The bytes that a program may take beside those that it has once it listens. Checks of allocations reserve more than the other number.
+SPARE, RESERVED = 1 << 20, 1 << 40
+
+# As many subscriptions outgrow both.
+MANY = 6000
 
 
 class Failing(Service):
@@ -129,6 +141,69 @@ def an_address_is_taken_away(program, folder):
             same("whether it ended at once", True, time.monotonic() - began < 10)
 
 
+class Bounded(Service):
+    """A service that can't have more memory than at its start, and a little."""
+
+    def __init__(self, program, *words):
+        self.program, self.sip, self.control = program, free_port(), free_port()
+        places = ("--listen", address(self.sip), "--control", address(self.control))
+        self.running = Running(program, ["serve", *places, *words], LONG_LIMIT, env={**os.environ, **CHECKED})
+
+    def __enter__(self):
+        super().__enter__()
+        process = self.running.process.pid
+        with open(f"/proc/{process}/status", encoding="ascii") as lines:
+            held = next(int(line.split()[1]) << 10 for line in lines if line.startswith("VmData"))
+        if held < RESERVED:
+            resource.prlimit(process, resource.RLIMIT_DATA, (held + SPARE, held + SPARE))
+        return self
+
+
+def has_closed(operator, number):
+    """Waits until a service has taken so many datagrams: whether it closed before, when each line is answered `closed`."""
+    until = time.monotonic() + PATIENCE
+    while time.monotonic() < until:
+        told = operator.ask("STATUS")
+        if told.startswith("closed"):
+            return True
+        if int(re.search(r"^datagrams (\d+)$", told, re.M).group(1)) >= number:
+            return False
+        time.sleep(0.1)
+    raise AssertionError(f"it doesn't take {number} datagrams")
+
+
+def fill(service, operator, mailbox):
+    """Subscribes strangers to this mailbox, and has them told of changes, until the service closes."""
+    request = SUBSCRIBE.replace(b"alice", mailbox.encode())
+    with open_socket(("127.0.0.1", service.sip)) as stranger:
+        for number in range(1, MANY):
+            persist(stranger.send, request.replace(b"Call-ID: c1", b"Call-ID: c%d" % number).replace(b"bKa1", b"bK%d" % number))
+            if number % 1000 == 0:
+                operator.ask(f"MAIL {mailbox} voice {number} 0 0 0")
+            if number % 50 == 0 and has_closed(operator, number):
+                return
+    raise AssertionError(f"{MANY} subscriptions don't fill it")
+
+
+def a_worker_without_memory_ends_it(program, folder):
+    """Strangers fill one worker. Who is subscribed at the other one is told that this is over, and so subscribes again once the service
+    is started again."""
+    full = "alice"
+    worker = home_of(full, 2)
+    other = next(name for name in ("bob", "carol", "dan", "eve") if home_of(name, 2) != worker)
+    words = ("--workers", "2", "--table", "65536", "--repeats", "0", "--linger", "0", full, other)
+    with Bounded(program, *words) as service, service.phone(other) as phone, service.operator() as operator:
+        phone.subscribe()
+        fill(service, operator, full)
+        phone.hear_farewell()
+        ended = service.running.end()
+        same("the exit status", 4, ended.status)
+        line = b"notifyd: worker %d ran out of memory, and so the service closed\n" % worker
+        same("whether the worker is named", True, line in ended.err)
+        ends = [words.split()[4:] for words in ended.out.splitlines()]
+        same("how its workers ended", [b"closed", b"nomemory"], sorted(end[0] for end in ends))
+
+
 def can_trace():
     """Whether `strace` may make calls fail here."""
     if not shutil.which("strace"):
@@ -151,6 +226,7 @@ def can_separate():
 def checks():
     yield "serve: datagrams that are too long are dropped and counted", long_datagrams_are_dropped
     yield "serve: less room for datagrams than asked for is told", less_room_is_told
+    yield "serve: a worker without memory ends it", a_worker_without_memory_ends_it
     if can_trace():
         yield "serve: receives that fail are tried again, told and counted", failing(*PASSING[:5])
         yield "serve: other receives that fail are tried again, told and counted", failing(*PASSING[5:])

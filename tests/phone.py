@@ -277,9 +277,13 @@ class Operator:
         """The answer to a line."""
         self.say(line)
         try:
-            return self.socket.recv(65535).decode()
+            return self.hear()
         except socket.timeout:
             raise AssertionError(f"the line {shown(line)} is not answered for {PATIENCE} seconds") from None
+
+    def hear(self):
+        """The next answer."""
+        return self.socket.recv(65535).decode()
 
     def tell(self, line, answer="ok"):
         """Tells a line, which must be answered so."""

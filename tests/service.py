@@ -1,7 +1,9 @@
 """`notifyd serve` from its first datagram to its farewell: phones subscribe over sockets, an operator tells what happened."""
 
+import json
 import os
 import re
+import signal
 import socket
 import subprocess
 import time
@@ -71,7 +73,7 @@ HEARD = "Messages-Waiting: yes\r\nVoice-Message: 2/8 (0/2)\r\n"
 A_TEXT = "Messages-Waiting: yes\r\nText-Message: 1/0 (0/0)\r\n"
 
 # What STATUS says of NOTIFYs sent again, where each was answered in time.
-NOTHING_REPEATED = {"repeats": "0", "given_up": "0", "once": "0", "lost": "0"}
+NOTHING_REPEATED = {"repeats": "0", "given_up": "0", "once": "0", "lost": "0", "gone_by_481": "0"}
 
 # What it says of receives, where none failed.
 NOTHING_FAILED = {"failed_receives": "0", "too_long": "0"}
@@ -171,6 +173,116 @@ def each_line_is_answered(program, folder):
         service.close()
 
 
+def answers_get_no_answer(program, folder):
+    """What another service answers is answered by none, in its life and while it ends: two of them fall silent."""
+    answers = ("ok", "bad line", "unknown mailbox", "closed", "out of memory", "busy", "ok\nup 3\n")
+    with Service(program, "alice") as service, service.operator() as operator:
+        for answer in answers:
+            operator.say(answer)
+        # The next answer is that of the line behind them.
+        operator.tell("MAIL bob voice 1 0 0 0", "unknown mailbox")
+        same("control lines", str(len(answers) + 2), operator.counters()["control_lines"])
+        service.close()
+
+
+def show_text(mailbox, voice="0 0 0 0", fax="0 0 0 0"):
+    """What SHOW says of a mailbox of a service with one worker."""
+    counts = {"voice": voice, "fax": fax, "pager": "0 0 0 0", "multimedia": "0 0 0 0", "text": "0 0 0 0"}
+    return "ok\nworker 0\n" + "".join(f"MAIL {mailbox} {name} {count}\n" for name, count in counts.items())
+
+
+def what_was_told_is_shown(program, folder):
+    with Service(program, "--workers", "1", "alice", "bob") as service, service.operator() as operator:
+        operator.tell("SHOW alice", show_text("alice"))
+        operator.tell("MAIL alice voice 2 8 0 2")
+        operator.tell("MAIL alice fax 0 1 0 0")
+        operator.tell("MAIL alice voice 1 9 0 0")
+        operator.tell("MAIL alice voice 1 9 2 0", "bad line")
+        operator.tell("SHOW alice", show_text("alice", "1 9 0 0", "0 1 0 0"))
+        operator.tell("SHOW bob", show_text("bob"))
+        for line in ("SHOW carol", "DUMP carol"):
+            operator.tell(line, "unknown mailbox")
+        for line in ("SHOW", "WATCHERS alice one", "show alice"):
+            operator.tell(line, "bad line")
+        operator.tell("MAIL bob text 3 0 0 0")
+        alice, bob = "MAIL alice voice 1 9 0 0\nMAIL alice fax 0 1 0 0\n", "MAIL bob text 3 0 0 0\n"
+        operator.tell("DUMP", "ok\n" + alice + bob)
+        operator.tell("DUMP alice", "ok\n" + bob)
+        operator.tell("DUMP bob", "ok\n")
+        service.close()
+
+
+def all_counts_are_dumped(program, folder):
+    """A thousand mailboxes take some pages, and `notifyd tell` follows them."""
+    path = f"{folder}/mailboxes"
+    with open(path, "w") as file:
+        file.writelines(f"mailbox-{number}\n" for number in range(1000))
+    with Service(program, "--mailboxes", path) as service, service.operator() as operator:
+        lines = [f"MAIL mailbox-{number} voice {number} 0 0 0" for number in range(0, 1000, 2)]
+        for line in lines:
+            operator.tell(line)
+        page = operator.ask("DUMP")
+        same("whether a page is short", True, len(page) < 8300)
+        same("the last line of a page", "more mailbox-", page.splitlines()[-1][:13])
+        ended = run(program, ["tell", "--control", address(service.control), "DUMP"])
+        ended_with(ended, 0, "".join(f"{line}\n" for line in lines).encode(), b"")
+        service.close()
+
+
+def a_repeat_is_no_news(program, folder):
+    """A line that comes again late, with its token, is answered as it was and changes nothing."""
+    first, other = "@0123456789abcdef", "@fedcba9876543210"
+    with Service(program, "--workers", "1", "alice") as service, service.operator() as operator:
+        operator.tell(f"{first} MAIL alice voice 1 0 0 0")
+        operator.tell(f"{other} MAIL alice voice 0 1 0 0")
+        operator.tell(f"{first} MAIL alice voice 1 0 0 0")
+        operator.tell("SHOW alice", show_text("alice", "0 1 0 0"))
+        operator.tell(f"{first.upper()} no line")  # the same token
+        operator.tell("@0123456789abcde MAIL alice voice 3 0 0 0", "bad line")
+        operator.tell("MAIL alice voice 2 0 0 0")
+        operator.tell("MAIL alice voice 2 0 0 0")
+        operator.tell("SHOW alice", show_text("alice", "2 0 0 0"))
+        service.close()
+
+
+def services_fall_silent(program, folder):
+    """A line's answer, which another service hears in its turn, ends there: none answers the other's answer."""
+    with Service(program, "alice") as service, Service(program, "bob") as other:
+        with service.operator() as one, other.operator() as two:
+            two.say(one.ask("MAIL bob voice 1 0 0 0"))
+            # What comes next from the other is the answer to this line.
+            one.say(two.ask("MAIL alice voice 1 0 0 0"))
+            for operator in (one, two):
+                same("control lines", "3", operator.counters()["control_lines"])
+        service.close()
+        other.close()
+
+
+def lines_wait_for_a_stalled_service(program, folder):
+    """Two lines are sent again and again while the service stands still. Each is done once, in the order in which they came first."""
+    first, second = "@0123456789abcdef MAIL alice voice 1 0 0 0", "@fedcba9876543210 MAIL alice voice 2 0 0 0"
+    with Service(program, "--workers", "1", "alice") as service, service.operator() as one, service.operator() as two:
+        service.running.process.send_signal(signal.SIGSTOP)
+        for _ in range(3):
+            one.say(first)
+            two.say(second)
+        service.running.process.send_signal(signal.SIGCONT)
+        for operator in (one, two):
+            same("the answers", ["ok"] * 3, [operator.hear() for _ in range(3)])
+        one.tell("SHOW alice", show_text("alice", "2 0 0 0"))
+        same("control lines", "8", one.counters()["control_lines"])
+        service.close()
+
+
+def status_is_an_object(program, folder):
+    with Service(program, "--workers", "2", "alice") as service:
+        ended = run(program, ["tell", "--json", "--control", address(service.control), "STATUS"])
+        same("the exit status", 0, ended.status)
+        told = json.loads(ended.out)
+        same("some of the counters", (0, 0, 2, 0), tuple(told[name] for name in ("begun", "live", "workers", "workers_ended")))
+        service.close()
+
+
 def the_clock_ends_a_subscription(program, folder):
     with Service(program, "--min-time", "1", "bob") as service, service.phone("bob") as phone:
         phone.subscribe(seconds=1)
@@ -179,13 +291,14 @@ def the_clock_ends_a_subscription(program, folder):
 
 
 def counters_become(operator, count):
-    """Waits until STATUS counts as this call does: a counter goes up just after its datagram went out, or came."""
+    """Waits until STATUS counts as this call does, of the counters that it names: one goes up just after its datagram went out, or
+    came."""
     until = time.monotonic() + PATIENCE
     wanted = came = None
     while wanted is None or came != wanted and time.monotonic() < until:
         time.sleep(0.02)
         wanted, came = count(), operator.counters()
-        came.pop("up")
+        came = {name: count for name, count in came.items() if name in wanted}
     same("the counters", wanted, came)
 
 
@@ -209,13 +322,16 @@ def status_counts(program, folder):
         same("what the phone sent", 9 + len(UNREAD), phone.sent)
         counted = {"datagrams": "14", "events": "9", "answers": "4", "notifies": "5", "starts": "1", "failed": "0"}
         counted = {**counted, "begun": "3", "over": "1", "unread": "1 1 1 1 1 0 0", **NOTHING_REPEATED, **NOTHING_FAILED}
-        counters_become(operator, lambda: counted)
+        told = {"live": "2", "answers_200": "3", "answers_202": "1", "answers_503": "0", "workers_ended": "0"}
+        causes = {f"unread_{cause}": "1" for cause in ("not_sip", "bad_header", "header_missing", "header_twice", "short_body")}
+        counters_become(operator, lambda: {**counted, **told, **causes, "unread_too_long": "0"})
         ended = service.close(lambda: phone.hear_farewell(HEARD), lambda: phone.hear_farewell("SIP/2.0 100 Trying\r\n"))
     # Two farewells more, and the service hears their answers, or ends before.
     counted = {**counted, "notifies": "7", "over": "3"}
     came = last_counters(ended)
     more = int(came["datagrams"]) - 14
-    same("the counters at the end", {**counted, "datagrams": str(14 + more), "events": str(9 + more)}, came)
+    counted = {**counted, "datagrams": str(14 + more), "events": str(9 + more)}
+    same("the counters at the end", counted, {name: came[name] for name in counted})
     same("whether two datagrams more came at most", True, 0 <= more <= 2)
 
 
@@ -439,6 +555,13 @@ def checks():
     yield "serve: the answer and the first NOTIFY, byte for byte", as_written_down
     yield "serve: a change is notified, and what changes nothing isn't; more time, and an end", a_change_is_notified
     yield "serve: each control line is answered", each_line_is_answered
+    yield "serve: an answer is not answered", answers_get_no_answer
+    yield "serve: SHOW and DUMP tell what was told last", what_was_told_is_shown
+    yield "serve: DUMP tells all counts, page by page, and tell follows", all_counts_are_dumped
+    yield "serve: a line with a token is done once", a_repeat_is_no_news
+    yield "serve: two services that hear each other fall silent", services_fall_silent
+    yield "serve: two lines under way at a service that stands still are done once each", lines_wait_for_a_stalled_service
+    yield "serve: STATUS as one JSON object", status_is_an_object
     yield "serve: the clock alone ends a subscription of a second", the_clock_ends_a_subscription
     yield "serve: STATUS counts what came and went", status_counts
     yield "serve: CLOSE is answered, says farewell and ends it", close_says_farewell

@@ -12,9 +12,6 @@ use Rattle.package.specs.Changes.{unset}
 use Rattle.message_summary.specs.Mailboxes.{mail_type, new_mailboxes}
 use Rattle.refer.specs.Transfers.{new_transfers}
 use Rattle.notifier_model.specs.Home.{key_hash}
-use Rattle.arguments.specs.declared.either.EitherPackage.{EitherPackage}
-use Rattle.arguments.specs.declared.either.EitherPackage.TheVariants.{First, Second}
-use Rattle.arguments.specs.Either.{seen_as}
 use Rattle.arguments.specs.Setup.{mailboxes_named, names_for, boxes_with, boxes_for}
 
 new_entries : (names : List (String Global)) → map {B = List ℕ × Content} (λ name. (string_bytes name, OfMail unset)) names ≡ map {B = List ℕ × Content} (λ name. (name, OfMail unset)) (map string_bytes names)
@@ -25,13 +22,13 @@ pub new_mailboxes-named : (names : List (String Global)) → new_mailboxes names
 new_mailboxes-named names =
     ap (λ entries. let m : Seen = record { name = mail_package; content_type = mail_type; contents = from_entries entries } in m) (new_entries names)
 
-pub boxes_are : {A B : Type 0} (first : A → Seen) (second : B → Seen) (boxes : List (EitherPackage A B)) (a : A) (b : B) (names : List (String Global))
-    → boxes ≡ First a ∷ Second b ∷ [] → first a ≡ new_mailboxes names → second b ≡ new_transfers
-    → map (seen_as first second) boxes ≡ boxes_with (map string_bytes names)
-boxes_are first second boxes a b names are mail transfers =
-    ap (map (seen_as first second)) are
-    ∙ ap (λ (m : Seen). m ∷ second b ∷ []) (mail ∙ new_mailboxes-named names)
-    ∙ ap (λ (t : Seen). mailboxes_named (map string_bytes names) ∷ t ∷ []) transfers
+pub boxes_are : {P : Type 0} (seen : P → Seen) (boxes : List P) (mailboxes transfers : P) (names : List (String Global))
+    → boxes ≡ mailboxes ∷ transfers ∷ [] → seen mailboxes ≡ new_mailboxes names → seen transfers ≡ new_transfers
+    → map seen boxes ≡ boxes_with (map string_bytes names)
+boxes_are seen boxes mailboxes transfers names are mail moved =
+    ap (map seen) are
+    ∙ ap (λ (m : Seen). m ∷ seen transfers ∷ []) (mail ∙ new_mailboxes-named names)
+    ∙ ap (λ (t : Seen). mailboxes_named (map string_bytes names) ∷ t ∷ []) moved
 
 pub names-push : (n worker : ℕ) (names : List (List ℕ)) (name : List ℕ) → names_for n worker (names ++ name ∷ []) ≡ names_for n worker names ++ names_for n worker (name ∷ [])
 names-push n worker names name = filter-append (λ (x : List ℕ). key_hash x % n == worker) names (name ∷ [])

@@ -18,7 +18,7 @@ use Rattle.arguments.specs.declared.switch.Switch.{Switch}
 use Rattle.arguments.specs.declared.switch.Switch.TheVariants as switch
 use Rattle.arguments.specs.Flags.{place_text, bound_text, flag_text, switch_text}
 use Rattle.arguments.specs.Settings.{joined}
-use Rattle.arguments.specs.Reading.{find_text, places, times, counts, sizes, place_of, time_of, count_of, size_of, number_of, or_else, bound_of, number_flag, other_of, address_flag, flag_of, is_equals, with_value, joined_of, switches, switch_of}
+use Rattle.arguments.specs.Reading.{find_text, places, times, counts, sizes, place_of, time_of, count_of, size_of, number_of, or_else, bound_of, number_flag, specials, special_of, other_of, address_flag, flag_of, is_equals, with_value, joined_of, switches, switch_of}
 
 pub same_text : (a b : List ℕ) → bytes_eq a b ≡ true → a ≡ b
 same_text a b e = (bytes_eq-Decides a b).0 e
@@ -60,24 +60,20 @@ bound_takes word b e = step (time_of word) refl e where
   step (Some t) is k = time_takes word t is ∙ ap bound_text (some_is t b k)
   step None is k = number_takes word b k
 
+special_takes : (word : List ℕ) (f : Flag) → special_of word ≡ Some f → word ≡ flag_text f
+unfolding special_of
+special_takes word f e = found_text flag_text specials word f e
+
 other_takes : (word : List ℕ) (f : Flag) → other_of word ≡ Some f → word ≡ flag_text f
 unfolding other_of
-other_takes word f e = first (bytes_eq word (codes "--mailboxes")) refl e where
-  fourth : (o : Option Bound) → bound_of word ≡ o → number_flag o ≡ Some f → word ≡ flag_text f
-  fourth (Some b) is k = bound_takes word b is ∙ ap flag_text (some_is (flag.Number b) f k)
-  fourth None is k = absurd cc
+other_takes word f e = first (special_of word) refl e where
+  second : (o : Option Bound) → bound_of word ≡ o → number_flag o ≡ Some f → word ≡ flag_text f
+  second (Some b) is k = bound_takes word b is ∙ ap flag_text (some_is (flag.Number b) f k)
+  second None is k = absurd cc
 
-  third : (b : Bool) → bytes_eq word (codes "--seed") ≡ b → cond b (Some flag.Seed) (number_flag (bound_of word)) ≡ Some f → word ≡ flag_text f
-  third true same k = same_text word (codes "--seed") same ∙ ap flag_text (some_is flag.Seed f k)
-  third false other k = fourth (bound_of word) refl k
-
-  second : (b : Bool) → bytes_eq word (codes "--state") ≡ b → cond b (Some flag.StateFile) (cond (bytes_eq word (codes "--seed")) (Some flag.Seed) (number_flag (bound_of word))) ≡ Some f → word ≡ flag_text f
-  second true same k = same_text word (codes "--state") same ∙ ap flag_text (some_is flag.StateFile f k)
-  second false other k = third (bytes_eq word (codes "--seed")) refl k
-
-  first : (b : Bool) → bytes_eq word (codes "--mailboxes") ≡ b → cond b (Some flag.MailboxFile) (cond (bytes_eq word (codes "--state")) (Some flag.StateFile) (cond (bytes_eq word (codes "--seed")) (Some flag.Seed) (number_flag (bound_of word)))) ≡ Some f → word ≡ flag_text f
-  first true same k = same_text word (codes "--mailboxes") same ∙ ap flag_text (some_is flag.MailboxFile f k)
-  first false other k = second (bytes_eq word (codes "--state")) refl k
+  first : (o : Option Flag) → special_of word ≡ o → or_else o (number_flag (bound_of word)) ≡ Some f → word ≡ flag_text f
+  first (Some g) is k = special_takes word g is ∙ ap flag_text (some_is g f k)
+  first None is k = second (bound_of word) refl k
 
 pub flag_takes : (word : List ℕ) (f : Flag) → flag_of word ≡ Some f → word ≡ flag_text f
 unfolding flag_of
@@ -87,7 +83,7 @@ flag_takes word f e = step (place_of word) refl e where
   step None is k = other_takes word f k
 
 pub flag_again : (f : Flag) → flag_of (flag_text f) ≡ Some f
-unfolding flag_of place_of other_of bound_of time_of number_of count_of size_of
+unfolding flag_of place_of other_of special_of bound_of time_of number_of count_of size_of
 flag_again (flag.Address place.Listen) = refl
 flag_again (flag.Address place.Contact) = refl
 flag_again (flag.Address place.Control) = refl
@@ -106,8 +102,13 @@ flag_again (flag.Number bound.Repeats) = refl
 flag_again (flag.Number bound.Linger) = refl
 flag_again (flag.Number bound.MaxDatagram) = refl
 flag_again (flag.Number bound.ReceiveBuffer) = refl
+flag_again (flag.Number bound.NonceTime) = refl
 flag_again flag.MailboxFile = refl
 flag_again flag.StateFile = refl
+flag_again flag.PasswordFile = refl
+flag_again flag.Watch = refl
+flag_again flag.Rate = refl
+flag_again flag.Allow = refl
 flag_again flag.Seed = refl
 
 -- a word that is no option is none of these texts
@@ -158,8 +159,13 @@ no_equals (flag.Number bound.Repeats) = refl
 no_equals (flag.Number bound.Linger) = refl
 no_equals (flag.Number bound.MaxDatagram) = refl
 no_equals (flag.Number bound.ReceiveBuffer) = refl
+no_equals (flag.Number bound.NonceTime) = refl
 no_equals flag.MailboxFile = refl
 no_equals flag.StateFile = refl
+no_equals flag.PasswordFile = refl
+no_equals flag.Watch = refl
+no_equals flag.Rate = refl
+no_equals flag.Allow = refl
 no_equals flag.Seed = refl
 
 pair_is : (f g : Flag) (v w : List ℕ) → ◌≡◌ {A = Option (Flag × List ℕ)} (Some (f, v)) (Some (g, w)) → (f ≡ g) × (v ≡ w)
@@ -214,6 +220,7 @@ unfolding switch_of
 switch_again switch.KeepSubscriptions = refl
 switch_again switch.NoRefer = refl
 switch_again switch.UntilInputEnds = refl
+switch_again switch.OldDigest = refl
 
 pub no_switch : (word : List ℕ) → switch_of word ≡ None → (s : Switch) → word ≢ switch_text s
 no_switch word none s same = absurd (clash (sym none ∙ ap switch_of same ∙ switch_again s)) where
@@ -222,7 +229,8 @@ no_switch word none s same = absurd (clash (sym none ∙ ap switch_of same ∙ s
 
 -- it has no `=`, and none of the options with a value is written so
 pub switch_is_no_flag : (s : Switch) → (flag_of (switch_text s) ≡ None) × (joined_of (switch_text s) ≡ None)
-unfolding flag_of place_of other_of bound_of time_of number_of count_of size_of
+unfolding flag_of place_of other_of special_of bound_of time_of number_of count_of size_of
 switch_is_no_flag switch.KeepSubscriptions = (refl, not_joined (switch_text switch.KeepSubscriptions) refl)
 switch_is_no_flag switch.NoRefer = (refl, not_joined (switch_text switch.NoRefer) refl)
 switch_is_no_flag switch.UntilInputEnds = (refl, not_joined (switch_text switch.UntilInputEnds) refl)
+switch_is_no_flag switch.OldDigest = (refl, not_joined (switch_text switch.OldDigest) refl)

@@ -1,16 +1,24 @@
 -- What the words say: what is found is so, what is so is found, and an error names what is wrong first.
-use Rattle.std.proofs.Common.{◌≡◌, ◌≢◌, ℕ, ◌≤◌, Bool, true, false, cond, List, [], ◌∷◌, ◌++◌, Option, Some, None, Result, Ok, Err, ◌⊎◌, inl, inr, refl, sym, ap, subst, ◌∙◌, arith, append_assoc}
-use Rattle.std.specs.Prelude.{codes, decimal, ◌&&◌, nat_lt, IfOk, IfErr}
+use Rattle.std.proofs.Common.{◌≡◌, ◌≢◌, ℕ, ◌+◌, ◌≤◌, ◌<◌, Bool, true, false, cond, eqb, List, [], ◌∷◌, ◌++◌, length, take, drop, get_or, Option, Some, None, Result, Ok, Err, ◌⊎◌, inl, inr, refl, sym, ap, subst, ◌∙◌, arith, append_assoc, length-append}
+use Rattle.std.specs.Prelude.{codes, decimal, ◌&&◌, not, nat_lt, IfOk, IfErr}
+use Rattle.std.specs.List.{position_or_len, before_first, after_first}
+use Rattle.std.proofs.lemmas.Bool.{eqb-true, eqb-false, ne_eqb}
 use Rattle.std.proofs.lemmas.Bool.Decides.{nat_tests}
+use Rattle.std.proofs.lemmas.List.Sums.{split_at_first, passes_at_first, prefix_len-le-length}
+use Rattle.std.proofs.Math.Seq.{take-append_seam, drop-append-add}
 use Rattle.hex.specs.declared.error.FromHexError.{FromHexError}
 use Rattle.hex.specs.Hex.{decode_sized}
 use Rattle.sip_text.specs.declared.address.Addr.{Addr}
 use Rattle.sip_text.specs.Addresses.{addr_text, IsAddr}
-use Rattle.sip_text.specs.Reading.{◌>>=◌, begins, addr_of, plain_up_to}
-use Rattle.sip_text.proofs.Pieces.{bind_some, some_is, and_both}
+use Rattle.sip_text.specs.Reading.{◌>>=◌, begins, addr_of, cut_at, plain_up_to}
+use Rattle.sip_text.proofs.Cuts.{Lacks, cut_takes, cut_again}
+use Rattle.sip_text.proofs.Pieces.{bind_some, some_is, and_both, prefix_passes, prefix_again}
 use Rattle.sip_text.proofs.PlainNumbers.{up_to_takes, up_to_again}
-use Rattle.sip_text.proofs.Addresses.{addr_takes, addr_again}
+use Rattle.sip_text.proofs.Addresses.{addr_takes, addr_again, decimal_lacks}
 use Rattle.package.specs.Texts.{is_word}
+use Rattle.rates.specs.declared.bucket.Rate.{Rate}
+use Rattle.admission.specs.declared.network.Network.{Network}
+use Rattle.admission.specs.Networks.{network}
 use Rattle.arguments.specs.declared.flag.Bound.{Bound}
 use Rattle.arguments.specs.declared.flag.Bound.TheVariants as bound
 use Rattle.arguments.specs.declared.flag.Place.{Place}
@@ -24,8 +32,8 @@ use Rattle.arguments.specs.declared.setting.Setting.TheVariants as setting
 use Rattle.arguments.specs.declared.error.OptionsError.{OptionsError}
 use Rattle.arguments.specs.declared.error.OptionsError.TheVariants as error
 use Rattle.arguments.specs.Flags.{place_text, bound_text, flag_text, switch_text, least, most}
-use Rattle.arguments.specs.Settings.{is_user, joined, AreOption, IsMailbox, IsSetting, AreSettings, BeginsWrong, AreWrong, Answers}
-use Rattle.arguments.specs.Reading.{flag_of, joined_of, switch_of, or_bad, value_of, seed_of, between, valued, named, by_switch, by_joined, alone, then_more, by_flag, settings_from, Reads}
+use Rattle.arguments.specs.Settings.{is_user, has_no_colon, watched_text, IsRateNumber, rate_text, joined, AreOption, IsMailbox, IsSetting, AreSettings, BeginsWrong, AreWrong, Answers}
+use Rattle.arguments.specs.Reading.{flag_of, joined_of, switch_of, or_bad, value_of, seed_of, between, is_mailbox, is_colon, watch, watch_of, rate_of, valued, named, by_switch, by_joined, alone, then_more, by_flag, settings_from, Reads}
 use Rattle.arguments.proofs.Flags.{flag_takes, flag_again, no_flag, joined_takes, joined_again, no_joined, joined_is_no_flag, switch_takes, switch_again, no_switch, switch_is_no_flag}
 
 -- ---- numbers and seeds
@@ -59,6 +67,7 @@ most_is_small bound.Repeats = omega arith
 most_is_small bound.Linger = omega arith
 most_is_small bound.MaxDatagram = omega arith
 most_is_small bound.ReceiveBuffer = omega arith
+most_is_small bound.NonceTime = omega arith
 
 between_again : (least most n : ℕ) → least ≤ n → n ≤ most → most ≤ 4294967295 → between least most (decimal n) ≡ Some n
 unfolding between
@@ -77,6 +86,89 @@ seed_takes digits seed e = value_takes (decode_sized digits 32) seed e
 seed_again : (digits seed : List ℕ) → decode_sized digits 32 ≡ Ok seed → seed_of digits ≡ Some seed
 unfolding seed_of
 seed_again digits seed e = ap value_of e
+
+-- ---- a rate
+
+slash_lacks : (n : ℕ) → n ≤ 65536 → Lacks 47 (decimal n)
+slash_lacks n le = decimal_lacks 47 n refl (omega arith)
+
+rate_takes : (w : List ℕ) (r : Rate) → rate_of w ≡ Some r → IsRateNumber r.per_second × IsRateNumber r.burst × (w ≡ rate_text r)
+unfolding rate_of
+rate_takes w r e =
+    let a = bind_some (cut_at 47 w) (λ cut. between 1 65536 cut.0 >>= λ n. between 1 65536 cut.1 >>= λ b. Some (the n b)) r e in
+    let b = bind_some (between 1 65536 a.0.0) (λ n. between 1 65536 a.0.1 >>= λ b. Some (the n b)) r a.2 in
+    let c = bind_some (between 1 65536 a.0.1) (λ k. Some (the b.0 k)) r b.2 in
+    let cut = cut_takes 47 w a.0.0 a.0.1 a.1 in
+    let n = between_takes 1 65536 a.0.0 b.0 b.1 in
+    let k = between_takes 1 65536 a.0.1 c.0 c.1 in
+    subst (λ (x : Rate). IsRateNumber x.per_second × IsRateNumber x.burst × (w ≡ rate_text x)) (some_is (the b.0 c.0) r c.2)
+    ((n.1, n.2), (k.1, k.2), cut.0 ∙ ap (λ (l : List ℕ). l ++ 47 ∷ a.0.1) n.0 ∙ ap (λ (l : List ℕ). decimal b.0 ++ 47 ∷ l) k.0) where
+      the : ℕ → ℕ → Rate
+      the n b = record { burst = b; per_second = n }
+
+rate_again : (r : Rate) → IsRateNumber r.per_second → IsRateNumber r.burst → rate_of (rate_text r) ≡ Some r
+unfolding rate_of
+rate_again r n b =
+    rw (
+      cut_again 47 (decimal r.per_second) (decimal r.burst) (slash_lacks r.per_second n.1),
+      between_again 1 65536 r.per_second n.0 n.1 (omega arith),
+      between_again 1 65536 r.burst b.0 b.1 (omega arith),
+    ) refl
+
+-- ---- a further mailbox of a user
+
+mailbox_is : (name : List ℕ) → is_mailbox name ≡ true → IsMailbox name
+mailbox_is name e =
+    let a = and_both (is_word name) (is_user name && not (begins 45 name)) e in
+    let b = and_both (is_user name) (not (begins 45 name)) a.1 in
+    record { word = a.0; user = b.0; no_option = undashed (begins 45 name) b.1 } where
+      undashed : (b : Bool) → not b ≡ true → b ≡ false
+      undashed true e = absurd cc
+      undashed false e = refl
+
+is_mailbox_again : (name : List ℕ) → IsMailbox name → is_mailbox name ≡ true
+is_mailbox_again name h = rw (h.word, h.user, h.no_option) refl
+
+watch_takes : (w user mailbox : List ℕ) → watch_of w ≡ Some (user, mailbox) → (has_no_colon user ≡ true) × IsMailbox mailbox × (w ≡ watched_text user mailbox)
+unfolding watch_of
+watch_takes w user mailbox e = step (eqb (position_or_len is_colon w) (length w)) refl e where
+  by_name : position_or_len is_colon w < length w → (b : Bool) → is_mailbox (after_first is_colon w) ≡ b
+      → cond {A = Option (List ℕ × List ℕ)} b (Some (before_first is_colon w, after_first is_colon w)) None ≡ Some (user, mailbox)
+      → (has_no_colon user ≡ true) × IsMailbox mailbox × (w ≡ watched_text user mailbox)
+  by_name below false is k = absurd cc
+  by_name below true is k =
+      let same = some_is {A = List ℕ × List ℕ} (before_first is_colon w, after_first is_colon w) (user, mailbox) k in
+      let front : before_first is_colon w ≡ user = ap (λ (p : List ℕ × List ℕ). p.0) same in
+      let rest : after_first is_colon w ≡ mailbox = ap (λ (p : List ℕ × List ℕ). p.1) same in
+      let colon : get_or w (position_or_len is_colon w) 0 ≡ 58 = eqb-true (get_or w (position_or_len is_colon w) 0) 58 (passes_at_first is_colon w 0 below) in (
+        subst (λ (u : List ℕ). has_no_colon u ≡ true) front (prefix_passes (λ b. not (is_colon b)) w),
+        subst IsMailbox rest (mailbox_is (after_first is_colon w) is),
+        split_at_first is_colon w 0 below
+            ∙ ap (λ b. before_first is_colon w ++ b ∷ after_first is_colon w) colon
+            ∙ ap (λ t. t ++ 58 ∷ after_first is_colon w) front
+            ∙ ap (λ t. user ++ 58 ∷ t) rest,
+      )
+
+  step : (b : Bool) → eqb (position_or_len is_colon w) (length w) ≡ b → cond b None (watch (before_first is_colon w) (after_first is_colon w)) ≡ Some (user, mailbox)
+      → (has_no_colon user ≡ true) × IsMailbox mailbox × (w ≡ watched_text user mailbox)
+  step true is k = absurd cc
+  step false is k =
+      let most = prefix_len-le-length (λ b. not (is_colon b)) w in
+      let other = eqb-false (position_or_len is_colon w) (length w) is in
+      by_name (omega (arith, most, other)) (is_mailbox (after_first is_colon w)) refl k
+
+watch_again : (user mailbox : List ℕ) → has_no_colon user ≡ true → IsMailbox mailbox → watch_of (watched_text user mailbox) ≡ Some (user, mailbox)
+unfolding watch_of
+watch_again user mailbox plain named =
+    let whole = watched_text user mailbox in
+    let place : position_or_len is_colon whole ≡ length user = prefix_again (λ b. not (is_colon b)) user (58 ∷ mailbox) plain refl in
+    let other : eqb (position_or_len is_colon whole) (length whole) ≡ false = ne_eqb (position_or_len is_colon whole) (length whole) (λ e. omega (arith, e, place, length-append user (58 ∷ mailbox))) in
+    let before : before_first is_colon whole ≡ user = ap (λ n. take n whole) place ∙ take-append_seam user (58 ∷ mailbox) in
+    let after : after_first is_colon whole ≡ mailbox = ap (λ n. drop (n + 1) whole) place ∙ drop-append-add user (58 ∷ mailbox) 1 in
+    ap (λ b. cond b None (watch (before_first is_colon whole) (after_first is_colon whole))) other
+    ∙ ap (λ t. watch t (after_first is_colon whole)) before
+    ∙ ap (watch user) after
+    ∙ ap (λ (b : Bool). cond {A = Option (List ℕ × List ℕ)} b (Some (user, mailbox)) None) (is_mailbox_again mailbox named)
 
 -- ---- one setting
 
@@ -102,6 +194,18 @@ valued_takes (flag.Number bound) words value s are e =
     subst (IsSetting words) (some_is (setting.Number bound p.0) s p.2) (n.1, n.2, subst (AreOption words (bound_text bound)) n.0 are)
 valued_takes flag.MailboxFile words value s are e = subst (IsSetting words) (ok_is (setting.MailboxFile value) s e) are
 valued_takes flag.StateFile words value s are e = subst (IsSetting words) (ok_is (setting.StateFile value) s e) are
+valued_takes flag.PasswordFile words value s are e = subst (IsSetting words) (ok_is (setting.PasswordFile value) s e) are
+valued_takes flag.Watch words value s are e =
+    let p = bind_some (watch_of value) (λ w. Some (setting.Watch w.0 w.1)) s (or_bad_ok flag.Watch (watch_of value >>= λ w. Some (setting.Watch w.0 w.1)) s e) in
+    let w = watch_takes value p.0.0 p.0.1 p.1 in
+    subst (IsSetting words) (some_is (setting.Watch p.0.0 p.0.1) s p.2) (w.0, w.1, subst (AreOption words (codes "--watch")) w.2 are)
+valued_takes flag.Rate words value s are e =
+    let p = bind_some (rate_of value) (λ r. Some (setting.Rate r)) s (or_bad_ok flag.Rate (rate_of value >>= λ r. Some (setting.Rate r)) s e) in
+    let r = rate_takes value p.0 p.1 in
+    subst (IsSetting words) (some_is (setting.Rate p.0) s p.2) (r.0, r.1, subst (AreOption words (codes "--rate")) r.2 are)
+valued_takes flag.Allow words value s are e =
+    let p = bind_some (network value) (λ n. Some (setting.Allow n)) s (or_bad_ok flag.Allow (network value >>= λ n. Some (setting.Allow n)) s e) in
+    subst (IsSetting words) (some_is (setting.Allow p.0) s p.2) (value, are, p.1)
 valued_takes flag.Seed words value s are e =
     let p = bind_some (seed_of value) (λ x. Some (setting.Seed x)) s (or_bad_ok flag.Seed (seed_of value >>= λ x. Some (setting.Seed x)) s e) in
     subst (IsSetting words) (some_is (setting.Seed p.0) s p.2) (value, are, seed_takes value p.0 p.1)
@@ -116,6 +220,10 @@ valued_wrong (flag.Address place) value e k = or_bad_err (flag.Address place) (a
 valued_wrong (flag.Number bound) value e k = or_bad_err (flag.Number bound) (between (least bound) (most bound) value >>= λ n. Some (setting.Number bound n)) e k
 valued_wrong flag.MailboxFile value e k = absurd cc
 valued_wrong flag.StateFile value e k = absurd cc
+valued_wrong flag.PasswordFile value e k = absurd cc
+valued_wrong flag.Watch value e k = or_bad_err flag.Watch (watch_of value >>= λ w. Some (setting.Watch w.0 w.1)) e k
+valued_wrong flag.Rate value e k = or_bad_err flag.Rate (rate_of value >>= λ r. Some (setting.Rate r)) e k
+valued_wrong flag.Allow value e k = or_bad_err flag.Allow (network value >>= λ n. Some (setting.Allow n)) e k
 valued_wrong flag.Seed value e k = or_bad_err flag.Seed (seed_of value >>= λ x. Some (setting.Seed x)) e k
 
 abbrev by_name : List ℕ → Result Setting OptionsError
@@ -171,8 +279,13 @@ flag_begins (flag.Number bound.Repeats) = refl
 flag_begins (flag.Number bound.Linger) = refl
 flag_begins (flag.Number bound.MaxDatagram) = refl
 flag_begins (flag.Number bound.ReceiveBuffer) = refl
+flag_begins (flag.Number bound.NonceTime) = refl
 flag_begins flag.MailboxFile = refl
 flag_begins flag.StateFile = refl
+flag_begins flag.PasswordFile = refl
+flag_begins flag.Watch = refl
+flag_begins flag.Rate = refl
+flag_begins flag.Allow = refl
 flag_begins flag.Seed = refl
 
 joined_begins : (f : Flag) (value : List ℕ) → begins 45 (joined (flag_text f) value) ≡ true
@@ -185,6 +298,7 @@ switch_begins : (s : Switch) → begins 45 (switch_text s) ≡ true
 switch_begins switch.KeepSubscriptions = refl
 switch_begins switch.NoRefer = refl
 switch_begins switch.UntilInputEnds = refl
+switch_begins switch.OldDigest = refl
 
 plain_is_no_flag : (word : List ℕ) → begins 45 word ≡ false → flag_of word ≡ None
 plain_is_no_flag word plain = step (flag_of word) refl where
@@ -233,6 +347,22 @@ state_again : (path : List ℕ) → valued flag.StateFile path ≡ Ok (setting.S
 unfolding valued
 state_again path = refl
 
+passwords_again : (path : List ℕ) → valued flag.PasswordFile path ≡ Ok (setting.PasswordFile path)
+unfolding valued
+passwords_again path = refl
+
+watches_again : (user mailbox : List ℕ) → has_no_colon user ≡ true → IsMailbox mailbox → valued flag.Watch (watched_text user mailbox) ≡ Ok (setting.Watch user mailbox)
+unfolding valued
+watches_again user mailbox plain named = rw (watch_again user mailbox plain named) refl
+
+rates_again : (r : Rate) → IsRateNumber r.per_second → IsRateNumber r.burst → valued flag.Rate (rate_text r) ≡ Ok (setting.Rate r)
+unfolding valued
+rates_again r n b = rw (rate_again r n b) refl
+
+networks_again : (text : List ℕ) (n : Network) → network text ≡ Some n → valued flag.Allow text ≡ Ok (setting.Allow n)
+unfolding valued
+networks_again text n e = rw e refl
+
 seeds_again : (digits seed : List ℕ) → decode_sized digits 32 ≡ Ok seed → valued flag.Seed digits ≡ Ok (setting.Seed seed)
 unfolding valued
 seeds_again digits seed e = rw (seed_again digits seed e) refl
@@ -266,6 +396,11 @@ setting_again (setting.Address p a) front rest h = options_again (flag.Address p
 setting_again (setting.Number b n) front rest h = options_again (flag.Number b) (decimal n) front rest h.2 ∙ ap (λ r. then_more r (settings_from None rest)) (number_again b n h.0 h.1)
 setting_again (setting.MailboxFile path) front rest h = options_again flag.MailboxFile path front rest h ∙ ap (λ r. then_more r (settings_from None rest)) (file_again path)
 setting_again (setting.StateFile path) front rest h = options_again flag.StateFile path front rest h ∙ ap (λ r. then_more r (settings_from None rest)) (state_again path)
+setting_again (setting.PasswordFile path) front rest h = options_again flag.PasswordFile path front rest h ∙ ap (λ r. then_more r (settings_from None rest)) (passwords_again path)
+setting_again (setting.Watch user mailbox) front rest h =
+    options_again flag.Watch (watched_text user mailbox) front rest h.2 ∙ ap (λ r. then_more r (settings_from None rest)) (watches_again user mailbox h.0 h.1)
+setting_again (setting.Rate rate) front rest h = options_again flag.Rate (rate_text rate) front rest h.2 ∙ ap (λ r. then_more r (settings_from None rest)) (rates_again rate h.0 h.1)
+setting_again (setting.Allow n) front rest h = options_again flag.Allow h.0 front rest h.1 ∙ ap (λ r. then_more r (settings_from None rest)) (networks_again h.0 n h.2)
 setting_again (setting.Seed seed) front rest h = options_again flag.Seed h.0 front rest h.1 ∙ ap (λ r. then_more r (settings_from None rest)) (seeds_again h.0 seed h.2)
 setting_again (setting.Switch x) front rest h =
     ap (λ (l : List (List ℕ)). settings_from None (l ++ rest)) h ∙ alone_again (switch_text x) rest (switch_is_no_flag x).0 ∙ ap (λ r. then_more r (settings_from None rest)) (switches_again x)

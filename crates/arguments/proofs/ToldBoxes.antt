@@ -1,6 +1,6 @@
 -- The boxes of workers that were told of changes.
-use Rattle.std.proofs.Common.{◌≡◌, ℕ, ◌+◌, ◌<◌, Bool, true, false, List, [], ◌∷◌, ◌++◌, length, map, take, get_or, string_bytes, String, refl, sym, ap, ◌∙◌, arith}
-use Rattle.std.specs.Prelude.{fold, if◌then◌else◌}
+use Rattle.std.proofs.Common.{◌≡◌, ℕ, ◌+◌, ◌<◌, Bool, true, false, List, [], ◌∷◌, ◌++◌, length, map, take, get_or, string_bytes, String, sym, ap, ◌∙◌, arith}
+use Rattle.std.specs.Prelude.{if◌then◌else◌}
 use Rattle.std.specs.declared.alloc.Global.{Global}
 use Rattle.std.specs.List.{range_with_len}
 use Rattle.std.proofs.lemmas.List.{map-append, length-map}
@@ -11,11 +11,10 @@ use Rattle.package.specs.declared.change.Outcome.{Outcome}
 use Rattle.package.specs.Content.{Seen}
 use Rattle.package.specs.Changes.{change_of}
 use Rattle.refer.specs.Transfers.{new_transfers}
-use Rattle.arguments.specs.declared.either.EitherPackage.{EitherPackage}
-use Rattle.arguments.specs.declared.either.EitherPackage.TheVariants.{First, Second}
-use Rattle.arguments.specs.Either.{seen_as}
+use Rattle.message_summary.specs.Mailboxes.{new_mailboxes}
 use Rattle.arguments.specs.Setup.{mailboxes_named, names_for}
 use Rattle.arguments.specs.Told.{told, boxes_told, all_told}
+use Rattle.arguments.proofs.Dealt.{new_mailboxes-named}
 
 -- one change more
 pub told_more : (changes : List Change) (i : ℕ) (c : Change) (first box after : Seen) (outcome : Outcome) → i < length changes → c ≡ get_or changes i c
@@ -42,19 +41,20 @@ told-len seen all n no_refer changes names are =
     sym (length-map all seen) ∙ ap length are ∙ length-map-range_with_len (λ w. boxes_told no_refer changes (names_for n w names)) 0 n
 
 -- the mailboxes alone
-pub one_box : {A B : Type 0} (first : A → Seen) (second : B → Seen) (boxes : List (EitherPackage A B)) (a : A) (no_refer : Bool) (changes : List Change) (names : List (List ℕ))
-    → no_refer ≡ true → boxes ≡ First a ∷ [] → first a ≡ told changes (mailboxes_named names) → map (seen_as first second) boxes ≡ boxes_told no_refer changes names
-one_box first second boxes a no_refer changes names without are mail =
-    ap (map (seen_as first second)) are
-    ∙ ap (λ (m : Seen). m ∷ []) mail
-    ∙ ap (λ (b : Bool). told changes (mailboxes_named names) ∷ (if b then [] else new_transfers ∷ [])) (sym without)
+pub one_box : {P : Type 0} (seen : P → Seen) (boxes : List P) (first told_so : P) (no_refer : Bool) (changes : List Change) (names : List (String Global))
+    → no_refer ≡ true → boxes ≡ told_so ∷ [] → seen first ≡ new_mailboxes names → seen told_so ≡ told changes (seen first)
+    → map seen boxes ≡ boxes_told no_refer changes (map string_bytes names)
+one_box seen boxes first told_so no_refer changes names without are new so =
+    ap (map seen) are
+    ∙ ap (λ (m : Seen). m ∷ []) (so ∙ ap (told changes) (new ∙ new_mailboxes-named names))
+    ∙ ap (λ (b : Bool). told changes (mailboxes_named (map string_bytes names)) ∷ (if b then [] else new_transfers ∷ [])) (sym without)
 
 -- and with transfers
-pub two_boxes : {A B : Type 0} (first : A → Seen) (second : B → Seen) (boxes : List (EitherPackage A B)) (a : A) (b : B) (no_refer : Bool) (changes : List Change) (names : List (List ℕ))
-    → no_refer ≡ false → boxes ≡ First a ∷ Second b ∷ [] → first a ≡ told changes (mailboxes_named names) → second b ≡ new_transfers
-    → map (seen_as first second) boxes ≡ boxes_told no_refer changes names
-two_boxes first second boxes a b no_refer changes names with_it are mail transfers =
-    ap (map (seen_as first second)) are
-    ∙ ap (λ (m : Seen). m ∷ second b ∷ []) mail
-    ∙ ap (λ (t : Seen). told changes (mailboxes_named names) ∷ t ∷ []) transfers
-    ∙ ap (λ (b : Bool). told changes (mailboxes_named names) ∷ (if b then [] else new_transfers ∷ [])) (sym with_it)
+pub two_boxes : {P : Type 0} (seen : P → Seen) (boxes : List P) (first told_so transfers : P) (no_refer : Bool) (changes : List Change) (names : List (String Global))
+    → no_refer ≡ false → boxes ≡ told_so ∷ transfers ∷ [] → seen first ≡ new_mailboxes names → seen told_so ≡ told changes (seen first) → seen transfers ≡ new_transfers
+    → map seen boxes ≡ boxes_told no_refer changes (map string_bytes names)
+two_boxes seen boxes first told_so transfers no_refer changes names with_it are new so moved =
+    ap (map seen) are
+    ∙ ap (λ (m : Seen). m ∷ seen transfers ∷ []) (so ∙ ap (told changes) (new ∙ new_mailboxes-named names))
+    ∙ ap (λ (t : Seen). told changes (mailboxes_named (map string_bytes names)) ∷ t ∷ []) moved
+    ∙ ap (λ (b : Bool). told changes (mailboxes_named (map string_bytes names)) ∷ (if b then [] else new_transfers ∷ [])) (sym with_it)

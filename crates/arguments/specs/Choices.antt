@@ -1,7 +1,8 @@
 -- What `notifyd serve` does by its settings. Of the settings of one option the last counts.
-use Rattle.std.specs.Prelude.{ℕ, true, false, List, [], ◌∷◌, Option, Some, None}
+use Rattle.std.specs.Prelude.{ℕ, true, false, List, [], ◌∷◌, ◌++◌, Option, Some, None}
 use Rattle.std.specs.List.{fold}
 use Rattle.sip_text.specs.declared.address.Addr.{Addr}
+use Rattle.admission.specs.declared.network.Network.{Network}
 use Rattle.arguments.specs.declared.flag.Place.{Place}
 use Rattle.arguments.specs.declared.flag.Place.TheVariants as place
 use Rattle.arguments.specs.declared.flag.Bound.{Bound}
@@ -17,7 +18,7 @@ use Rattle.arguments.specs.declared.choices.Choices.{Choices}
 abbrev pub loopback : ℕ → Addr
 loopback port = record { ip = 127 ∷ 0 ∷ 0 ∷ 1 ∷ []; port = port }
 
--- no count of workers stands for one a processor
+-- no count of workers stands for one a processor, and no time of nonces for the program's own
 abbrev pub default_numbers : Numbers
 default_numbers = record {
   workers = None;
@@ -35,6 +36,7 @@ default_numbers = record {
   linger = 2;
   max_datagram = 8192;
   receive_buffer = 4194304;
+  nonce_time = None;
 }
 
 -- what is done where nothing is set
@@ -48,6 +50,8 @@ default_choices = record {
   keep_subscriptions = false;
   no_refer = false;
   until_input_ends = false;
+  rate = None;
+  old_digest = false;
 }
 
 abbrev pub with_number : Bound → ℕ → Numbers → Numbers
@@ -66,6 +70,7 @@ with_number bound.Repeats n numbers = record numbers { repeats = n }
 with_number bound.Linger n numbers = record numbers { linger = n }
 with_number bound.MaxDatagram n numbers = record numbers { max_datagram = n }
 with_number bound.ReceiveBuffer n numbers = record numbers { receive_buffer = n }
+with_number bound.NonceTime n numbers = record numbers { nonce_time = Some n }
 
 abbrev pub with_address : Place → Addr → Choices → Choices
 with_address place.Listen addr choices = record choices { listen = addr }
@@ -76,13 +81,18 @@ abbrev pub with_switch : Switch → Choices → Choices
 with_switch switch.KeepSubscriptions choices = record choices { keep_subscriptions = true }
 with_switch switch.NoRefer choices = record choices { no_refer = true }
 with_switch switch.UntilInputEnds choices = record choices { until_input_ends = true }
+with_switch switch.OldDigest choices = record choices { old_digest = true }
 
--- the choices after this setting. Mailboxes and files are gathered apart
+-- the choices after this setting. Mailboxes, files and who may watch or is let in are gathered apart
 abbrev pub after : Choices → Setting → Choices
 after choices (setting.Address place addr) = with_address place addr choices
 after choices (setting.Number bound n) = record choices { numbers = with_number bound n choices.numbers }
 after choices (setting.MailboxFile path) = choices
 after choices (setting.StateFile path) = choices
+after choices (setting.PasswordFile path) = choices
+after choices (setting.Watch user mailbox) = choices
+after choices (setting.Rate rate) = record choices { rate = Some rate }
+after choices (setting.Allow network) = choices
 after choices (setting.Seed seed) = record choices { seed = Some seed }
 after choices (setting.Switch switch) = with_switch switch choices
 after choices (setting.Mailbox name) = choices
@@ -96,6 +106,10 @@ with_state path (setting.Address place addr) = path
 with_state path (setting.Number bound n) = path
 with_state path (setting.MailboxFile file) = path
 with_state path (setting.StateFile file) = Some file
+with_state path (setting.PasswordFile file) = path
+with_state path (setting.Watch user mailbox) = path
+with_state path (setting.Rate rate) = path
+with_state path (setting.Allow network) = path
 with_state path (setting.Seed seed) = path
 with_state path (setting.Switch switch) = path
 with_state path (setting.Mailbox name) = path
@@ -103,11 +117,54 @@ with_state path (setting.Mailbox name) = path
 abbrev pub state_of : List Setting → Option (List ℕ)
 state_of settings = fold with_state None settings
 
-abbrev pub mailbox_in : Setting → Option (List ℕ)
-mailbox_in (setting.Address place addr) = None
-mailbox_in (setting.Number bound n) = None
-mailbox_in (setting.MailboxFile path) = None
-mailbox_in (setting.StateFile path) = None
-mailbox_in (setting.Seed seed) = None
-mailbox_in (setting.Switch switch) = None
-mailbox_in (setting.Mailbox name) = Some name
+-- the path of a file of passwords, if a setting before this one or this one names it
+abbrev pub with_passwords : Option (List ℕ) → Setting → Option (List ℕ)
+with_passwords path (setting.Address place addr) = path
+with_passwords path (setting.Number bound n) = path
+with_passwords path (setting.MailboxFile file) = path
+with_passwords path (setting.StateFile file) = path
+with_passwords path (setting.PasswordFile file) = Some file
+with_passwords path (setting.Watch user mailbox) = path
+with_passwords path (setting.Rate rate) = path
+with_passwords path (setting.Allow network) = path
+with_passwords path (setting.Seed seed) = path
+with_passwords path (setting.Switch switch) = path
+with_passwords path (setting.Mailbox name) = path
+
+abbrev pub passwords_of : List Setting → Option (List ℕ)
+passwords_of settings = fold with_passwords None settings
+
+-- the mailboxes that users may watch beside their own, each with its user in front, with what this setting adds
+abbrev pub with_watched : List (List ℕ × List ℕ) → Setting → List (List ℕ × List ℕ)
+with_watched pairs (setting.Address place addr) = pairs
+with_watched pairs (setting.Number bound n) = pairs
+with_watched pairs (setting.MailboxFile path) = pairs
+with_watched pairs (setting.StateFile path) = pairs
+with_watched pairs (setting.PasswordFile path) = pairs
+with_watched pairs (setting.Watch user mailbox) = pairs ++ (user, mailbox) ∷ []
+with_watched pairs (setting.Rate rate) = pairs
+with_watched pairs (setting.Allow network) = pairs
+with_watched pairs (setting.Seed seed) = pairs
+with_watched pairs (setting.Switch switch) = pairs
+with_watched pairs (setting.Mailbox name) = pairs
+
+abbrev pub watched_of : List Setting → List (List ℕ × List ℕ)
+watched_of settings = fold with_watched [] settings
+
+-- the networks that are let in, with what this setting adds
+abbrev pub with_network : List Network → Setting → List Network
+with_network networks (setting.Address place addr) = networks
+with_network networks (setting.Number bound n) = networks
+with_network networks (setting.MailboxFile path) = networks
+with_network networks (setting.StateFile path) = networks
+with_network networks (setting.PasswordFile path) = networks
+with_network networks (setting.Watch user mailbox) = networks
+with_network networks (setting.Rate rate) = networks
+with_network networks (setting.Allow network) = networks ++ network ∷ []
+with_network networks (setting.Seed seed) = networks
+with_network networks (setting.Switch switch) = networks
+with_network networks (setting.Mailbox name) = networks
+
+-- the networks that are let in, in order
+abbrev pub networks_of : List Setting → List Network
+networks_of settings = fold with_network [] settings

@@ -30,12 +30,17 @@ bound_text bound.Repeats = codes "--repeats"
 bound_text bound.Linger = codes "--linger"
 bound_text bound.MaxDatagram = codes "--max-datagram"
 bound_text bound.ReceiveBuffer = codes "--receive-buffer"
+bound_text bound.NonceTime = codes "--nonce-time"
 
 abbrev pub flag_text : Flag → List ℕ
 flag_text (flag.Address place) = place_text place
 flag_text (flag.Number bound) = bound_text bound
 flag_text flag.MailboxFile = codes "--mailboxes"
 flag_text flag.StateFile = codes "--state"
+flag_text flag.PasswordFile = codes "--passwords"
+flag_text flag.Watch = codes "--watch"
+flag_text flag.Rate = codes "--rate"
+flag_text flag.Allow = codes "--allow"
 flag_text flag.Seed = codes "--seed"
 
 -- the options without a value
@@ -43,6 +48,7 @@ abbrev pub switch_text : Switch → List ℕ
 switch_text switch.KeepSubscriptions = codes "--keep-subscriptions"
 switch_text switch.NoRefer = codes "--no-refer"
 switch_text switch.UntilInputEnds = codes "--until-input-ends"
+switch_text switch.OldDigest = codes "--old-digest"
 
 -- the least number that an option takes
 abbrev pub least : Bound → ℕ
@@ -69,3 +75,4 @@ most bound.Repeats = 65536
 most bound.Linger = 32
 most bound.MaxDatagram = 65507
 most bound.ReceiveBuffer = 1073741824
+most bound.NonceTime = 86400

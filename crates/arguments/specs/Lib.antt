@@ -10,8 +10,7 @@ pub mod Arguments
 pub mod ArgumentsReading
 pub mod UdpArguments
 pub mod UdpReading
-pub mod Either
-pub mod Boxes
+pub mod Wanted
 pub mod Status
 pub mod Setup
 pub mod Told

@@ -1,11 +1,13 @@
 -- What the reader of settings computes, piece by piece. No public contract cites this.
-use Rattle.std.specs.Prelude.{◌≡◌, ℕ, Bool, ◌==◌, ◌&&◌, length, List, [], ◌∷◌, ◌++◌, if◌then◌else◌, nat_lt, Option, Some, None, Result, Ok, Err, codes, bytes_eq}
+use Rattle.std.specs.Prelude.{◌≡◌, ℕ, Bool, ◌==◌, ◌&&◌, not, length, List, [], ◌∷◌, ◌++◌, if◌then◌else◌, nat_lt, Option, Some, None, Result, Ok, Err, codes, bytes_eq}
 use Rattle.std.specs.Str.{byte}
 use Rattle.std.specs.List.{position_or_len, before_first, after_first}
 use Rattle.hex.specs.declared.error.FromHexError.{FromHexError}
 use Rattle.hex.specs.Hex.{decode_sized}
-use Rattle.sip_text.specs.Reading.{◌>>=◌, begins, addr_of, plain_up_to}
+use Rattle.sip_text.specs.Reading.{◌>>=◌, begins, addr_of, cut_at, plain_up_to}
 use Rattle.package.specs.Texts.{is_word}
+use Rattle.rates.specs.declared.bucket.Rate.{Rate}
+use Rattle.admission.specs.Networks.{network}
 use Rattle.arguments.specs.declared.flag.Place.{Place}
 use Rattle.arguments.specs.declared.flag.Place.TheVariants as place
 use Rattle.arguments.specs.declared.flag.Bound.{Bound}
@@ -18,7 +20,7 @@ use Rattle.arguments.specs.declared.setting.Setting.{Setting}
 use Rattle.arguments.specs.declared.setting.Setting.TheVariants as setting
 use Rattle.arguments.specs.declared.error.OptionsError.{OptionsError}
 use Rattle.arguments.specs.declared.error.OptionsError.TheVariants as error
-use Rattle.arguments.specs.Flags.{least, most, place_text, bound_text, switch_text}
+use Rattle.arguments.specs.Flags.{least, most, place_text, bound_text, flag_text, switch_text}
 use Rattle.arguments.specs.Settings.{is_user}
 
 -- ---- the option that a word is
@@ -31,7 +33,7 @@ abbrev pub places : List Place
 places = place.Listen ∷ place.Contact ∷ place.Control ∷ []
 
 abbrev pub times : List Bound
-times = bound.MinTime ∷ bound.MaxTime ∷ bound.DefaultTime ∷ bound.ReferTime ∷ bound.Linger ∷ []
+times = bound.MinTime ∷ bound.MaxTime ∷ bound.DefaultTime ∷ bound.ReferTime ∷ bound.Linger ∷ bound.NonceTime ∷ []
 
 abbrev pub counts : List Bound
 counts = bound.Workers ∷ bound.MaxCseq ∷ bound.Table ∷ bound.Serials ∷ bound.Kept ∷ bound.Inbox ∷ bound.Outbox ∷ bound.Repeats ∷ []
@@ -65,12 +67,16 @@ abbrev pub number_flag : Option Bound → Option Flag
 number_flag (Some b) = Some (flag.Number b)
 number_flag None = None
 
+-- the options whose value is neither an address nor a number
+abbrev pub specials : List Flag
+specials =
+    flag.MailboxFile ∷ flag.StateFile ∷ flag.PasswordFile ∷ flag.Watch ∷ flag.Rate ∷ flag.Allow ∷ flag.Seed ∷ []
+
+unfoldable pub special_of : List ℕ → Option Flag
+special_of word = find_text flag_text specials word
+
 unfoldable pub other_of : List ℕ → Option Flag
-other_of word =
-    if bytes_eq word (codes "--mailboxes") then Some flag.MailboxFile
-    else if bytes_eq word (codes "--state") then Some flag.StateFile
-    else if bytes_eq word (codes "--seed") then Some flag.Seed
-    else number_flag (bound_of word)
+other_of word = or_else (special_of word) (number_flag (bound_of word))
 
 abbrev pub address_flag : Option Place → Option Flag → Option Flag
 address_flag (Some p) other = Some (flag.Address p)
@@ -93,7 +99,7 @@ joined_of word =
     else with_value (flag_of (before_first is_equals word)) (after_first is_equals word)
 
 abbrev pub switches : List Switch
-switches = switch.KeepSubscriptions ∷ switch.NoRefer ∷ switch.UntilInputEnds ∷ []
+switches = switch.KeepSubscriptions ∷ switch.NoRefer ∷ switch.UntilInputEnds ∷ switch.OldDigest ∷ []
 
 unfoldable pub switch_of : List ℕ → Option Switch
 switch_of word = find_text switch_text switches word
@@ -117,11 +123,39 @@ between least most word = do
   n ← plain_up_to most word
   if nat_lt n least then None else Some n
 
+-- a name of a mailbox
+abbrev pub is_mailbox : List ℕ → Bool
+is_mailbox name = is_word name && (is_user name && not (begins (byte "-") name))
+
+abbrev pub is_colon : ℕ → Bool
+is_colon b = b == byte ":"
+
+abbrev pub watch : List ℕ → List ℕ → Option (List ℕ × List ℕ)
+watch user mailbox = if is_mailbox mailbox then Some (user, mailbox) else None
+
+-- a user before the first colon, and a mailbox behind it
+unfoldable pub watch_of : List ℕ → Option (List ℕ × List ℕ)
+watch_of value =
+    if position_or_len is_colon value == length value then None
+    else watch (before_first is_colon value) (after_first is_colon value)
+
+-- so many a second before a slash, and so many at once behind it
+unfoldable pub rate_of : List ℕ → Option Rate
+rate_of value = do
+  cut ← cut_at (byte "/") value
+  n ← between 1 65536 cut.0
+  burst ← between 1 65536 cut.1
+  Some (record { burst = burst; per_second = n })
+
 unfoldable pub valued : Flag → List ℕ → Result Setting OptionsError
 valued (flag.Address place) value = or_bad (flag.Address place) (addr_of value >>= λ a. Some (setting.Address place a))
 valued (flag.Number bound) value = or_bad (flag.Number bound) (between (least bound) (most bound) value >>= λ n. Some (setting.Number bound n))
 valued flag.MailboxFile value = Ok (setting.MailboxFile value)
 valued flag.StateFile value = Ok (setting.StateFile value)
+valued flag.PasswordFile value = Ok (setting.PasswordFile value)
+valued flag.Watch value = or_bad flag.Watch (watch_of value >>= λ w. Some (setting.Watch w.0 w.1))
+valued flag.Rate value = or_bad flag.Rate (rate_of value >>= λ r. Some (setting.Rate r))
+valued flag.Allow value = or_bad flag.Allow (network value >>= λ n. Some (setting.Allow n))
 valued flag.Seed value = or_bad flag.Seed (seed_of value >>= λ s. Some (setting.Seed s))
 
 -- a word that is no option

@@ -3,24 +3,31 @@
 --   words    = *setting
 --   setting  = ("--listen" / "--contact" / "--control") address
 --            / ("--workers" / "--min-time" / "--max-time" / "--default-time" / "--refer-time" / "--linger" / "--max-cseq" / "--table"
---              / "--serials" / "--kept" / "--inbox" / "--outbox" / "--repeats" / "--max-datagram" / "--receive-buffer") number
---            / ("--mailboxes" / "--state") path
+--              / "--serials" / "--kept" / "--inbox" / "--outbox" / "--repeats" / "--max-datagram" / "--receive-buffer" / "--nonce-time")
+--              number
+--            / ("--mailboxes" / "--state" / "--passwords") path
+--            / "--watch" user ":" mailbox         ; no `:` in the user
+--            / "--rate" number "/" number         ; so many datagrams a second, and so many at once, each from 1 to 65536
+--            / "--allow" network
 --            / "--seed" digits                    ; 64 hex digits of either case
---            / "--keep-subscriptions" / "--no-refer" / "--until-input-ends"
+--            / "--keep-subscriptions" / "--no-refer" / "--until-input-ends" / "--old-digest"
 --            / mailbox                            ; no space, control character, `@` or `:`, and no `-` in front
 --
 -- An option and its value are two words, or one with `=` between.
 --
 --   address  = octet "." octet "." octet "." octet ":" port
+--   network  = octet "." octet "." octet "." octet "/" bits      ; 0 to 32 bits
 --
 -- Numbers are decimal without leading zeros, from the least to the greatest that the option takes.
-use Rattle.std.specs.Prelude.{◌≡◌, ◌≢◌, ℕ, ◌≤◌, ◌⊎◌, Bool, true, false, not, ◌&&◌, ◌==◌, List, [], ◌∷◌, ◌++◌, codes, decimal, Result, Ok, Err}
+use Rattle.std.specs.Prelude.{◌≡◌, ◌≢◌, ℕ, ◌≤◌, ◌⊎◌, Bool, true, false, not, ◌&&◌, ◌==◌, List, [], ◌∷◌, ◌++◌, codes, decimal, Some, Result, Ok, Err}
 use Rattle.std.specs.Str.{byte}
 use Rattle.std.specs.List.{list_all}
 use Rattle.hex.specs.Hex.{decode_sized}
 use Rattle.sip_text.specs.Addresses.{addr_text, IsAddr}
 use Rattle.sip_text.specs.Reading.{begins}
 use Rattle.package.specs.Texts.{is_word}
+use Rattle.rates.specs.declared.bucket.Rate.{Rate}
+use Rattle.admission.specs.Networks.{network}
 use Rattle.arguments.specs.declared.flag.Flag.{Flag}
 use Rattle.arguments.specs.declared.switch.Switch.{Switch}
 use Rattle.arguments.specs.declared.setting.Setting.{Setting}
@@ -39,6 +46,22 @@ pub record IsMailbox (name : List ℕ) : Type 0 where
   pub user : is_user name ≡ true
   pub no_option : begins (byte "-") name ≡ false
 
+-- a user that a line of passwords may have: a colon ends it
+abbrev pub has_no_colon : List ℕ → Bool
+has_no_colon user = list_all (λ b. not (b == byte ":")) user
+
+-- a user and a mailbox
+abbrev pub watched_text : List ℕ → List ℕ → List ℕ
+watched_text user mailbox = user ++ byte ":" ∷ mailbox
+
+-- the least and the greatest number of a rate
+abbrev pub IsRateNumber : ℕ → Type 0
+IsRateNumber n = (1 ≤ n) × (n ≤ 65536)
+
+-- so many a second, and so many at once
+abbrev pub rate_text : Rate → List ℕ
+rate_text rate = decimal rate.per_second ++ byte "/" ∷ decimal rate.burst
+
 -- an option and its value as one word
 abbrev pub joined : List ℕ → List ℕ → List ℕ
 joined option value = option ++ byte "=" ∷ value
@@ -53,6 +76,13 @@ IsSetting words (setting.Address place addr) = IsAddr addr × AreOption words (p
 IsSetting words (setting.Number bound n) = (least bound ≤ n) × (n ≤ most bound) × AreOption words (bound_text bound) (decimal n)
 IsSetting words (setting.MailboxFile path) = AreOption words (codes "--mailboxes") path
 IsSetting words (setting.StateFile path) = AreOption words (codes "--state") path
+IsSetting words (setting.PasswordFile path) = AreOption words (codes "--passwords") path
+IsSetting words (setting.Watch user mailbox) =
+    (has_no_colon user ≡ true) × IsMailbox mailbox × AreOption words (codes "--watch") (watched_text user mailbox)
+IsSetting words (setting.Rate rate) =
+    IsRateNumber rate.per_second × IsRateNumber rate.burst × AreOption words (codes "--rate") (rate_text rate)
+IsSetting words (setting.Allow n) =
+    (text : List ℕ) × AreOption words (codes "--allow") text × (network text ≡ Some n)
 IsSetting words (setting.Seed seed) =
     (digits : List ℕ) × AreOption words (codes "--seed") digits × (decode_sized digits 32 ≡ Ok seed)
 IsSetting words (setting.Switch switch) = words ≡ switch_text switch ∷ []

@@ -6,6 +6,7 @@ ghost use Rattle.arguments.specs.Choices.{default_choices, default_numbers, with
 use crate::flag::{Bound, Place};
 use crate::setting::Setting;
 use crate::switch::Switch;
+use rates::Rate;
 use sip_text::Addr;
 
 /// The numbers of the options; times are seconds. Which of them go together, `Limits::new` of the crate `notifier` decides.
@@ -31,9 +32,11 @@ pub struct Numbers {
     pub max_datagram: u32,
     /// For how many octets of datagrams that wait the system is asked for room.
     pub receive_buffer: u32,
+    /// For how long a nonce is good. None: as the program likes.
+    pub nonce_time: Option<u32>,
 }
 
-/// What the service does, but for its mailboxes.
+/// What the service does, but for its mailboxes and who is heard.
 #[derive(Clone, Copy, Debug)]
 pub struct Choices {
     /// Where datagrams come in.
@@ -51,6 +54,10 @@ pub struct Choices {
     pub no_refer: bool,
     /// Whether the service closes where its standard input ends.
     pub until_input_ends: bool,
+    /// How much of each source address is heard. None: all.
+    pub rate: Option<Rate>,
+    /// Whether a response without `qop` is taken, as clients of RFC 2069 make it.
+    pub old_digest: bool,
 }
 
 /// 127.0.0.1 with this port.
@@ -84,6 +91,7 @@ impl Numbers {
             linger: 2,
             max_datagram: 8192,
             receive_buffer: 4194304,
+            nonce_time: None,
         }
     }
 
@@ -106,6 +114,7 @@ impl Numbers {
             Bound::Linger => self.linger = number,
             Bound::MaxDatagram => self.max_datagram = number,
             Bound::ReceiveBuffer => self.receive_buffer = number,
+            Bound::NonceTime => self.nonce_time = Some(number),
         }
     }
 }
@@ -124,6 +133,8 @@ impl Choices {
             keep_subscriptions: false,
             no_refer: false,
             until_input_ends: false,
+            rate: None,
+            old_digest: false,
         }
     }
 
@@ -144,6 +155,7 @@ impl Choices {
             Switch::KeepSubscriptions => self.keep_subscriptions = true,
             Switch::NoRefer => self.no_refer = true,
             Switch::UntilInputEnds => self.until_input_ends = true,
+            Switch::OldDigest => self.old_digest = true,
         }
     }
 
@@ -155,7 +167,13 @@ impl Choices {
             Setting::Number(bound, number) => self.numbers.set(*bound, *number),
             Setting::Seed(seed) => self.seed = Some(*seed),
             Setting::Switch(switch) => self.set_switch(*switch),
-            Setting::MailboxFile(_) | Setting::StateFile(_) | Setting::Mailbox(_) => {}
+            Setting::Rate(rate) => self.rate = Some(*rate),
+            Setting::MailboxFile(_)
+            | Setting::StateFile(_)
+            | Setting::PasswordFile(_)
+            | Setting::Watch(..)
+            | Setting::Allow(..)
+            | Setting::Mailbox(_) => {}
         }
     }
 

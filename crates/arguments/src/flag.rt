@@ -3,7 +3,7 @@ ghost use Rattle.std.specs.Prelude.{◌≡◌};
 ghost use Rattle.sip_text.specs.Bytes.{Finds};
 ghost use Rattle.arguments.specs.Flags as spec;
 ghost use Rattle.arguments.specs.Flags.{place_text, bound_text, flag_text};
-ghost use Rattle.arguments.specs.Reading.{place_of, time_of, count_of, size_of, number_of, bound_of, other_of, flag_of, joined_of};
+ghost use Rattle.arguments.specs.Reading.{place_of, time_of, count_of, size_of, number_of, bound_of, special_of, other_of, flag_of, joined_of};
 
 use std::fmt;
 use std::fmt::{Display, Formatter};
@@ -37,6 +37,7 @@ pub enum Bound {
     Linger,
     MaxDatagram,
     ReceiveBuffer,
+    NonceTime,
 }
 
 /// An option that has a value.
@@ -48,6 +49,14 @@ pub enum Flag {
     MailboxFile,
     /// `--state`: a file of MAIL lines that are done before the first datagram of SIP is heard.
     StateFile,
+    /// `--passwords`: a file of users and their passwords' hashes.
+    PasswordFile,
+    /// `--watch`: a further mailbox that a user may watch.
+    Watch,
+    /// `--rate`: how much of each source address is heard.
+    Rate,
+    /// `--allow`: a network from which SIP is heard.
+    Allow,
     /// `--seed`: from which the words of local tags are drawn.
     Seed,
 }
@@ -86,6 +95,7 @@ impl Bound {
             Bound::Linger => "--linger",
             Bound::MaxDatagram => "--max-datagram",
             Bound::ReceiveBuffer => "--receive-buffer",
+            Bound::NonceTime => "--nonce-time",
         }
     }
 
@@ -114,6 +124,7 @@ impl Bound {
             Bound::Linger => 32,
             Bound::MaxDatagram => 65507,
             Bound::ReceiveBuffer => 1073741824,
+            Bound::NonceTime => 86400,
             Bound::MaxTime | Bound::DefaultTime | Bound::ReferTime | Bound::Serials => u32::MAX,
         }
     }
@@ -129,6 +140,10 @@ impl Flag {
             Flag::Number(bound) => bound.text(),
             Flag::MailboxFile => "--mailboxes",
             Flag::StateFile => "--state",
+            Flag::PasswordFile => "--passwords",
+            Flag::Watch => "--watch",
+            Flag::Rate => "--rate",
+            Flag::Allow => "--allow",
             Flag::Seed => "--seed",
         }
     }
@@ -144,7 +159,12 @@ impl Display for Flag {
                 let (least, most) = (bound.least(), bound.most());
                 write!(f, "{text} <{least} to {most}>")
             }
-            Flag::MailboxFile | Flag::StateFile => write!(f, "{text} <file>"),
+            Flag::MailboxFile | Flag::StateFile | Flag::PasswordFile => {
+                write!(f, "{text} <file>")
+            }
+            Flag::Watch => write!(f, "{text} <user:mailbox>"),
+            Flag::Rate => write!(f, "{text} <a second>/<at once>, each 1 to 65536"),
+            Flag::Allow => write!(f, "{text} <a.b.c.d/bits>"),
             Flag::Seed => write!(f, "{text} <64 hex digits>"),
         }
     }
@@ -180,6 +200,8 @@ fn time_of(word: &str) -> Option<Bound>
         Some(Bound::ReferTime)
     } else if word == "--linger" {
         Some(Bound::Linger)
+    } else if word == "--nonce-time" {
+        Some(Bound::NonceTime)
     } else {
         None
     }
@@ -246,19 +268,38 @@ fn bound_of(word: &str) -> Option<Bound>
     }
 }
 
-/// An option whose value is no address.
-#[tactic(auto, unfolding(crate::specs::Reading::other_of))]
-fn other_of(word: &str) -> Option<Flag>
-    ensures { Finds (λ x. x) result (other_of word.now) }
+/// An option whose value is neither an address nor a number.
+#[tactic(auto, unfolding(crate::specs::Reading::special_of))]
+fn special_of(word: &str) -> Option<Flag>
+    ensures { Finds (λ x. x) result (special_of word.now) }
 {
     if word == "--mailboxes" {
         Some(Flag::MailboxFile)
     } else if word == "--state" {
         Some(Flag::StateFile)
+    } else if word == "--passwords" {
+        Some(Flag::PasswordFile)
+    } else if word == "--watch" {
+        Some(Flag::Watch)
+    } else if word == "--rate" {
+        Some(Flag::Rate)
+    } else if word == "--allow" {
+        Some(Flag::Allow)
     } else if word == "--seed" {
         Some(Flag::Seed)
     } else {
-        bound_of(word).map(Flag::Number)
+        None
+    }
+}
+
+/// An option whose value is no address.
+#[tactic(auto, unfolding(crate::specs::Reading::other_of))]
+fn other_of(word: &str) -> Option<Flag>
+    ensures { Finds (λ x. x) result (other_of word.now) }
+{
+    match special_of(word) {
+        Some(flag) => Some(flag),
+        None => bound_of(word).map(Flag::Number),
     }
 }
 

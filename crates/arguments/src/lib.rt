@@ -4,7 +4,8 @@
 //! [`parse_settings`] what stands behind `serve`: a list of [`Setting`]s, or the first thing that is wrong, with
 //! the right form of an option that has a value. [`Choices::of`] tells what the settings ask for, [`mailboxes_in`] which mailboxes a line of
 //! a file names, and [`parse_tell`] reads what stands behind `tell`. [`setup_at`] and [`boxes_for`] make what workers start
-//! from, and a [`Status`] is how a run ends. It starts nothing and opens no file.
+//! from; the packages are those that the caller makes for each [`Wanted`]. A [`Status`] is how a run ends. It starts nothing
+//! and opens no file.
 //!
 //! Begin with `specs/Settings`: which words are which settings, one behind the other; then `specs/Choices`, `specs/Tell`,
 //! `specs/MailboxFile`, `specs/Arguments`, `specs/UdpArguments` and `specs/Setup`.
@@ -12,9 +13,9 @@
 
 pub mod arguments;
 pub mod choices;
-pub mod either;
 pub mod error;
 pub mod flag;
+pub mod heard;
 pub mod mailbox_file;
 mod number_range;
 pub mod setting;
@@ -24,17 +25,20 @@ pub mod switch;
 pub mod tell;
 pub mod told;
 pub mod udp_arguments;
+pub mod wanted;
 
 pub use arguments::{Arguments, ArgumentsError, parse_arguments};
 pub use choices::{Choices, Numbers};
-pub use either::EitherPackage;
 pub use error::OptionsError;
 pub use flag::{Bound, Flag, Place};
+pub use heard::{networks_of, passwords_of, watched_of};
 pub use mailbox_file::{is_blank, mailboxes_in};
 pub use setting::{Setting, parse_settings};
-pub use setup::{Boxes, boxes_for, boxes_with, names_for, setup_at};
+pub use setup::{boxes_for, boxes_with, names_for, setup_at};
+pub use sip_text::NoMemory;
 pub use status::Status;
 pub use switch::Switch;
 pub use tell::{TellCall, TellError, parse_tell};
 pub use told::all_told;
 pub use udp_arguments::{UdpArguments, parse_udp_arguments};
+pub use wanted::Wanted;

@@ -2,17 +2,20 @@
 ghost use Rattle.std.specs.Prelude.{◌≡◌, ◌↔◌, List, None, IsTrue, IfOk, IfErr};
 ghost use Rattle.sip_text.specs.Bytes.{Finds};
 ghost use Rattle.arguments.specs.declared.setting.Setting.{Setting};
+ghost use Rattle.arguments.specs.declared.setting.Setting.TheVariants as setting;
 ghost use Rattle.arguments.specs.Settings.{is_user, IsMailbox, AreSettings, AreWrong, Answers};
 ghost use Rattle.arguments.specs.Reading as spec;
-ghost use Rattle.arguments.specs.Reading.{seed_of, between, valued, named, alone, Reads};
+ghost use Rattle.arguments.specs.Reading.{seed_of, between, watch_of, rate_of, valued, named, alone, Reads};
 ghost use Rattle.sip_text.specs.Reading.{begins, plain_up_to};
 
 use crate::error::OptionsError;
 use crate::flag::{Bound, Flag, Place, flag_of, joined_of};
 use crate::switch::{Switch, switch_of};
+use admission::Network;
 use hex::FromHex;
 use package::texts::is_word;
-use sip_text::{Addr, Text, plain_number};
+use rates::Rate;
+use sip_text::{Addr, NoMemory, Text, cut_at, plain_number};
 use std::alloc::Global;
 
 /// One thing that the words say.
@@ -26,6 +29,14 @@ pub enum Setting {
     MailboxFile(Text),
     /// `--state` with the path of a file.
     StateFile(Text),
+    /// `--passwords` with the path of a file.
+    PasswordFile(Text),
+    /// `--watch` with a user and a further mailbox of that user.
+    Watch(Text, Text),
+    /// `--rate` with how much of each source address is heard.
+    Rate(Rate),
+    /// `--allow` with a network that is let in.
+    Allow(Network),
     /// `--seed` with 32 bytes.
     Seed([u8; 32]),
     /// An option without a value.
@@ -66,6 +77,39 @@ fn between(least: u32, most: u32, word: &[u8]) -> Option<u32>
     if number < least { None } else { Some(number) }
 }
 
+/// How many datagrams a second, and how many at once: `n/burst`, each from 1 to 65536.
+#[tactic(auto, unfolding(crate::specs::Reading::rate_of))]
+fn rate_of(value: &[u8]) -> Option<Rate>
+    ensures { Finds (λ x. x) result (rate_of value.now) }
+{
+    let (per_second, rest) = cut_at(b'/', value)?;
+    let per_second = between(1, 65536, per_second)?;
+    let burst = between(1, 65536, rest)?;
+    Some(Rate { burst, per_second })
+}
+
+/// A user before the first colon, and a mailbox behind it.
+#[tactic(auto, unfolding(crate::specs::Reading::watch_of))]
+fn watch_of(value: &str) -> Option<(&str, &str)>
+    ensures { Finds (λ x. (x.0.now, x.1.now)) result (watch_of value.now) }
+{
+    let (user, mailbox) = value.split_once(':')?;
+    if is_mailbox(mailbox) {
+        Some((user, mailbox))
+    } else {
+        None
+    }
+}
+
+/// A user with a further mailbox.
+fn watched(alloc: Global, user: &str, mailbox: &str) -> Result<Setting, NoMemory>
+    ensures { IfOk result (λ s. s ≡ setting.Watch user.now mailbox.now) }
+{
+    let user = Text::of(alloc, user)?;
+    let mailbox = Text::of(alloc, mailbox)?;
+    Ok(Setting::Watch(user, mailbox))
+}
+
 /// What an option with this value says.
 #[tactic(auto, unfolding(crate::specs::Reading::valued))]
 fn valued(alloc: Global, flag: Flag, value: &str) -> Result<Setting, OptionsError>
@@ -81,6 +125,16 @@ fn valued(alloc: Global, flag: Flag, value: &str) -> Result<Setting, OptionsErro
         }
         Flag::MailboxFile => Some(Setting::MailboxFile(Text::of(alloc, value)?)),
         Flag::StateFile => Some(Setting::StateFile(Text::of(alloc, value)?)),
+        Flag::PasswordFile => Some(Setting::PasswordFile(Text::of(alloc, value)?)),
+        Flag::Watch => match watch_of(value) {
+            Some((user, mailbox)) => Some(watched(alloc, user, mailbox)?),
+            None => None,
+        },
+        Flag::Rate => rate_of(value.as_bytes()).map(Setting::Rate),
+        Flag::Allow => {
+            let network = Network::of(value.as_bytes());
+            network.map(|network| Setting::Allow(network))
+        }
         Flag::Seed => seed_of(value).map(Setting::Seed),
     };
     setting.ok_or(OptionsError::Bad(flag))
@@ -102,7 +156,8 @@ fn is_user(word: &str) -> bool
 
 /// Whether it may name a mailbox.
 pub(crate) fn is_mailbox(word: &str) -> bool
-    ensures { IsTrue result ↔ IsMailbox word.now }
+    ensures is { IsTrue result ↔ IsMailbox word.now }
+    ensures value { result ≡ spec.is_mailbox word.now }
 {
     is_word(word) && is_user(word) && !is_dashed(word)
 }

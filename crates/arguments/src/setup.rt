@@ -1,14 +1,12 @@
 //! What the program's workers start from: what all have in common, and the packages of each.
 ghost use Rattle.std.specs.Prelude.{◌≡◌, ◌<◌, ◌∷◌, [], ◌++◌, map, string_bytes, IfOk, OnOk};
-ghost use Rattle.arguments.specs.Boxes.{box_seen};
 ghost use Rattle.arguments.specs.Setup as spec;
+ghost use Rattle.arguments.specs.Wanted.{Gives};
 
-use crate::either::EitherPackage;
+use crate::wanted::Wanted;
 use home::key_hash;
-use message_summary::Mailboxes;
 use notifier_model::{Limits, Setup};
-use package::ClosingCell;
-use refer::Transfers;
+use package::Package;
 use sip_read::Addr;
 use sip_text::{NoMemory, Text};
 use std::alloc::Global;
@@ -68,31 +66,43 @@ pub fn names_for(
     Ok(names)
 }
 
-/// The packages of a worker of the program.
-pub type Boxes = Vec<EitherPackage<Mailboxes, Transfers>>;
-
-/// The packages of a worker with these mailboxes.
-pub fn boxes_with(alloc: Global, names: Vec<String>) -> Result<Boxes, NoMemory>
-    ensures { IfOk result (λ boxes. map box_seen boxes.items ≡ spec.boxes_with (map string_bytes names.items)) }
+/// The packages of a worker with these mailboxes, each as `make` gives it.
+pub fn boxes_with<P, F>(alloc: Global, names: Vec<String>, make: &F) -> Result<Vec<P>, NoMemory>
+where
+    P: Package,
+    F: Fn(Wanted) -> Result<P, NoMemory>,
+    requires callable { F.IsAlwaysCallable make.now }
+    requires gives { Gives P.seen (F.post make.now) }
+    ensures { IfOk result (λ boxes. map P.seen boxes.items ≡ spec.boxes_with (map string_bytes names.items)) }
 {
-    let mailboxes = Mailboxes::new(alloc, names, ClosingCell::new(alloc)?)?;
-    let transfers = Transfers::new(alloc, ClosingCell::new(alloc)?)?;
+    let mailboxes = make(Wanted::Mailboxes(names))?;
+    let transfers = make(Wanted::Transfers)?;
     let mut boxes = Vec::new(alloc);
-    boxes.push(EitherPackage::First(mailboxes))?;
-    boxes.push(EitherPackage::Second(transfers))?;
+    boxes.push(mailboxes)?;
+    boxes.push(transfers)?;
     Ok(boxes)
 }
 
-/// The packages of each worker, among whom the mailboxes are dealt out.
-pub fn boxes_for(alloc: Global, mailboxes: &[Text], workers: u32) -> Result<Vec<Boxes>, NoMemory>
-    requires { 0 < workers }
+/// The packages of each worker, among whom the mailboxes are dealt out, each as `make` gives it.
+pub fn boxes_for<P, F>(
+    alloc: Global,
+    mailboxes: &[Text],
+    workers: u32,
+    make: &F,
+) -> Result<Vec<Vec<P>>, NoMemory>
+where
+    P: Package,
+    F: Fn(Wanted) -> Result<P, NoMemory>,
+    requires some { 0 < workers }
+    requires callable { F.IsAlwaysCallable make.now }
+    requires gives { Gives P.seen (F.post make.now) }
     ensures { IfOk result (λ all.
-        map (λ boxes. map box_seen boxes.items) all.items ≡ spec.boxes_for workers mailboxes.now) }
+        map (λ boxes. map P.seen boxes.items) all.items ≡ spec.boxes_for workers mailboxes.now) }
 {
     let mut all = Vec::new(alloc);
     for worker in 0..workers {
         let names = names_for(alloc, mailboxes, workers, worker)?;
-        all.push(boxes_with(alloc, names)?)?;
+        all.push(boxes_with(alloc, names, make)?)?;
     }
     Ok(all)
 }

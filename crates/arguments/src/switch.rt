@@ -13,6 +13,8 @@ pub enum Switch {
     NoRefer,
     /// `--until-input-ends`: the service closes where its standard input ends.
     UntilInputEnds,
+    /// `--old-digest`: a response without `qop` is taken, as clients of RFC 2069 make it.
+    OldDigest,
 }
 
 impl Switch {
@@ -24,6 +26,7 @@ impl Switch {
             Switch::KeepSubscriptions => "--keep-subscriptions",
             Switch::NoRefer => "--no-refer",
             Switch::UntilInputEnds => "--until-input-ends",
+            Switch::OldDigest => "--old-digest",
         }
     }
 }
@@ -39,6 +42,8 @@ pub(crate) fn switch_of(word: &str) -> Option<Switch>
         Some(Switch::NoRefer)
     } else if word == "--until-input-ends" {
         Some(Switch::UntilInputEnds)
+    } else if word == "--old-digest" {
+        Some(Switch::OldDigest)
     } else {
         None
     }

@@ -22,7 +22,7 @@ pub struct TellCall {
 #[derive(Clone, Copy, Debug, PartialEq, Eq, Error)]
 pub enum TellError {
     /// They are no call of it.
-    #[error("usage: notifyd tell [--control <a.b.c.d:port>] <line>")]
+    #[error("usage: notifyd tell [--json] [--control <a.b.c.d:port>] <line>")]
     Bad,
     /// A growth was refused: there is no memory.
     #[error("out of memory")]

@@ -1,5 +1,6 @@
 pub mod Named
 pub mod ToldLines
+pub mod Heard
 pub mod Started
 pub mod Refused
 pub mod UdpPrinted

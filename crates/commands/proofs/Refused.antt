@@ -15,7 +15,7 @@ use Rattle.service.proofs.Faults.{unfailed}
 use Rattle.commands.specs.UdpEnds.{all_closed, Tells}
 use Rattle.commands.specs.UdpServing.{writer_seen}
 use Rattle.commands.specs.Serving.{Serves, EndsWell}
-use Rattle.commands.specs.Refused.{IsOther, IsNoSocket, IsOfFile, IsOfState, IsOfNamedState, IsOfSetting, IsOfOne, NameFile, NameState, IsListened, IsRefusal, asks_for_text, AskForText, IsStatus, status_of}
+use Rattle.commands.specs.Refused.{IsOther, IsNoSocket, IsOfFile, IsOfState, IsOfNamedState, IsOfPasswords, IsOfAdmission, IsOfSetting, IsOfOne, NameFile, NameState, NamePasswords, IsListened, IsRefusal, asks_for_text, AskForText, IsStatus, status_of}
 
 pub other_is : (words : List (List ℕ)) (e : ServeError) → IsOther e → IsRefusal words e
 other_is words (error.Options e) is = absurd is
@@ -25,6 +25,10 @@ other_is words error.NoMailbox is = absurd is
 other_is words (error.File path) is = absurd is
 other_is words (error.Line path line e) is = absurd is
 other_is words (error.StateLine path line) is = absurd is
+other_is words error.NoPasswords is = absurd is
+other_is words (error.PasswordLine path e) is = absurd is
+other_is words (error.NoUsers path) is = absurd is
+other_is words (error.NoUser user) is = absurd is
 other_is words (error.Address place) is = is
 other_is words (error.NotHere place) is = is
 other_is words (error.Denied place) is = is
@@ -41,6 +45,10 @@ no_socket_is place error.NoMailbox is listened = absurd is
 no_socket_is place (error.File path) is listened = absurd is
 no_socket_is place (error.Line path line e) is listened = absurd is
 no_socket_is place (error.StateLine path line) is listened = absurd is
+no_socket_is place error.NoPasswords is listened = absurd is
+no_socket_is place (error.PasswordLine path e) is listened = absurd is
+no_socket_is place (error.NoUsers path) is listened = absurd is
+no_socket_is place (error.NoUser user) is listened = absurd is
 no_socket_is place (error.Address named) is listened = subst IsListened (sym is) listened
 no_socket_is place (error.NotHere named) is listened = subst IsListened (sym is) listened
 no_socket_is place (error.Denied named) is listened = subst IsListened (sym is) listened
@@ -61,6 +69,10 @@ memory_of_setting (setting.Address place addr) e is = is
 memory_of_setting (setting.Number bound n) e is = is
 memory_of_setting (setting.MailboxFile path) e is = memory_of_file path e is
 memory_of_setting (setting.StateFile path) e is = is
+memory_of_setting (setting.PasswordFile path) e is = is
+memory_of_setting (setting.Watch user mailbox) e is = is
+memory_of_setting (setting.Rate rate) e is = is
+memory_of_setting (setting.Allow network) e is = is
 memory_of_setting (setting.Seed seed) e is = is
 memory_of_setting (setting.Switch switch) e is = is
 memory_of_setting (setting.Mailbox name) e is = is
@@ -73,6 +85,10 @@ of_file_is words path error.NoMailbox names is = absurd is
 of_file_is words path (error.File named) names is = inl (subst (NameFile words) (sym is) names)
 of_file_is words path (error.Line named line e) names is = (subst (NameFile words) (sym is.0) names, is.1)
 of_file_is words path (error.StateLine named line) names is = absurd is
+of_file_is words path error.NoPasswords names is = absurd is
+of_file_is words path (error.PasswordLine named e) names is = absurd is
+of_file_is words path (error.NoUsers named) names is = absurd is
+of_file_is words path (error.NoUser user) names is = absurd is
 of_file_is words path (error.Address place) names is = absurd is
 of_file_is words path (error.NotHere place) names is = absurd is
 of_file_is words path (error.Denied place) names is = absurd is
@@ -90,6 +106,10 @@ of_setting_is words settings k (setting.Address place addr) e are at is = no_mem
 of_setting_is words settings k (setting.Number bound n) e are at is = no_memory_is words e is
 of_setting_is words settings k (setting.MailboxFile path) e are at is = of_file_is words path e (settings, k, are, at) is
 of_setting_is words settings k (setting.StateFile path) e are at is = no_memory_is words e is
+of_setting_is words settings k (setting.PasswordFile path) e are at is = no_memory_is words e is
+of_setting_is words settings k (setting.Watch user mailbox) e are at is = no_memory_is words e is
+of_setting_is words settings k (setting.Rate rate) e are at is = no_memory_is words e is
+of_setting_is words settings k (setting.Allow network) e are at is = no_memory_is words e is
 of_setting_is words settings k (setting.Seed seed) e are at is = no_memory_is words e is
 of_setting_is words settings k (setting.Switch switch) e are at is = no_memory_is words e is
 of_setting_is words settings k (setting.Mailbox name) e are at is = no_memory_is words e is
@@ -102,9 +122,13 @@ of_path_is words path (error.Options e) names is = absurd is
 of_path_is words path error.Times names is = absurd is
 of_path_is words path error.NoContact names is = absurd is
 of_path_is words path error.NoMailbox names is = absurd is
-of_path_is words path (error.File named) names is = inr (subst (NameState words) (sym is) names)
+of_path_is words path (error.File named) names is = inr (inl (subst (NameState words) (sym is) names))
 of_path_is words path (error.Line named line e) names is = absurd is
 of_path_is words path (error.StateLine named number) names is = (subst (NameState words) (sym is.0) names, is.1, is.2)
+of_path_is words path error.NoPasswords names is = absurd is
+of_path_is words path (error.PasswordLine named e) names is = absurd is
+of_path_is words path (error.NoUsers named) names is = absurd is
+of_path_is words path (error.NoUser user) names is = absurd is
 of_path_is words path (error.Address place) names is = absurd is
 of_path_is words path (error.NotHere place) names is = absurd is
 of_path_is words path (error.Denied place) names is = absurd is
@@ -116,6 +140,33 @@ of_path_is words path error.NoMemory names is = tt
 pub of_state_is : (words : List (List ℕ)) (settings : List Setting) (e : ServeError) → AreSettings words settings → IsOfNamedState settings e → IsRefusal words e
 of_state_is words settings e are (inl none) = no_memory_is words e none
 of_state_is words settings e are (inr is) = of_path_is words is.0 e (settings, are, is.1) is.2
+
+of_users_is : (words : List (List ℕ)) (path : List ℕ) (e : ServeError) → NamePasswords words path → IsOfPasswords path e → IsRefusal words e
+of_users_is words path (error.Options e) names is = absurd is
+of_users_is words path error.Times names is = absurd is
+of_users_is words path error.NoContact names is = absurd is
+of_users_is words path error.NoMailbox names is = absurd is
+of_users_is words path (error.File named) names is = inr (inr (subst (NamePasswords words) (sym is) names))
+of_users_is words path (error.Line named line e) names is = absurd is
+of_users_is words path (error.StateLine named line) names is = absurd is
+of_users_is words path error.NoPasswords names is = absurd is
+of_users_is words path (error.PasswordLine named e) names is = (subst (NamePasswords words) (sym is.0) names, is.1)
+of_users_is words path (error.NoUsers named) names is = subst (NamePasswords words) (sym is) names
+of_users_is words path (error.NoUser user) names is = absurd is
+of_users_is words path (error.Address place) names is = absurd is
+of_users_is words path (error.NotHere place) names is = absurd is
+of_users_is words path (error.Denied place) names is = absurd is
+of_users_is words path error.Descriptors names is = absurd is
+of_users_is words path error.System names is = absurd is
+of_users_is words path error.Device names is = absurd is
+of_users_is words path error.NoMemory names is = tt
+
+pub of_admission_is : (words : List (List ℕ)) (settings : List Setting) (e : ServeError) → AreSettings words settings → IsOfAdmission settings e → IsRefusal words e
+of_admission_is words settings e are (inl is) = subst (IsRefusal words) (sym is) tt
+of_admission_is words settings e are (inr (inl is)) = subst (IsRefusal words) (sym is.0) (settings, are, is.1)
+of_admission_is words settings e are (inr (inr (inl (inl none)))) = no_memory_is words e none
+of_admission_is words settings e are (inr (inr (inl (inr is)))) = subst (IsRefusal words) (sym is.3) (settings, is.1, are, is.2)
+of_admission_is words settings e are (inr (inr (inr is))) = of_users_is words is.0 e (settings, are, is.1) is.2
 
 -- a service that ran and was closed off so ended well
 pub ended_well : {W T E : Type 0} (contents : W → Option (List ℕ)) (words : List (List ℕ)) (r : Result T E) (before between after : SinkSeen W) (o : Outcome)

@@ -5,6 +5,7 @@ use Rattle.std.specs.declared.alloc.Global.{Global}
 use Rattle.std.proofs.lemmas.List.{get_or-map}
 use Rattle.std.proofs.lemmas.List.FromFn.{get_or-map-range_with_len}
 use Rattle.sip_text.specs.declared.address.Addr.{Addr}
+use Rattle.admission.specs.declared.judging.Admission.{Admission}
 use Rattle.transport.specs.Devices.{SinkSeen}
 use Rattle.package.specs.Content.{Seen}
 use Rattle.notifier_model.specs.declared.place.Setup.{Setup}
@@ -33,9 +34,9 @@ if_both (Ok x) p q f = f x p q
 if_both (Err e) p q f = p
 
 -- the same under other names of the starts and their number
-runs_as : {start start' : ℕ → Start} {workers workers' repeats : ℕ} {mailboxes : List (List ℕ)} {wire wire' : WireSeen} {writer writer' : WriterSeen} {o : Outcome}
-    → workers ≡ workers' → ((w : ℕ) → w < workers' → start w ≡ start' w) → Runs start workers repeats mailboxes wire wire' writer writer' o
-    → Runs start' workers' repeats mailboxes wire wire' writer writer' o
+runs_as : {start start' : ℕ → Start} {workers workers' repeats : ℕ} {mailboxes : List (List ℕ)} {admission : Admission} {wire wire' : WireSeen} {writer writer' : WriterSeen} {o : Outcome}
+    → workers ≡ workers' → ((w : ℕ) → w < workers' → start w ≡ start' w) → Runs start workers repeats mailboxes admission wire wire' writer writer' o
+    → Runs start' workers' repeats mailboxes admission wire wire' writer writer' o
 runs_as {start' = start'} {workers' = workers'} same each r = record {
   crew = r.crew;
   sip = r.sip;
@@ -47,7 +48,7 @@ runs_as {start' = start'} {workers' = workers'} same each r = record {
   lines_closed = r.lines_closed;
   time_closed = r.time_closed;
   sends_datagrams = r.sends_datagrams;
-  sends_lines = r.sends_lines;
+  sends_lines = rw (← same) r.sends_lines;
   sends_ticks = r.sends_ticks;
   got = r.got;
   joined = r.joined;
@@ -75,18 +76,19 @@ module _ {P : Type 0} (seen : P → Seen) (setup : Setup) (boxes : List (Vec P G
       ∙ ap (λ (b : List Seen). let s : Start = record { place = place_of (setup_of plan local) w; boxes = b } in s) (boxes_at w held low)
 
   -- the service that was asked for
-  pub ran_is : {W : Type 0} (contents : W → Option (List ℕ)) (n : ℕ) {repeats : ℕ} {mailboxes : List (List ℕ)} {before after : SinkSeen W} {o : Outcome}
-      → n ≡ length boxes → 0 < plan.workers → repeats ≡ plan.choices.numbers.repeats → mailboxes ≡ plan.mailboxes.items
-      → ((held : Vec P Global) → Ran contents (λ w. start_of seen setup w (get_or boxes w held).items) n repeats mailboxes before after o)
-      → Ran contents (start_at plan local) plan.workers plan.choices.numbers.repeats plan.mailboxes.items before after o
-  ran_is contents n {mailboxes = mailboxes} {before = before} {after = after} {o = o} size some room are ran =
+  pub ran_is : {W : Type 0} (contents : W → Option (List ℕ)) (n : ℕ) {repeats : ℕ} {mailboxes : List (List ℕ)} {admission : Admission} {before after : SinkSeen W} {o : Outcome}
+      → n ≡ length boxes → 0 < plan.workers → repeats ≡ plan.choices.numbers.repeats → mailboxes ≡ plan.mailboxes.items → admission ≡ plan.admission
+      → ((held : Vec P Global) → Ran contents (λ w. start_of seen setup w (get_or boxes w held).items) n repeats mailboxes admission before after o)
+      → Ran contents (start_at plan local) plan.workers plan.choices.numbers.repeats plan.mailboxes.items plan.admission before after o
+  ran_is contents n {mailboxes = mailboxes} {admission = admission} {before = before} {after = after} {o = o} size some room are allowed ran =
       let len = workers_are in
       let held : Vec P Global = element boxes 0 (omega (arith, len, some)) in
       let its = ran held in
-      let N : ℕ → Type 0 = λ k. Ran contents (start_at plan local) plan.workers k mailboxes before after o in
-      let Q : List (List ℕ) → Type 0 = λ names. Ran contents (start_at plan local) plan.workers plan.choices.numbers.repeats names before after o in
-      subst Q are (subst N room (record {
+      let N : ℕ → Type 0 = λ k. Ran contents (start_at plan local) plan.workers k mailboxes admission before after o in
+      let Q : List (List ℕ) → Type 0 = λ names. Ran contents (start_at plan local) plan.workers plan.choices.numbers.repeats names admission before after o in
+      let A : Admission → Type 0 = λ a. Ran contents (start_at plan local) plan.workers plan.choices.numbers.repeats plan.mailboxes.items a before after o in
+      subst A allowed (subst Q are (subst N room (record {
         wire = its.wire;
         wire' = its.wire';
         runs = runs_as (size ∙ len) (λ w low. starts_are held w (omega (arith, len, low))) its.runs;
-      }))
+      })))

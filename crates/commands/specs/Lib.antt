@@ -1,4 +1,5 @@
 pub mod State
+pub mod Heard
 pub mod Plans
 pub mod Serving
 pub mod Refused

@@ -8,9 +8,11 @@ use Rattle.package.specs.declared.change.Change.{Change}
 use Rattle.arguments.specs.declared.choices.Choices.{Choices}
 use Rattle.arguments.specs.declared.choices.Numbers.{Numbers}
 use Rattle.arguments.specs.declared.setting.Setting.{Setting}
+use Rattle.admission.specs.declared.judging.Admission.{Admission}
 use Rattle.arguments.specs.declared.setting.Setting.TheVariants as setting
-use Rattle.arguments.specs.Choices.{choices_of, state_of}
+use Rattle.arguments.specs.Choices.{choices_of, state_of, networks_of}
 use Rattle.commands.specs.State.{IsState}
+use Rattle.commands.specs.Heard.{IsAdmission}
 use Rattle.arguments.specs.Settings.{IsMailbox, AreSettings}
 use Rattle.arguments.specs.MailboxFile as file
 use Rattle.commands.specs.declared.plan.Plan.{Plan}
@@ -23,6 +25,10 @@ Names (setting.Address place addr) names = names ≡ []
 Names (setting.Number bound n) names = names ≡ []
 Names (setting.MailboxFile path) names = All IsMailbox names
 Names (setting.StateFile path) names = names ≡ []
+Names (setting.PasswordFile path) names = names ≡ []
+Names (setting.Watch user mailbox) names = names ≡ []
+Names (setting.Rate rate) names = names ≡ []
+Names (setting.Allow network) names = names ≡ []
 Names (setting.Seed seed) names = names ≡ []
 Names (setting.Switch switch) names = names ≡ []
 Names (setting.Mailbox name) names = names ≡ name ∷ []
@@ -88,10 +94,17 @@ pub record AreChanges (words : List (List ℕ)) (changes : List Change) : Type 0
   pub are_settings : AreSettings words settings
   pub state : IsState (state_of settings) changes
 
+-- the words say who is heard
+pub record AreHeard (words : List (List ℕ)) (admission : Admission) : Type 0 where
+  pub settings : List Setting
+  pub are_settings : AreSettings words settings
+  pub is_admission : IsAdmission settings admission
+
 -- the words ask for this
 pub record IsPlan (words : List (List ℕ)) (plan : Plan) : Type 0 where
   pub read : AreRead words plan.choices plan.mailboxes.items
   pub changes : AreChanges words plan.changes.items
+  pub heard : AreHeard words plan.admission
   pub reached : IsReached plan.choices
   pub some : plan.mailboxes.items ≢ []
   pub limits : plan.limits ≡ limits_of plan.choices.numbers

@@ -5,8 +5,11 @@
 --   1        the words ask for no service
 --   3        an address, a file, a thread or a socket can't be had, or one failed
 --   4        memory was wanting
-use Rattle.std.specs.Prelude.{◌≡◌, ◌⊎◌, ℕ, ℤ, pos, Bool, true, ◌||◌, List, [], ◌∷◌, Option, Some, slice_get, codes, bytes_eq}
+use Rattle.std.specs.Prelude.{◌≡◌, ◌⊎◌, ℕ, ℤ, pos, Bool, true, ◌||◌, List, [], ◌∷◌, Option, Some, None, Contains, slice_get, codes, bytes_eq}
 use Rattle.notifier_model.specs.Limits.{AreLimits}
+use Rattle.digest.specs.declared.passwords.Passwords.{Passwords}
+use Rattle.digest.specs.declared.passwords.PasswordsError.{PasswordsError}
+use Rattle.digest.specs.Passwords.{IsWrong}
 use Rattle.arguments.specs.declared.choices.Choices.{Choices}
 use Rattle.arguments.specs.declared.error.OptionsError.{OptionsError}
 use Rattle.arguments.specs.declared.error.OptionsError.TheVariants as wrong
@@ -16,7 +19,7 @@ use Rattle.arguments.specs.declared.flag.Place.TheVariants as place
 use Rattle.arguments.specs.declared.setting.Setting.{Setting}
 use Rattle.arguments.specs.declared.setting.Setting.TheVariants as setting
 use Rattle.arguments.specs.MailboxFile.{IsNoLine}
-use Rattle.arguments.specs.Choices.{state_of}
+use Rattle.arguments.specs.Choices.{choices_of, state_of, passwords_of, watched_of}
 use Rattle.arguments.specs.Settings.{AreSettings, AreWrong}
 use Rattle.service.specs.declared.error.RunError.{RunError}
 use Rattle.service.specs.declared.error.RunError.TheVariants as run
@@ -24,6 +27,7 @@ use Rattle.commands.specs.declared.error.ServeError.{ServeError}
 use Rattle.commands.specs.declared.error.ServeError.TheVariants as error
 use Rattle.commands.specs.Plans.{limits_of, IsReached, AreRead}
 use Rattle.commands.specs.State.{IsNoChange}
+use Rattle.commands.specs.Heard.{needs_passwords}
 use Rattle.commands.specs.Serving.{EndsWell}
 
 -- an address in another form may be a host that can't be found
@@ -33,6 +37,10 @@ status_of_words (wrong.Bad (flag.Address place)) = 3
 status_of_words (wrong.Bad (flag.Number bound)) = 1
 status_of_words (wrong.Bad flag.MailboxFile) = 1
 status_of_words (wrong.Bad flag.StateFile) = 1
+status_of_words (wrong.Bad flag.PasswordFile) = 1
+status_of_words (wrong.Bad flag.Watch) = 1
+status_of_words (wrong.Bad flag.Rate) = 1
+status_of_words (wrong.Bad flag.Allow) = 1
 status_of_words (wrong.Bad flag.Seed) = 1
 status_of_words (wrong.Unknown word) = 1
 status_of_words (wrong.NoMailbox word) = 1
@@ -55,6 +63,10 @@ status_of error.NoMailbox = 1
 status_of (error.File path) = 3
 status_of (error.Line path line e) = status_of_line e
 status_of (error.StateLine path line) = 3
+status_of error.NoPasswords = 1
+status_of (error.PasswordLine path e) = 3
+status_of (error.NoUsers path) = 3
+status_of (error.NoUser user) = 1
 status_of (error.Address place) = 3
 status_of (error.NotHere place) = 3
 status_of (error.Denied place) = 3
@@ -83,6 +95,10 @@ IsOther error.NoMailbox = ⊥
 IsOther (error.File path) = ⊥
 IsOther (error.Line path line e) = ⊥
 IsOther (error.StateLine path line) = ⊥
+IsOther error.NoPasswords = ⊥
+IsOther (error.PasswordLine path e) = ⊥
+IsOther (error.NoUsers path) = ⊥
+IsOther (error.NoUser user) = ⊥
 IsOther (error.Address place) = IsListened place
 IsOther (error.NotHere place) = IsListened place
 IsOther (error.Denied place) = IsListened place
@@ -106,6 +122,10 @@ IsNoSocket place error.NoMailbox = ⊥
 IsNoSocket place (error.File path) = ⊥
 IsNoSocket place (error.Line path line e) = ⊥
 IsNoSocket place (error.StateLine path line) = ⊥
+IsNoSocket place error.NoPasswords = ⊥
+IsNoSocket place (error.PasswordLine path e) = ⊥
+IsNoSocket place (error.NoUsers path) = ⊥
+IsNoSocket place (error.NoUser user) = ⊥
 IsNoSocket place (error.Address named) = named ≡ place
 IsNoSocket place (error.NotHere named) = named ≡ place
 IsNoSocket place (error.Denied named) = named ≡ place
@@ -129,6 +149,10 @@ IsOfFile path error.NoMailbox = ⊥
 IsOfFile path (error.File named) = named ≡ path
 IsOfFile path (error.Line named line e) = (named ≡ path) × IsOfLine e
 IsOfFile path (error.StateLine named line) = ⊥
+IsOfFile path error.NoPasswords = ⊥
+IsOfFile path (error.PasswordLine named e) = ⊥
+IsOfFile path (error.NoUsers named) = ⊥
+IsOfFile path (error.NoUser user) = ⊥
 IsOfFile path (error.Address place) = ⊥
 IsOfFile path (error.NotHere place) = ⊥
 IsOfFile path (error.Denied place) = ⊥
@@ -143,6 +167,10 @@ IsOfSetting (setting.Address place addr) e = e ≡ error.NoMemory
 IsOfSetting (setting.Number bound n) e = e ≡ error.NoMemory
 IsOfSetting (setting.MailboxFile path) e = IsOfFile path e
 IsOfSetting (setting.StateFile path) e = e ≡ error.NoMemory
+IsOfSetting (setting.PasswordFile path) e = e ≡ error.NoMemory
+IsOfSetting (setting.Watch user mailbox) e = e ≡ error.NoMemory
+IsOfSetting (setting.Rate rate) e = e ≡ error.NoMemory
+IsOfSetting (setting.Allow network) e = e ≡ error.NoMemory
 IsOfSetting (setting.Seed seed) e = e ≡ error.NoMemory
 IsOfSetting (setting.Switch switch) e = e ≡ error.NoMemory
 IsOfSetting (setting.Mailbox name) e = e ≡ error.NoMemory
@@ -167,6 +195,10 @@ IsOfState path error.NoMailbox = ⊥
 IsOfState path (error.File named) = named ≡ path
 IsOfState path (error.Line named line e) = ⊥
 IsOfState path (error.StateLine named number) = (named ≡ path) × (line : List ℕ) × IsNoChange line
+IsOfState path error.NoPasswords = ⊥
+IsOfState path (error.PasswordLine named e) = ⊥
+IsOfState path (error.NoUsers named) = ⊥
+IsOfState path (error.NoUser user) = ⊥
 IsOfState path (error.Address place) = ⊥
 IsOfState path (error.NotHere place) = ⊥
 IsOfState path (error.Denied place) = ⊥
@@ -183,6 +215,58 @@ IsOfNamedState settings e = (e ≡ error.NoMemory) ⊎ ((path : List ℕ) × (st
 abbrev pub NameState : List (List ℕ) → List ℕ → Type 0
 NameState words path = (settings : List Setting) × AreSettings words settings × (state_of settings ≡ Some path)
 
+-- ---- the file of passwords, and who is heard
+
+-- a line of passwords is refused for this cause
+abbrev pub IsOfPassword : PasswordsError → Type 0
+IsOfPassword e = (old : Passwords) × (line : List ℕ) × (number : ℕ) × IsWrong old line number e
+
+-- the file of passwords at this path can't be read, or a line of it, or it has no user, for this cause
+abbrev pub IsOfPasswords : List ℕ → ServeError → Type 0
+IsOfPasswords path (error.Options e) = ⊥
+IsOfPasswords path error.Times = ⊥
+IsOfPasswords path error.NoContact = ⊥
+IsOfPasswords path error.NoMailbox = ⊥
+IsOfPasswords path (error.File named) = named ≡ path
+IsOfPasswords path (error.Line named line e) = ⊥
+IsOfPasswords path (error.StateLine named line) = ⊥
+IsOfPasswords path error.NoPasswords = ⊥
+IsOfPasswords path (error.PasswordLine named e) = (named ≡ path) × IsOfPassword e
+IsOfPasswords path (error.NoUsers named) = named ≡ path
+IsOfPasswords path (error.NoUser user) = ⊥
+IsOfPasswords path (error.Address place) = ⊥
+IsOfPasswords path (error.NotHere place) = ⊥
+IsOfPasswords path (error.Denied place) = ⊥
+IsOfPasswords path error.Descriptors = ⊥
+IsOfPasswords path error.System = ⊥
+IsOfPasswords path error.Device = ⊥
+IsOfPasswords path error.NoMemory = Unit {0}
+
+-- one of these users has no password, or memory ran out
+abbrev pub IsOfWatched : List (List ℕ × List ℕ) → ServeError → Type 0
+IsOfWatched further e =
+    (e ≡ error.NoMemory) ⊎ ((user mailbox : List ℕ) × Contains further (user, mailbox) × (e ≡ error.NoUser user))
+
+-- passwords are spoken of, and no file of them is named
+abbrev pub HaveNoPasswords : List Setting → Type 0
+HaveNoPasswords settings =
+    (passwords_of settings ≡ None) × (needs_passwords (choices_of settings) (watched_of settings) ≡ true)
+
+-- who is heard can't be told for this cause
+abbrev pub IsOfAdmission : List Setting → ServeError → Type 0
+IsOfAdmission settings e =
+    (e ≡ error.System) ⊎ ((e ≡ error.NoPasswords) × HaveNoPasswords settings) ⊎ IsOfWatched (watched_of settings) e
+    ⊎ ((path : List ℕ) × (passwords_of settings ≡ Some path) × IsOfPasswords path e)
+
+-- the words name this file of passwords
+abbrev pub NamePasswords : List (List ℕ) → List ℕ → Type 0
+NamePasswords words path = (settings : List Setting) × AreSettings words settings × (passwords_of settings ≡ Some path)
+
+-- the words name this user with a further mailbox
+abbrev pub NameUser : List (List ℕ) → List ℕ → Type 0
+NameUser words user =
+    (settings : List Setting) × (mailbox : List ℕ) × AreSettings words settings × Contains (watched_of settings) (user, mailbox)
+
 -- ---- all of it
 
 -- the words ask for no service for this cause. What stands in a file, and of the system and memory, no contract can tell
@@ -192,9 +276,13 @@ IsRefusal words error.Times =
     (choices : Choices) × (names : List (List ℕ)) × AreRead words choices names × ¬ (AreLimits (limits_of choices.numbers))
 IsRefusal words error.NoContact = (choices : Choices) × (names : List (List ℕ)) × AreRead words choices names × ¬ (IsReached choices)
 IsRefusal words error.NoMailbox = (choices : Choices) × AreRead words choices []
-IsRefusal words (error.File path) = NameFile words path ⊎ NameState words path
+IsRefusal words (error.File path) = NameFile words path ⊎ NameState words path ⊎ NamePasswords words path
 IsRefusal words (error.Line path line e) = NameFile words path × IsOfLine e
 IsRefusal words (error.StateLine path number) = NameState words path × (line : List ℕ) × IsNoChange line
+IsRefusal words error.NoPasswords = (settings : List Setting) × AreSettings words settings × HaveNoPasswords settings
+IsRefusal words (error.PasswordLine path e) = NamePasswords words path × IsOfPassword e
+IsRefusal words (error.NoUsers path) = NamePasswords words path
+IsRefusal words (error.NoUser user) = NameUser words user
 IsRefusal words (error.Address place) = IsListened place
 IsRefusal words (error.NotHere place) = IsListened place
 IsRefusal words (error.Denied place) = IsListened place

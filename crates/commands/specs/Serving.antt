@@ -14,6 +14,7 @@ use Rattle.service.specs.declared.running.Outcome.{Outcome}
 use Rattle.service.specs.declared.running.Work.{Work}
 use Rattle.service.specs.Listening.{IsDeaf}
 use Rattle.service.specs.Running.{Runs, AreFaults, is_faulty}
+use Rattle.admission.specs.declared.judging.Admission.{Admission}
 use Rattle.arguments.specs.declared.choices.Choices.{Choices}
 use Rattle.transport.specs.Ears.{no_misses}
 use Rattle.transport.specs.Sockets.{misses}
@@ -33,10 +34,12 @@ start_at plan local worker = record {
   boxes = boxes_told plan.choices.no_refer plan.changes.items (names_for plan.workers worker plan.mailboxes.items);
 }
 
--- the sockets that were chosen: each of the two addresses has a wire that receives, which hasn't failed yet, and one that sends
+-- the sockets that were chosen: each of the two addresses has a wire that receives, which hasn't failed yet, and one that sends; that of
+-- SIP has one for refusals, too
 pub record AreOpen (choices : Choices) (s : Sockets) : Type 0 where
   pub at : IsAt choices.listen s.sip.local
   pub control : IsAt choices.control s.lines.local
+  pub refusals : s.refusals.local ≡ s.sip.local
   pub outgoing : s.outgoing.local ≡ s.sip.local
   pub replies : s.replies.local ≡ s.lines.local
   pub sip_misses : misses s.sip ≡ no_misses
@@ -49,7 +52,9 @@ pub record IsWork (plan : Plan) (work : Work) : Type 0 where
   pub sip : IsAt plan.choices.listen work.sip.coming.local
   pub lines : IsAt plan.choices.control work.desk.coming.local
   pub replies : work.desk.going.local ≡ work.desk.coming.local
+  pub refusals : work.sip.going.local ≡ work.sip.coming.local
   pub longest : work.sip.longest ≡ plan.choices.numbers.max_datagram
+  pub admission : work.sip.admission ≡ plan.admission
   pub repeats : work.repeats ≡ plan.choices.numbers.repeats
   pub linger : work.linger ≡ plan.choices.numbers.linger
   pub sip_misses : misses work.sip.coming ≡ no_misses
@@ -61,10 +66,10 @@ new_sink writer = record { writer = writer; failures = 0; is_flushed = false }
 
 module _ {W : Type 0} (contents : W → Option (List ℕ)) where
   -- a crew ran as a service to its end, over some wire
-  pub record Ran (start : ℕ → Start) (workers repeats : ℕ) (mailboxes : List (List ℕ)) (before after : SinkSeen W) (outcome : Outcome) : Type 0 where
+  pub record Ran (start : ℕ → Start) (workers repeats : ℕ) (mailboxes : List (List ℕ)) (admission : Admission) (before after : SinkSeen W) (outcome : Outcome) : Type 0 where
     pub wire : WireSeen
     pub wire' : WireSeen
-    pub runs : Runs start workers repeats mailboxes wire wire' (writer_seen contents before) (writer_seen contents after) outcome
+    pub runs : Runs start workers repeats mailboxes admission wire wire' (writer_seen contents before) (writer_seen contents after) outcome
 
   -- the words ask for a service, which ran to its end, and tells each fault of its sockets and of the clock
   pub record Serves (words : List (List ℕ)) (before after : SinkSeen W) (outcome : Outcome) : Type 0 where
@@ -72,7 +77,7 @@ module _ {W : Type 0} (contents : W → Option (List ℕ)) where
     pub is_plan : IsPlan words plan
     pub local : Addr
     pub is_at : IsAt plan.choices.listen local
-    pub ran : Ran (start_at plan local) plan.workers plan.choices.numbers.repeats plan.mailboxes.items before after outcome
+    pub ran : Ran (start_at plan local) plan.workers plan.choices.numbers.repeats plan.mailboxes.items plan.admission before after outcome
     pub faults : AreFaults no_misses no_misses outcome
 
 -- the words ask for a service, which ran to its end, and all went well: neither of its two sockets was deaf, no read of the clock
@@ -87,7 +92,7 @@ pub record EndsWell (words : List (List ℕ)) : Type 0 where
   pub wire' : WireSeen
   pub writer : WriterSeen
   pub writer' : WriterSeen
-  pub runs : Runs (start_at plan local) plan.workers plan.choices.numbers.repeats plan.mailboxes.items wire wire' writer writer' outcome
+  pub runs : Runs (start_at plan local) plan.workers plan.choices.numbers.repeats plan.mailboxes.items plan.admission wire wire' writer writer' outcome
   pub sip_hears : IsDeaf (misses outcome.sip_desk.coming) → ⊥
   pub lines_hear : IsDeaf (misses outcome.desk.coming) → ⊥
   pub clock_failures : outcome.stopwatch.failures ≡ 0

@@ -5,7 +5,8 @@
 --   1        the answer is another one, or the words are no call
 --   3        nobody answered, a socket failed, or what came could not be printed
 --   4        memory was wanting
-use Rattle.std.specs.Prelude.{◌≡◌, ◌⊎◌, ℕ, List}
+use Rattle.std.specs.Prelude.{◌≡◌, ◌⊎◌, ℕ, List, [], ◌∷◌, ◌++◌, length, codes, bytes_eq, if◌then◌else◌}
+use Rattle.hex.specs.Hex.{encode_lower}
 use Rattle.control_lines.specs.declared.asking.Outcome.{Outcome}
 use Rattle.control_lines.specs.Asking.{SpeakerSeen, IsTold, status_of}
 
@@ -15,3 +16,22 @@ pub record TellsLine (line : List ℕ) (old new : SpeakerSeen) (status : ℕ) : 
   pub room : List ℕ
   pub told : IsTold line came old new room
   pub status_is : (status ≡ status_of came) ⊎ (status ≡ 3)
+
+-- a line behind the token of these bytes
+abbrev pub tokened : List ℕ → List ℕ → List ℕ
+tokened bytes line = codes "@" ++ (encode_lower bytes ++ (codes " " ++ line))
+
+-- it is the line behind a token of eight bytes, or where the system gave none without one
+abbrev pub IsAskedAs : List ℕ → List ℕ → Type 0
+IsAskedAs line asked = (asked ≡ line) ⊎ ((bytes : List ℕ) × (length bytes ≡ 8) × (asked ≡ tokened bytes line))
+
+-- a speaker asked this line behind a token and no other
+pub record TellsPage (line : List ℕ) (old new : SpeakerSeen) (status : ℕ) : Type 0 where
+  pub asked : List ℕ
+  pub is : IsAskedAs line asked
+  pub told : TellsLine asked old new status
+
+-- the words behind `--json`, where that is the first
+abbrev pub behind_json : List (List ℕ) → List (List ℕ)
+behind_json [] = []
+behind_json (word ∷ words) = if bytes_eq word (codes "--json") then words else word ∷ words

@@ -4,14 +4,16 @@ ghost use Rattle.arguments.specs.declared.tell.TellCall.{TellCall};
 ghost use Rattle.arguments.specs.Choices.{loopback};
 ghost use Rattle.arguments.specs.Tell.{IsTellCall};
 ghost use Rattle.commands.specs.Plans.{reached};
-ghost use Rattle.commands.specs.Telling.{TellsLine};
+ghost use Rattle.commands.specs.Telling.{TellsLine, TellsPage, IsAskedAs, behind_json};
+ghost use Rattle.commands.specs.Telling as spec;
 
+use crate::answers::{Form, more_in, next_line, print_answer};
 use arguments::{Status, TellCall, TellError, parse_tell};
 use control_lines::{Outcome, Speaker, SpeakerFault, UdpSpeaker, tell_line};
-use sip_text::{Addr, Text};
-use std::io;
-use std::io::Write;
+use sip_text::{Addr, NoMemory, Text};
+use std::alloc::Global;
 use std::net::Net;
+use std::random::RandomSource;
 use std::sync::Wait;
 
 /// Where a service is told, unless it is said: 127.0.0.1:5061.
@@ -20,16 +22,11 @@ const CONTROL: Addr = Addr {
     port: 5061,
 };
 
-/// The room for an answer.
-const ROOM: usize = 4096;
+/// The room for an answer: as long as a datagram may be.
+const ROOM: usize = 65536;
 
-/// Writes the answer on a line of its own.
-fn show<R: Print>(rt: &R, answer: &[u8]) -> io::Result<()> {
-    let mut writer = io::writer(rt);
-    writer.write_all(answer)?;
-    writer.write_all(b"\n")?;
-    writer.flush()
-}
+/// How many pages are asked for at most.
+const PAGES: u32 = 100_000;
 
 /// The answer, which stands at the beginning of the room.
 fn answer_in(room: &[u8], length: usize) -> &[u8] {
@@ -43,46 +40,180 @@ fn speaker_for<R: Wait + Net>(rt: &R, call: &TellCall) -> Result<UdpSpeaker, Spe
     UdpSpeaker::to(rt, call.control.unwrap_or(CONTROL))
 }
 
-/// Asks the line of a call by this speaker, and prints what came of it. Answers the exit status: 3 also where that couldn't be
-/// printed.
-pub fn ask_by<R: Wait + Print + Eprint, S: Speaker>(rt: &R, speaker: &mut S, call: &TellCall) -> u8
+/// What came of a line: the exit status, and the word that says where more is told.
+#[derive(Drop)]
+pub struct Told {
+    pub status: u8,
+    pub more: Option<Text>,
+}
+
+/// Asks a line by this speaker, and prints what came of it. Answers the exit status: 3 also where that couldn't be printed.
+pub fn ask_by<R: Wait + Print + Eprint + AllocGlobal, S: Speaker>(
+    rt: &R,
+    speaker: &mut S,
+    line: &Text,
+    form: Form,
+) -> Told
     // This line is asked and no other, and the status is that of what came of it.
-    ensures asked { TellsLine call.now.line
+    ensures asked { TellsLine line.now
         (record { asked = S.asked speaker.old; turns = S.turns speaker.old })
-        (record { asked = S.asked speaker.new; turns = S.turns speaker.new }) result }
+        (record { asked = S.asked speaker.new; turns = S.turns speaker.new }) result.status }
 {
     let mut room = [0; ROOM];
-    let outcome = tell_line(rt, speaker, call.line.as_str().as_bytes(), &mut room);
+    let outcome = tell_line(rt, speaker, line.as_str().as_bytes(), &mut room);
+    let mut more = None;
     let written = match outcome {
-        Outcome::Done(length) | Outcome::Refused(length) => show(rt, answer_in(&room, length)),
+        Outcome::Done(length) | Outcome::Refused(length) => {
+            let answer = answer_in(&room, length);
+            more = more_in(rt.alloc(), answer);
+            print_answer(rt, answer, form)
+        }
         Outcome::Silent => eprintln!(rt; "notifyd: nobody answered"),
         Outcome::Fault => eprintln!(rt; "notifyd: device fault"),
     };
-    match written {
+    let status = match written {
         Ok(()) => outcome.status(),
         Err(_) => Status::DeviceFault.code(),
+    };
+    Told { status, more }
+}
+
+/// The line behind a token of these bytes.
+fn tokened(alloc: Global, bytes: [u8; 8], line: &Text) -> Result<Text, NoMemory>
+    ensures { IfOk result (λ asked. asked ≡ spec.tokened bytes line.now) }
+{
+    let digits = hex::encode(alloc, bytes)?;
+    let mut text = String::from_str(alloc, "@")?;
+    text.push_str(digits.as_str())?;
+    text.push_str(" ")?;
+    text.push_str(line.as_str())?;
+    Ok(Text::new(text))
+}
+
+/// The line behind a new token, so that it is done once however often it is sent. Where the system gives no randomness it has none.
+fn with_token<R: RandomSource + AllocGlobal>(rt: &R, line: &Text) -> Result<Text, NoMemory>
+    ensures { IfOk result (IsAskedAs line.now) }
+{
+    let mut bytes = [0; 8];
+    match rt.fill_bytes(&mut bytes) {
+        Ok(()) => tokened(rt.alloc(), bytes, line),
+        Err(_) => line.copy(rt.alloc()),
     }
 }
 
-/// Sends the line, and prints the answer.
-fn ask<R: Wait + Net + Print + Eprint>(rt: &R, call: &TellCall) -> u8
-    ensures status { (result ≡ 0) ⊎ (result ≡ 1) ⊎ (result ≡ 3) }
+/// Says that there is no memory. Answers the exit status.
+fn want_memory<R: Eprint>(rt: &R) -> u8
+    ensures { result ≡ 4 }
+{
+    let _ = eprintln!(rt; "notifyd: out of memory");
+    Status::OutOfMemory.code()
+}
+
+/// Asks a line behind a new token by this speaker, and prints what came of it.
+pub fn ask_page<R: Wait + RandomSource + Print + Eprint + AllocGlobal, S: Speaker>(
+    rt: &R,
+    speaker: &mut S,
+    line: &Text,
+    form: Form,
+) -> Result<Told, NoMemory>
+    ensures { IfOk result (λ told. TellsPage line.now
+        (record { asked = S.asked speaker.old; turns = S.turns speaker.old })
+        (record { asked = S.asked speaker.new; turns = S.turns speaker.new }) told.status) }
+{
+    let asked = with_token(rt, line)?;
+    Ok(ask_by(rt, speaker, &asked, form))
+}
+
+/// The line that asks for the page behind this one, if there is one.
+fn following(alloc: Global, line: &Text, more: Option<Text>) -> Result<Option<Text>, NoMemory> {
+    match more {
+        Some(place) => next_line(alloc, line, &place),
+        None => Ok(None),
+    }
+}
+
+/// Asks a line by a speaker of its own: so no late answer to another line is taken for one to this.
+fn ask_anew<R: Wait + Net + RandomSource + Print + Eprint + AllocGlobal>(
+    rt: &R,
+    call: &TellCall,
+    line: &Text,
+    form: Form,
+) -> Result<Told, NoMemory>
+    ensures { IfOk result (λ told. (told.status ≡ 0) ⊎ (told.status ≡ 1) ⊎ (told.status ≡ 3)) }
 {
     let Ok(mut speaker) = speaker_for(rt, call) else {
         let _ = eprintln!(rt; "notifyd: device fault");
-        return Status::DeviceFault.code();
+        return Ok(Told {
+            status: Status::DeviceFault.code(),
+            more: None,
+        });
     };
-    ask_by(rt, &mut speaker, call)
+    ask_page(rt, &mut speaker, line, form)
+}
+
+/// Asks the line of a call and prints the answer, and so for each page that follows. Answers the exit status: that of the last page, or
+/// 3 where there are more than 100,000.
+fn ask_pages<R: Wait + Net + RandomSource + Print + Eprint + AllocGlobal>(
+    rt: &R,
+    call: &TellCall,
+    form: Form,
+) -> Result<u8, NoMemory>
+    ensures { IfOk result (λ status. (status ≡ 0) ⊎ (status ≡ 1) ⊎ (status ≡ 3)) }
+{
+    let Told {
+        mut status,
+        mut more,
+    } = ask_anew(rt, call, &call.line, form)?;
+    let mut line = call.line.copy(rt.alloc())?;
+    'pages: for _page in 1..PAGES {
+        let Some(next) = following(rt.alloc(), &line, more)? else {
+            return Ok(status);
+        };
+        let told = ask_anew(rt, call, &next, form)?;
+        line = next;
+        status = told.status;
+        more = told.more;
+    }
+    Ok(Status::DeviceFault.code())
+}
+
+/// Sends the line, and prints the answer.
+fn ask<R: Wait + Net + RandomSource + Print + Eprint + AllocGlobal>(
+    rt: &R,
+    call: &TellCall,
+    is_json: bool,
+) -> u8
+    ensures status { (result ≡ 0) ⊎ (result ≡ 1) ⊎ (result ≡ 3) ⊎ (result ≡ 4) }
+{
+    match ask_pages(rt, call, Form::of(&call.line, is_json)) {
+        Ok(status) => status,
+        Err(_) => want_memory(rt),
+    }
+}
+
+/// The words behind `--json`, where that is the first, and whether it is.
+fn cut_json(words: &[Text]) -> (bool, &[Text])
+    ensures { result.1.now ≡ behind_json words.now }
+{
+    match words {
+        [first, rest @ ..] if first.is("--json") => (true, rest),
+        _ => (false, words),
+    }
 }
 
 /// `notifyd tell` with these words behind it. Answers the exit status: 0 where the answer is `ok`, 1 where it is another one or
 /// the words are no call, 3 where nobody answered, a socket failed or what came couldn't be printed, 4 where memory was wanted.
-pub fn tell<R: Wait + Net + Print + Eprint + AllocGlobal>(rt: &R, words: &[Text]) -> u8
+/// Behind `--json` the lines of an answer are printed as one JSON object.
+pub fn tell<R: Wait + Net + RandomSource + Print + Eprint + AllocGlobal>(
+    rt: &R,
+    words: &[Text],
+) -> u8
     ensures status { (result ≡ 0) ⊎ (result ≡ 1) ⊎ (result ≡ 3) ⊎ (result ≡ 4) }
-    ensures no_call { ((call : TellCall) → ¬ IsTellCall words.now call) → (result ≡ 1) ⊎ (result ≡ 4) }
+    ensures no_call { ((call : TellCall) → ¬ IsTellCall (behind_json words.now) call) → (result ≡ 1) ⊎ (result ≡ 4) }
 {
+    let (is_json, words) = cut_json(words);
     match parse_tell(rt.alloc(), words) {
-        Ok(call) => ask(rt, &call),
+        Ok(call) => ask(rt, &call, is_json),
         Err(error) => {
             let _ = eprintln!(rt; "notifyd: {error}");
             match error {

@@ -4,6 +4,7 @@ ghost use Rattle.commands.specs.declared.error.ServeError.TheVariants as error;
 ghost use Rattle.commands.specs.Refused.{of_run, status_of, status_of_words};
 
 use arguments::{Flag, OptionsError, Place, Status};
+use digest::PasswordsError;
 use service::RunError;
 use sip_text::{NoMemory, Text};
 use std::alloc::{AllocError, AllocFailed};
@@ -33,6 +34,18 @@ pub enum ServeError {
     /// A line of a file of changes is no MAIL line.
     #[error("{path}, line {line}: no MAIL line (MAIL <mailbox> <class> <new> <old> <urgent new> <urgent old>)", path = .0.as_str(), line = .1)]
     StateLine(Text, u64),
+    /// Something is said of users, and no file of their passwords is named.
+    #[error("no passwords: --watch, --nonce-time and --old-digest need --passwords <file>")]
+    NoPasswords,
+    /// A line of a file of passwords is none. The text doesn't tell what stands there.
+    #[error("{path}, {error}", path = .0.as_str(), error = .1)]
+    PasswordLine(Text, PasswordsError),
+    /// A file of passwords has no user.
+    #[error("no user: {path} (a line each: user:realm:hash, as htdigest writes it)", path = .0.as_str())]
+    NoUsers(Text),
+    /// A user who may watch a further mailbox has no password.
+    #[error("no password of the user of --watch: {user}", user = .0.as_str())]
+    NoUser(Text),
     /// The port of an option is in use.
     #[error("a port in use: {option}", option = .0.text())]
     Address(Place),
@@ -79,15 +92,19 @@ impl ServeError {
     {
         match self {
             ServeError::Options(error) => options_status(error),
-            ServeError::Times | ServeError::NoContact | ServeError::NoMailbox => {
-                Status::BadArguments.code()
-            }
+            ServeError::Times
+            | ServeError::NoContact
+            | ServeError::NoMailbox
+            | ServeError::NoPasswords
+            | ServeError::NoUser(_) => Status::BadArguments.code(),
             ServeError::Line(_, _, OptionsError::NoMemory) | ServeError::NoMemory => {
                 Status::OutOfMemory.code()
             }
             ServeError::Line(..)
             | ServeError::File(_)
             | ServeError::StateLine(..)
+            | ServeError::PasswordLine(..)
+            | ServeError::NoUsers(_)
             | ServeError::Address(_)
             | ServeError::NotHere(_)
             | ServeError::Denied(_)

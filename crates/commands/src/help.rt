@@ -17,6 +17,13 @@ usage: notifyd serve [options] [<mailbox>...]      (also --option=value)
   --workers <1 to 256>       worker threads (one a processor)
   --mailboxes <file>         a mailbox a line, or 1000-1999; # in front: a comment
   --state <file>             MAIL lines that are done first; # in front: a comment
+  --passwords <file>         who may subscribe and refer: user:realm:hash a line,
+                             as htdigest writes them; # in front: a comment
+  --watch <user:mailbox>     a mailbox that this user may watch too (repeatable)
+  --nonce-time <seconds>     how long an answer to a challenge is good (300)
+  --old-digest               answers without qop are taken too
+  --allow <a.b.c.d/bits>     SIP is heard from here alone (repeatable)
+  --rate <a second>/<at once>     what is heard of each source address (all)
   --seed <64 hex digits>     for local tags (the system's randomness)
   --keep-subscriptions       no farewell at the end
   --no-refer                 no package refer: a REFER is answered 489

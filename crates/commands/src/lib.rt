@@ -11,12 +11,15 @@
 //! `specs/UdpEnds`.
 #![tactic(auto)]
 
+mod admitting;
+mod answers;
 mod asking;
 mod error;
 mod help;
 mod input;
 mod logging;
 mod mailboxes;
+mod passwords;
 pub mod plan;
 pub mod program;
 mod sockets;
@@ -26,7 +29,8 @@ mod udp_listening;
 mod udp_printing;
 mod udp_serving;
 
-pub use asking::{ask_by, tell};
+pub use answers::Form;
+pub use asking::{Told, ask_by, ask_page, tell};
 pub use error::ServeError;
 pub use plan::Plan;
 pub use program::{Served, print_help, serve, serve_words};

@@ -43,6 +43,15 @@ pub(crate) fn say_room<R: Eprint>(rt: &R, place: Place, asked: u32, got: u32) {
     }
 }
 
+/// Says which worker ran out of memory, where one did.
+pub(crate) fn say_spent_worker<R: Eprint>(rt: &R, shared: &Shared) {
+    if let Some(worker) = shared.spent_worker() {
+        let _ = eprintln!(rt;
+            "notifyd: worker {worker} ran out of memory, and so the service closed"
+        );
+    }
+}
+
 /// Says what the service counted.
 pub(crate) fn say_goodbye<R: Eprint + Clock + AllocGlobal>(
     rt: &R,

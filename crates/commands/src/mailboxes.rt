@@ -5,7 +5,7 @@ ghost use Rattle.std.specs.List.{All};
 ghost use Rattle.arguments.specs.Settings.{IsMailbox};
 ghost use Rattle.commands.specs.Plans.{Names, AddsNames, AreNamed};
 ghost use Rattle.commands.specs.declared.error.ServeError.TheVariants as error;
-ghost use Rattle.commands.specs.Refused.{IsOfFile, IsOfState, IsOfSetting, IsOfOne};
+ghost use Rattle.commands.specs.Refused.{IsOfFile, IsOfState, IsOfPasswords, IsOfSetting, IsOfOne};
 
 use crate::error::ServeError;
 use arguments::{Setting, mailboxes_in};
@@ -19,6 +19,7 @@ use std::{fs, io};
 pub(crate) fn unread(alloc: Global, path: &Text, fault: &io::Error) -> ServeError
     ensures of_file { IsOfFile path.now result }
     ensures of_state { IsOfState path.now result }
+    ensures of_passwords { IsOfPasswords path.now result }
     ensures memory { error_kind fault.now ≡ ErrorKind.OutOfMemory → result ≡ error.NoMemory }
 {
     if fault.kind() == ErrorKind::OutOfMemory {
@@ -104,6 +105,10 @@ fn names_of<R: Files + AllocGlobal>(rt: &R, setting: &Setting) -> Result<Vec<Tex
         Setting::Address(..)
         | Setting::Number(..)
         | Setting::StateFile(_)
+        | Setting::PasswordFile(_)
+        | Setting::Watch(..)
+        | Setting::Rate(_)
+        | Setting::Allow(..)
         | Setting::Seed(_)
         | Setting::Switch(_) => { Ok(Vec::new(rt.alloc())) }
     }

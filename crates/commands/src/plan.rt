@@ -6,9 +6,11 @@ ghost use Rattle.commands.specs.Plans as spec;
 ghost use Rattle.commands.specs.Plans.{IsCount, IsSeed, IsReached, IsPlan};
 ghost use Rattle.commands.specs.Refused.{IsRefusal};
 
+use crate::admitting::{admission_of, secret};
 use crate::error::ServeError;
 use crate::mailboxes::mailboxes_of;
 use crate::state::changes_of;
+use admission::Admission;
 use arguments::{Choices, Numbers, parse_settings};
 use notifier_model::{Limits, Setup};
 use package::Change;
@@ -28,6 +30,8 @@ pub struct Plan {
     pub mailboxes: Vec<Text>,
     /// What is told of mailboxes before the first datagram is heard.
     pub changes: Vec<Change>,
+    /// Whose datagrams of SIP are heard.
+    pub admission: Admission,
 }
 
 /// The limits that the numbers ask for. Their times may not go together.
@@ -57,13 +61,9 @@ fn seed_of<R: RandomSource>(rt: &R, asked: Option<[u8; 32]>) -> Result<[u8; 32],
     ensures seed { IfOk result (IsSeed asked) }
     ensures refused { IfErr result (λ e. e ≡ error.System) }
 {
-    if let Some(seed) = asked {
-        return Ok(seed);
-    }
-    let mut seed = [0; 32];
-    match rt.fill_bytes(&mut seed) {
-        Ok(()) => Ok(seed),
-        Err(_) => Err(ServeError::System),
+    match asked {
+        Some(seed) => Ok(seed),
+        None => secret(rt),
     }
 }
 
@@ -99,26 +99,32 @@ struct Read {
     choices: Choices,
     mailboxes: Vec<Text>,
     changes: Vec<Change>,
+    admission: Admission,
 }
 
 /// What the words ask for, and what stands in the files that they name.
-#[tactic(auto, using(crate::proofs::Refused::of_one_is, crate::proofs::Refused::of_state_is))]
-fn read_words<R: Files + AllocGlobal>(rt: &R, words: &[Text]) -> Result<Read, ServeError>
+#[tactic(auto, using(crate::proofs::Refused::of_one_is, crate::proofs::Refused::of_state_is, crate::proofs::Refused::of_admission_is))]
+fn read_words<R>(rt: &R, words: &[Text]) -> Result<Read, ServeError>
+where
+    R: Files + RandomSource + AllocGlobal,
     ensures read { IfOk result (λ r. spec.AreRead words.now r.choices r.mailboxes.items) }
     ensures changes { IfOk result (λ r. spec.AreChanges words.now r.changes.items) }
+    ensures heard { IfOk result (λ r. spec.AreHeard words.now r.admission) }
     ensures refused { IfErr result (IsRefusal words.now) }
 {
     let settings = parse_settings(rt.alloc(), words)?;
     let mailboxes = mailboxes_of(rt, settings.as_slice())?;
     let changes = changes_of(rt, settings.as_slice())?;
+    let admission = admission_of(rt, settings.as_slice())?;
     Ok(Read {
         choices: Choices::of(settings.as_slice()),
         mailboxes,
         changes,
+        admission,
     })
 }
 
-/// What the words ask for: a file is read and the system is asked for randomness, and no socket is opened.
+/// What the words ask for: files are read and the system is asked for randomness, and no socket is opened.
 #[tactic(auto, using(crate::proofs::Refused::other_is))]
 pub fn plan_of<R>(rt: &R, words: &[Text]) -> Result<Plan, ServeError>
 where
@@ -130,6 +136,7 @@ where
         choices,
         mailboxes,
         changes,
+        admission,
     } = read_words(rt, words)?;
     if !is_reached(&choices) {
         return Err(ServeError::NoContact);
@@ -144,6 +151,7 @@ where
         workers: workers_of(rt, choices.numbers.workers),
         mailboxes,
         changes,
+        admission,
     })
 }
 

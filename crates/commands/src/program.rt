@@ -1,8 +1,8 @@
 //! `notifyd serve`.
 ghost use Rattle.std.specs.Prelude.{◌≡◌, ◌<◌, ◌≤◌, ◌⊎◌, true, false, get_or, map, vec_len, IfOk, IfErr, OnOk};
 ghost use Rattle.crew.specs.Ready.{start_of};
-ghost use Rattle.arguments.specs.Boxes.{box_seen};
 ghost use Rattle.arguments.specs.Told as call;
+ghost use Rattle.arguments.specs.Wanted.{Gives};
 ghost use Rattle.transport.specs.Sockets.{misses};
 ghost use Rattle.service.specs.Running.{AreFaults, is_faulty};
 ghost use Rattle.commands.specs.UdpEnds as ends;
@@ -14,15 +14,16 @@ ghost use Rattle.commands.specs.Serving.{AreOpen, EndsWell, IsWork, Ran, Serves,
 use crate::error::ServeError;
 use crate::help::{HELP, text_for};
 use crate::input::Watch;
-use crate::logging::{say_goodbye, say_hello};
+use crate::logging::{say_goodbye, say_hello, say_spent_worker};
 use crate::plan::{Plan, plan_of, setup_of};
 use crate::sockets::{Sockets, open};
 use crate::udp::all_closed;
 use crate::udp_printing::worker_lines;
-use arguments::{Boxes, Status, all_told};
+use arguments::{Status, Wanted, all_told};
+use package::Package;
 use scripts::write_page;
-use service::{ControlDesk, Exit, Outcome, Shared, SipDesk, Work, run_crew};
-use sip_text::Text;
+use service::{ControlPort, Exit, Outcome, Shared, SipDesk, Work, run_crew};
+use sip_text::{NoMemory, Text};
 use std::alloc::Global;
 use std::io;
 use std::io::Write;
@@ -72,20 +73,24 @@ fn open_for<R: Wait + Net + Eprint + AllocGlobal>(
 
 /// What a service is run with, beside its plan.
 #[derive(Drop)]
-struct Fitted {
-    boxes: Vec<Boxes>,
+struct Fitted<P> {
+    boxes: Vec<Vec<P>>,
     shared: Arc<Shared, Global>,
     theirs: Arc<Shared, Global>,
     sockets: Sockets,
 }
 
 /// Makes what a service that is planned so is run with, and says where it is.
-fn fit_out<R>(rt: &R, plan: &Plan) -> Result<Fitted, ServeError>
+fn fit_out<R, P, M>(rt: &R, plan: &Plan, make: &M) -> Result<Fitted<P>, ServeError>
 where
     R: Wait + Net + Clock + Eprint + AllocGlobal,
-    requires { 0 < plan.now.workers }
+    P: Package,
+    M: Fn(Wanted) -> Result<P, NoMemory>,
+    requires some { 0 < plan.now.workers }
+    requires callable { M.IsAlwaysCallable make.now }
+    requires gives { Gives P.seen (M.post make.now) }
     ensures boxes { IfOk result (λ f.
-        map (λ boxes. map box_seen boxes.items) f.boxes.items
+        map (λ boxes. map P.seen boxes.items) f.boxes.items
         ≡ call.all_told plan.now.workers plan.now.choices.no_refer plan.now.changes.items plan.now.mailboxes.items) }
     ensures opened { IfOk result (λ f. AreOpen plan.now.choices f.sockets) }
     ensures refused { IfErr result IsOther }
@@ -97,6 +102,7 @@ where
         plan.workers,
         plan.changes.as_slice(),
         plan.choices.no_refer,
+        make,
     )?;
     let sockets = open_for(rt, plan)?;
     Ok(Fitted {
@@ -115,20 +121,23 @@ fn work_of(plan: Plan, sockets: Sockets, shared: Arc<Shared, Global>) -> (Work, 
 {
     let Sockets {
         sip,
+        refusals,
         outgoing,
         lines,
         replies,
     } = sockets;
     let setup = setup_of(&plan, sip.local());
     let numbers = plan.choices.numbers;
-    let desk = ControlDesk {
+    let desk = ControlPort {
         coming: lines,
         going: replies,
         mailboxes: plan.mailboxes,
     };
     let sip = SipDesk {
         coming: sip,
+        going: refusals,
         longest: numbers.max_datagram,
+        admission: plan.admission,
     };
     let work = Work {
         setup,
@@ -142,9 +151,9 @@ fn work_of(plan: Plan, sockets: Sockets, shared: Arc<Shared, Global>) -> (Work, 
 }
 
 /// Runs a service to its end, with these packages of its workers.
-fn run<R, F>(
+fn run<R, F, P>(
     rt: R,
-    boxes: Vec<Boxes>,
+    boxes: Vec<Vec<P>>,
     work: Work,
     shared: Arc<Shared, Global>,
     exit: Exit<UdpWire, F>,
@@ -152,13 +161,14 @@ fn run<R, F>(
 where
     R: Threads + Wait + Clock + Eprint + AllocGlobal + Copy + Send + 'static,
     F: Write + Drop,
+    P: Package + 'static,
     requires few_workers { vec_len boxes ≤ 256 }
     // What the workers send leaves from where SIP comes in.
     requires one_place { exit.wire.local ≡ work.sip.coming.local }
     ensures refused { IfErr result IsOther }
     ensures ran { IfOk result (λ s. (b : _)
-        → Ran F.contents (λ w. start_of box_seen work.setup w (get_or boxes.items w b).items) (vec_len boxes)
-        work.repeats work.desk.mailboxes.items exit.sink s.sink s.outcome) }
+        → Ran F.contents (λ w. start_of P.seen work.setup w (get_or boxes.items w b).items) (vec_len boxes)
+        work.repeats work.desk.mailboxes.items work.sip.admission exit.sink s.sink s.outcome) }
     ensures faults { IfOk result (λ s. AreFaults (misses work.sip.coming) (misses work.desk.coming) s.outcome) }
 {
     let mut exit = exit;
@@ -171,9 +181,14 @@ where
 }
 
 /// Runs the service that the words behind `serve` ask for until a CLOSE, a fault or a worker that is gone, and says on standard error
-/// where it is.
+/// where it is. Each package is one that `make` gives.
 #[tactic(auto, using(crate::proofs::Refused::other_is))]
-pub fn serve_words<R, F>(rt: R, words: &[Text], writer: F) -> Result<Served<F>, ServeError>
+pub fn serve_words<R, F, P, M>(
+    rt: R,
+    words: &[Text],
+    writer: F,
+    make: &M,
+) -> Result<Served<F>, ServeError>
 where
     R: Threads
         + Wait
@@ -187,8 +202,13 @@ where
         + Send
         + 'static,
     F: Write + Drop,
-    // It ran as the words ask for it: what its ports sent, what its workers did with it, what became of their outs, and which
-    // faults of its sockets and of the clock it tells.
+    P: Package + 'static,
+    M: Fn(Wanted) -> Result<P, NoMemory>,
+    // What `make` answers is a new package of those that are wanted.
+    requires callable { M.IsAlwaysCallable make.now }
+    requires gives { Gives P.seen (M.post make.now) }
+    // It ran as the words ask for it: whose datagrams its ports sent, what its workers did with them, what became of their outs, and
+    // which faults of its sockets and of the clock it tells.
     ensures served { IfOk result (λ s. Serves F.contents words.now (new_sink writer) s.sink s.outcome) }
     // A cause that is in the words stands in them.
     ensures refused { IfErr result (IsRefusal words.now) }
@@ -199,7 +219,7 @@ where
         shared,
         theirs,
         sockets,
-    } = fit_out(&rt, &plan)?;
+    } = fit_out(&rt, &plan, make)?;
     let is_watched = plan.choices.until_input_ends;
     let (work, wire) = work_of(plan, sockets, theirs);
     let sink = Sink::new(writer);
@@ -220,6 +240,7 @@ where
         (Tells F.contents served.old.outcome.report.workers.items served.old.sink served.new.sink) }
     ensures refused { IfErr result IsOther }
 {
+    say_spent_worker(rt, &served.shared);
     let reports = served.outcome.report.workers.as_slice();
     let lines = worker_lines(rt.alloc(), reports)?;
     let is_closed = all_closed(reports);
@@ -237,7 +258,7 @@ where
 
 /// Runs the service that the words ask for, to its end.
 #[tactic(auto, using(crate::proofs::Refused::other_is))]
-fn attempt<R>(rt: R, words: &[Text]) -> Result<(), ServeError>
+fn attempt<R, P, M>(rt: R, words: &[Text], make: &M) -> Result<(), ServeError>
 where
     R: Threads
         + Wait
@@ -251,10 +272,14 @@ where
         + Copy
         + Send
         + 'static,
+    P: Package + 'static,
+    M: Fn(Wanted) -> Result<P, NoMemory>,
+    requires callable { M.IsAlwaysCallable make.now }
+    requires gives { Gives P.seen (M.post make.now) }
     ensures well { OnOk result (EndsWell words.now) }
     ensures refused { IfErr result (IsRefusal words.now) }
 {
-    let mut served = serve_words(rt, words, io::writer(&rt))?;
+    let mut served = serve_words(rt, words, io::writer(&rt), make)?;
     close_off(&rt, &mut served)
 }
 
@@ -286,7 +311,7 @@ fn tell_why<R: Eprint>(rt: &R, error: &ServeError) -> u8
 /// `notifyd serve` with these words behind it. Answers the exit status: 0 where a service ended well, or where a text was asked for
 /// and printed, 1 where the words ask for no service, 3 where an address is of another form or a socket, a file or a thread failed,
 /// 4 where memory was wanted. What kept a service from running, or went wrong in it, is told in one line on standard error.
-pub fn serve<R>(rt: R, words: &[Text]) -> u8
+pub fn serve<R, P, M>(rt: R, words: &[Text], make: &M) -> u8
 where
     R: Threads
         + Wait
@@ -300,6 +325,11 @@ where
         + Copy
         + Send
         + 'static,
+    P: Package + 'static,
+    M: Fn(Wanted) -> Result<P, NoMemory>,
+    // What `make` answers is a new package of those that are wanted.
+    requires callable { M.IsAlwaysCallable make.now }
+    requires gives { Gives P.seen (M.post make.now) }
     ensures status { IsStatus words.now result }
     // A text that is asked for is printed, or could not be.
     ensures text { AskForText words.now → (result ≡ 0) ⊎ (result ≡ status_of error.Device) }
@@ -307,7 +337,7 @@ where
     if let Some(text) = text_for(words) {
         return print_text(&rt, text);
     }
-    match attempt(rt, words) {
+    match attempt(rt, words, make) {
         Ok(()) => Status::Done.code(),
         Err(error) => tell_why(&rt, &error),
     }

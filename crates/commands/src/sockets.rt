@@ -17,10 +17,11 @@ use std::net::{IpAddr, Ipv4Addr, Net, SocketAddr, UdpSocket};
 use std::sync::Wait;
 use transport::UdpWire;
 
-/// The sockets of a service, open: each of two addresses has a wire that receives and one that sends.
+/// The sockets of a service, open: each of two addresses has a wire that receives and one that sends, and that of SIP one for refusals.
 #[derive(Drop)]
 pub(crate) struct Sockets {
     pub(crate) sip: UdpWire,
+    pub(crate) refusals: UdpWire,
     pub(crate) outgoing: UdpWire,
     pub(crate) lines: UdpWire,
     pub(crate) replies: UdpWire,
@@ -90,6 +91,17 @@ fn bind<R: Wait + Net>(rt: &R, place: Place, addr: Addr) -> Result<(UdpWire, Udp
     }
 }
 
+/// A further wire over the socket of this one. The system says no cause where there is none.
+fn further(wire: &UdpWire) -> Result<UdpWire, ServeError>
+    ensures same { IfOk result (λ w. w.local ≡ wire.now.local) }
+    ensures refused { IfErr result IsOther }
+{
+    match wire.further() {
+        Ok(further) => Ok(further),
+        Err(_) => Err(ServeError::System),
+    }
+}
+
 /// Has the receives by this wire look up as they wait, and asks for room for so many octets that wait. Less is told on standard error.
 fn prepare<R: Wait + Eprint>(
     rt: &R,
@@ -115,12 +127,14 @@ pub(crate) fn open<R: Wait + Net + Eprint>(rt: &R, choices: &Choices) -> Result<
     ensures refused { IfErr result IsOther }
 {
     let (sip, outgoing) = bind(rt, Place::Listen, choices.listen)?;
+    let refusals = further(&sip)?;
     let (lines, replies) = bind(rt, Place::Control, choices.control)?;
     let room = choices.numbers.receive_buffer;
     prepare(rt, &sip, Place::Listen, room)?;
     prepare(rt, &lines, Place::Control, room)?;
     Ok(Sockets {
         sip,
+        refusals,
         outgoing,
         lines,
         replies,

@@ -98,6 +98,10 @@ fn add_path(alloc: Global, path: &mut Option<Text>, setting: &Setting) -> Result
         Setting::Address(..)
         | Setting::Number(..)
         | Setting::MailboxFile(_)
+        | Setting::PasswordFile(_)
+        | Setting::Watch(..)
+        | Setting::Rate(_)
+        | Setting::Allow(..)
         | Setting::Seed(_)
         | Setting::Switch(_)
         | Setting::Mailbox(_) => {}

@@ -10,6 +10,7 @@
 //! datagrams are to a crew, and what becomes of outs, the crate `feeds` says.
 ghost use Rattle.std.specs.Prelude.{◌≡◌, ◌≢◌, ◌<◌, ◌≤◌, ◌⊎◌, IfOk, IfErr, OnErr, Err};
 ghost use Rattle.arguments.specs.declared.status.Status.TheVariants as status;
+ghost use Rattle.arguments.specs.Wanted.{Gives};
 ghost use Rattle.crew.specs.Started.{IsStarted};
 ghost use Rattle.commands.specs.UdpCall.{start_at, AsksFor, AsksForNone};
 ghost use Rattle.commands.specs.UdpEnds as ends;
@@ -19,12 +20,15 @@ ghost use Rattle.commands.specs.UdpServing.{Serves};
 
 use crate::udp_printing::worker_lines;
 use crate::udp_serving::{Ears, Running, Served, serve};
-use arguments::{ArgumentsError, Status, UdpArguments, boxes_for, parse_udp_arguments, setup_at};
+use arguments::{
+    ArgumentsError, Status, UdpArguments, Wanted, boxes_for, parse_udp_arguments, setup_at,
+};
 use crew::{Crew, End, Open, Port, StartError, WorkerReport};
 use feeds::FeedEnd;
+use package::Package;
 use queues::outbox::Taker;
 use scripts::write_page;
-use sip_text::Text;
+use sip_text::{NoMemory, Text};
 use std::alloc::Global;
 use std::io::Write;
 use std::net::Net;
@@ -129,42 +133,52 @@ fn status_of(error: StartError) -> Status
 }
 
 /// Starts the crew that a call asks for: its workers have the mailboxes, and two ports are open.
-fn start_crew<H>(
+fn start_crew<H, P, M>(
     rt: H,
     alloc: Global,
     call: &UdpArguments,
+    make: &M,
 ) -> Result<(Crew, Vec<Port>, Taker), Status>
 where
     H: Threads + Wait + Copy + Send + 'static,
+    P: Package + 'static,
+    M: Fn(Wanted) -> Result<P, NoMemory>,
+    requires callable { M.IsAlwaysCallable make.now }
+    requires gives { Gives P.seen (M.post make.now) }
     requires some { 0 < call.now.workers }
     requires few { call.now.workers ≤ 256 }
     ensures started { IfOk result (λ r. IsStarted (start_at call.now) call.now.workers 2 r.0 r.1.items r.2) }
     ensures refused { IfErr result (λ s. (s ≡ status.DeviceFault) ⊎ (s ≡ status.OutOfMemory)) }
 {
     let setup = setup_at(call.port, call.seed, call.stop);
-    let Ok(boxes) = boxes_for(alloc, call.mailboxes.as_slice(), call.workers) else {
+    let Ok(boxes) = boxes_for(alloc, call.mailboxes.as_slice(), call.workers, make) else {
         return Err(Status::OutOfMemory);
     };
     let Ok(gate) = Arc::new(alloc, Open) else {
         return Err(Status::OutOfMemory);
     };
-    match Crew::start(rt, alloc, &setup, 2, boxes, gate) {
+    match Crew::start_any(rt, alloc, &setup, 2, boxes, gate) {
         Ok(started) => Ok(started),
         Err(error) => Err(status_of(error)),
     }
 }
 
 /// Starts the crew that a call asks for, and has it serve these sockets.
-fn serve_sockets<H, F>(
+fn serve_sockets<H, F, P, M>(
     rt: H,
     alloc: Global,
     call: &UdpArguments,
     sockets: Sockets,
     sink: &mut Sink<F>,
+    make: &M,
 ) -> Result<Served, Status>
 where
     H: Threads + Wait + Clock + Copy + Send + 'static,
     F: Write,
+    P: Package + 'static,
+    M: Fn(Wanted) -> Result<P, NoMemory>,
+    requires callable { M.IsAlwaysCallable make.now }
+    requires gives { Gives P.seen (M.post make.now) }
     requires some { 0 < call.now.workers }
     requires few { call.now.workers ≤ 256 }
     requires bound { AreBound call.now.port call.now.control_port sockets }
@@ -178,7 +192,7 @@ where
         outgoing,
         control,
     } = sockets;
-    let (crew, ports, taker) = start_crew(rt, alloc, call)?;
+    let (crew, ports, taker) = start_crew(rt, alloc, call, make)?;
     let running = Running {
         crew,
         taker,
@@ -197,10 +211,20 @@ where
 }
 
 /// Reads the arguments, binds the ports and serves them.
-fn attempt<H, F>(rt: H, alloc: Global, words: &[Text], sink: &mut Sink<F>) -> Result<Served, Status>
+fn attempt<H, F, P, M>(
+    rt: H,
+    alloc: Global,
+    words: &[Text],
+    sink: &mut Sink<F>,
+    make: &M,
+) -> Result<Served, Status>
 where
     H: Threads + Wait + Net + Clock + Copy + Send + 'static,
     F: Write,
+    P: Package + 'static,
+    M: Fn(Wanted) -> Result<P, NoMemory>,
+    requires callable { M.IsAlwaysCallable make.now }
+    requires gives { Gives P.seen (M.post make.now) }
     ensures served { IfOk result (λ served. AsksFor words.now (λ call.
         Serves F.contents (start_at call) call.workers call.count sink.old sink.new (outcome_of served))) }
     ensures refused { IfErr result (λ s. (s ≢ status.Done) × (s ≢ status.BadScript)) }
@@ -216,16 +240,22 @@ where
     let Ok(sockets) = bind(&rt, call.port, call.control_port) else {
         return Err(Status::DeviceFault);
     };
-    serve_sockets(rt, alloc, &call, sockets, sink)
+    serve_sockets(rt, alloc, &call, sockets, sink, make)
 }
 
 /// Runs the program on the network: looks at the words behind its name, binds the two ports, serves them until so many datagrams
 /// have come at the first and a CLOSE, or 1,048,576 lines, at the second, or a wire failed or a worker is gone, and writes a line
-/// for each transfer that starts, as it comes, and last a line for each worker. Both ports are free again then. Arguments are looked at before a port is bound.
-pub fn run<H, F>(rt: H, alloc: Global, words: &[Text], sink: &mut Sink<F>) -> Status
+/// for each transfer that starts, as it comes, and last a line for each worker. Both ports are free again then. Arguments are looked at
+/// before a port is bound. Each package is one that `make` gives.
+pub fn run<H, F, P, M>(rt: H, alloc: Global, words: &[Text], sink: &mut Sink<F>, make: &M) -> Status
 where
     H: Threads + Wait + Net + Clock + Copy + Send + 'static,
     F: Write,
+    P: Package + 'static,
+    M: Fn(Wanted) -> Result<P, NoMemory>,
+    // What `make` answers is a new package of those that are wanted.
+    requires callable { M.IsAlwaysCallable make.now }
+    requires gives { Gives P.seen (M.post make.now) }
     // No wire failed, each out was sent or written, and each worker came to the end of what the ports sent.
     ensures done { result ≡ status.Done → AsksFor words.now (λ call.
         Runs F.contents call sink.old sink.new status.Done) }
@@ -242,7 +272,7 @@ where
     ensures memory { result ≡ status.OutOfMemory → (sink.new ≡ sink.old) ⊎ AsksFor words.now (λ call.
         Runs F.contents call sink.old sink.new status.OutOfMemory) }
 {
-    match attempt(rt, alloc, words, sink) {
+    match attempt(rt, alloc, words, sink, make) {
         Ok(served) => close_off(alloc, &served, sink),
         Err(status) => status,
     }

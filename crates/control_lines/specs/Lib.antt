@@ -1,2 +1,6 @@
 pub mod Asking
+pub mod Kept
 pub mod Lines
+pub mod Questions
+pub mod Slots
+pub mod Tokens

@@ -1,10 +1,13 @@
 -- Control lines of a running service, and its answers.
 --
---   asked  = (MAIL line / PROGRESS line / "CLOSE" / "STATUS") [LF]      ; as in a script
---   answer = "ok" / "bad line" / "unknown mailbox" / "closed" / "out of memory" / "ok" LF counters
+--   asked  = (MAIL line / PROGRESS line / "CLOSE") [LF]      ; as in a script
+--            / question                                      ; Questions.antt
+--   answer = "ok" / "bad line" / "unknown mailbox" / "closed" / "out of memory" / "busy"
+--            / "ok" LF *(line LF)                            ; what a question is told
 --
 -- A TICK is none: a running service has a clock of its own.
-use Rattle.std.specs.Prelude.{◌≡◌, ℕ, List, ◌++◌, codes, ◌⊎◌}
+use Rattle.std.specs.Prelude.{◌≡◌, ℕ, Bool, true, false, ◌&&◌, ◌||◌, ◌==◌, List, [], ◌∷◌, ◌++◌, codes, bytes_eq, ◌⊎◌, Some, None}
+use Rattle.std.specs.Str.{byte}
 use Rattle.scripts.specs.declared.script.Control.{Control}
 use Rattle.scripts.specs.declared.script.Control.TheVariants as control
 use Rattle.scripts.specs.Script.{lf, IsControlLine}
@@ -12,23 +15,9 @@ use Rattle.control_lines.specs.declared.answer.Answer.{Answer}
 use Rattle.control_lines.specs.declared.answer.Answer.TheVariants as answer
 use Rattle.control_lines.specs.declared.line.Asked.{Asked}
 use Rattle.control_lines.specs.declared.line.Asked.TheVariants as asked
+use Rattle.control_lines.specs.Questions.{question_in}
 
--- it asks for the counters
-abbrev pub IsStatus : List ℕ → Type 0
-IsStatus octets = (octets ≡ codes "STATUS") ⊎ (octets ≡ codes "STATUS" ++ lf)
-
--- it changes nothing that a service knows: no line, or a TICK
-abbrev pub IsNoLine : List ℕ → Type 0
-IsNoLine octets = (c : Control) → IsControlLine octets c → (n : ℕ) × (c ≡ control.Tick n)
-
--- what the bytes ask for
-abbrev pub Asks : List ℕ → Asked → Type 0
-Asks octets (asked.Mail m) = IsControlLine octets (control.Mail m)
-Asks octets (asked.Progress p) = IsControlLine octets (control.Progress p)
-Asks octets asked.Close = IsControlLine octets control.Close
-Asks octets asked.Status = IsStatus octets
-Asks octets asked.Bad = ¬ (IsStatus octets) × IsNoLine octets
-Asks octets asked.NoMemory = Unit {0}
+-- ---- answers
 
 abbrev pub answer_text : Answer → List ℕ
 answer_text answer.Done = codes "ok"
@@ -36,7 +25,37 @@ answer_text answer.BadLine = codes "bad line"
 answer_text answer.UnknownMailbox = codes "unknown mailbox"
 answer_text answer.Closed = codes "closed"
 answer_text answer.NoMemory = codes "out of memory"
+answer_text answer.Busy = codes "busy"
 
 -- the answer says that all went well: its first line is `ok`
 abbrev pub IsYes : List ℕ → Type 0
 IsYes octets = (octets ≡ codes "ok") ⊎ ((rest : List ℕ) × (octets ≡ codes "ok" ++ (lf ++ rest)))
+
+-- they begin as an `ok` with lines behind it
+abbrev pub has_lines : List ℕ → Bool
+has_lines [] = false
+has_lines (a ∷ []) = false
+has_lines (a ∷ b ∷ []) = false
+has_lines (a ∷ b ∷ c ∷ rest) = (a == byte "o") && ((b == byte "k") && (c == byte "\n"))
+
+-- these bytes are an answer of a service
+abbrev pub is_answer : List ℕ → Bool
+is_answer octets =
+    has_lines octets || (bytes_eq octets (codes "ok") || (bytes_eq octets (codes "bad line") || (bytes_eq octets (codes "unknown mailbox")
+    || (bytes_eq octets (codes "closed") || (bytes_eq octets (codes "out of memory") || bytes_eq octets (codes "busy"))))))
+
+-- ---- lines
+
+-- it changes nothing that a service knows: no line, or a TICK
+abbrev pub IsNoLine : List ℕ → Type 0
+IsNoLine octets = (c : Control) → IsControlLine octets c → (n : ℕ) × (c ≡ control.Tick n)
+
+-- what the bytes ask for. An answer asks for nothing
+abbrev pub Asks : List ℕ → Asked → Type 0
+Asks octets (asked.Mail m) = IsControlLine octets (control.Mail m)
+Asks octets (asked.Progress p) = IsControlLine octets (control.Progress p)
+Asks octets asked.Close = IsControlLine octets control.Close
+Asks octets (asked.Question q) = question_in octets ≡ Some q
+Asks octets asked.Nothing = is_answer octets ≡ true
+Asks octets asked.Bad = (is_answer octets ≡ false) × (question_in octets ≡ None) × IsNoLine octets
+Asks octets asked.NoMemory = Unit {0}

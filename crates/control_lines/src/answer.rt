@@ -1,8 +1,9 @@
 //! What a service answers to a control line.
 ghost use Rattle.std.specs.Prelude.{◌≡◌, ◌↔◌, IsTrue};
+ghost use Rattle.control_lines.specs.Lines as spec;
 ghost use Rattle.control_lines.specs.Lines.{answer_text, IsYes};
 
-/// What a service answers to a control line, but for the counters.
+/// What a service answers to a control line, but for what a question is told.
 #[derive(Clone, Copy, Debug, PartialEq, Eq, Drop)]
 pub enum Answer {
     /// The event is in its worker's inbox, or, of a CLOSE, the service closes.
@@ -13,8 +14,10 @@ pub enum Answer {
     UnknownMailbox,
     /// The service takes no more.
     Closed,
-    /// There was no memory to read the line or to tell the counters.
+    /// There was no memory to read the line or to tell what it asks.
     NoMemory,
+    /// The thread that knows what the line asks has not told it in time.
+    Busy,
 }
 
 impl Answer {
@@ -28,6 +31,7 @@ impl Answer {
             Answer::UnknownMailbox => "unknown mailbox",
             Answer::Closed => "closed",
             Answer::NoMemory => "out of memory",
+            Answer::Busy => "busy",
         }
     }
 }
@@ -37,4 +41,28 @@ pub(crate) fn is_yes(octets: &[u8]) -> bool
     ensures { IsTrue result ↔ IsYes octets.now }
 {
     matches!(octets, [b'o', b'k'] | [b'o', b'k', b'\n', ..])
+}
+
+/// Whether they begin as an `ok` with lines behind it.
+fn has_lines(octets: &[u8]) -> bool
+    ensures { result ≡ spec.has_lines octets.now }
+{
+    match octets {
+        [a, b, c, ..] => *a == b'o' && (*b == b'k' && *c == b'\n'),
+        _ => false,
+    }
+}
+
+/// Whether these bytes are an answer of a service. They are no line then, and nobody answers them: so two services that hear each
+/// other fall silent.
+pub fn is_answer(octets: &[u8]) -> bool
+    ensures { result ≡ spec.is_answer octets.now }
+{
+    has_lines(octets)
+        || octets == b"ok".as_slice()
+        || octets == b"bad line".as_slice()
+        || octets == b"unknown mailbox".as_slice()
+        || octets == b"closed".as_slice()
+        || octets == b"out of memory".as_slice()
+        || octets == b"busy".as_slice()
 }

@@ -1,7 +1,10 @@
 //! Control lines of a running service.
-ghost use Rattle.std.specs.Prelude.{◌↔◌, IsTrue};
-ghost use Rattle.control_lines.specs.Lines.{IsStatus, Asks};
+ghost use Rattle.std.specs.Prelude.{◌≡◌, false, None};
+ghost use Rattle.control_lines.specs.Lines.{Asks, is_answer};
+ghost use Rattle.control_lines.specs.Questions.{question_in};
 
+use crate::answer::is_answer;
+use crate::question::{Question, question_in};
 use package::{MailChange, Progress};
 use scripts::{Control, ScriptError, one_reading, parse_control};
 use std::alloc::Global;
@@ -15,29 +18,23 @@ pub enum Asked {
     Progress(Progress),
     /// To end.
     Close,
-    /// The counters.
-    Status,
+    /// To be told something.
+    Question(Question),
+    /// Nothing, and no answer: it is an answer itself.
+    Nothing,
     /// Nothing that it does: the line is none, or a TICK, where a service has its own clock.
     Bad,
     /// There was no memory to read it.
     NoMemory,
 }
 
-/// Whether it asks for the counters.
-fn is_status(octets: &[u8]) -> bool
-    ensures { IsTrue result ↔ IsStatus octets.now }
-{
-    octets == b"STATUS".as_slice() || octets == b"STATUS\n".as_slice()
-}
-
-/// What the bytes of a datagram ask for.
+/// The line of a script that the bytes are, where they are no answer and ask no question.
 #[tactic(auto, using(crate::proofs::Lines::tick_no_line, crate::proofs::Lines::none_no_line))]
-pub fn hear_line(alloc: Global, octets: &[u8]) -> Asked
+fn hear_control(alloc: Global, octets: &[u8]) -> Asked
+    requires no_answer { is_answer octets.now ≡ false }
+    requires no_question { question_in octets.now ≡ None }
     ensures { Asks octets.now result }
 {
-    if is_status(octets) {
-        return Asked::Status;
-    }
     one_reading();
     match parse_control(alloc, octets) {
         Ok(Control::Mail(change)) => Asked::Mail(change),
@@ -46,5 +43,19 @@ pub fn hear_line(alloc: Global, octets: &[u8]) -> Asked
         Ok(Control::Tick(_)) => Asked::Bad,
         Err(ScriptError::NoMemory) => Asked::NoMemory,
         Err(ScriptError::BadScript | ScriptError::Device) => Asked::Bad,
+    }
+}
+
+/// What the bytes of a datagram ask for.
+pub fn hear_line(alloc: Global, octets: &[u8]) -> Asked
+    ensures { Asks octets.now result }
+{
+    if is_answer(octets) {
+        return Asked::Nothing;
+    }
+    match question_in(alloc, octets) {
+        Ok(Some(question)) => Asked::Question(question),
+        Ok(None) => hear_control(alloc, octets),
+        Err(_) => Asked::NoMemory,
     }
 }

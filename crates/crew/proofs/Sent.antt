@@ -12,7 +12,7 @@ use Rattle.crew.specs.contracts.shared.SharedDesk as Shared
 
 module _ (P : RattleType) (g : Ghosts P.Denot) (s : IsSend P) where
   fields_send : IsSend (inside.the_row P g)
-  fields_send = declared_send (inside.the_type P g) (search sendable, (desk.the_send P g s, (search crosses, (Vec-send _ event.the_send, tt))))
+  fields_send = declared_send (inside.the_type P g) (search sendable, (desk.the_send P s, (search crosses, (Vec-send _ event.the_send, tt))))
 
   pub replay_send : IsSend (Replay.the_row P g)
   replay_send = search (sendable, fields_send)

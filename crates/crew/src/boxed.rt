@@ -1,7 +1,6 @@
 //! Crews over boxed packages.
-ghost use Rattle.std.specs.Prelude.{◌≡◌, ◌↔◌, ◌<◌, ◌≤◌, map, get_or, vec_len, IfOk, Err};
-ghost use Rattle.package.specs.Content.{Seen};
-ghost use Rattle.notifier_model.specs.Start.{place_of};
+ghost use Rattle.std.specs.Prelude.{◌≡◌, ◌↔◌, ◌<◌, ◌≤◌, get_or, vec_len, IfOk, Err};
+ghost use Rattle.crew.specs.Ready.{start_of};
 ghost use Rattle.crew.specs.Started.{IsStarted};
 
 use crate::errors::StartError;
@@ -15,28 +14,27 @@ use std::alloc::Global;
 use std::sync::{Arc, Wait};
 use std::thread::Threads;
 
-/// [`Crew::start`] over boxed packages.
-pub fn start_boxes<R, G>(
-    rt: R,
-    alloc: Global,
-    setup: &Setup,
-    ports: u32,
-    boxes: Vec<Vec<Box<dyn Package>>>,
-    gate: Arc<G, Global>,
-) -> Result<(Crew, Vec<Port>, Taker), StartError>
-where
-    R: Threads + Wait + Copy + Send + 'static,
-    G: Gate + Drop + 'static,
-    requires few_ports { ports ≤ 256 }
-    requires few_workers { vec_len boxes ≤ 256 }
-    ensures started { IfOk result (λ r. (b : _) → IsStarted
-        (λ w. record {
-          place = place_of setup.now w;
-          boxes = map {B = Seen} (λ x. seen x) (get_or boxes.items w b).items;
-        })
-        (vec_len boxes) ports r.0 r.1.items r.2) }
-    ensures no_workers { result ≡ Err StartError.NoWorkers ↔ vec_len boxes ≡ 0 }
-    ensures no_ports { result ≡ Err StartError.NoPorts ↔ (0 < vec_len boxes) × (ports ≡ 0) }
-{
-    Crew::start(rt, alloc, setup, ports, boxes, gate)
+impl Crew {
+    /// Starts a worker for each entry of `boxes`, and makes this many ports and the taker of what the workers post. The gate
+    /// is passed before each event. Where it is refused what was started has ended and is joined, and the boxes are dropped.
+    pub fn start<R, G>(
+        rt: R,
+        alloc: Global,
+        setup: &Setup,
+        ports: u32,
+        boxes: Vec<Vec<Box<dyn Package>>>,
+        gate: Arc<G, Global>,
+    ) -> Result<(Crew, Vec<Port>, Taker), StartError>
+    where
+        R: Threads + Wait + Copy + Send + 'static,
+        G: Gate + Drop + 'static,
+        requires few_ports { ports ≤ 256 }
+        requires few_workers { vec_len boxes ≤ 256 }
+        ensures started { IfOk result (λ r. (b : _) → IsStarted
+            (λ w. start_of (λ x. seen x) setup.now w (get_or boxes.items w b).items) (vec_len boxes) ports r.0 r.1.items r.2) }
+        ensures no_workers { result ≡ Err StartError.NoWorkers ↔ vec_len boxes ≡ 0 }
+        ensures no_ports { result ≡ Err StartError.NoPorts ↔ (0 < vec_len boxes) × (ports ≡ 0) }
+    {
+        Crew::start_any(rt, alloc, setup, ports, boxes, gate)
+    }
 }

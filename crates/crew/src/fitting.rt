@@ -1,6 +1,7 @@
 //! What a crew is launched with.
 ghost use Rattle.std.specs.Prelude.{◌≡◌, ◌<◌, ◌≤◌, ℕ, [], map, get_or, vec_len, vec_capacity, IfOk};
 ghost use Rattle.queues.specs.OutboxSeats.{new_taker};
+ghost use Rattle.notifier.specs.Held.{seen_by};
 ghost use Rattle.crew.specs.Ports.{AreDealt};
 ghost use Rattle.crew.specs.Ready.{start_of, IsReady};
 
@@ -75,7 +76,7 @@ fn seat_crew<P: Package>(
         IsReady (start_of P.seen setup.now k (get_or boxes.items k b).items) ports
         (record { outbox = r.2.outbox; number = k; posted = [] })
         (get_or r.0.items k s).token.start (get_or r.0.items k s).stop
-        (get_or r.0.items k s).desk (get_or r.0.items k s).receiver (get_or r.0.items k s).poster) }
+        (seen_by P.seen (get_or r.0.items k s).desk) (get_or r.0.items k s).receiver (get_or r.0.items k s).poster) }
     ensures dealt { IfOk result (λ r. AreDealt r.1.items (map (λ s. s.receiver.inbox) r.0.items) ports) }
 {
     let count = boxes.len();
@@ -118,7 +119,7 @@ pub(crate) fn fit_out<P: Package, G: Drop>(
         IsReady (start_of P.seen setup.now k (get_or boxes.items k b).items) ports
         (record { outbox = f.taker.outbox; number = k; posted = [] })
         (get_or f.seats.items k s).token.start (get_or f.seats.items k s).stop
-        (get_or f.seats.items k s).desk (get_or f.seats.items k s).receiver (get_or f.seats.items k s).poster) }
+        (seen_by P.seen (get_or f.seats.items k s).desk) (get_or f.seats.items k s).receiver (get_or f.seats.items k s).poster) }
     ensures dealt { IfOk result (λ f. AreDealt f.ports.items (map (λ s. s.receiver.inbox) f.seats.items) ports) }
 {
     let count = boxes.len();

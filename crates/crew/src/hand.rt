@@ -1,5 +1,6 @@
 //! What handles the events of a worker.
 ghost use Rattle.std.specs.Prelude.{◌≡◌, ◌+◌, Some, OnOk, OnErr};
+ghost use Rattle.notifier.specs.Held.{seen_by};
 ghost use Rattle.notifier.specs.Standing.{Standing};
 ghost use Rattle.crew.specs.Loop.{posts_all, HandlesOne};
 
@@ -21,12 +22,13 @@ fn count_up<R: Wait>(rt: &R, count: u64, more: u64) -> u64
     unreachable!()
 }
 
-/// Posts these outs.
-fn post_all<R: Wait>(rt: &R, poster: &mut Poster, outs: Vec<Out>)
+/// Posts these outs of a worker, and tells the gate of each.
+fn post_all<R: Wait, G: Gate>(rt: &R, gate: &G, worker: u32, poster: &mut Poster, outs: Vec<Out>)
     ensures { poster.new ≡ posts_all poster.old outs.items }
 {
     for out in outs {
         poster.post(rt, out);
+        gate.posted(worker);
     }
 }
 
@@ -57,8 +59,8 @@ impl<P: Package> Hand<P> {
         ensures same { (self.new.poster.outbox ≡ self.old.poster.outbox)
             × (self.new.poster.number ≡ self.old.poster.number) }
         ensures stop { self.new.stop ≡ self.old.stop }
-        ensures ok { OnOk result ((s : Standing) → self.old.desk ≡ Some s
-            → HandlesOne s event self.new.desk self.old.poster self.new.poster self.old.made self.new.made) }
+        ensures ok { OnOk result ((s : Standing) → seen_by P.seen self.old.desk ≡ Some s
+            → HandlesOne s event (seen_by P.seen self.new.desk) self.old.poster self.new.poster self.old.made self.new.made) }
         ensures counted { OnOk result (self.new.handled ≡ self.old.handled + 1) }
         ensures err { OnErr result ((self.new.poster ≡ self.old.poster)
             × (self.new.handled ≡ self.old.handled) × (self.new.made ≡ self.old.made)) }
@@ -69,7 +71,7 @@ impl<P: Package> Hand<P> {
         let outs = told?;
         self.made = count_up(rt, self.made, outs.len() as u64);
         self.handled = count_up(rt, self.handled, 1);
-        post_all(rt, &mut self.poster, outs);
+        post_all(rt, gate, self.worker, &mut self.poster, outs);
         Ok(())
     }
 }

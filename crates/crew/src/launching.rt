@@ -1,5 +1,6 @@
 //! How one worker is started.
 ghost use Rattle.std.specs.Prelude.{◌≡◌, [], Some, IfOk};
+ghost use Rattle.notifier.specs.Held.{seen_by};
 ghost use Rattle.notifier.specs.Standing.{first_standing};
 ghost use Rattle.notifier_model.specs.Start.{Start};
 ghost use Rattle.crew.specs.Worked.{IsWorked};
@@ -61,7 +62,7 @@ where
     G: Gate + Drop + 'static,
     requires taken { seat.receiver.taken ≡ [] }
     requires posted { seat.poster.posted ≡ [] }
-    requires desk { seat.desk ≡ Some (first_standing seat.token.start) }
+    requires desk { seen_by P.seen seat.desk ≡ Some (first_standing seat.token.start) }
     requires stop { seat.stop ≡ seat.token.start.place.stop }
     ensures start { IfOk result (λ h. h.promise.token.start ≡ seat.token.start) }
     ensures inbox { IfOk result (λ h. h.promise.inbox.value ≡ seat.receiver) }
@@ -85,7 +86,7 @@ where
         began,
         move || -> Done
             requires { (receiver.taken ≡ []) × (poster.posted ≡ []) }
-            ensures { (start : Start) → desk ≡ Some (first_standing start) → stop ≡ start.place.stop
+            ensures { (start : Start) → seen_by P.seen desk ≡ Some (first_standing start) → stop ≡ start.place.stop
                 → IsWorked start receiver poster result }
         {
             let hand = Hand {

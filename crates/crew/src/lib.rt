@@ -35,7 +35,6 @@ mod start;
 mod token;
 mod working;
 
-pub use boxed::start_boxes;
 pub use end::{Done, End};
 pub use errors::{SendError, StartError, TickError};
 pub use gate::{Gate, Open};

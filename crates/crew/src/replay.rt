@@ -1,5 +1,6 @@
 //! A desk with the list of its events.
 ghost use Rattle.std.specs.Prelude.{◌≡◌, ◌≢◌, ◌↔◌, ◌++◌, ◌∷◌, [], IfOk, OnErr, OnOk, Some, None, Err};
+ghost use Rattle.notifier.specs.Held.{seen_by};
 ghost use Rattle.notifier.specs.Standing.{Standing, IsHandled};
 ghost use Rattle.crew.specs.Recorded.{IsRun};
 
@@ -33,15 +34,20 @@ impl<P: Package> Model for Replay<P> {
     ghost use Rattle.std.specs.Prelude.{◌≡◌, false, None, if◌then◌else◌};
     ghost use Rattle.std.specs.Coded.{codes};
     ghost use Rattle.package.specs.Code.{coded_contents};
+    ghost use Rattle.notifier.specs.Held.{seen_by};
     ghost use Rattle.crew.specs.Recorded.{Recorded, IsRun};
 
     ghost Value = { Recorded };
 
     ghost coded = { Prim.hlevel (codes, coded_contents) };
 
-    ghost view = { λ r. record { start = r.start.value; events = r.events.items; now = if r.spent then None else r.desk } };
+    ghost view = { λ r. record {
+      start = seen_by P.seen r.start.value;
+      events = r.events.items;
+      now = if r.spent then None else seen_by P.seen r.desk;
+    } };
 
-    ghost invariant = { λ r. r.spent ≡ false → IsRun r.start.value r.events.items r.desk };
+    ghost invariant = { λ r. r.spent ≡ false → IsRun (seen_by P.seen r.start.value) r.events.items (seen_by P.seen r.desk) };
 }
 
 /// Handles one event, and adds it to the list.
@@ -51,11 +57,12 @@ fn handle_listed<P: Package>(
     events: &mut Vec<Event>,
     event: Event,
 ) -> Result<Vec<Out>, DeskError>
-    ensures ok { IfOk result (λ outs. (s : Standing) → desk.old ≡ Some s → IsHandled s event desk.new outs.items) }
-    ensures alive { OnOk result (desk.old ≢ None) }
+    ensures ok { IfOk result (λ outs. (s : Standing) → seen_by P.seen desk.old ≡ Some s
+        → IsHandled s event (seen_by P.seen desk.new) outs.items) }
+    ensures alive { OnOk result (seen_by P.seen desk.old ≢ None) }
     ensures added { OnOk result (events.new.items ≡ events.old.items ++ event ∷ []) }
     ensures err { OnErr result (events.new.items ≡ events.old.items) }
-    ensures spent { result ≡ Err DeskError.Spent ↔ desk.old ≡ None }
+    ensures spent { result ≡ Err DeskError.Spent ↔ seen_by P.seen desk.old ≡ None }
 {
     if desk.is_spent() {
         drop(event);
@@ -80,7 +87,7 @@ fn handle_listed<P: Package>(
 impl<P: Package> Replay<P> {
     /// The replay of this desk, of which no event is listed yet. It takes no memory.
     pub fn new(alloc: Global, desk: Desk<P>) -> Replay<P>
-        ensures { result ≡ record { start = desk; events = []; now = desk } }
+        ensures { result ≡ record { start = seen_by P.seen desk; events = []; now = seen_by P.seen desk } }
     {
         let start = Snapshot::of(&desk);
         Replay {

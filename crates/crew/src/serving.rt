@@ -1,6 +1,7 @@
 //! The loop of a worker.
 ghost use Rattle.std.specs.Prelude.{◌≡◌, ◌+◌, [], Some};
 ghost use Rattle.queues.specs.Ended.{count_ended};
+ghost use Rattle.notifier.specs.Held.{seen_by};
 ghost use Rattle.notifier.specs.Standing.{first_standing};
 ghost use Rattle.notifier_model.specs.Start.{Start};
 ghost use Rattle.crew.specs.Worked.{AllFrom, KeepsQueues};
@@ -47,9 +48,9 @@ pub(crate) fn serve<R: Wait, P: Package, G: Gate>(
     ensures among { AllFrom receiver.old.ports receiver.new.taken }
     ensures left { result.left + count_ended receiver.old.ports receiver.new.taken ≡ receiver.old.ports }
     ensures stop { hand.new.stop ≡ hand.old.stop }
-    ensures halted { (start : Start) → hand.old.desk ≡ Some (first_standing start)
+    ensures halted { (start : Start) → seen_by P.seen hand.old.desk ≡ Some (first_standing start)
         → Halted hand.old.poster.number receiver.old.ports start receiver.new.taken
-        hand.new.desk hand.new.poster.posted hand.new.handled hand.new.made result.stop }
+        (seen_by P.seen hand.new.desk) hand.new.poster.posted hand.new.handled hand.new.made result.stop }
 {
     let mut left = receiver.ports();
     for _ in rt.forever() {

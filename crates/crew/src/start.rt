@@ -1,5 +1,6 @@
 //! How a crew is started.
 ghost use Rattle.std.specs.Prelude.{◌≡◌, ◌↔◌, ◌<◌, ◌≤◌, ℕ, true, [], map, get_or, vec_len, vec_capacity, IfOk, Err};
+ghost use Rattle.notifier.specs.Held.{seen_by};
 ghost use Rattle.crew.specs.Ready.{start_of};
 ghost use Rattle.crew.specs.Started.{hired, IsFit, IsStarted};
 
@@ -69,7 +70,7 @@ where
     requires gates { vec_len gates ≡ vec_len seats }
     requires ready { (k : ℕ) (s : _) → k < vec_len seats
         → IsFit (get_or seats.items k s).token.start (get_or seats.items k s).stop
-        (get_or seats.items k s).desk (get_or seats.items k s).receiver (get_or seats.items k s).poster }
+        (seen_by P.seen (get_or seats.items k s).desk) (get_or seats.items k s).receiver (get_or seats.items k s).poster }
     ensures all { result.1 ≡ true → vec_len result.0 ≡ vec_len seats }
     ensures launched { (k : ℕ) (h : _) (s : _) → k < vec_len result.0 →
         hired (get_or result.0.items k h).promise ≡ record {
@@ -133,9 +134,8 @@ impl Crew {
 }
 
 impl Crew {
-    /// Starts a worker for each entry of `boxes`, and makes this many ports and the taker of what the workers post. The gate
-    /// is passed before each event. Where it is refused what was started has ended and is joined, and the boxes are dropped.
-    pub fn start<R, P, G>(
+    /// What [`Crew::start`] does over boxes, over packages of any one type.
+    pub fn start_any<R, P, G>(
         rt: R,
         alloc: Global,
         setup: &Setup,

@@ -3,6 +3,7 @@ ghost use Rattle.std.specs.Prelude.{◌≡◌, ◌+◌, ℕ, [], ◌++◌, List,
 ghost use Rattle.queues.specs.declared.items.Item.{Item};
 ghost use Rattle.queues.specs.Ended.{count_ended, AllEnded};
 ghost use Rattle.notifier_model.specs.declared.event.Event.{Event};
+ghost use Rattle.notifier.specs.Held.{seen_by};
 ghost use Rattle.notifier.specs.Standing.{first_standing};
 ghost use Rattle.notifier_model.specs.Start.{Start};
 ghost use Rattle.crew.specs.Worked.{AllFrom, IsWorked};
@@ -51,7 +52,7 @@ fn shut<R: Wait, P: Package, G: Gate>(rt: &R, alloc: Global, gate: &G, hand: &mu
         × (hand.new.poster.number ≡ hand.old.poster.number) }
     ensures ends { (n : ℕ) (start : Start) (taken : List (Item Event)) → hand.old.stop ≡ start.place.stop
         → Halted hand.old.poster.number n start taken
-        hand.old.desk hand.old.poster.posted hand.old.handled hand.old.made Finished
+        (seen_by P.seen hand.old.desk) hand.old.poster.posted hand.old.handled hand.old.made Finished
         → Halts hand.old.poster.number n start taken
         hand.new.poster.posted hand.new.handled hand.new.made result }
 {
@@ -81,7 +82,7 @@ fn end_of<R: Wait, P: Package, G: Gate>(
         × (hand.new.poster.number ≡ hand.old.poster.number) }
     ensures ends { (start : Start) → hand.old.stop ≡ start.place.stop
         → Halted hand.old.poster.number receiver.old.ports start receiver.old.taken
-        hand.old.desk hand.old.poster.posted hand.old.handled hand.old.made served.stop
+        (seen_by P.seen hand.old.desk) hand.old.poster.posted hand.old.handled hand.old.made served.stop
         → Halts hand.old.poster.number receiver.old.ports start receiver.new.taken
         hand.new.poster.posted hand.new.handled hand.new.made result }
 {
@@ -89,6 +90,7 @@ fn end_of<R: Wait, P: Package, G: Gate>(
         Stop::Finished => shut(rt, alloc, gate, hand),
         Stop::Deserted => End::Abandoned(false),
         Stop::Full => {
+            gate.give_up(hand.worker);
             if drain(rt, receiver, served.left) {
                 End::NoMemory(hand.handled)
             } else {
@@ -109,18 +111,20 @@ pub(crate) fn work<R: Wait, P: Package, G: Gate>(
     requires taken { receiver.taken ≡ [] }
     requires posted { hand.poster.posted ≡ [] }
     requires counts { (hand.handled ≡ 0) × (hand.made ≡ 0) }
-    ensures { (start : Start) → hand.desk ≡ Some (first_standing start) → hand.stop ≡ start.place.stop
+    ensures { (start : Start) → seen_by P.seen hand.desk ≡ Some (first_standing start) → hand.stop ≡ start.place.stop
         → IsWorked start receiver hand.poster result }
 {
     let served = serve(rt, alloc, gate, &mut hand, &mut receiver);
     let end = end_of(rt, alloc, gate, &mut hand, &mut receiver, served);
     let Hand {
+        worker,
         poster,
         handled,
         made,
         ..
     } = hand;
     let poster = poster.finish(rt);
+    gate.posted(worker);
     Done {
         receiver,
         poster,

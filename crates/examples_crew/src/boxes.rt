@@ -1,7 +1,6 @@
 //! The packages of the crews.
 ghost use Rattle.std.specs.Prelude.{◌≤◌, IsTrue, vec_len, IfOk};
 ghost use Rattle.package.specs.Changes.{is_forget};
-ghost use Rattle.examples_crew.specs.Boxes.{seen_as};
 
 use crate::error::RunError;
 use crate::gates::Stage;
@@ -14,8 +13,8 @@ use std::alloc::Global;
 use std::sync::Arc;
 use std::sync::atomic::Ordering;
 
-/// The packages of all workers of a crew.
-pub(crate) type Crowd = Vec<Vec<CrewPackage>>;
+/// What the packages of all workers of a crew are made of.
+pub(crate) type Crowd = Vec<Vec<Part>>;
 
 /// What a mailbox package does besides, at each change.
 #[derive(Clone, Copy)]
@@ -65,9 +64,9 @@ pub(crate) struct Boxes {
     stage: Arc<Stage, Global>,
 }
 
-/// A package of a crew.
+/// A package of a crew, before it stands in its box.
 #[derive(Drop)]
-pub(crate) enum CrewPackage {
+pub(crate) enum Part {
     Mail(Boxes),
     Transfers(Transfers),
 }
@@ -102,94 +101,101 @@ fn may_change(manner: &mut Manner, stage: &Stage, change: &Change) -> bool
     act(manner, stage)
 }
 
-impl Package for CrewPackage {
-    ghost seen = { seen_as ⟦<Mailboxes as Package>⟧.seen ⟦<Transfers as Package>⟧.seen };
+impl Package for Boxes {
+    ghost seen = { λ boxes. ⟦<Mailboxes as Package>⟧.seen boxes.inner };
 
     fn event(&self) -> &str {
-        match self {
-            CrewPackage::Mail(boxes) => boxes.inner.event(),
-            CrewPackage::Transfers(transfers) => transfers.event(),
-        }
+        self.inner.event()
     }
 
     fn content_type(&self) -> &str {
-        match self {
-            CrewPackage::Mail(boxes) => boxes.inner.content_type(),
-            CrewPackage::Transfers(transfers) => transfers.content_type(),
-        }
+        self.inner.content_type()
     }
 
     fn holds(&self, resource: &str) -> bool {
-        match self {
-            CrewPackage::Mail(boxes) => boxes.inner.holds(resource),
-            CrewPackage::Transfers(transfers) => transfers.holds(resource),
-        }
+        self.inner.holds(resource)
     }
 
     fn change(&mut self, alloc: Global, change: &Change) -> Result<Outcome, NoMemory> {
-        match self {
-            CrewPackage::Mail(boxes) => {
-                if !may_change(&mut boxes.manner, &boxes.stage, change) {
-                    return Err(NoMemory);
-                }
-                boxes.inner.change(alloc, change)
-            }
-            CrewPackage::Transfers(transfers) => transfers.change(alloc, change),
+        if !may_change(&mut self.manner, &self.stage, change) {
+            return Err(NoMemory);
         }
+        self.inner.change(alloc, change)
     }
 
     fn body(&self, alloc: Global, resource: &str) -> Result<Option<Vec<u8>>, NoMemory> {
-        match self {
-            CrewPackage::Mail(boxes) => boxes.inner.body(alloc, resource),
-            CrewPackage::Transfers(transfers) => transfers.body(alloc, resource),
-        }
+        self.inner.body(alloc, resource)
     }
 
     fn is_over(&self, resource: &str) -> bool {
-        match self {
-            CrewPackage::Mail(boxes) => boxes.inner.is_over(resource),
-            CrewPackage::Transfers(transfers) => transfers.is_over(resource),
-        }
+        self.inner.is_over(resource)
     }
 }
 
 /// The mailboxes of a worker, which leave their Closing in the cell.
-fn mailboxes_of(alloc: Global, role: Role, props: &Props) -> Result<CrewPackage, RunError> {
+pub(crate) fn mailboxes_of(alloc: Global, role: Role, props: &Props) -> Result<Boxes, RunError> {
     let stage = Arc::try_clone(&props.stage)?;
     let cell = Arc::try_clone(&props.mail)?;
     let inner = Mailboxes::new(alloc, names_of(alloc, role.0)?, cell)?;
-    Ok(CrewPackage::Mail(Boxes {
+    Ok(Boxes {
         inner,
         manner: role.1,
         stage,
-    }))
+    })
 }
 
-/// The packages of a worker.
-pub(crate) fn packages_of(
-    alloc: Global,
-    role: Role,
-    props: &Props,
-) -> Result<Vec<CrewPackage>, RunError> {
-    let mut packages = Vec::new(alloc);
-    packages.push(mailboxes_of(alloc, role, props)?)?;
+/// What the packages of a worker are made of.
+fn parts_of(alloc: Global, role: Role, props: &Props) -> Result<Vec<Part>, RunError> {
+    let mut parts = Vec::new(alloc);
+    parts.push(Part::Mail(mailboxes_of(alloc, role, props)?))?;
     if let Some(cell) = &props.transfers {
         let transfers = Transfers::new(alloc, Arc::try_clone(cell)?)?;
-        packages.push(CrewPackage::Transfers(transfers))?;
+        parts.push(Part::Transfers(transfers))?;
+    }
+    Ok(parts)
+}
+
+/// What the packages of these workers are made of.
+pub(crate) fn crowd_of(alloc: Global, roles: &[Role], props: &Props) -> Result<Crowd, RunError> {
+    let mut crowd = Vec::new(alloc);
+    for role in roles {
+        crowd.push(parts_of(alloc, *role, props)?)?;
+    }
+    Ok(crowd)
+}
+
+/// The packages of a worker, each as `place` makes it of its part.
+fn packages_of<P, F>(alloc: Global, parts: Vec<Part>, place: &F) -> Result<Vec<P>, RunError>
+where
+    P: Package,
+    F: Fn(Part) -> Result<P, NoMemory>,
+    requires { F.IsAlwaysCallable place.now }
+{
+    let mut packages = Vec::new(alloc);
+    for part in parts {
+        packages.push(place(part)?)?;
     }
     Ok(packages)
 }
 
-/// The packages of these workers, if a crew may have so many.
-pub(crate) fn crowd_of(alloc: Global, roles: &[Role], props: &Props) -> Result<Crowd, RunError>
-    ensures { IfOk result (λ crowd. vec_len crowd ≤ 256) }
+/// The packages of all workers, each as `place` makes it of its part, if a crew may have so many.
+pub(crate) fn place_all<P, F>(
+    alloc: Global,
+    crowd: Crowd,
+    place: &F,
+) -> Result<Vec<Vec<P>>, RunError>
+where
+    P: Package,
+    F: Fn(Part) -> Result<P, NoMemory>,
+    requires { F.IsAlwaysCallable place.now }
+    ensures { IfOk result (λ all. vec_len all ≤ 256) }
 {
-    let mut crowd = Vec::new(alloc);
-    for role in roles {
-        crowd.push(packages_of(alloc, *role, props)?)?;
+    let mut all = Vec::new(alloc);
+    for parts in crowd {
+        all.push(packages_of(alloc, parts, place)?)?;
     }
-    if crowd.len() > 256 {
+    if all.len() > 256 {
         return Err(RunError::NoRun);
     }
-    Ok(crowd)
+    Ok(all)
 }

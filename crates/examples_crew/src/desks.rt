@@ -5,7 +5,7 @@
 //! gives two outs, and the change one or none. Two desks have a lock each: a change of the one may wait for a change of the
 //! other.
 
-use crate::boxes::{CrewPackage, Manner, Props, packages_of};
+use crate::boxes::{Boxes, Manner, Props, mailboxes_of};
 use crate::error::RunError;
 use crate::events::{mail, subscribe};
 use crate::names::Names;
@@ -34,9 +34,10 @@ fn shared_desk(
     alloc: Global,
     manner: Manner,
     props: &Props,
-) -> Result<Arc<SharedDesk<CrewPackage>, Global>, RunError> {
+) -> Result<Arc<SharedDesk<Boxes>, Global>, RunError> {
     let setup = setup_of(Plan::USUAL)?;
-    let held = packages_of(alloc, (Names::One("alice"), manner), props)?;
+    let mut held = Vec::new(alloc);
+    held.push(mailboxes_of(alloc, (Names::One("alice"), manner), props)?)?;
     let desk = Desk::new(alloc, &setup, 0, held)?;
     Ok(Arc::new(alloc, SharedDesk::new(Replay::new(alloc, desk)))?)
 }

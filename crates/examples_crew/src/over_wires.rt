@@ -22,8 +22,12 @@ use std::net::Net;
 use std::rt::Clock;
 use std::sync::Wait;
 use std::thread::{JoinHandle, Threads};
+use std::time::Duration;
 use std::{io, thread};
 use transport::{Datagram, MemoryWire, Sink, UdpWire, Wire, WireFault};
+
+/// How often the port of the phone is asked for.
+const TRIES: u32 = 500;
 
 /// What each feed did, in a line each.
 fn show_fed(alloc: Global, fed: &[Fed], page: &mut Page) {
@@ -277,6 +281,17 @@ fn call<R: Wait>(
     Ok(Got { answer, notify })
 }
 
+/// The phone's wires, at the port of its Contact. Where somebody else has it, it is waited for, some seconds at most.
+fn phone_wires<R: Wait + Net + Clock>(rt: &R) -> Result<(UdpWire, UdpWire), WireFault> {
+    for _ in 0..TRIES {
+        if let Ok(wires) = UdpWire::bind(rt, PHONE.port) {
+            return Ok(wires);
+        }
+        thread::sleep(rt, Duration::from_millis(10));
+    }
+    UdpWire::bind(rt, PHONE.port)
+}
+
 /// Starts the thread of a phone, which calls the notifier at these addresses.
 fn start_call<R>(
     rt: R,
@@ -284,9 +299,9 @@ fn start_call<R>(
     control: Addr,
 ) -> Result<JoinHandle<Result<Got, WireFault>>, RunError>
 where
-    R: Threads + Wait + Net + Copy + Send + 'static,
+    R: Threads + Wait + Net + Clock + Copy + Send + 'static,
 {
-    let mut phone = UdpWire::bind(&rt, 0)?;
+    let mut phone = phone_wires(&rt)?;
     match thread::spawn(&rt, move || call(&rt, &mut phone, sip, control)) {
         Ok(handle) => Ok(handle),
         Err(_) => Err(RunError::NoThread),

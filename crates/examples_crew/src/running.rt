@@ -1,8 +1,8 @@
 //! A crew that is run to its end.
-ghost use Rattle.std.specs.Prelude.{◌≡◌, ◌≤◌, [], vec_len, IfOk};
+ghost use Rattle.std.specs.Prelude.{◌≡◌, ◌≤◌, []};
 ghost use Rattle.queues.specs.Ended.{AllEnded};
 
-use crate::boxes::{Crowd, Props, Role, crowd_of};
+use crate::boxes::{Crowd, Part, Props, Role, crowd_of, place_all};
 use crate::error::RunError;
 use crate::feeding::{Fed, Feeder, join_feeds, start_feeds};
 use crate::gates::Stage;
@@ -10,8 +10,9 @@ use crate::gathering::Gathered;
 use crew::{Crew, Report};
 use feeds::{EmitReport, emit};
 use notifier_model::{Limits, Setup};
+use package::Package;
 use queues::outbox::{Posted, Taker};
-use sip_text::Addr;
+use sip_text::{Addr, NoMemory};
 use std::alloc::Global;
 use std::rt::Clock;
 use std::sync::{Arc, Wait};
@@ -75,9 +76,7 @@ pub(crate) fn make_ready(
     plan: Plan,
     roles: &[Role],
     props: &Props,
-) -> Result<Ready, RunError>
-    ensures { IfOk result (λ ready. vec_len ready.crowd ≤ 256) }
-{
+) -> Result<Ready, RunError> {
     let setup = setup_of(plan)?;
     let gate = Arc::try_clone(&props.stage)?;
     let crowd = crowd_of(alloc, roles, props)?;
@@ -168,8 +167,8 @@ fn ports_for(feeders: usize) -> u32
     if feeders < 256 { feeders as u32 } else { 256 }
 }
 
-/// Runs a crew to its end: a thread for each feeder feeds a port of its own, while this one takes what the workers post; then all
-/// are joined.
+/// Runs a crew to its end, with its packages in boxes. A thread for each feeder feeds a port of its own, while this one takes
+/// what the workers post; then all are joined.
 pub(crate) fn run<R, T>(
     rt: R,
     alloc: Global,
@@ -180,12 +179,18 @@ pub(crate) fn run<R, T>(
 where
     R: Threads + Wait + Clock + Copy + Send + 'static,
     T: Taking,
-    requires few_workers { vec_len ready.crowd ≤ 256 }
 {
     let Ready { setup, crowd, gate } = ready;
-    let workers = crowd.len() as u32;
+    let place = move |part: Part| -> Result<Box<dyn Package>, NoMemory> {
+        match part {
+            Part::Mail(boxes) => Ok(Box::new(alloc, boxes)?),
+            Part::Transfers(transfers) => Ok(Box::new(alloc, transfers)?),
+        }
+    };
+    let boxes = place_all(alloc, crowd, &place)?;
+    let workers = boxes.len() as u32;
     let ports = ports_for(feeders.len());
-    let (crew, ports, mut taker) = Crew::start(rt, alloc, &setup, ports, crowd, gate)?;
+    let (crew, ports, mut taker) = Crew::start(rt, alloc, &setup, ports, boxes, gate)?;
     let threads = start_feeds(rt, alloc, ports, feeders);
     taking.take_all(&rt, alloc, &mut taker, workers);
     let report = crew.join(&rt, Vec::new(alloc), taker);

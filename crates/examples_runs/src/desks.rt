@@ -3,11 +3,11 @@
 //! Each script of `data` that is named here is played on a new desk and on a new replay. Where memory is short they say so once,
 //! and are spent from then on.
 
-use crate::pages::boxes_of;
+use crate::pages::{mailbox_of_alice, new_transfers};
 use crate::presence::Presence;
 use arguments::setup_at;
 use crew::Replay;
-use notifier::{Desk, DeskError, Event, play_boxes};
+use notifier::{Desk, DeskError, Event, play};
 use package::Package;
 use scripts::{Block, parse_script};
 use sip_read::{Message, read};
@@ -67,16 +67,16 @@ fn handles<P: Package>(alloc: Global, desk: &mut Desk<P>, events: &[Event]) -> b
 
 /// Whether a new desk handles these events as far as memory serves. Once it is spent it refuses all of them.
 fn is_played(alloc: Global, events: &[Event]) -> Result<bool, NoMemory> {
-    let boxes = boxes_of(alloc)?;
+    let mut boxes: Vec<Box<dyn Package>> = Vec::new(alloc);
+    boxes.push(Box::new(alloc, mailbox_of_alice(alloc)?)?)?;
+    boxes.push(Box::new(alloc, new_transfers(alloc)?)?)?;
     let mut desk = Desk::new(alloc, &setup_at(5060, [0; 32], false), 0, boxes)?;
     let is_handled = handles(alloc, &mut desk, events);
     Ok(is_handled && (!desk.is_spent() || handles(alloc, &mut desk, events)))
 }
 
-/// Whether a new replay answers NoMemory at the first refusal, of its desk or of its list, and Spent from then on.
-fn is_replayed(alloc: Global, events: Vec<Event>) -> Result<bool, NoMemory> {
-    let boxes = boxes_of(alloc)?;
-    let desk = Desk::new(alloc, &setup_at(5060, [0; 32], false), 0, boxes)?;
+/// Whether a new replay of this desk answers NoMemory at the first refusal, of its desk or of its list, and Spent from then on.
+fn is_spent_once<P: Package>(alloc: Global, desk: Desk<P>, events: Vec<Event>) -> bool {
     let mut replay = Replay::new(alloc, desk);
     let mut is_right = true;
     let mut is_spent = false;
@@ -85,14 +85,23 @@ fn is_replayed(alloc: Global, events: Vec<Event>) -> Result<bool, NoMemory> {
         is_right = is_right && is_spent == (error == Some(DeskError::Spent));
         is_spent = error.is_some();
     }
-    Ok(is_right)
+    is_right
+}
+
+/// Whether a new replay is spent by the first refusal.
+fn is_replayed(alloc: Global, events: Vec<Event>) -> Result<bool, NoMemory> {
+    let mut boxes: Vec<Box<dyn Package>> = Vec::new(alloc);
+    boxes.push(Box::new(alloc, mailbox_of_alice(alloc)?)?)?;
+    boxes.push(Box::new(alloc, new_transfers(alloc)?)?)?;
+    let desk = Desk::new(alloc, &setup_at(5060, [0; 32], false), 0, boxes)?;
+    Ok(is_spent_once(alloc, desk, events))
 }
 
 /// Whether a desk with presence alone refuses the one request of these events, and tells nothing else.
 fn is_refused(alloc: Global, events: &[Event]) -> Result<bool, NoMemory> {
     let mut boxes: Vec<Box<dyn Package>> = Vec::new(alloc);
     boxes.push(Box::new(alloc, Presence::new(alloc)?)?)?;
-    let outs = play_boxes(alloc, &setup_at(5060, [0; 32], false), 0, boxes, events)?;
+    let outs = play(alloc, &setup_at(5060, [0; 32], false), 0, boxes, events)?;
     Ok(outs.len() == 1)
 }
 

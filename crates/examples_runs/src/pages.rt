@@ -5,10 +5,11 @@
 //! whether the notifier writes its page.
 
 use crate::presence::Presence;
-use crate::trials::words_of;
-use arguments::{Boxes, boxes_for, setup_at};
+use arguments::setup_at;
+use message_summary::Mailboxes;
 use notifier_model::{Limits, Setup};
-use package::Package;
+use package::{ClosingCell, Package};
+use refer::Transfers;
 use scripts::ScriptError;
 use server::script_one;
 use sip_text::NoMemory;
@@ -57,11 +58,16 @@ fn setup_of(bounds: Bounds) -> Option<Setup> {
     })
 }
 
-/// The packages of a worker with alice's mailbox.
-pub(crate) fn boxes_of(alloc: Global) -> Result<Boxes, NoMemory> {
-    let mailboxes = words_of(alloc, &["alice"])?;
-    let all = boxes_for(alloc, mailboxes.as_slice(), 1)?.pop();
-    Ok(all.unwrap_or(Vec::new(alloc)))
+/// Mailboxes, of which alice's is the only one.
+pub(crate) fn mailbox_of_alice(alloc: Global) -> Result<Mailboxes, NoMemory> {
+    let mut names = Vec::new(alloc);
+    names.push(String::from_str(alloc, "alice")?)?;
+    Mailboxes::new(alloc, names, ClosingCell::new(alloc)?)
+}
+
+/// Transfers, of which none is there yet.
+pub(crate) fn new_transfers(alloc: Global) -> Result<Transfers, NoMemory> {
+    Transfers::new(alloc, ClosingCell::new(alloc)?)
 }
 
 /// Whether a worker with this setup, the mailbox alice, transfers and presence writes this page of this script.
@@ -72,9 +78,8 @@ fn is_page_of(
     wanted: &[u8],
 ) -> Result<bool, ScriptError> {
     let mut boxes: Vec<Box<dyn Package>> = Vec::new(alloc);
-    for package in boxes_of(alloc)? {
-        boxes.push(Box::new(alloc, package)?)?;
-    }
+    boxes.push(Box::new(alloc, mailbox_of_alice(alloc)?)?)?;
+    boxes.push(Box::new(alloc, new_transfers(alloc)?)?)?;
     boxes.push(Box::new(alloc, Presence::new(alloc)?)?)?;
     let mut sink = Sink::new(Vec::new(alloc));
     script_one(alloc, &mut Source::new(script), &mut sink, setup, boxes)?;

@@ -5,8 +5,14 @@
 //! ended in which way, and whether each wrote what it may: the page, a front of it, or nothing. The counts were worked out by
 //! hand: the script has 308 bytes, and its page 791, or 811 with the line of a second worker.
 
+ghost use Rattle.std.specs.Prelude.{◌≡◌, IfOk};
+ghost use Rattle.arguments.specs.Wanted.{first_seen};
+
 use crate::devices::{Drain, Drip, Fault};
-use arguments::Status;
+use arguments::{Status, Wanted};
+use message_summary::Mailboxes;
+use package::{ClosingCell, Package};
+use refer::Transfers;
 use server::run;
 use sip_text::{NoMemory, Text};
 use std::alloc::Global;
@@ -102,7 +108,18 @@ where
     let alloc = rt.alloc();
     let mut source = Source::new(drip_of(trial, script, turn));
     let mut sink = Sink::new(drain_of(alloc, trial, turn));
-    let status = run(rt, alloc, words, &mut source, &mut sink);
+    let make = move |wanted: Wanted| -> Result<Box<dyn Package>, NoMemory>
+        ensures { IfOk result (λ made. seen made ≡ first_seen wanted) }
+    {
+        let cell = ClosingCell::new(alloc)?;
+        match wanted {
+            Wanted::Mailboxes(names) => {
+                Ok(Box::new(alloc, Mailboxes::new(alloc, names, cell)?)?)
+            }
+            Wanted::Transfers => Ok(Box::new(alloc, Transfers::new(alloc, cell)?)?),
+        }
+    };
+    let status = run(rt, words, &mut source, &mut sink, &make);
     (status, sink)
 }
 

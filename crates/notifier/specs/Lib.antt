@@ -10,4 +10,5 @@ pub mod Tellers
 pub mod Ledger
 pub mod Incoming
 pub mod Standing
+pub mod Held
 pub mod Errors

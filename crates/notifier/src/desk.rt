@@ -3,6 +3,7 @@
 
 ghost use Rattle.std.specs.Prelude.{◌≡◌, ◌↔◌, map, is_none, IfOk, OnErr, Some, None};
 ghost use Rattle.notifier.specs.Standing.{Standing, first_standing, IsHandled};
+ghost use Rattle.notifier.specs.Held.{seen_by};
 ghost use Rattle.notifier.specs.Errors.{number_of};
 ghost use Rattle.notifier_model.specs.Start.{place_of};
 
@@ -40,15 +41,16 @@ impl DeskError {
     }
 }
 
-/// One thread's notifier. Contracts see its place and its book, or nothing where it is spent.
-pub struct Desk<P: Package> {
+/// One thread's notifier, over boxed packages unless said otherwise. Contracts see its place and what its book holds, with the
+/// packages themselves, or nothing where it is spent.
+pub struct Desk<P = Box<dyn Package>> {
     spent: bool,
     place: Place,
     ledger: Ledger<P>,
 }
 
 /// By hand, so that all that lets go of one calls this one function, and none proves the ways through each field.
-impl<P: Package> Drop for Desk<P> {
+impl<P: Drop> Drop for Desk<P> {
     fn drop(self) {
         let Desk {
             spent: _,
@@ -58,18 +60,14 @@ impl<P: Package> Drop for Desk<P> {
     }
 }
 
-impl<P: Package> Model for Desk<P> {
+impl<P> Model for Desk<P> {
     ghost use Rattle.std.specs.Prelude.{◌≡◌, false, Option, None, Some, if◌then◌else◌};
-    ghost use Rattle.std.specs.Coded.{codes};
-    ghost use Rattle.package.specs.Code.{coded_contents};
-    ghost use Rattle.notifier.specs.Standing.{Standing};
-    ghost use Rattle.notifier.specs.Ledger.{book_of, IsSound};
+    ghost use Rattle.notifier.specs.Held.{Held, held_of};
+    ghost use Rattle.notifier.specs.Ledger.{IsSound};
 
-    ghost Value = { Option Standing };
+    ghost Value = { Option (Held P) };
 
-    ghost coded = { Prim.hlevel (codes, coded_contents) };
-
-    ghost view = { λ d. if d.spent then None else Some (record { place = d.place; book = book_of P.seen d.ledger }) };
+    ghost view = { λ d. if d.spent then None else Some (held_of d.place d.ledger) };
 
     ghost invariant = { λ d. d.spent ≡ false → IsSound d.place d.ledger };
 }
@@ -82,7 +80,7 @@ impl<P: Package> Desk<P> {
         worker: u32,
         boxes: Vec<P>,
     ) -> Result<Desk<P>, NoMemory>
-        ensures { IfOk result (λ desk. desk
+        ensures { IfOk result (λ desk. seen_by P.seen desk
             ≡ Some (first_standing (record { place = place_of setup.now worker; boxes = map P.seen boxes.items }))) }
     {
         setup.limits.are_in_range();
@@ -110,17 +108,17 @@ impl<P: Package> Desk<P> {
 
     /// Whether a growth was refused at an earlier event.
     pub fn is_spent(&self) -> bool
-        ensures { result ≡ is_none self.now }
+        ensures { result ≡ is_none (seen_by P.seen self.now) }
     {
         self.spent
     }
 
     /// Handles one event. After want of memory, which gives no outs, the desk is spent.
     pub fn handle(&mut self, alloc: Global, event: &Event) -> Result<Vec<Out>, DeskError>
-        ensures ok { IfOk result (λ outs. (s : Standing) → self.old ≡ Some s
-            → IsHandled s event.now self.new outs.items) }
-        ensures spent { result ≡ Err DeskError.Spent ↔ self.old ≡ None }
-        ensures err { OnErr result (self.new ≡ None) }
+        ensures ok { IfOk result (λ outs. (s : Standing) → seen_by P.seen self.old ≡ Some s
+            → IsHandled s event.now (seen_by P.seen self.new) outs.items) }
+        ensures spent { result ≡ Err DeskError.Spent ↔ seen_by P.seen self.old ≡ None }
+        ensures err { OnErr result (seen_by P.seen self.new ≡ None) }
     {
         if self.spent {
             return Err(DeskError::Spent);

@@ -2,11 +2,10 @@
 
 use crate::kept::KeptAnswers;
 use crate::rows::Rows;
-use package::Package;
 
 /// The stored parts of a desk.
 #[derive(Drop)]
-pub struct Ledger<P: Package> {
+pub struct Ledger<P> {
     /// The moment, in seconds.
     pub clock: u64,
     /// The next serial.

@@ -38,4 +38,4 @@ pub mod whole_run;
 
 pub use desk::{Desk, DeskError};
 pub use notifier_model::{Event, Limits, Out, Place, Refusal, Setup, user_part};
-pub use whole_run::{play, play_boxes};
+pub use whole_run::play;

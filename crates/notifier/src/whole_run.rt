@@ -2,9 +2,9 @@
 #![tactic(auto, unfolding(notifier_model::specs::Run::run, notifier_model::specs::Run::made))]
 
 ghost use Rattle.std.specs.Prelude.{◌≡◌, map, IfOk, Some};
-ghost use Rattle.package.specs.Content.{Seen};
 ghost use Rattle.notifier_model.specs.Out.{out_of};
 ghost use Rattle.notifier_model.specs.Run.{made, made_from};
+ghost use Rattle.notifier.specs.Held.{seen_by};
 ghost use Rattle.notifier.specs.Standing.{Standing};
 ghost use Rattle.notifier_model.specs.Start.{place_of};
 
@@ -21,7 +21,7 @@ fn handle_all<P: Package>(
     desk: &mut Desk<P>,
     events: &[Event],
 ) -> Result<Vec<Out>, NoMemory>
-    ensures { IfOk result (λ outs. (s : Standing) → desk.old ≡ Some s → outs.items
+    ensures { IfOk result (λ outs. (s : Standing) → seen_by P.seen desk.old ≡ Some s → outs.items
         ≡ map out_of (made_from s.place s.book events.now)) }
 {
     let mut outs = Vec::new(alloc);
@@ -47,22 +47,4 @@ pub fn play<P: Package>(
 {
     let mut desk = Desk::new(alloc, setup, worker, boxes)?;
     handle_all(alloc, &mut desk, events)
-}
-
-/// The same over packages of different types.
-pub fn play_boxes(
-    alloc: Global,
-    setup: &Setup,
-    worker: u32,
-    boxes: Vec<Box<dyn Package>>,
-    events: &[Event],
-) -> Result<Vec<Out>, NoMemory>
-    ensures { IfOk result (λ outs. outs.items
-        ≡ map out_of (made (record {
-          place = place_of setup.now worker;
-          boxes = map {B = Seen}
-              (λ b. seen b) boxes.items;
-        }) events.now)) }
-{
-    play(alloc, setup, worker, boxes, events)
 }

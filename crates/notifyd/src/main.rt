@@ -7,13 +7,19 @@
 //! `notifyd script 1 alice`.
 //!
 //! What is proved of them are the contracts of the crate `commands`, of [`commands::udp::run`] and of [`server::run`]. Here
-//! stand the words, the two streams and the exit status. Begin with `server::run` where a script is meant, with `commands::serve`
-//! where a server is.
+//! stand the words, the packages, each in a box, the two streams and the exit status. Begin with `server::run` where a script is
+//! meant, with `commands::serve` where a server is.
 #![tactic(auto)]
 
-use arguments::Status;
+ghost use Rattle.std.specs.Prelude.{◌≡◌, IfOk};
+ghost use Rattle.arguments.specs.Wanted.{first_seen};
+
+use arguments::{Status, Wanted};
 use commands::{print_help, serve, tell, udp};
-use sip_text::Text;
+use message_summary::Mailboxes;
+use package::{ClosingCell, Package};
+use refer::Transfers;
+use sip_text::{NoMemory, Text};
 use std::process::ExitCode;
 use std::rt::Env;
 use std::{env, io};
@@ -55,16 +61,28 @@ fn main(rt: HostRuntime) -> ExitCode {
         Ok(words) => words,
         Err(status) => return end(&rt, status),
     };
+    let alloc = rt.alloc();
+    let make = move |wanted: Wanted| -> Result<Box<dyn Package>, NoMemory>
+        ensures { IfOk result (λ made. seen made ≡ first_seen wanted) }
+    {
+        let cell = ClosingCell::new(alloc)?;
+        match wanted {
+            Wanted::Mailboxes(names) => {
+                Ok(Box::new(alloc, Mailboxes::new(alloc, names, cell)?)?)
+            }
+            Wanted::Transfers => Ok(Box::new(alloc, Transfers::new(alloc, cell)?)?),
+        }
+    };
     let mut sink = Sink::new(io::writer(&rt));
     let status = match words.as_slice() {
-        [word] if asks_for_text(word) => return ExitCode::from(serve(rt, words.as_slice())),
+        [word] if asks_for_text(word) => return ExitCode::from(serve(rt, words.as_slice(), &make)),
         [word] if word.is("help") => return ExitCode::from(print_help(&rt)),
-        [word, rest @ ..] if word.is("serve") => return ExitCode::from(serve(rt, rest)),
+        [word, rest @ ..] if word.is("serve") => return ExitCode::from(serve(rt, rest, &make)),
         [word, rest @ ..] if word.is("tell") => return ExitCode::from(tell(&rt, rest)),
-        [word, ..] if word.is("udp") => { udp::run(rt, rt.alloc(), words.as_slice(), &mut sink) }
+        [word, ..] if word.is("udp") => { udp::run(rt, alloc, words.as_slice(), &mut sink, &make) }
         _ => {
             let mut source = Source::new(rt.reader());
-            server::run(rt, rt.alloc(), words.as_slice(), &mut source, &mut sink)
+            server::run(rt, words.as_slice(), &mut source, &mut sink, &make)
         }
     };
     end(&rt, status)

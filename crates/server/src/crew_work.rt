@@ -157,7 +157,7 @@ where
 {
     let works = new_works(alloc, boxes.len())?;
     let gate = Arc::new(alloc, Open)?;
-    match Crew::start(rt, alloc, setup, 1, boxes, gate) {
+    match Crew::start_any(rt, alloc, setup, 1, boxes, gate) {
         Ok(started) => run_to_end(rt, started, works, events),
         Err(error) => Err(refusal_of(error)),
     }

@@ -1,13 +1,16 @@
 //! The program, over any reader and writer.
 ghost use Rattle.std.specs.Prelude.{◌≡◌, ◌≢◌, ◌<◌, ◌≤◌, true, ◌⊎◌, OnOk, OnErr, IfErr, Err};
 ghost use Rattle.arguments.specs.declared.arguments.Arguments.{Arguments};
+ghost use Rattle.arguments.specs.Wanted.{Gives};
 ghost use Rattle.server.specs.Runs.{WritesPage, ReadsNoScript, MeetsFault, StartsNoThread, IsHindered};
 ghost use Rattle.server.specs.Call.{starts_for, AsksFor, AsksForNone};
 
-use crate::script::{script_many, script_one};
+use crate::script::{play_many, play_one};
 use arguments::{
-    Arguments, ArgumentsError, Status, boxes_for, boxes_with, names_for, parse_arguments, setup_at,
+    Arguments, ArgumentsError, Status, Wanted, boxes_for, boxes_with, names_for, parse_arguments,
+    setup_at,
 };
+use package::Package;
 use scripts::ScriptError;
 use sip_text::{NoMemory, Text};
 use std::alloc::Global;
@@ -17,13 +20,19 @@ use std::thread::Threads;
 use transport::{Sink, Source};
 
 /// Runs a script by one worker with this seed and these mailboxes, on this thread.
-fn run_one<R: Read, W: Write>(
+fn run_one<R: Read, W: Write, P, M>(
     alloc: Global,
     call: &Arguments,
     source: &mut Source<R>,
     sink: &mut Sink<W>,
+    make: &M,
 ) -> Result<(), ScriptError>
-    requires { call.now.workers ≡ 1 }
+where
+    P: Package,
+    M: Fn(Wanted) -> Result<P, NoMemory>,
+    requires one { call.now.workers ≡ 1 }
+    requires callable { M.IsAlwaysCallable make.now }
+    requires gives { Gives P.seen (M.post make.now) }
     ensures page { OnOk result
         (WritesPage R.remaining W.contents (starts_for call.now) source.old source.new sink.old sink.new) }
     ensures flushed { OnOk result (sink.new.is_flushed ≡ true) }
@@ -35,8 +44,8 @@ fn run_one<R: Read, W: Write>(
         (source.new.failures ≡ source.old.failures) × (sink.new.failures ≡ sink.old.failures) }
 {
     let names = names_for(alloc, call.mailboxes.as_slice(), 1, 0)?;
-    let boxes = boxes_with(alloc, names)?;
-    script_one(
+    let boxes = boxes_with(alloc, names, make)?;
+    play_one(
         alloc,
         source,
         sink,
@@ -46,15 +55,19 @@ fn run_one<R: Read, W: Write>(
 }
 
 /// Runs a script by several workers with this seed and these mailboxes, each on a thread of its own.
-fn run_many<H, R: Read, W: Write>(
+fn run_many<H, R: Read, W: Write, P, M>(
     rt: H,
-    alloc: Global,
     call: &Arguments,
     source: &mut Source<R>,
     sink: &mut Sink<W>,
+    make: &M,
 ) -> Result<(), ScriptError>
 where
-    H: Threads + Wait + Copy + Send + 'static,
+    H: Threads + Wait + AllocGlobal + Copy + Send + 'static,
+    P: Package + 'static,
+    M: Fn(Wanted) -> Result<P, NoMemory>,
+    requires callable { M.IsAlwaysCallable make.now }
+    requires gives { Gives P.seen (M.post make.now) }
     requires some { 0 < call.now.workers }
     requires few { call.now.workers ≤ 256 }
     ensures page { OnOk result
@@ -68,10 +81,10 @@ where
     ensures no_failure { result ≢ Err ScriptError.Device →
         (source.new.failures ≡ source.old.failures) × (sink.new.failures ≡ sink.old.failures) }
 {
-    let boxes = boxes_for(alloc, call.mailboxes.as_slice(), call.workers)?;
-    script_many(
+    let boxes = boxes_for(rt.alloc(), call.mailboxes.as_slice(), call.workers, make)?;
+    play_many(
         rt,
-        alloc,
+        rt.alloc(),
         source,
         sink,
         &setup_at(5060, call.seed, call.stop),
@@ -80,15 +93,19 @@ where
 }
 
 /// Runs a script as these arguments ask for it.
-fn run_script<H, R: Read, W: Write>(
+fn run_script<H, R: Read, W: Write, P, M>(
     rt: H,
-    alloc: Global,
     call: &Arguments,
     source: &mut Source<R>,
     sink: &mut Sink<W>,
+    make: &M,
 ) -> Result<(), ScriptError>
 where
-    H: Threads + Wait + Copy + Send + 'static,
+    H: Threads + Wait + AllocGlobal + Copy + Send + 'static,
+    P: Package + 'static,
+    M: Fn(Wanted) -> Result<P, NoMemory>,
+    requires callable { M.IsAlwaysCallable make.now }
+    requires gives { Gives P.seen (M.post make.now) }
     requires some { 0 < call.now.workers }
     requires few { call.now.workers ≤ 256 }
     ensures page { OnOk result
@@ -102,21 +119,25 @@ where
         (source.new.failures ≡ source.old.failures) × (sink.new.failures ≡ sink.old.failures) }
 {
     if call.workers == 1 {
-        return run_one(alloc, call, source, sink);
+        return run_one(rt.alloc(), call, source, sink, make);
     }
-    run_many(rt, alloc, call, source, sink)
+    run_many(rt, call, source, sink, make)
 }
 
 /// Reads the arguments, and runs the script where they ask for it.
-fn attempt<H, R: Read, W: Write>(
+fn attempt<H, R: Read, W: Write, P, M>(
     rt: H,
-    alloc: Global,
     words: &[Text],
     source: &mut Source<R>,
     sink: &mut Sink<W>,
+    make: &M,
 ) -> Result<(), Status>
 where
-    H: Threads + Wait + Copy + Send + 'static,
+    H: Threads + Wait + AllocGlobal + Copy + Send + 'static,
+    P: Package + 'static,
+    M: Fn(Wanted) -> Result<P, NoMemory>,
+    requires callable { M.IsAlwaysCallable make.now }
+    requires gives { Gives P.seen (M.post make.now) }
     ensures done { OnOk result (AsksFor words.now (λ starts.
         WritesPage R.remaining W.contents starts source.old source.new sink.old sink.new)) }
     ensures flushed { OnOk result (sink.new.is_flushed ≡ true) }
@@ -130,12 +151,12 @@ where
     ensures no_failure { result ≢ Err Status.DeviceFault →
         (source.new.failures ≡ source.old.failures) × (sink.new.failures ≡ sink.old.failures) }
 {
-    let call = match parse_arguments(alloc, words) {
+    let call = match parse_arguments(rt.alloc(), words) {
         Ok(call) => call,
         Err(ArgumentsError::Bad) => return Err(Status::BadArguments),
         Err(ArgumentsError::NoMemory) => return Err(Status::OutOfMemory),
     };
-    match run_script(rt, alloc, &call, source, sink) {
+    match run_script(rt, &call, source, sink, make) {
         Ok(()) => Ok(()),
         Err(ScriptError::BadScript) => Err(Status::BadScript),
         Err(ScriptError::Device) => Err(Status::DeviceFault),
@@ -144,18 +165,23 @@ where
 }
 
 /// Runs the program: looks at the words behind its name, then runs the script that the reader gives by as many workers
-/// as they ask for, among whom the mailboxes are dealt out that they name, and writes the page. What it starts from is in
-/// `specs/Call`. Arguments are looked at before anything is read. One worker runs on the caller's thread, several on threads of
-/// their own.
-pub fn run<H, R: Read, W: Write>(
+/// as they ask for, among whom the mailboxes are dealt out that they name, and writes the page. Each package is one that `make`
+/// gives. What it starts from is in `specs/Call`. Arguments are looked at before anything is read. One worker runs on the
+/// caller's thread, several on threads of their own.
+pub fn run<H, R: Read, W: Write, P, M>(
     rt: H,
-    alloc: Global,
     words: &[Text],
     source: &mut Source<R>,
     sink: &mut Sink<W>,
+    make: &M,
 ) -> Status
 where
-    H: Threads + Wait + Copy + Send + 'static,
+    H: Threads + Wait + AllocGlobal + Copy + Send + 'static,
+    P: Package + 'static,
+    M: Fn(Wanted) -> Result<P, NoMemory>,
+    // What `make` answers is a new package of those that are wanted.
+    requires callable { M.IsAlwaysCallable make.now }
+    requires gives { Gives P.seen (M.post make.now) }
     // What was written is the page of all that was read.
     ensures done { result ≡ Status.Done → AsksFor words.now (λ starts.
         WritesPage R.remaining W.contents starts source.old source.new sink.old sink.new) }
@@ -175,7 +201,7 @@ where
     // Nothing is written but a page or a front of it.
     ensures unwritten { result ≢ Status.Done → result ≢ Status.DeviceFault → sink.new ≡ sink.old }
 {
-    match attempt(rt, alloc, words, source, sink) {
+    match attempt(rt, words, source, sink, make) {
         Ok(()) => Status::Done,
         Err(status) => status,
     }

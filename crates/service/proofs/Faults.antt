@@ -15,8 +15,8 @@ use Rattle.service.specs.declared.lines.ControlDesk.{ControlDesk}
 use Rattle.service.specs.declared.running.Feeders.{Feeders}
 use Rattle.service.specs.declared.running.Outcome.{Outcome}
 use Rattle.service.specs.Handing.{AreErrands}
-use Rattle.service.specs.Running.{FailsFor, AreFaults, is_fault, is_faulty}
-use Rattle.service.specs.Listening.{IsDeaf, ListensOn}
+use Rattle.service.specs.Running.{FailsFor, AreFaults, is_faulty}
+use Rattle.service.specs.Listening.{IsDeaf, IsDeafAsTold, is_fault}
 use Rattle.service.specs.Ticks.{new_stopwatch}
 
 same_phones : (a b : SipDesk UdpWire) → task.Datagrams a ≡ task.Datagrams b → a ≡ b
@@ -40,15 +40,15 @@ module _ {phones : SipDesk UdpWire} {desk : ControlDesk UdpWire} {f : Feeders} (
   left_stopwatch fails = let P : Task → Type 0 = λ t. FailsFor t fed in subst P are.time fails
 
 pub phones_heard : (phones left : SipDesk UdpWire) (fed : Fed) → FailsFor (task.Datagrams phones) fed → fed.left ≡ task.Datagrams left
-    → ListensOn fed.end fed.fails_late (misses phones.coming) (misses left.coming)
+    → IsDeafAsTold (is_fault fed.end || fed.fails_late) (misses phones.coming) (misses left.coming)
 phones_heard phones left fed fails is =
-    let P : SipDesk UdpWire → Type 0 = λ d. ListensOn fed.end fed.fails_late (misses phones.coming) (misses d.coming) in
+    let P : SipDesk UdpWire → Type 0 = λ d. IsDeafAsTold (is_fault fed.end || fed.fails_late) (misses phones.coming) (misses d.coming) in
     subst P (same_phones fails.0 left (sym fails.1 ∙ is)) fails.2
 
 pub desk_heard : (desk left : ControlDesk UdpWire) (fed : Fed) → FailsFor (task.Lines desk) fed → fed.left ≡ task.Lines left
-    → ListensOn fed.end fed.fails_late (misses desk.coming) (misses left.coming)
+    → IsDeafAsTold (is_fault fed.end || fed.fails_late) (misses desk.coming) (misses left.coming)
 desk_heard desk left fed fails is =
-    let P : ControlDesk UdpWire → Type 0 = λ d. ListensOn fed.end fed.fails_late (misses desk.coming) (misses d.coming) in
+    let P : ControlDesk UdpWire → Type 0 = λ d. IsDeafAsTold (is_fault fed.end || fed.fails_late) (misses desk.coming) (misses d.coming) in
     subst P (same_desk fails.0 left (sym fails.1 ∙ is)) fails.2
 
 pub clock_failed : (left : Stopwatch) (fed : Fed) → FailsFor (task.Time new_stopwatch) fed → fed.left ≡ task.Time left
@@ -60,8 +60,8 @@ clock_failed left fed fails is =
 
 pub faults_new : {m n : Misses} {o : Outcome} → m ≡ no_misses → n ≡ no_misses → AreFaults m n o → AreFaults no_misses no_misses o
 faults_new {o = o} none none' are =
-    let P : Misses → Type 0 = λ m. ListensOn o.sip o.sip_fails_late m (misses o.sip_desk.coming) in
-    let Q : Misses → Type 0 = λ n. ListensOn o.lines o.lines_fail_late n (misses o.desk.coming) in record {
+    let P : Misses → Type 0 = λ m. IsDeafAsTold (is_fault o.sip || o.sip_fails_late) m (misses o.sip_desk.coming) in
+    let Q : Misses → Type 0 = λ n. IsDeafAsTold (is_fault o.lines || o.lines_fail_late) n (misses o.desk.coming) in record {
       sip = subst P none are.sip;
       lines = subst Q none' are.lines;
       time = are.time;
@@ -82,18 +82,17 @@ no_more ends.Gone n none = refl
 not_deaf : IsDeaf no_misses → ⊥
 not_deaf deaf = ⊎_elim (λ (many : 1000 ≤ 0). absurd (omega (arith, many))) (λ (lost : false ≡ true). absurd cc) deaf
 
-hears : (end : FeedEnd) (late : Bool) (new : Misses) → is_fault end ≡ false → late ≡ false → ListensOn end late no_misses new → IsDeaf new → ⊥
-hears ends.Done false new none none' on deaf = not_deaf (on.1 (on.2 deaf))
-hears ends.Gone false new none none' on deaf = not_deaf (on.1 (on.2 deaf))
-hears ends.Fault false new none none' on deaf = absurd cc
-hears end true new none none' on deaf = absurd cc
+hears : (a b : Bool) (new : Misses) → a ≡ false → b ≡ false → IsDeafAsTold (a || b) no_misses new → IsDeaf new → ⊥
+hears false false new none none' on deaf = ⊎_elim not_deaf (λ (told : false ≡ true). absurd cc) (on.0 deaf)
+hears false true new none none' on deaf = absurd cc
+hears true b new none none' on deaf = absurd cc
 
 -- where no fault is told no socket is deaf and no read of the clock failed
 pub unfailed : (o : Outcome) → AreFaults no_misses no_misses o → is_faulty o ≡ false
     → (IsDeaf (misses o.sip_desk.coming) → ⊥) × (IsDeaf (misses o.desk.coming) → ⊥) × (o.stopwatch.failures ≡ 0)
 unfailed o are no_fault =
     let none = none_of (is_fault o.sip) o.sip_fails_late (is_fault o.lines) o.lines_fail_late (is_fault o.time) no_fault in (
-      hears o.sip o.sip_fails_late (misses o.sip_desk.coming) none.0 none.1 are.sip,
-      hears o.lines o.lines_fail_late (misses o.desk.coming) none.2 none.3 are.lines,
+      hears (is_fault o.sip) o.sip_fails_late (misses o.sip_desk.coming) none.0 none.1 are.sip,
+      hears (is_fault o.lines) o.lines_fail_late (misses o.desk.coming) none.2 none.3 are.lines,
       are.time ∙ no_more o.time 0 none.4,
     )

@@ -1,13 +1,17 @@
 -- The SIP datagrams that were heard so far.
-use Rattle.std.proofs.Common.{◌≡◌, ◌≤◌, inl, Bool, true, false, ℕ, ◌+◌, List, [], ◌∷◌, ◌++◌, length, take, Option, Some, None, refl, ap, sym, ◌∙◌, subst, arith}
+use Rattle.std.proofs.Common.{◌≡◌, ◌≤◌, ◌<◌, inl, Bool, true, false, ◌||◌, ℕ, List, [], ◌∷◌, ◌++◌, length, take, Option, Some, None, refl, ap, sym, ◌∙◌, subst, arith}
 use Rattle.std.specs.Prelude.{nat_le}
 use Rattle.std.specs.List.{filter}
 use Rattle.std.proofs.lemmas.List.{append-nil, length-take-le}
-use Rattle.std.proofs.lemmas.List.Elements.{filter-append}
+use Rattle.std.proofs.lemmas.List.Elements.{filter-append, filter_map-append}
+use Rattle.std.proofs.lemmas.List.Folds.{list_any-append}
 use Rattle.sip_text.specs.declared.address.Addr.{Addr}
+use Rattle.notifier_model.specs.declared.event.Event.{Event}
 use Rattle.crew.specs.Ports.{PortSeats}
+use Rattle.transport.specs.Devices.{rises}
 use Rattle.transport.specs.declared.datagram.Datagram.{Datagram}
 use Rattle.transport.specs.Wires.{datagram, Grows}
+use Rattle.feeds.proofs.SendingHome.{sends_none, sends_more}
 use Rattle.feeds.proofs.Telling.{grows_none, grows_more, grows_same}
 use Rattle.feeds.specs.declared.hearing.Heard.{Heard}
 use Rattle.feeds.specs.declared.hearing.Heard.TheVariants as heard
@@ -17,9 +21,11 @@ use Rattle.feeds.specs.declared.feeding.FeedEnd.TheVariants.{Done, Fault, Gone}
 use Rattle.feeds.specs.declared.feeding.Told.{Told}
 use Rattle.feeds.specs.declared.feeding.Told.TheVariants as told
 use Rattle.feeds.specs.Heard.{Says}
-use Rattle.feeds.specs.Fed.{Log, datagrams, IsTold}
-use Rattle.feeds.proofs.Fed.{Feeding, feeding_none, step_sent, step_unread, step_gone}
+use Rattle.feeds.specs.Fed.{Log, AllSay, IsTold, Sends, event_heard, events, is_close, closes}
+use Rattle.admission.specs.declared.judging.Admission.{Admission}
+use Rattle.service.specs.Admitted.{Case, IsJudged, AreJudged, arrived, is_allowed, admitted, AreHeard, refusals, unsent, AreRefused}
 use Rattle.service.specs.Served.{is_gone, is_short, AreServed}
+use Rattle.service.proofs.Judging.{moment_after, moment_more, judged_more, arrived_more, admitted_more, admitted_same, refused_none, refused_more}
 
 -- ---- too long, or not
 
@@ -43,23 +49,29 @@ module _ (longest : ℕ) (came : List Datagram) (d : Datagram) where
       filter-append (is_short longest) came (d ∷ []) ∙ ap (λ l. filter (is_short longest) came ++ l) (one_long longest d is)
       ∙ append-nil (filter (is_short longest) came)
 
--- ---- all of them
+-- ---- what the port was fed with
 
--- these came, and the port was fed with those that are not too long
-pub record Hearing (longest : ℕ) (old now : PortSeats) (given given' : Option (List Datagram)) : Type 0 where
-  pub came : List Datagram
-  pub gave : Grows given given' came
-  pub seen : ℕ
-  pub missed : ℕ
-  pub feeding : Feeding language.Sip old now (Some []) (Some (filter (is_short longest) came)) seen missed
+pub record Serving (log : Log) (old now : PortSeats) : Type 0 where
+  pub say : AllSay language.Sip log
+  pub unclosed : closes log ≡ false
+  pub sends : Sends old (events log) now
 
-pub hearing_none : (longest : ℕ) (p : PortSeats) (given : Option (List Datagram)) → Hearing longest p p given given
-hearing_none longest p given = record { came = []; gave = grows_none given; seen = 0; missed = 0; feeding = feeding_none language.Sip p (Some []) }
+serving_none : (p : PortSeats) → Serving [] p p
+serving_none p = record { say = tt; unclosed = refl; sends = sends_none p }
 
--- what was served of what came
-abbrev pub Serves : ℕ → PortSeats → PortSeats → Option (List Datagram) → Option (List Datagram) → FeedEnd → Type 0
-Serves longest old new given given' end =
-    (came : List Datagram) × (log : Log) × Grows given given' came × (datagrams log ≡ filter (is_short longest) came) × AreServed log old new end
+abbrev one : Datagram → Heard → Log
+one d h = (d, h) ∷ []
+
+all_more : (log more : Log) → AllSay language.Sip log → AllSay language.Sip more → AllSay language.Sip (log ++ more)
+all_more [] more a b = b
+all_more (x ∷ log) more a b = (a.0, all_more log more a.1 b)
+
+events_more : (log more : Log) → events (log ++ more) ≡ events log ++ events more
+events_more log more = filter_map-append (λ (x : Datagram × Heard). event_heard x.1) log more
+
+none_of_both : (a b : Bool) → a ≡ false → b ≡ false → (a || b) ≡ false
+none_of_both true b e f = absurd cc
+none_of_both false b e f = f
 
 -- no SIP datagram closes a server
 no_close : (d : Datagram) (h : Heard) (old new : PortSeats) → Says language.Sip d h → IsTold h old new told.Close → ⊥
@@ -67,73 +79,184 @@ no_close d (heard.Event e) old new says is = is
 no_close d heard.Unread old new says is = is
 no_close d heard.Close old new says is = says
 
-module _ {longest : ℕ} {old now : PortSeats} {given given' : Option (List Datagram)} (was : Hearing longest old now given given') where
-  pub hearing_silent : (after : Option (List Datagram)) → Grows given' after [] → Hearing longest old now given after
-  hearing_silent after none = record {
-    came = was.came;
-    gave = grows_same given given' after was.came was.gave none;
-    seen = was.seen;
-    missed = was.missed;
-    feeding = was.feeding;
-  }
-
-  pub hearing_long : (after : Option (List Datagram)) (d : Datagram) → Grows given' after (d ∷ []) → is_short longest d ≡ false → Hearing longest old now given after
-  hearing_long after d more is =
-      let P : List Datagram → Type 0 = λ l. Feeding language.Sip old now (Some []) (Some l) was.seen was.missed in record {
-        came = was.came ++ d ∷ [];
-        gave = grows_more given given' after was.came (d ∷ []) was.gave more;
-        seen = was.seen;
-        missed = was.missed;
-        feeding = subst P (sym (long_more longest was.came d is)) was.feeding;
+module _ {log : Log} {old now : PortSeats} (was : Serving log old now) (next : PortSeats) (d : Datagram) where
+  serving_with : (h : Heard) → Says language.Sip d h → closes (one d h) ≡ false → Sends now (events (one d h)) next → Serving (log ++ one d h) old next
+  serving_with h says open_still sent =
+      let P : List Event → Type 0 = λ es. Sends old es next in record {
+        say = all_more log (one d h) was.say (says, tt);
+        unclosed = list_any-append (λ (x : Datagram × Heard). is_close x.1) log (one d h) ∙ none_of_both (closes log) (closes (one d h)) was.unclosed open_still;
+        sends = subst P (sym (events_more log (one d h))) (sends_more old now next (events log) (events (one d h)) was.sends sent);
       }
 
-  module _ (next : PortSeats) (after : Option (List Datagram)) (d : Datagram) (h : Heard) (more : Grows given' after (d ∷ [])) (short : is_short longest d ≡ true)
-      (says : Says language.Sip d h) where
-    gave_after : Grows given after (was.came ++ d ∷ [])
-    gave_after = grows_more given given' after was.came (d ∷ []) was.gave more
+  serving_sent : (h : Heard) → Says language.Sip d h → IsTold h now next told.Sent → Serving (log ++ one d h) old next
+  serving_sent (heard.Event e) says is = serving_with (heard.Event e) says refl is
+  serving_sent heard.Unread says is = absurd is
+  serving_sent heard.Close says is = absurd is
 
-    pub hearing_more : (t : Told) → IsTold h now next t → is_gone t ≡ false → Hearing longest old next given after
-    hearing_more told.Sent is on = record {
-      came = was.came ++ d ∷ [];
-      gave = gave_after;
-      seen = _;
-      missed = _;
-      feeding = step_sent was.feeding next (Some (filter (is_short longest) (was.came ++ d ∷ []))) d h (short_more longest was.came d short) says is;
-    }
-    hearing_more told.Unread is on = record {
-      came = was.came ++ d ∷ [];
-      gave = gave_after;
-      seen = _;
-      missed = _;
-      feeding = step_unread was.feeding next (Some (filter (is_short longest) (was.came ++ d ∷ []))) d h (short_more longest was.came d short) says is;
-    }
-    hearing_more told.Close is on = absurd (no_close d h now next says is)
-    hearing_more told.Gone is on = absurd cc
+  serving_unread : (h : Heard) → Says language.Sip d h → IsTold h now next told.Unread → Serving (log ++ one d h) old next
+  serving_unread (heard.Event e) says is = absurd is
+  serving_unread heard.Unread says is =
+      let P : PortSeats → Type 0 = λ p. Sends now [] p in serving_with heard.Unread says refl (subst P (sym is) (sends_none now))
+  serving_unread heard.Close says is = absurd is
 
-    gone : IsTold h now next told.Gone → Serves longest old next given after Gone
-    gone is =
-        let k = step_gone was.feeding (was.seen + 1) (omega arith) next (Some (filter (is_short longest) (was.came ++ d ∷ []))) d h (short_more longest was.came d short) says is in
-        (was.came ++ d ∷ [], k.0, gave_after, sym k.1, record { say = k.2.say; ends = k.2.ends })
+  served_missed : (h : Heard) → Says language.Sip d h → IsTold h now next told.Gone → AreServed (log ++ one d h) old next Gone
+  served_missed (heard.Event e) says is = record {
+    say = all_more log (one d (heard.Event e)) was.say (says, tt);
+    ends = record { before = log; last = d; event = e; mid = now; whole = refl; unclosed = was.unclosed; sent = was.sends; missed = is };
+  }
+  served_missed heard.Unread says is = absurd is
+  served_missed heard.Close says is = absurd is
 
-    pub served_gone : (t : Told) → IsTold h now next t → is_gone t ≡ true → Serves longest old next given after Gone
-    served_gone told.Sent is at = absurd cc
-    served_gone told.Unread is at = absurd cc
-    served_gone told.Close is at = absurd cc
-    served_gone told.Gone is at = gone is
+  serving_more : (h : Heard) → Says language.Sip d h → (t : Told) → IsTold h now next t → is_gone t ≡ false → Serving (log ++ one d h) old next
+  serving_more h says told.Sent is on = serving_sent h says is
+  serving_more h says told.Unread is on = serving_unread h says is
+  serving_more h says told.Close is on = absurd (no_close d h now next says is)
+  serving_more h says told.Gone is on = absurd cc
 
-  pub served_done : Serves longest old now given given' Done
+  served_last : (h : Heard) → Says language.Sip d h → (t : Told) → IsTold h now next t → is_gone t ≡ true → AreServed (log ++ one d h) old next Gone
+  served_last h says told.Sent is at = absurd cc
+  served_last h says told.Unread is at = absurd cc
+  served_last h says told.Close is at = absurd cc
+  served_last h says told.Gone is at = served_missed h says is
+
+-- ---- all of them
+
+-- these came; those that are not too long were judged, and the port was fed with those that are allowed
+pub record Hearing (longest : ℕ) (a b : Admission) (moment : ℕ) (old now : PortSeats) (given given' taken taken' : Option (List Datagram)) (failures failures' : ℕ) : Type 0 where
+  pub came : List Datagram
+  pub cases : List Case
+  pub gave : Grows given given' came
+  pub short : arrived cases ≡ filter (is_short longest) came
+  pub judged : AreJudged a 0 cases b
+  pub last : moment_after 0 cases ≡ moment
+  pub refused : AreRefused cases taken taken' failures failures'
+  pub serving : Serving (admitted cases) old now
+
+pub hearing_none : (longest : ℕ) (a : Admission) (p : PortSeats) (given taken : Option (List Datagram)) (failures : ℕ)
+    → Hearing longest a a 0 p p given given taken taken failures failures
+hearing_none longest a p given taken failures = record {
+  came = [];
+  cases = [];
+  gave = grows_none given;
+  short = refl;
+  judged = refl;
+  last = refl;
+  refused = refused_none taken failures;
+  serving = serving_none p;
+}
+
+-- what came of all that came
+abbrev pub Serves : ℕ → Admission → Admission → PortSeats → PortSeats → Option (List Datagram) → Option (List Datagram) → Option (List Datagram) → Option (List Datagram)
+    → ℕ → ℕ → FeedEnd → Type 0
+Serves longest a b old new given given' taken taken' failures failures' end =
+    (came : List Datagram) × (cases : List Case) × Grows given given' came × (arrived cases ≡ filter (is_short longest) came)
+    × AreHeard a cases b old new end × AreRefused cases taken taken' failures failures'
+
+module _ {longest : ℕ} {a b : Admission} {moment : ℕ} {old now : PortSeats} {given given' taken taken' : Option (List Datagram)} {failures failures' : ℕ}
+    (was : Hearing longest a b moment old now given given' taken taken' failures failures') where
+  pub hearing_silent : (after : Option (List Datagram)) → Grows given' after [] → Hearing longest a b moment old now given after taken taken' failures failures'
+  hearing_silent after none = record {
+    came = was.came;
+    cases = was.cases;
+    gave = grows_same given given' after was.came was.gave none;
+    short = was.short;
+    judged = was.judged;
+    last = was.last;
+    refused = was.refused;
+    serving = was.serving;
+  }
+
+  pub hearing_long : (after : Option (List Datagram)) (d : Datagram) → Grows given' after (d ∷ []) → is_short longest d ≡ false
+      → Hearing longest a b moment old now given after taken taken' failures failures'
+  hearing_long after d more is = record {
+    came = was.came ++ d ∷ [];
+    cases = was.cases;
+    gave = grows_more given given' after was.came (d ∷ []) was.gave more;
+    short = was.short ∙ sym (long_more longest was.came d is);
+    judged = was.judged;
+    last = was.last;
+    refused = was.refused;
+    serving = was.serving;
+  }
+
+  -- after a datagram that was judged
+  module _ (c : Case) (d : Admission) (after sent : Option (List Datagram)) (count : ℕ) (more : Grows given' after (c.came ∷ []))
+      (is : is_short longest c.came ≡ true) (judged : IsJudged b moment c d) (took : Grows taken' sent (refusals (c ∷ []))) (counted : count ≡ rises (unsent (c ∷ [])) failures') where
+    gave_after : Grows given after (was.came ++ c.came ∷ [])
+    gave_after = grows_more given given' after was.came (c.came ∷ []) was.gave more
+
+    short_after : arrived (was.cases ++ c ∷ []) ≡ filter (is_short longest) (was.came ++ c.came ∷ [])
+    short_after = arrived_more was.cases c ∙ ap (λ l. l ++ c.came ∷ []) was.short ∙ sym (short_more longest was.came c.came is)
+
+    judged_after : AreJudged a 0 (was.cases ++ c ∷ []) d
+    judged_after =
+        let P : ℕ → Type 0 = λ m. IsJudged b m c d in judged_more a 0 was.cases b c d was.judged (subst P (sym was.last) judged)
+
+    refused_after : AreRefused (was.cases ++ c ∷ []) taken sent failures count
+    refused_after = refused_more was.refused c sent count took counted
+
+    pub hearing_refused : is_allowed c.verdict ≡ false → Hearing longest a d c.moment old now given after taken sent failures count
+    hearing_refused denied =
+        let P : Log → Type 0 = λ l. Serving l old now in record {
+          came = was.came ++ c.came ∷ [];
+          cases = was.cases ++ c ∷ [];
+          gave = gave_after;
+          short = short_after;
+          judged = judged_after;
+          last = moment_more 0 was.cases c;
+          refused = refused_after;
+          serving = subst P (sym (admitted_same was.cases c denied)) was.serving;
+        }
+
+    module _ (passes : is_allowed c.verdict ≡ true) (next : PortSeats) (t : Told) (is_told : IsTold c.says now next t) where
+      pub hearing_sent : is_gone t ≡ false → Hearing longest a d c.moment old next given after taken sent failures count
+      hearing_sent on =
+          let P : Log → Type 0 = λ l. Serving l old next in record {
+            came = was.came ++ c.came ∷ [];
+            cases = was.cases ++ c ∷ [];
+            gave = gave_after;
+            short = short_after;
+            judged = judged_after;
+            last = moment_more 0 was.cases c;
+            refused = refused_after;
+            serving = subst P (sym (admitted_more was.cases c passes)) (serving_more was.serving next c.came c.says judged.speaks t is_told on);
+          }
+
+      pub served_gone : is_gone t ≡ true → Serves longest a d old next given after taken sent failures count Gone
+      served_gone at =
+          let P : Log → Type 0 = λ l. AreServed l old next Gone in (
+            was.came ++ c.came ∷ [],
+            was.cases ++ c ∷ [],
+            gave_after,
+            short_after,
+            record {
+              judged = judged_after;
+              served = subst P (sym (admitted_more was.cases c passes)) (served_last was.serving next c.came c.says judged.speaks t is_told at);
+            },
+            refused_after,
+          )
+
+  pub served_done : Serves longest a b old now given given' taken taken' failures failures' Done
   served_done =
-      let f = was.feeding in (was.came, f.log, was.gave, sym f.given, record { say = f.say; ends = (f.sends, inl (refl, f.unclosed)) })
-
-  pub served_fault : (after : Option (List Datagram)) → Grows given' after [] → Serves longest old now given after Fault
-  served_fault after none =
-      let f = was.feeding in (
+      let f = was.serving in (
         was.came,
-        f.log,
-        grows_same given given' after was.came was.gave none,
-        sym f.given,
-        record { say = f.say; ends = (f.sends, f.unclosed) },
+        was.cases,
+        was.gave,
+        was.short,
+        record { judged = was.judged; served = record { say = f.say; ends = (f.sends, inl (refl, f.unclosed)) } },
+        was.refused,
+      )
+
+  pub served_fault : Serves longest a b old now given given' taken taken' failures failures' Fault
+  served_fault =
+      let f = was.serving in (
+        was.came,
+        was.cases,
+        was.gave,
+        was.short,
+        record { judged = was.judged; served = record { say = f.say; ends = (f.sends, f.unclosed) } },
+        was.refused,
       )
 
   pub hearing_open : now.still_open ≡ old.still_open
-  hearing_open = was.feeding.sends.still_open
+  hearing_open = was.serving.sends.still_open

@@ -5,8 +5,11 @@ pub mod Acts
 pub mod Repeats
 pub mod Ran
 pub mod Faults
+pub mod Deafness
 pub mod Ticking
 pub mod Receiving
+pub mod Judging
 pub mod Hearing
+pub mod Admitting
 pub mod Taking
 pub mod Refusing

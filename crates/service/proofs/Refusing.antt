@@ -1,7 +1,7 @@
 -- What came while the service closed, and was refused so far.
-use Rattle.std.proofs.Common.{◌≡◌, ◌<◌, ◌≤◌, take, ℕ, true, false, List, [], ◌∷◌, ◌++◌, length, Option, Some, None, refl, ap, sym, ◌∙◌, subst, arith, ⊎_elim}
+use Rattle.std.proofs.Common.{◌≡◌, ◌≤◌, inl, inr, ◌⊎◌, ℕ, true, false, List, [], ◌∷◌, ◌++◌, length, Option, Some, None, refl, ap, sym, ◌∙◌, subst, arith, ⊎_elim}
 use Rattle.std.specs.List.{filter, AllByRecursion}
-use Rattle.std.proofs.lemmas.List.{append-nil, length-take-le}
+use Rattle.std.proofs.lemmas.List.{append-nil}
 use Rattle.std.proofs.lemmas.List.Elements.{filter-append}
 use Rattle.transport.specs.declared.datagram.Datagram.{Datagram}
 use Rattle.transport.specs.Wires.{Grows}
@@ -9,7 +9,7 @@ use Rattle.feeds.proofs.Telling.{grows_none, grows_more, grows_same}
 use Rattle.control_lines.specs.declared.answer.Answer.TheVariants as answer
 use Rattle.control_lines.specs.Lines.{answer_text}
 use Rattle.service.specs.declared.lines.Done.TheVariants as did
-use Rattle.service.specs.Taken.{Line, MayReply, Replies, Offers, datagrams_of, has_octets, is_line, AreAnswered, AreRefused}
+use Rattle.service.specs.Taken.{Line, Replies, Offers, datagrams_of, is_line, IsRefused, AreAnswered, AreRefused}
 use Rattle.service.proofs.Taking.{all_more, came_more, answered_more}
 
 pub refusing_none : (given taken : Option (List Datagram)) (failures : ℕ) → AreRefused given given taken taken failures failures
@@ -21,21 +21,6 @@ refusing_none given taken failures = record {
   each = tt;
   answered = record { taken = grows_none taken; counted = refl };
 }
-
-some_octets : (octets : List ℕ) → 0 < length octets → has_octets octets ≡ true
-some_octets [] some = absurd (omega (arith, some))
-some_octets (octet ∷ octets) some = refl
-
-no_octets : (octets : List ℕ) → length octets ≡ 0 → has_octets octets ≡ false
-no_octets [] none = refl
-no_octets (octet ∷ octets) none = absurd (omega (arith, none))
-
--- the first n bytes of a buffer
-pub some_taken : (n : ℕ) (buffer : List ℕ) → n ≤ length buffer → 0 < n → has_octets (take n buffer) ≡ true
-some_taken n buffer within some = some_octets (take n buffer) (let is = length-take-le n buffer within in omega (arith, some))
-
-pub none_taken : (n : ℕ) (buffer : List ℕ) → n ≤ length buffer → n ≤ 0 → has_octets (take n buffer) ≡ false
-none_taken n buffer within none = no_octets (take n buffer) (let is = length-take-le n buffer within in omega (arith, none))
 
 one_line : (d : Datagram) → is_line d ≡ true → filter is_line (d ∷ []) ≡ d ∷ []
 one_line d is = rw is refl
@@ -56,21 +41,21 @@ module _ {given given' taken taken' : Option (List Datagram)} {failures failures
   }
 
   replied : (reply : Option (List ℕ)) (after' : Option (List Datagram)) (more : ℕ) → is_line d ≡ true
-      → MayReply (did.Answered answer.Closed) reply → Replies d.peer reply taken' after' failures' more → AreRefused given after taken after' failures more
+      → (reply ≡ Some (answer_text answer.Closed)) ⊎ (reply ≡ None) → Replies true d.peer reply taken' after' failures' more → AreRefused given after taken after' failures more
   replied reply after' more is may replies =
-      let line : Line = record { came = d; event = None; done = did.Answered answer.Closed; reply = reply } in record {
+      let line : Line = record { came = d; event = None; done = did.Answered answer.Closed; is_kept = false; reply = reply } in record {
         came = was.came ++ d ∷ [];
         gave = grows_more given given' after was.came (d ∷ []) was.gave gave;
         log = was.log ++ line ∷ [];
         lines = came_more was.log (line ∷ []) ∙ ap (λ l. l ++ d ∷ []) was.lines ∙ sym (filter-append is_line was.came (d ∷ []) ∙ ap (λ l. filter is_line was.came ++ l) (one_line d is));
-        each = all_more (λ (l : Line). MayReply (did.Answered answer.Closed) l.reply) was.log (line ∷ []) was.each (may, tt);
-        answered = answered_more was.log d None (did.Answered answer.Closed) reply taken taken' after' failures failures' more was.answered replies;
+        each = all_more IsRefused was.log (line ∷ []) was.each ((refl, may), tt);
+        answered = answered_more was.log d None (did.Answered answer.Closed) false taken taken' after' failures failures' more was.answered reply replies;
       }
 
   pub refusing_more : (after' : Option (List Datagram)) (more : ℕ) → is_line d ≡ true
       → Offers d.peer (answer_text answer.Closed) taken' after' failures' more → AreRefused given after taken after' failures more
   refusing_more after' more is offers =
-      ⊎_elim (λ k. replied (Some (answer_text answer.Closed)) after' more is refl k) (λ k. replied None after' more is tt k) offers
+      ⊎_elim (λ k. replied (Some (answer_text answer.Closed)) after' more is (inl refl) k) (λ k. replied None after' more is (inr refl) k) offers
 
 pub refusing_silent : {given given' taken taken' : Option (List Datagram)} {failures failures' : ℕ} → AreRefused given given' taken taken' failures failures'
     → (after : Option (List Datagram)) → Grows given' after [] → AreRefused given after taken taken' failures failures'

@@ -1,5 +1,5 @@
 -- The control lines that were taken so far.
-use Rattle.std.proofs.Common.{◌≡◌, inl, inr, ℕ, ◌+◌, suc, List, [], ◌∷◌, ◌++◌, length, Option, Some, None, refl, ap, sym, ◌∙◌, subst, arith, length-append}
+use Rattle.std.proofs.Common.{◌≡◌, inl, inr, ⊎_elim, Bool, true, false, ◌&&◌, ℕ, ◌+◌, suc, List, [], ◌∷◌, ◌++◌, length, Option, Some, None, refl, ap, sym, ◌∙◌, subst, arith, length-append}
 use Rattle.std.specs.List.{filter, AllByRecursion}
 use Rattle.std.proofs.lemmas.List.{append-nil, map-append}
 use Rattle.std.proofs.lemmas.List.Elements.{filter-append, filter_map-append}
@@ -7,7 +7,6 @@ use Rattle.notifier_model.specs.declared.event.Event.{Event}
 use Rattle.crew.specs.Ports.{PortSeats}
 use Rattle.transport.specs.Devices.{one_more, rises}
 use Rattle.transport.specs.declared.datagram.Datagram.{Datagram}
-use Rattle.transport.specs.Ears.{Misses}
 use Rattle.transport.specs.Wires.{Grows}
 use Rattle.feeds.proofs.Telling.{grows_none, grows_more, grows_same}
 use Rattle.feeds.specs.declared.feeding.FeedEnd.{FeedEnd}
@@ -15,10 +14,12 @@ use Rattle.feeds.specs.declared.feeding.FeedEnd.TheVariants as ends
 use Rattle.feeds.specs.Fed.{Sends}
 use Rattle.feeds.proofs.SendingHome.{sends_none, sends_more}
 use Rattle.control_lines.specs.declared.answer.Answer.TheVariants as answer
-use Rattle.service.specs.Listening.{IsDeaf, ListensUntil}
 use Rattle.service.specs.declared.lines.Done.{Done}
 use Rattle.service.specs.declared.lines.Done.TheVariants as did
-use Rattle.service.specs.Taken.{Line, IsLine, IsMeant, IsDone, end_after, MayReply, Replies, datagrams_of, events, replies, reply_to, is_none, unanswered, AllGoOn, EndsWith, AreTaken, AreAnswered}
+use Rattle.control_lines.specs.Kept.{kept_answer}
+use Rattle.control_lines.specs.Tokens.{token, line}
+use Rattle.told_counts.specs.Told.{Row}
+use Rattle.service.specs.Taken.{DeskSeen, Line, IsLine, IsMeant, Means, IsDone, IsAgain, IsNews, IsTaken, Stays, told_by, kept_with, desk_after, desk_then, AreLines, end_after, MayReply, Replies, gets_answer, has_none, failures_then, datagrams_of, events, replies, reply_to, is_none, unanswered, AllGoOn, EndsWith, AreTaken, AreAnswered}
 
 pub all_more : (P : Line → Type 0) (log more : List Line) → AllByRecursion P log → AllByRecursion P more → AllByRecursion P (log ++ more)
 all_more P [] more a b = b
@@ -34,138 +35,253 @@ replies_more : (log more : List Line) → replies (log ++ more) ≡ replies log 
 replies_more log more = filter_map-append (λ (l : Line). reply_to l.came.peer l.reply) log more
 
 unanswered_more : (log more : List Line) → unanswered (log ++ more) ≡ unanswered log + unanswered more
-unanswered_more log more =
-    ap length (filter-append (λ (l : Line). is_none l.reply) log more)
-    ∙ length-append (filter (λ (l : Line). is_none l.reply) log) (filter (λ (l : Line). is_none l.reply) more)
+unanswered_more log more = ap length (filter-append has_none log more) ∙ length-append (filter has_none log) (filter has_none more)
 
--- the lines, and what two wires gave and took of them
-pub record Book (mailboxes : List (List ℕ)) (given given' taken taken' : Option (List Datagram)) (failures failures' : ℕ) (log : List Line) : Type 0 where
-  pub each : AllByRecursion (IsLine mailboxes) log
+one_unanswered : (l : Line) → has_none l ≡ true → unanswered (l ∷ []) ≡ 1
+one_unanswered l is = rw is refl
+
+one_answered : (l : Line) → has_none l ≡ false → unanswered (l ∷ []) ≡ 0
+one_answered l is = rw is refl
+
+and_true : (b : Bool) → (b && true) ≡ b
+and_true true = refl
+and_true false = refl
+
+and_false : (b : Bool) → (b && false) ≡ false
+and_false true = refl
+and_false false = refl
+
+end_is : (x y : FeedEnd) → Some x ≡ Some y → x ≡ y
+end_is x y e = cc
+
+-- ---- what a desk knows
+
+lines_more : (desk : DeskSeen) (log : List Line) (l : Line) → AreLines desk log → IsLine (desk_then log desk) l → AreLines desk (log ++ l ∷ [])
+lines_more desk [] l are is = (is, tt)
+lines_more desk (x ∷ log) l are is = (are.0, lines_more (desk_after x desk) log l are.1 is)
+
+then_more : (desk : DeskSeen) (log : List Line) (l : Line) → desk_then (log ++ l ∷ []) desk ≡ desk_after l (desk_then log desk)
+then_more desk [] l = refl
+then_more desk (x ∷ log) l = then_more (desk_after x desk) log l
+
+-- ---- the lines, and what two wires gave and took of them
+
+pub record Book (desk : DeskSeen) (given given' taken taken' : Option (List Datagram)) (failures failures' : ℕ) (log : List Line) : Type 0 where
+  pub each : AreLines desk log
   pub came_are : Grows given given' (datagrams_of log)
   pub answered : AreAnswered log taken taken' failures failures'
 
-book_none : (mailboxes : List (List ℕ)) (given taken : Option (List Datagram)) (failures : ℕ) → Book mailboxes given given taken taken failures failures []
-book_none mailboxes given taken failures = record {
+book_none : (desk : DeskSeen) (given taken : Option (List Datagram)) (failures : ℕ) → Book desk given given taken taken failures failures []
+book_none desk given taken failures = record {
   each = tt;
   came_are = grows_none given;
   answered = record { taken = grows_none taken; counted = refl };
 }
 
-pub answered_more : (log : List Line) (d : Datagram) (e : Option Event) (x : Done) (reply : Option (List ℕ)) (taken taken' after : Option (List Datagram)) (failures failures' more : ℕ)
-    → AreAnswered log taken taken' failures failures' → Replies d.peer reply taken' after failures' more
-    → AreAnswered (log ++ record { came = d; event = e; done = x; reply = reply } ∷ []) taken after failures more
-answered_more log d e x None taken taken' after failures failures' more was is =
-    let line : Line = record { came = d; event = e; done = x; reply = None } in
-    let P : List Datagram → Type 0 = λ l. Grows taken after l in
-    let count : unanswered (log ++ line ∷ []) ≡ suc (unanswered log) = (let u = unanswered_more log (line ∷ []) in omega arith) in record {
-      taken = subst P (sym (replies_more log (line ∷ []))) (grows_more taken taken' after (replies log) [] was.taken is.0);
-      counted = is.1 ∙ ap one_more was.counted ∙ ap (λ n. rises n failures) (sym count);
-    }
-answered_more log d e x (Some octets) taken taken' after failures failures' more was is =
-    let line : Line = record { came = d; event = e; done = x; reply = Some octets } in
-    let P : List Datagram → Type 0 = λ l. Grows taken after l in
-    let count : unanswered (log ++ line ∷ []) ≡ unanswered log = (let u = unanswered_more log (line ∷ []) in omega arith) in record {
-      taken = subst P (sym (replies_more log (line ∷ []))) (grows_more taken taken' after (replies log) _ was.taken is.0);
-      counted = is.1 ∙ was.counted ∙ ap (λ n. rises n failures) (sym count);
-    }
+module _ (log : List Line) (d : Datagram) (e : Option Event) (x : Done) (k : Bool) (taken taken' after : Option (List Datagram)) (failures failures' more : ℕ)
+    (was : AreAnswered log taken taken' failures failures') where
+  none_more : (due : Bool) → gets_answer x ≡ due → more ≡ failures_then due failures' → more ≡ rises (unanswered (log ++ record { came = d; event = e; done = x; is_kept = k; reply = None } ∷ [])) failures
+  none_more true is e' =
+      let l : Line = record { came = d; event = e; done = x; is_kept = k; reply = None } in
+      let u = unanswered_more log (l ∷ []) in
+      let o : unanswered (l ∷ []) ≡ 1 = one_unanswered l (and_true (gets_answer x) ∙ is) in
+      let count : unanswered (log ++ l ∷ []) ≡ suc (unanswered log) = omega arith in
+      e' ∙ ap one_more was.counted ∙ ap (λ n. rises n failures) (sym count)
+  none_more false is e' =
+      let l : Line = record { came = d; event = e; done = x; is_kept = k; reply = None } in
+      let u = unanswered_more log (l ∷ []) in
+      let o : unanswered (l ∷ []) ≡ 0 = one_answered l (and_true (gets_answer x) ∙ is) in
+      let count : unanswered (log ++ l ∷ []) ≡ unanswered log = omega arith in
+      e' ∙ was.counted ∙ ap (λ n. rises n failures) (sym count)
 
-module _ {mailboxes : List (List ℕ)} {given given' taken taken' : Option (List Datagram)} {failures failures' : ℕ} {log : List Line}
-    (was : Book mailboxes given given' taken taken' failures failures' log) where
-  book_more : (after after' : Option (List Datagram)) (more : ℕ) (d : Datagram) (e : Option Event) (x : Done) (reply : Option (List ℕ))
-      → Grows given' after (d ∷ []) → IsMeant mailboxes d.octets e x → MayReply x reply → Replies d.peer reply taken' after' failures' more
-      → Book mailboxes given after taken after' failures more (log ++ record { came = d; event = e; done = x; reply = reply } ∷ [])
-  book_more after after' more d e x reply gave meant may replied =
-      let line : Line = record { came = d; event = e; done = x; reply = reply } in
-      let P : List Datagram → Type 0 = λ l. Grows given after l in record {
-        each = all_more (IsLine mailboxes) log (line ∷ []) was.each (record { meant = meant; answered = may }, tt);
-        came_are = subst P (sym (came_more log (line ∷ []))) (grows_more given given' after (datagrams_of log) (d ∷ []) was.came_are gave);
-        answered = answered_more log d e x reply taken taken' after' failures failures' more was.answered replied;
+  pub answered_more : (reply : Option (List ℕ)) → Replies (gets_answer x) d.peer reply taken' after failures' more
+      → AreAnswered (log ++ record { came = d; event = e; done = x; is_kept = k; reply = reply } ∷ []) taken after failures more
+  answered_more None is =
+      let l : Line = record { came = d; event = e; done = x; is_kept = k; reply = None } in
+      let P : List Datagram → Type 0 = λ ds. Grows taken after ds in record {
+        taken = subst P (sym (replies_more log (l ∷ []))) (grows_more taken taken' after (replies log) [] was.taken is.0);
+        counted = none_more (gets_answer x) refl is.1;
+      }
+  answered_more (Some octets) is =
+      let l : Line = record { came = d; event = e; done = x; is_kept = k; reply = Some octets } in
+      let P : List Datagram → Type 0 = λ ds. Grows taken after ds in
+      let u = unanswered_more log (l ∷ []) in
+      let o : unanswered (l ∷ []) ≡ 0 = one_answered l (and_false (gets_answer x)) in
+      let count : unanswered (log ++ l ∷ []) ≡ unanswered log = omega arith in record {
+        taken = subst P (sym (replies_more log (l ∷ []))) (grows_more taken taken' after (replies log) _ was.taken is.0);
+        counted = is.1 ∙ was.counted ∙ ap (λ n. rises n failures) (sym count);
       }
 
--- the lines that were taken, whose events the port has sent
-pub record Taking (mailboxes : List (List ℕ)) (old now : PortSeats) (given given' taken taken' : Option (List Datagram)) (failures failures' : ℕ) : Type 0 where
+-- the lines that were taken, whose events the port has sent, and what the desk knows of them
+pub record Taking (desk at : DeskSeen) (old now : PortSeats) (given given' taken taken' : Option (List Datagram)) (failures failures' : ℕ) : Type 0 where
   pub log : List Line
-  pub book : Book mailboxes given given' taken taken' failures failures' log
+  pub book : Book desk given given' taken taken' failures failures' log
   pub on : AllGoOn log
   pub sends : Sends old (events log) now
+  pub knows : at ≡ desk_then log desk
 
-pub taking_none : (mailboxes : List (List ℕ)) (p : PortSeats) (given taken : Option (List Datagram)) (failures : ℕ)
-    → Taking mailboxes p p given given taken taken failures failures
-taking_none mailboxes p given taken failures = record { log = []; book = book_none mailboxes given taken failures; on = tt; sends = sends_none p }
+pub taking_none : (desk : DeskSeen) (p : PortSeats) (given taken : Option (List Datagram)) (failures : ℕ)
+    → Taking desk desk p p given given taken taken failures failures
+taking_none desk p given taken failures = record { log = []; book = book_none desk given taken failures; on = tt; sends = sends_none p; knows = refl }
 
-module _ {mailboxes : List (List ℕ)} {old now : PortSeats} {given given' taken taken' : Option (List Datagram)} {failures failures' : ℕ}
-    (was : Taking mailboxes old now given given' taken taken' failures failures') where
-  module _ (next : PortSeats) (after after' : Option (List Datagram)) (more : ℕ) (d : Datagram) (reply : Option (List ℕ)) (gave : Grows given' after (d ∷ [])) where
-    with_event : (x : Done) (e : Event) → end_after x ≡ None → IsMeant mailboxes d.octets (Some e) x → MayReply x reply → Replies d.peer reply taken' after' failures' more
-        → Sends now (e ∷ []) next → Taking mailboxes old next given after taken after' failures more
-    with_event x e on meant may replied sent =
-        let line : Line = record { came = d; event = Some e; done = x; reply = reply } in
-        let P : List Event → Type 0 = λ es. Sends old es next in record {
-          log = was.log ++ line ∷ [];
-          book = book_more was.book after after' more d (Some e) x reply gave meant may replied;
-          on = all_more (λ (l : Line). end_after l.done ≡ None) was.log (line ∷ []) was.on (on, tt);
-          sends = subst P (sym (events_more was.log (line ∷ []))) (sends_more old now next (events was.log) (e ∷ []) was.sends sent);
+-- one line more
+module _ {desk at : DeskSeen} {old now : PortSeats} {given given' taken taken' : Option (List Datagram)} {failures failures' : ℕ}
+    (was : Taking desk at old now given given' taken taken' failures failures')
+    (next : PortSeats) (after after' : Option (List Datagram)) (more : ℕ) (d : Datagram) (reply : Option (List ℕ)) (gave : Grows given' after (d ∷ [])) where
+  book_more : (e : Option Event) (x : Done) (k : Bool) (at' : DeskSeen) → at' ≡ desk_after (record { came = d; event = e; done = x; is_kept = k; reply = reply }) at
+      → IsMeant at d.octets e x → MayReply at' x reply → Replies (gets_answer x) d.peer reply taken' after' failures' more
+      → Book desk given after taken after' failures more (was.log ++ record { came = d; event = e; done = x; is_kept = k; reply = reply } ∷ [])
+  book_more e x k at' knows meant may replied =
+      let l : Line = record { came = d; event = e; done = x; is_kept = k; reply = reply } in
+      let P : List Datagram → Type 0 = λ ds. Grows given after ds in
+      let Q : DeskSeen → Type 0 = λ s. IsLine s l in record {
+        each = lines_more desk was.log l was.book.each (subst Q was.knows (record { meant = meant; answered = subst (λ (s : DeskSeen). MayReply s x reply) knows may }));
+        came_are = subst P (sym (came_more was.log (l ∷ []))) (grows_more given given' after (datagrams_of was.log) (d ∷ []) was.book.came_are gave);
+        answered = answered_more was.log d e x k taken taken' after' failures failures' more was.book.answered reply replied;
+      }
+
+  knows_more : (e : Option Event) (x : Done) (k : Bool) (at' : DeskSeen) → at' ≡ desk_after (record { came = d; event = e; done = x; is_kept = k; reply = reply }) at
+      → at' ≡ desk_then (was.log ++ record { came = d; event = e; done = x; is_kept = k; reply = reply } ∷ []) desk
+  knows_more e x k at' is =
+      let l : Line = record { came = d; event = e; done = x; is_kept = k; reply = reply } in
+      is ∙ ap (desk_after l) was.knows ∙ sym (then_more desk was.log l)
+
+  sends_event : (e : Event) (x : Done) (k : Bool) → Sends now (e ∷ []) next → Sends old (events (was.log ++ record { came = d; event = Some e; done = x; is_kept = k; reply = reply } ∷ [])) next
+  sends_event e x k sent =
+      let l : Line = record { came = d; event = Some e; done = x; is_kept = k; reply = reply } in
+      let P : List Event → Type 0 = λ es. Sends old es next in
+      subst P (sym (events_more was.log (l ∷ []))) (sends_more old now next (events was.log) (e ∷ []) was.sends sent)
+
+  sends_same : (x : Done) (k : Bool) → next ≡ now → Sends old (events (was.log ++ record { came = d; event = None; done = x; is_kept = k; reply = reply } ∷ [])) next
+  sends_same x k same =
+      let l : Line = record { came = d; event = None; done = x; is_kept = k; reply = reply } in
+      let P : List Event → Type 0 = λ es. Sends old es now in
+      let Q : PortSeats → Type 0 = λ p. Sends old (events (was.log ++ l ∷ [])) p in
+      subst Q (sym same) (subst P (sym (events_more was.log (l ∷ []) ∙ append-nil (events was.log))) was.sends)
+
+  module _ (at' : DeskSeen) where
+    with_event : (x : Done) (e : Event) (k : Bool) (rows' : List Row) → end_after x ≡ None → kept_answer at.kept.items (token d.octets) ≡ None
+        → Means at.rows (line d.octets) (Some e) x → MayReply at' x reply → Replies (gets_answer x) d.peer reply taken' after' failures' more
+        → at' ≡ record { workers = at.workers; rows = rows'; kept = kept_with k (token d.octets) x at.kept } → rows' ≡ told_by e at.rows
+        → Sends now (e ∷ []) next → Taking desk at' old next given after taken after' failures more
+    with_event x e k rows' on new meant may replied knows rows sent =
+        let l : Line = record { came = d; event = Some e; done = x; is_kept = k; reply = reply } in
+        let K : List Row → DeskSeen = λ rs. record { workers = at.workers; rows = rs; kept = kept_with k (token d.octets) x at.kept } in record {
+          log = was.log ++ l ∷ [];
+          book = book_more (Some e) x k at' (knows ∙ ap K rows) (inr (new, meant)) may replied;
+          on = all_more (λ (y : Line). end_after y.done ≡ None) was.log (l ∷ []) was.on (on, tt);
+          sends = sends_event e x k sent;
+          knows = knows_more (Some e) x k at' (knows ∙ ap K rows);
         }
 
-    without : (x : Done) → end_after x ≡ None → IsMeant mailboxes d.octets None x → MayReply x reply → Replies d.peer reply taken' after' failures' more
-        → next ≡ now → Taking mailboxes old next given after taken after' failures more
-    without x on meant may replied same =
-        let line : Line = record { came = d; event = None; done = x; reply = reply } in
-        let P : List Event → Type 0 = λ es. Sends old es now in
-        let Q : PortSeats → Type 0 = λ p. Sends old (events (was.log ++ line ∷ [])) p in record {
-          log = was.log ++ line ∷ [];
-          book = book_more was.book after after' more d None x reply gave meant may replied;
-          on = all_more (λ (l : Line). end_after l.done ≡ None) was.log (line ∷ []) was.on (on, tt);
-          sends = subst Q (sym same) (subst P (sym (events_more was.log (line ∷ []) ∙ append-nil (events was.log))) was.sends);
+    without : (x : Done) (k : Bool) (rows' : List Row) → end_after x ≡ None → kept_answer at.kept.items (token d.octets) ≡ None
+        → Means at.rows (line d.octets) None x → MayReply at' x reply → Replies (gets_answer x) d.peer reply taken' after' failures' more
+        → at' ≡ record { workers = at.workers; rows = rows'; kept = kept_with k (token d.octets) x at.kept } → Stays at.rows rows' now next
+        → Taking desk at' old next given after taken after' failures more
+    without x k rows' on new meant may replied knows stays =
+        let l : Line = record { came = d; event = None; done = x; is_kept = k; reply = reply } in
+        let K : List Row → DeskSeen = λ rs. record { workers = at.workers; rows = rs; kept = kept_with k (token d.octets) x at.kept } in record {
+          log = was.log ++ l ∷ [];
+          book = book_more None x k at' (knows ∙ ap K stays.0) (inr (new, meant)) may replied;
+          on = all_more (λ (y : Line). end_after y.done ≡ None) was.log (l ∷ []) was.on (on, tt);
+          sends = sends_same x k stays.1;
+          knows = knows_more None x k at' (knows ∙ ap K stays.0);
         }
 
-    pub taking_more : (x : Done) → IsDone mailboxes d.octets now next x → MayReply x reply → Replies d.peer reply taken' after' failures' more
-        → end_after x ≡ None → Taking mailboxes old next given after taken after' failures more
-    taking_more (did.Answered answer.Done) is may replied on = with_event (did.Answered answer.Done) is.0 refl (is.0, refl, is.1) may replied is.2
-    taking_more (did.Answered answer.BadLine) is may replied on = without (did.Answered answer.BadLine) refl (refl, is.0) may replied is.1
-    taking_more (did.Answered answer.UnknownMailbox) is may replied on =
-        without (did.Answered answer.UnknownMailbox) refl (is.0, refl, is.1, is.2) may replied is.3
-    taking_more (did.Answered answer.Closed) is may replied on = absurd is
-    taking_more (did.Answered answer.NoMemory) is may replied on = without (did.Answered answer.NoMemory) refl refl may replied is
-    taking_more did.Counters is may replied on = without did.Counters refl (refl, is.0) may replied is.1
-    taking_more did.Closing is may replied on = absurd cc
-    taking_more did.Gone is may replied on = absurd cc
+    again : (x : Done) → IsAgain d.octets at at' now next x → end_after x ≡ None → MayReply at' x reply → Replies (gets_answer x) d.peer reply taken' after' failures' more
+        → Taking desk at' old next given after taken after' failures more
+    again x is on may replied =
+        let l : Line = record { came = d; event = None; done = x; is_kept = false; reply = reply } in record {
+          log = was.log ++ l ∷ [];
+          book = book_more None x false at' is.3 (inl (is.0, refl, is.1, is.2)) may replied;
+          on = all_more (λ (y : Line). end_after y.done ≡ None) was.log (l ∷ []) was.on (on, tt);
+          sends = sends_same x false is.4;
+          knows = knows_more None x false at' is.3;
+        }
 
-    pub taken_close : IsDone mailboxes d.octets now next did.Closing → MayReply did.Closing reply → Replies d.peer reply taken' after' failures' more
-        → (log : List Line) × Grows given after (datagrams_of log) × AreTaken mailboxes log old next ends.Done × AreAnswered log taken after' failures more
-    taken_close is may replied =
-        let line : Line = record { came = d; event = None; done = did.Closing; reply = reply } in
-        let book = book_more was.book after after' more d None did.Closing reply gave (refl, is.0) may replied in
-        let P : List Event → Type 0 = λ es. Sends old es now in
-        let Q : PortSeats → Type 0 = λ p. Sends old (events (was.log ++ line ∷ [])) p in
-        let last : EndsWith did.Closing (was.log ++ line ∷ []) = record { before = was.log; last = line; whole = refl; on = was.on; is = refl } in (
-          was.log ++ line ∷ [],
-          book.came_are,
-          record {
-            each = book.each;
-            stops = inl last;
-            sends = subst Q (sym is.1) (subst P (sym (events_more was.log (line ∷ []) ∙ append-nil (events was.log))) was.sends);
-          },
-          book.answered,
-        )
+    news : (x : Done) → kept_answer at.kept.items (token d.octets) ≡ None → (k : Bool) (rows' : List Row)
+        → at' ≡ record { workers = at.workers; rows = rows'; kept = kept_with k (token d.octets) x at.kept }
+        → IsDone (line d.octets) at.rows rows' now next x → MayReply at' x reply → Replies (gets_answer x) d.peer reply taken' after' failures' more
+        → end_after x ≡ None → Taking desk at' old next given after taken after' failures more
+    news (did.Answered answer.Done) new k rows' knows is may replied on = with_event (did.Answered answer.Done) is.0 k rows' refl new (is.0, refl, is.1) may replied knows is.2 is.3
+    news (did.Answered answer.BadLine) new k rows' knows is may replied on = without (did.Answered answer.BadLine) k rows' refl new (refl, is.0) may replied knows is.1
+    news (did.Answered answer.UnknownMailbox) new k rows' knows is may replied on = without (did.Answered answer.UnknownMailbox) k rows' refl new (refl, is.0) may replied knows is.1
+    news (did.Answered answer.Closed) new k rows' knows is may replied on = absurd is
+    news (did.Answered answer.NoMemory) new k rows' knows is may replied on = without (did.Answered answer.NoMemory) k rows' refl new refl may replied knows is
+    news (did.Answered answer.Busy) new k rows' knows is may replied on = without (did.Answered answer.Busy) k rows' refl new (refl, is.0, is.1, is.2) may replied knows is.3
+    news (did.Repeated a) new k rows' knows is may replied on = absurd is
+    news did.Unanswered new k rows' knows is may replied on = without did.Unanswered k rows' refl new (refl, is.0) may replied knows is.1
+    news did.Counters new k rows' knows is may replied on = without did.Counters k rows' refl new (refl, is.0) may replied knows is.1
+    news (did.Shown n) new k rows' knows is may replied on = without (did.Shown n) k rows' refl new (refl, is.0, is.1, is.2) may replied knows is.3
+    news (did.Dumped n) new k rows' knows is may replied on = without (did.Dumped n) k rows' refl new (refl, is.0, is.1, is.2) may replied knows is.3
+    news did.Closing new k rows' knows is may replied on = absurd cc
+    news did.Gone new k rows' knows is may replied on = absurd cc
 
-    pub taken_gone : IsDone mailboxes d.octets now next did.Gone → MayReply did.Gone reply → Replies d.peer reply taken' after' failures' more
-        → (log : List Line) × Grows given after (datagrams_of log) × AreTaken mailboxes log old next ends.Gone × AreAnswered log taken after' failures more
-    taken_gone is may replied =
-        let line : Line = record { came = d; event = Some is.0; done = did.Gone; reply = reply } in
-        let book = book_more was.book after after' more d (Some is.0) did.Gone reply gave (is.0, refl, is.1) may replied in (
-          was.log ++ line ∷ [],
-          book.came_are,
-          record {
-            each = book.each;
-            stops = record { before = was.log; last = line; whole = refl; on = was.on; is = refl };
-            sends = record { before = was.log; last = line; event = is.0; mid = now; whole = refl; is = refl; sent = was.sends; missed = is.2 };
-          },
-          book.answered,
-        )
+    pub taking_more : (x : Done) → IsTaken d.octets at at' now next x → MayReply at' x reply → Replies (gets_answer x) d.peer reply taken' after' failures' more
+        → end_after x ≡ None → Taking desk at' old next given after taken after' failures more
+    taking_more x is may replied on = ⊎_elim (λ h. again x h on may replied) (λ h. news x h.0 h.1 h.2 h.3 h.4 may replied on) is
 
+  taken_close : (k : Bool) (rows' : List Row) (at' : DeskSeen) → at' ≡ record { workers = at.workers; rows = rows'; kept = kept_with k (token d.octets) did.Closing at.kept }
+      → kept_answer at.kept.items (token d.octets) ≡ None → IsDone (line d.octets) at.rows rows' now next did.Closing
+      → MayReply at' did.Closing reply → Replies true d.peer reply taken' after' failures' more
+      → (log : List Line) × Grows given after (datagrams_of log) × AreTaken desk log old next ends.Done × AreAnswered log taken after' failures more
+  taken_close k rows' at' knows new is may replied =
+      let l : Line = record { came = d; event = None; done = did.Closing; is_kept = k; reply = reply } in
+      let K : List Row → DeskSeen = λ rs. record { workers = at.workers; rows = rs; kept = kept_with k (token d.octets) did.Closing at.kept } in
+      let book = book_more None did.Closing k at' (knows ∙ ap K is.1.0) (inr (new, (refl, is.0))) may replied in
+      let last : EndsWith did.Closing (was.log ++ l ∷ []) = record { before = was.log; last = l; whole = refl; on = was.on; is = refl } in (
+        was.log ++ l ∷ [],
+        book.came_are,
+        record { each = book.each; stops = inl last; sends = sends_same did.Closing k is.1.1 },
+        book.answered,
+      )
+
+  taken_gone : (k : Bool) (rows' : List Row) (at' : DeskSeen) → at' ≡ record { workers = at.workers; rows = rows'; kept = kept_with k (token d.octets) did.Gone at.kept }
+      → kept_answer at.kept.items (token d.octets) ≡ None → IsDone (line d.octets) at.rows rows' now next did.Gone
+      → MayReply at' did.Gone reply → Replies true d.peer reply taken' after' failures' more
+      → (log : List Line) × Grows given after (datagrams_of log) × AreTaken desk log old next ends.Gone × AreAnswered log taken after' failures more
+  taken_gone k rows' at' knows new is may replied =
+      let l : Line = record { came = d; event = Some is.0; done = did.Gone; is_kept = k; reply = reply } in
+      let K : List Row → DeskSeen = λ rs. record { workers = at.workers; rows = rs; kept = kept_with k (token d.octets) did.Gone at.kept } in
+      let book = book_more (Some is.0) did.Gone k at' (knows ∙ ap K is.2) (inr (new, (is.0, refl, is.1))) may replied in (
+        was.log ++ l ∷ [],
+        book.came_are,
+        record {
+          each = book.each;
+          stops = record { before = was.log; last = l; whole = refl; on = was.on; is = refl };
+          sends = record { before = was.log; last = l; event = is.0; mid = now; whole = refl; is = refl; sent = was.sends; missed = is.3 };
+        },
+        book.answered,
+      )
+
+  last_news : (x : Done) (end : FeedEnd) (k : Bool) (rows' : List Row) (at' : DeskSeen)
+      → at' ≡ record { workers = at.workers; rows = rows'; kept = kept_with k (token d.octets) x at.kept } → end_after x ≡ Some end → kept_answer at.kept.items (token d.octets) ≡ None
+      → IsDone (line d.octets) at.rows rows' now next x → MayReply at' x reply → Replies (gets_answer x) d.peer reply taken' after' failures' more
+      → (log : List Line) × Grows given after (datagrams_of log) × AreTaken desk log old next end × AreAnswered log taken after' failures more
+  last_news (did.Answered a) end k rows' at' knows e new is may replied = absurd cc
+  last_news (did.Repeated a) end k rows' at' knows e new is may replied = absurd cc
+  last_news did.Unanswered end k rows' at' knows e new is may replied = absurd cc
+  last_news did.Counters end k rows' at' knows e new is may replied = absurd cc
+  last_news (did.Shown n) end k rows' at' knows e new is may replied = absurd cc
+  last_news (did.Dumped n) end k rows' at' knows e new is may replied = absurd cc
+  last_news did.Closing end k rows' at' knows e new is may replied =
+      let P : FeedEnd → Type 0 = λ z. (log : List Line) × Grows given after (datagrams_of log) × AreTaken desk log old next z × AreAnswered log taken after' failures more in
+      subst P (end_is ends.Done end e) (taken_close k rows' at' knows new is may replied)
+  last_news did.Gone end k rows' at' knows e new is may replied =
+      let P : FeedEnd → Type 0 = λ z. (log : List Line) × Grows given after (datagrams_of log) × AreTaken desk log old next z × AreAnswered log taken after' failures more in
+      subst P (end_is ends.Gone end e) (taken_gone k rows' at' knows new is may replied)
+
+  -- a line after which no more are taken
+  pub taken_last : (x : Done) (end : FeedEnd) (at' : DeskSeen) → end_after x ≡ Some end → IsTaken d.octets at at' now next x → MayReply at' x reply
+      → Replies (gets_answer x) d.peer reply taken' after' failures' more
+      → (log : List Line) × Grows given after (datagrams_of log) × AreTaken desk log old next end × AreAnswered log taken after' failures more
+  taken_last x end at' e is may replied =
+      ⊎_elim (λ h. absurd (let z = ap end_after h.1 in cc)) (λ h. last_news x end h.1 h.2 at' h.3 e h.0 h.4 may replied) is
+
+module _ {desk at : DeskSeen} {old now : PortSeats} {given given' taken taken' : Option (List Datagram)} {failures failures' : ℕ}
+    (was : Taking desk at old now given given' taken taken' failures failures') where
   -- nothing came yet
-  pub taking_silent : (after : Option (List Datagram)) → Grows given' after [] → Taking mailboxes old now given after taken taken' failures failures'
+  pub taking_silent : (after : Option (List Datagram)) → Grows given' after [] → Taking desk at old now given after taken taken' failures failures'
   taking_silent after none = record {
     log = was.log;
     book = record {
@@ -175,47 +291,21 @@ module _ {mailboxes : List (List ℕ)} {old now : PortSeats} {given given' taken
     };
     on = was.on;
     sends = was.sends;
+    knows = was.knows;
   }
 
   -- the service closed for another cause than a line
-  pub taken_done : (log : List Line) × Grows given given' (datagrams_of log) × AreTaken mailboxes log old now ends.Done × AreAnswered log taken taken' failures failures'
+  pub taken_done : (log : List Line) × Grows given given' (datagrams_of log) × AreTaken desk log old now ends.Done × AreAnswered log taken taken' failures failures'
   taken_done = (was.log, was.book.came_are, record { each = was.book.each; stops = inr was.on; sends = was.sends }, was.book.answered)
 
   pub taking_open : now.still_open ≡ old.still_open
   taking_open = was.sends.still_open
 
   pub taken_fault : (after : Option (List Datagram)) → Grows given' after []
-      → (log : List Line) × Grows given after (datagrams_of log) × AreTaken mailboxes log old now ends.Fault × AreAnswered log taken taken' failures failures'
+      → (log : List Line) × Grows given after (datagrams_of log) × AreTaken desk log old now ends.Fault × AreAnswered log taken taken' failures failures'
   taken_fault after none = (
     was.log,
     grows_same given given' after (datagrams_of was.log) was.book.came_are none,
     record { each = was.book.each; stops = was.on; sends = was.sends },
     was.book.answered,
   )
-
-end_is : (x y : FeedEnd) → Some x ≡ Some y → x ≡ y
-end_is x y e = cc
-
--- a wire that is not deaf behind such a line
-pub until_last : (d : Done) (end : FeedEnd) (old new : Misses) → end_after d ≡ Some end → (IsDeaf new → ⊥) → ListensUntil end old new
-until_last (did.Answered a) end old new e hears = absurd cc
-until_last did.Counters end old new e hears = absurd cc
-until_last did.Closing end old new e hears =
-    let P : FeedEnd → Type 0 = λ z. ListensUntil z old new in subst P (end_is ends.Done end e) (λ deaf. absurd (hears deaf))
-until_last did.Gone end old new e hears =
-    let P : FeedEnd → Type 0 = λ z. ListensUntil z old new in subst P (end_is ends.Gone end e) (λ deaf. absurd (hears deaf))
-
--- a line after which no more are taken
-module _ {mailboxes : List (List ℕ)} {old now : PortSeats} {given given' taken taken' : Option (List Datagram)} {failures failures' : ℕ}
-    (was : Taking mailboxes old now given given' taken taken' failures failures')
-    (next : PortSeats) (after after' : Option (List Datagram)) (more : ℕ) (d : Datagram) (reply : Option (List ℕ)) (gave : Grows given' after (d ∷ [])) where
-  pub taken_last : (x : Done) (end : FeedEnd) → end_after x ≡ Some end → IsDone mailboxes d.octets now next x → MayReply x reply → Replies d.peer reply taken' after' failures' more
-      → (log : List Line) × Grows given after (datagrams_of log) × AreTaken mailboxes log old next end × AreAnswered log taken after' failures more
-  taken_last (did.Answered a) end e is may replied = absurd cc
-  taken_last did.Counters end e is may replied = absurd cc
-  taken_last did.Closing end e is may replied =
-      let P : FeedEnd → Type 0 = λ z. (log : List Line) × Grows given after (datagrams_of log) × AreTaken mailboxes log old next z × AreAnswered log taken after' failures more in
-      subst P (end_is ends.Done end e) (taken_close was next after after' more d reply gave is may replied)
-  taken_last did.Gone end e is may replied =
-      let P : FeedEnd → Type 0 = λ z. (log : List Line) × Grows given after (datagrams_of log) × AreTaken mailboxes log old next z × AreAnswered log taken after' failures more in
-      subst P (end_is ends.Gone end e) (taken_gone was next after after' more d reply gave is may replied)

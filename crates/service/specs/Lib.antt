@@ -1,6 +1,8 @@
 pub mod Ticks
 pub mod Listening
+pub mod Told
 pub mod Served
+pub mod Admitted
 pub mod Taken
 pub mod Noted
 pub mod Sending

@@ -1,25 +1,19 @@
--- Until when a thread listens by a wire whose receives may fail.
-use Rattle.std.specs.Prelude.{◌≡◌, ◌≤◌, ◌⊎◌, Bool, true, false}
+-- What a thread tells of the wire by which it listens, whose receives may fail.
+use Rattle.std.specs.Prelude.{◌≡◌, ◌≤◌, ◌⊎◌, ◌↔◌, Bool, true, false}
 use Rattle.transport.specs.Ears.{Misses}
 use Rattle.feeds.specs.declared.feeding.FeedEnd.{FeedEnd}
-use Rattle.feeds.specs.declared.feeding.FeedEnd.TheVariants.{Done, Fault, Gone}
+use Rattle.feeds.specs.declared.feeding.FeedEnd.TheVariants as ends
 
--- nothing can come by a wire any more: each of its last 1,000 receives failed, or the last did since its descriptor is no socket any
--- more. Ten milliseconds pass behind each that failed
+-- nothing comes by a wire any more: 1,000 of its receives failed, one after the other, with ten milliseconds behind each; or one failed
+-- since its descriptor is no socket any more. Once deaf it stays so, whatever it gives later
 abbrev pub IsDeaf : Misses → Type 0
-IsDeaf misses = (1000 ≤ misses.row) ⊎ (misses.lost ≡ true)
+IsDeaf misses = (1000 ≤ misses.most) ⊎ (misses.lost ≡ true)
 
--- a thread tells of a fault only of a wire that is deaf, and does not go on by one that became so
-abbrev pub ListensUntil : FeedEnd → Misses → Misses → Type 0
-ListensUntil Done old new = IsDeaf new → IsDeaf old
-ListensUntil Fault old new = IsDeaf new
-ListensUntil Gone old new = IsDeaf new → IsDeaf old
+-- it is told truly whether a wire got deaf: it is deaf now exactly where it was before or this is told
+abbrev pub IsDeafAsTold : Bool → Misses → Misses → Type 0
+IsDeafAsTold told old new = IsDeaf new ↔ (IsDeaf old ⊎ (told ≡ true))
 
--- the same of the one that listens while the service closes: did it tell of a fault?
-abbrev pub ListensStill : Bool → Misses → Misses → Type 0
-ListensStill false old new = IsDeaf new → IsDeaf old
-ListensStill true old new = IsDeaf new
-
--- a thread listened until this end, and from then on until all was sent out
-abbrev pub ListensOn : FeedEnd → Bool → Misses → Misses → Type 0
-ListensOn end fails_late old new = (between : Misses) × ListensUntil end old between × ListensStill fails_late between new
+abbrev pub is_fault : FeedEnd → Bool
+is_fault ends.Done = false
+is_fault ends.Fault = true
+is_fault ends.Gone = false

@@ -5,7 +5,8 @@
 --   a tick         -> port 2 -+              +-> START <tag> <refer_to>, by the writer
 --
 -- Answers to NOTIFYs go as notes to the thread that sends, too, which sends a NOTIFY again until its answer was noted.
-use Rattle.std.specs.Prelude.{◌≡◌, ◌||◌, ℕ, Bool, true, false, List, [], ◌∷◌}
+use Rattle.std.specs.Prelude.{◌≡◌, ◌||◌, max, ℕ, Bool, true, false, List, [], ◌∷◌}
+use Rattle.admission.specs.declared.judging.Admission.{Admission}
 use Rattle.queues.specs.declared.items.Item.{Item}
 use Rattle.notifier_model.specs.declared.event.Out.{Out}
 use Rattle.notifier_model.specs.Start.{Start}
@@ -18,8 +19,7 @@ use Rattle.crew.specs.declared.report.WorkerReport.{WorkerReport}
 use Rattle.feeds.specs.declared.sending.EmitReport.{EmitReport}
 use Rattle.feeds.specs.Emitted.{WireSeen, WriterSeen}
 use Rattle.feeds.specs.declared.feeding.FeedEnd.{FeedEnd}
-use Rattle.feeds.specs.declared.feeding.FeedEnd.TheVariants as ends
-use Rattle.feeds.specs.Fed.{Log, failures_at}
+use Rattle.feeds.specs.Fed.{failures_at}
 use Rattle.transport.specs.Ears.{Misses}
 use Rattle.transport.specs.Sockets.{misses}
 use Rattle.transport.specs.declared.udp.UdpWire.{UdpWire}
@@ -27,29 +27,42 @@ use Rattle.service.specs.declared.clock.Stopwatch.{Stopwatch}
 use Rattle.service.specs.declared.feeding.Fed.{Fed}
 use Rattle.service.specs.declared.feeding.Task.{Task}
 use Rattle.service.specs.declared.feeding.Task.TheVariants as task
+use Rattle.circular_buffer.specs.Buffer.{buffer}
+use Rattle.told_counts.specs.Told.{AreUntold}
 use Rattle.service.specs.declared.datagrams.SipDesk.{SipDesk}
 use Rattle.service.specs.declared.lines.ControlDesk.{ControlDesk}
+use Rattle.service.specs.declared.lines.TheConstants.{KEPT}
 use Rattle.service.specs.declared.running.Outcome.{Outcome}
 use Rattle.service.specs.Sending.{Act, IsSentOut}
-use Rattle.service.specs.Served.{AreServed}
-use Rattle.service.specs.Listening.{ListensOn}
-use Rattle.service.specs.Taken.{Line, AreTaken}
+use Rattle.service.specs.Admitted.{Case, AreHeard}
+use Rattle.service.specs.Listening.{IsDeafAsTold, is_fault}
+use Rattle.service.specs.Taken.{DeskSeen, Line, AreTaken, seen}
 use Rattle.service.specs.Ticks.{rises_from, AreTold}
 
 -- ---- what a thread sends through its port until it ends
 
-abbrev pub SendsDatagrams : FeedEnd → PortSeats → PortSeats → Type 0
-SendsDatagrams end old new = (log : Log) × AreServed log old new end
+-- what those say that this admission allows
+abbrev pub SendsDatagrams : Admission → FeedEnd → PortSeats → PortSeats → Type 0
+SendsDatagrams a end old new = (cases : List Case) × (b : Admission) × AreHeard a cases b old new end
 
-abbrev pub SendsLines : List (List ℕ) → FeedEnd → PortSeats → PortSeats → Type 0
-SendsLines mailboxes end old new = (log : List Line) × AreTaken mailboxes log old new end
+-- a desk that takes lines for the mailboxes with these names, and so many workers, and was told nothing yet
+pub record IsFresh (mailboxes : List (List ℕ)) (workers : ℕ) (desk : DeskSeen) : Type 0 where
+  pub untold : AreUntold mailboxes desk.rows
+  pub unkept : desk.kept ≡ buffer [] KEPT
+  pub workers_are : desk.workers ≡ max 1 workers
+
+abbrev pub SendsLinesOf : DeskSeen → FeedEnd → PortSeats → PortSeats → Type 0
+SendsLinesOf desk end old new = (log : List Line) × AreTaken desk log old new end
+
+abbrev pub SendsLines : List (List ℕ) → ℕ → FeedEnd → PortSeats → PortSeats → Type 0
+SendsLines mailboxes workers end old new = (desk : DeskSeen) × IsFresh mailboxes workers desk × SendsLinesOf desk end old new
 
 abbrev pub SendsTicks : FeedEnd → PortSeats → PortSeats → Type 0
 SendsTicks end old new = (times : List ℕ) × rises_from 0 times × AreTold times old new end
 
 abbrev pub SendsFor : Task → FeedEnd → PortSeats → PortSeats → Type 0
-SendsFor (task.Datagrams desk) end old new = SendsDatagrams end old new
-SendsFor (task.Lines desk) end old new = SendsLines desk.mailboxes.items end old new
+SendsFor (task.Datagrams desk) end old new = SendsDatagrams desk.admission end old new
+SendsFor (task.Lines desk) end old new = SendsLinesOf (seen desk) end old new
 SendsFor (task.Time stopwatch) end old new = SendsTicks end old new
 
 -- a port was sent through and then closed: each worker has its end mark then, or only some have it, and one at least has not,
@@ -61,15 +74,15 @@ pub record ThenCloses (sends : PortSeats → PortSeats → Type 0) (old new : Po
   pub ends : IsShut fed_to new
   pub seats : SameSeats old new
 
--- what a thread leaves of what it was to send: what it read by was deaf where it tells of a fault, and not else. A clock that
--- failed once is one
+-- what a thread leaves of what it was to send: a wire that is deaf exactly where it was before or the thread tells of a fault, or a
+-- clock that failed once more exactly where it does
 abbrev pub FailsFor : Task → Fed → Type 0
 FailsFor (task.Datagrams desk) fed =
     (left : SipDesk UdpWire) × (fed.left ≡ task.Datagrams left)
-    × ListensOn fed.end fed.fails_late (misses desk.coming) (misses left.coming)
+    × IsDeafAsTold (is_fault fed.end || fed.fails_late) (misses desk.coming) (misses left.coming)
 FailsFor (task.Lines desk) fed =
     (left : ControlDesk UdpWire) × (fed.left ≡ task.Lines left)
-    × ListensOn fed.end fed.fails_late (misses desk.coming) (misses left.coming)
+    × IsDeafAsTold (is_fault fed.end || fed.fails_late) (misses desk.coming) (misses left.coming)
 FailsFor (task.Time stopwatch) fed =
     (left : Stopwatch) × (fed.left ≡ task.Time left) × (left.failures ≡ failures_at fed.end stopwatch.failures)
 
@@ -80,27 +93,23 @@ pub record Keeps (task : Task) (old : PortSeats) (fed : Fed) : Type 0 where
 
 -- ---- how it ended
 
-abbrev pub is_fault : FeedEnd → Bool
-is_fault ends.Done = false
-is_fault ends.Fault = true
-is_fault ends.Gone = false
-
--- was a wire deaf by which something comes in, or did the clock fail?
+-- is it told that a wire by which something comes in was deaf, or that the clock failed?
 abbrev pub is_faulty : Outcome → Bool
 is_faulty o = is_fault o.sip || o.sip_fails_late || is_fault o.lines || o.lines_fail_late || is_fault o.time
 
--- each fault is told, and no other: of the wire by which SIP came in and of the one by which lines did, with what was so of their
--- receives before, and of the clock
+-- faults are told truly. Of the wires by which SIP came in and lines did, with what was so of their receives before: each is deaf now
+-- exactly where it was then or a fault of it is told, as its end or late. Of the clock: a read failed exactly where its end tells it
 pub record AreFaults (phones operators : Misses) (o : Outcome) : Type 0 where
-  pub sip : ListensOn o.sip o.sip_fails_late phones (misses o.sip_desk.coming)
-  pub lines : ListensOn o.lines o.lines_fail_late operators (misses o.desk.coming)
+  pub sip : IsDeafAsTold (is_fault o.sip || o.sip_fails_late) phones (misses o.sip_desk.coming)
+  pub lines : IsDeafAsTold (is_fault o.lines || o.lines_fail_late) operators (misses o.desk.coming)
   pub time : o.stopwatch.failures ≡ failures_at o.time 0
 
 -- ---- all of it
 
--- workers with these starts handled, as their reports tell, what the three ports sent until all were closed, and each of their
+-- workers with these starts handled, as their reports tell, what the three ports sent until all were closed, the first of them what those
+-- SIP datagrams say that this admission allows; and each of their
 -- outs was sent, written or failed, in order, and NOTIFYs again as their transactions ask for it, of which so many may be open
-pub record Runs (start : ℕ → Start) (workers repeats : ℕ) (mailboxes : List (List ℕ)) (wire wire' : WireSeen) (writer writer' : WriterSeen) (outcome : Outcome) : Type 0 where
+pub record Runs (start : ℕ → Start) (workers repeats : ℕ) (mailboxes : List (List ℕ)) (admission : Admission) (wire wire' : WireSeen) (writer writer' : WriterSeen) (outcome : Outcome) : Type 0 where
   -- as it was started
   pub crew : List Hired
   pub sip : PortSeats
@@ -112,8 +121,8 @@ pub record Runs (start : ℕ → Start) (workers repeats : ℕ) (mailboxes : Lis
   pub sip_closed : PortSeats
   pub lines_closed : PortSeats
   pub time_closed : PortSeats
-  pub sends_datagrams : ThenCloses (SendsDatagrams outcome.sip) sip sip_closed
-  pub sends_lines : ThenCloses (SendsLines mailboxes outcome.lines) lines lines_closed
+  pub sends_datagrams : ThenCloses (SendsDatagrams admission outcome.sip) sip sip_closed
+  pub sends_lines : ThenCloses (SendsLines mailboxes workers outcome.lines) lines lines_closed
   pub sends_ticks : ThenCloses (SendsTicks outcome.time) time time_closed
   -- what the workers did with it, and which of their outs were got
   pub got : List (Item Out)

@@ -1,134 +1,271 @@
 -- What a service does with control lines, and what it answers.
-use Rattle.std.specs.Prelude.{◌≡◌, ◌≤◌, ℕ, Bool, true, false, List, [], ◌∷◌, ◌++◌, length, map, codes, bytes_eq, ◌⊎◌, Option, Some, None}
-use Rattle.std.specs.List.{filter, filter_map, list_any, AllByRecursion}
+use Rattle.std.specs.Prelude.{◌≡◌, ◌≤◌, ◌+◌, ◌&&◌, not, ℕ, Bool, true, false, List, [], ◌∷◌, ◌++◌, length, map, ◌⊎◌, Option, Some, None, String, string_bytes, if◌then◌else◌}
+use Rattle.std.specs.Int.NonZero.{non_zero_u32_get}
+use Rattle.std.specs.List.{filter, filter_map, AllByRecursion}
+use Rattle.std.specs.Option.{option_map_or}
+use Rattle.std.specs.declared.alloc.Global.{Global}
+use Rattle.circular_buffer.specs.Buffer.{Buffer}
 use Rattle.sip_text.specs.declared.address.Addr.{Addr}
 use Rattle.package.specs.Values.{MailChange, Progress}
 use Rattle.notifier_model.specs.declared.event.Event.{Event}
 use Rattle.notifier_model.specs.declared.event.Event.TheVariants as happened
 use Rattle.crew.specs.Ports.{PortSeats}
 use Rattle.transport.specs.Devices.{one_more, rises}
-use Rattle.scripts.specs.Script.{lf}
 use Rattle.transport.specs.declared.datagram.Datagram.{Datagram}
 use Rattle.transport.specs.Wires.{datagram, Grows}
 use Rattle.feeds.specs.declared.feeding.FeedEnd.{FeedEnd}
 use Rattle.feeds.specs.declared.feeding.FeedEnd.TheVariants as ends
 use Rattle.feeds.specs.Fed.{Sends, Misses}
+use Rattle.control_lines.specs.declared.answer.Answer.{Answer}
 use Rattle.control_lines.specs.declared.answer.Answer.TheVariants as answer
+use Rattle.control_lines.specs.declared.kept.Kept.{Kept}
 use Rattle.control_lines.specs.declared.line.Asked.TheVariants as asked
-use Rattle.control_lines.specs.Lines.{Asks, answer_text}
+use Rattle.control_lines.specs.declared.question.Question.{Question}
+use Rattle.control_lines.specs.declared.question.Question.TheVariants as question
+use Rattle.control_lines.specs.declared.token.Token.{Token}
+use Rattle.control_lines.specs.Kept.{kept_answer, with_answer}
+use Rattle.control_lines.specs.Lines.{Asks, is_answer, answer_text}
+use Rattle.control_lines.specs.Tokens.{token, line}
+use Rattle.told_counts.specs.Told.{Row, place, told}
+use Rattle.service.specs.Told.{IsReport, IsShown, dumped}
 use Rattle.service.specs.declared.lines.Done.{Done}
 use Rattle.service.specs.declared.lines.Done.TheVariants as did
+use Rattle.service.specs.declared.lines.ControlDesk.{ControlDesk}
 
--- one of these mailboxes has this name
-abbrev pub is_held : List (List ℕ) → List ℕ → Bool
-is_held mailboxes name = list_any (λ held. bytes_eq held name) mailboxes
+-- what a desk knows: how many workers the service has, what its mailboxes were last told, and the answers to the last lines with a
+-- token
+pub record DeskSeen : Type 0 where
+  pub workers : ℕ
+  pub rows : List Row
+  pub kept : Buffer Kept
 
--- ---- one line
+abbrev pub seen : {W : Type 0} → ControlDesk W → DeskSeen
+seen d = record { workers = non_zero_u32_get d.workers; rows = d.told; kept = d.kept }
 
--- the line tells that this happened: a mailbox of the service changed, or a transfer went on
-abbrev pub Tells : List (List ℕ) → List ℕ → Event → Type 0
-Tells mailboxes octets e =
-    ((m : MailChange) × Asks octets (asked.Mail m) × (is_held mailboxes m.mailbox ≡ true) × (e ≡ happened.Mail m))
+-- ---- what a line means, behind its token, to a service that was told so of its mailboxes
+
+abbrev pub Has : List Row → List ℕ → Type 0
+Has rows name = (n : ℕ) × (place name rows ≡ Some n)
+
+-- it tells that this happened: a mailbox of the service changed, or a transfer went on
+abbrev pub Tells : List Row → List ℕ → Event → Type 0
+Tells rows octets e =
+    ((m : MailChange) × Asks octets (asked.Mail m) × Has rows m.mailbox × (e ≡ happened.Mail m))
     ⊎ ((p : Progress) × Asks octets (asked.Progress p) × (e ≡ happened.Progress p))
+
+-- the question names a mailbox that the service doesn't have
+abbrev pub NamesNone : List Row → Question → Type 0
+NamesNone rows question.Status = ⊥
+NamesNone rows (question.Show name) = place name rows ≡ None
+NamesNone rows (question.Dump None) = ⊥
+NamesNone rows (question.Dump (Some name)) = place name rows ≡ None
+NamesNone rows (question.Watchers mailbox from) = ⊥
+
+-- it tells or asks of a mailbox that the service doesn't have
+abbrev pub IsUnknown : List Row → List ℕ → Type 0
+IsUnknown rows octets =
+    ((m : MailChange) × Asks octets (asked.Mail m) × (place m.mailbox rows ≡ None))
+    ⊎ ((q : Question) × Asks octets (asked.Question q) × NamesNone rows q)
+
+-- the question asks for the mailboxes from this place on
+abbrev pub BeginsAt : List Row → ℕ → Question → Type 0
+BeginsAt rows n question.Status = ⊥
+BeginsAt rows n (question.Show name) = ⊥
+BeginsAt rows n (question.Dump None) = n ≡ 0
+BeginsAt rows n (question.Dump (Some name)) = (before : ℕ) × (place name rows ≡ Some before) × (n ≡ before + 1)
+BeginsAt rows n (question.Watchers mailbox from) = ⊥
+
+abbrev pub AsksForWatchers : Question → Type 0
+AsksForWatchers q = (mailbox : Option (List ℕ)) × (from : ℕ) × (q ≡ question.Watchers mailbox from)
+
+-- the question asks for this
+abbrev pub IsFound : List Row → Question → Done → Type 0
+IsFound rows q (did.Answered answer.UnknownMailbox) = NamesNone rows q
+IsFound rows q (did.Answered answer.Busy) = AsksForWatchers q
+IsFound rows q did.Counters = q ≡ question.Status
+IsFound rows q (did.Shown n) = (name : List ℕ) × (q ≡ question.Show name) × (place name rows ≡ Some n)
+IsFound rows q (did.Dumped n) = BeginsAt rows n q
+IsFound rows q other = ⊥
+
+-- ---- what is done with it
+
+-- what is told of the mailboxes where this happened
+abbrev pub told_by : Event → List Row → List Row
+told_by (happened.Mail m) rows = told m rows
+told_by other rows = rows
+
+-- nothing was sent, and no mailbox was told anything
+abbrev pub Stays : List Row → List Row → PortSeats → PortSeats → Type 0
+Stays rows rows' old new = (rows' ≡ rows) × (new ≡ old)
 
 -- the event was sent and is answered so, or its worker is gone
 abbrev pub IsSent : PortSeats → Event → PortSeats → Done → Type 0
 IsSent old e new (did.Answered answer.Done) = Sends old (e ∷ []) new
-IsSent old e new (did.Answered answer.BadLine) = ⊥
-IsSent old e new (did.Answered answer.UnknownMailbox) = ⊥
-IsSent old e new (did.Answered answer.Closed) = ⊥
-IsSent old e new (did.Answered answer.NoMemory) = ⊥
-IsSent old e new did.Counters = ⊥
-IsSent old e new did.Closing = ⊥
 IsSent old e new did.Gone = Misses old e new
+IsSent old e new other = ⊥
 
 -- the same of a mailbox's change, where the service has the mailbox
-abbrev pub IsChanged : List (List ℕ) → MailChange → PortSeats → PortSeats → Done → Type 0
-IsChanged mailboxes m old new (did.Answered answer.Done) = (is_held mailboxes m.mailbox ≡ true) × Sends old (happened.Mail m ∷ []) new
-IsChanged mailboxes m old new (did.Answered answer.BadLine) = ⊥
-IsChanged mailboxes m old new (did.Answered answer.UnknownMailbox) = (is_held mailboxes m.mailbox ≡ false) × (new ≡ old)
-IsChanged mailboxes m old new (did.Answered answer.Closed) = ⊥
-IsChanged mailboxes m old new (did.Answered answer.NoMemory) = ⊥
-IsChanged mailboxes m old new did.Counters = ⊥
-IsChanged mailboxes m old new did.Closing = ⊥
-IsChanged mailboxes m old new did.Gone = (is_held mailboxes m.mailbox ≡ true) × Misses old (happened.Mail m) new
+abbrev pub IsChanged : MailChange → List Row → List Row → PortSeats → PortSeats → Done → Type 0
+IsChanged m rows rows' old new (did.Answered answer.Done) = Has rows m.mailbox × (rows' ≡ told m rows) × Sends old (happened.Mail m ∷ []) new
+IsChanged m rows rows' old new (did.Answered answer.UnknownMailbox) = (place m.mailbox rows ≡ None) × Stays rows rows' old new
+IsChanged m rows rows' old new did.Gone = Has rows m.mailbox × (rows' ≡ told m rows) × Misses old (happened.Mail m) new
+IsChanged m rows rows' old new other = ⊥
 
 -- what was done with the line: but for a CLOSE, `ok` only where its event went to its worker, and nothing is sent with any other
 -- answer
-abbrev pub IsDone : List (List ℕ) → List ℕ → PortSeats → PortSeats → Done → Type 0
-IsDone mailboxes octets old new (did.Answered answer.Done) = (e : Event) × Tells mailboxes octets e × Sends old (e ∷ []) new
-IsDone mailboxes octets old new (did.Answered answer.BadLine) = Asks octets asked.Bad × (new ≡ old)
-IsDone mailboxes octets old new (did.Answered answer.UnknownMailbox) =
-    (m : MailChange) × Asks octets (asked.Mail m) × (is_held mailboxes m.mailbox ≡ false) × (new ≡ old)
-IsDone mailboxes octets old new (did.Answered answer.Closed) = ⊥
-IsDone mailboxes octets old new (did.Answered answer.NoMemory) = new ≡ old
-IsDone mailboxes octets old new did.Counters = Asks octets asked.Status × (new ≡ old)
-IsDone mailboxes octets old new did.Closing = Asks octets asked.Close × (new ≡ old)
-IsDone mailboxes octets old new did.Gone = (e : Event) × Tells mailboxes octets e × Misses old e new
+abbrev pub IsDone : List ℕ → List Row → List Row → PortSeats → PortSeats → Done → Type 0
+IsDone octets rows rows' old new (did.Answered answer.Done) =
+    (e : Event) × Tells rows octets e × (rows' ≡ told_by e rows) × Sends old (e ∷ []) new
+IsDone octets rows rows' old new (did.Answered answer.BadLine) = Asks octets asked.Bad × Stays rows rows' old new
+IsDone octets rows rows' old new (did.Answered answer.UnknownMailbox) = IsUnknown rows octets × Stays rows rows' old new
+IsDone octets rows rows' old new (did.Answered answer.Closed) = ⊥
+IsDone octets rows rows' old new (did.Answered answer.NoMemory) = Stays rows rows' old new
+IsDone octets rows rows' old new (did.Answered answer.Busy) =
+    (q : Question) × Asks octets (asked.Question q) × AsksForWatchers q × Stays rows rows' old new
+IsDone octets rows rows' old new (did.Repeated a) = ⊥
+IsDone octets rows rows' old new did.Unanswered = Asks octets asked.Nothing × Stays rows rows' old new
+IsDone octets rows rows' old new did.Counters = Asks octets (asked.Question question.Status) × Stays rows rows' old new
+IsDone octets rows rows' old new (did.Shown n) =
+    (name : List ℕ) × Asks octets (asked.Question (question.Show name)) × (place name rows ≡ Some n) × Stays rows rows' old new
+IsDone octets rows rows' old new (did.Dumped n) =
+    (q : Question) × Asks octets (asked.Question q) × BeginsAt rows n q × Stays rows rows' old new
+IsDone octets rows rows' old new did.Closing = Asks octets asked.Close × Stays rows rows' old new
+IsDone octets rows rows' old new did.Gone = (e : Event) × Tells rows octets e × (rows' ≡ told_by e rows) × Misses old e new
+
+-- the answers that are kept, with that to a line with this token, if it is kept
+abbrev pub kept_with : Bool → Option Token → Done → Buffer Kept → Buffer Kept
+kept_with false t d kept = kept
+kept_with true t (did.Answered a) kept = with_answer kept t a
+kept_with true t other kept = kept
+
+-- its token was answered so before, and nothing was done with it
+abbrev pub IsAgain : List ℕ → DeskSeen → DeskSeen → PortSeats → PortSeats → Done → Type 0
+IsAgain octets desk desk' old new d =
+    (a : Answer) × (d ≡ did.Repeated a) × (kept_answer desk.kept.items (token octets) ≡ Some a) × (desk' ≡ desk) × (new ≡ old)
+
+-- it has no token, or one that has no answer yet
+abbrev pub IsNews : List ℕ → DeskSeen → DeskSeen → PortSeats → PortSeats → Done → Type 0
+IsNews octets desk desk' old new d =
+    (kept_answer desk.kept.items (token octets) ≡ None)
+    × (is_kept : Bool) × (rows' : List Row)
+    × (desk' ≡ record { workers = desk.workers; rows = rows'; kept = kept_with is_kept (token octets) d desk.kept })
+    × IsDone (line octets) desk.rows rows' old new d
+
+abbrev pub IsTaken : List ℕ → DeskSeen → DeskSeen → PortSeats → PortSeats → Done → Type 0
+IsTaken octets desk desk' old new d = IsAgain octets desk desk' old new d ⊎ IsNews octets desk desk' old new d
 
 -- how the taking of lines ends after this, if it does
 abbrev pub end_after : Done → Option FeedEnd
-end_after (did.Answered a) = None
-end_after did.Counters = None
 end_after did.Closing = Some ends.Done
 end_after did.Gone = Some ends.Gone
+end_after other = None
 
 -- ---- its answer
 
--- it begins as an `ok` with lines behind it
-abbrev pub IsReport : List ℕ → Type 0
-IsReport octets = (rest : List ℕ) × (octets ≡ codes "ok" ++ (lf ++ rest))
+-- what a question was told, or that there was no memory for that
+abbrev pub report_or_none : Option (String Global) → List ℕ
+report_or_none text = option_map_or string_bytes text (answer_text answer.NoMemory)
 
--- these bytes answer it. The counters may want memory
-abbrev pub IsReply : Done → List ℕ → Type 0
-IsReply (did.Answered a) octets = octets ≡ answer_text a
-IsReply did.Counters octets = IsReport octets ⊎ (octets ≡ answer_text answer.NoMemory)
-IsReply did.Closing octets = octets ≡ answer_text answer.Done
-IsReply did.Gone octets = octets ≡ answer_text answer.Closed
+abbrev pub IsReply : DeskSeen → Done → List ℕ → Type 0
+IsReply desk (did.Answered a) octets = octets ≡ answer_text a
+IsReply desk (did.Repeated a) octets = octets ≡ answer_text a
+IsReply desk did.Unanswered octets = ⊥
+IsReply desk did.Counters octets = IsReport octets ⊎ (octets ≡ answer_text answer.NoMemory)
+IsReply desk (did.Shown n) octets = IsShown desk.rows desk.workers n octets ⊎ (octets ≡ answer_text answer.NoMemory)
+IsReply desk (did.Dumped n) octets = (octets ≡ dumped desk.rows n) ⊎ (octets ≡ answer_text answer.NoMemory)
+IsReply desk did.Closing octets = octets ≡ answer_text answer.Done
+IsReply desk did.Gone octets = octets ≡ answer_text answer.Closed
 
--- an answer that was sent, or none where the wire failed at it
-abbrev pub MayReply : Done → Option (List ℕ) → Type 0
-MayReply d None = Unit {0}
-MayReply d (Some octets) = IsReply d octets
+-- an answer that was sent, or none: the line gets none, or the wire failed at it
+abbrev pub MayReply : DeskSeen → Done → Option (List ℕ) → Type 0
+MayReply desk d None = Unit {0}
+MayReply desk d (Some octets) = IsReply desk d octets
 
--- a wire that has taken this answer, or failed at it once
-abbrev pub Replies : Addr → Option (List ℕ) → Option (List Datagram) → Option (List Datagram) → ℕ → ℕ → Type 0
-Replies to None old new failures failures' = Grows old new [] × (failures' ≡ one_more failures)
-Replies to (Some octets) old new failures failures' = Grows old new (datagram to octets ∷ []) × (failures' ≡ failures)
+-- an answer itself gets none
+abbrev pub gets_answer : Done → Bool
+gets_answer did.Unanswered = false
+gets_answer other = true
+
+-- a count of failures, after one more or none
+abbrev pub failures_then : Bool → ℕ → ℕ
+failures_then false n = n
+failures_then true n = one_more n
+
+-- a wire that has taken this answer, or none, and failed once where one was due
+abbrev pub Replies : Bool → Addr → Option (List ℕ) → Option (List Datagram) → Option (List Datagram) → ℕ → ℕ → Type 0
+Replies due to None old new failures failures' = Grows old new [] × (failures' ≡ failures_then due failures)
+Replies due to (Some octets) old new failures failures' = Grows old new (datagram to octets ∷ []) × (failures' ≡ failures)
 
 -- the wire took these bytes as an answer, or failed at it once
 abbrev pub Offers : Addr → List ℕ → Option (List Datagram) → Option (List Datagram) → ℕ → ℕ → Type 0
 Offers to octets old new failures failures' =
-    Replies to (Some octets) old new failures failures' ⊎ Replies to None old new failures failures'
+    Replies true to (Some octets) old new failures failures' ⊎ Replies true to None old new failures failures'
 
--- what was done was answered so, once, or the wire failed at it
-abbrev pub IsAnswered : Done → Addr → Option (List Datagram) → Option (List Datagram) → ℕ → ℕ → Type 0
-IsAnswered d to old new failures failures' = (sent : Option (List ℕ)) × MayReply d sent × Replies to sent old new failures failures'
+-- what was done was answered so, once, or the wire failed at it, or it gets no answer
+abbrev pub IsAnswered : DeskSeen → Done → Addr → Option (List Datagram) → Option (List Datagram) → ℕ → ℕ → Type 0
+IsAnswered desk d to old new failures failures' =
+    (sent : Option (List ℕ)) × MayReply desk d sent × Replies (gets_answer d) to sent old new failures failures'
 
 -- ---- all lines
 
--- a line that came, the event that it tells, what was done, and the answer that was sent
+-- a line that came, the event that it tells, what was done, whether the answer to its token was kept, and the answer that was sent
 pub record Line : Type 0 where
   pub came : Datagram
   pub event : Option Event
   pub done : Done
+  pub is_kept : Bool
   pub reply : Option (List ℕ)
 
-abbrev pub IsMeant : List (List ℕ) → List ℕ → Option Event → Done → Type 0
-IsMeant mailboxes octets told (did.Answered answer.Done) = (e : Event) × (told ≡ Some e) × Tells mailboxes octets e
-IsMeant mailboxes octets told (did.Answered answer.BadLine) = (told ≡ None) × Asks octets asked.Bad
-IsMeant mailboxes octets told (did.Answered answer.UnknownMailbox) =
-    (m : MailChange) × (told ≡ None) × Asks octets (asked.Mail m) × (is_held mailboxes m.mailbox ≡ false)
-IsMeant mailboxes octets told (did.Answered answer.Closed) = ⊥
-IsMeant mailboxes octets told (did.Answered answer.NoMemory) = told ≡ None
-IsMeant mailboxes octets told did.Counters = (told ≡ None) × Asks octets asked.Status
-IsMeant mailboxes octets told did.Closing = (told ≡ None) × Asks octets asked.Close
-IsMeant mailboxes octets told did.Gone = (e : Event) × (told ≡ Some e) × Tells mailboxes octets e
+-- what was done with a line that was not answered before, behind its token
+abbrev pub Means : List Row → List ℕ → Option Event → Done → Type 0
+Means rows octets event (did.Answered answer.Done) = (e : Event) × (event ≡ Some e) × Tells rows octets e
+Means rows octets event (did.Answered answer.BadLine) = (event ≡ None) × Asks octets asked.Bad
+Means rows octets event (did.Answered answer.UnknownMailbox) = (event ≡ None) × IsUnknown rows octets
+Means rows octets event (did.Answered answer.Closed) = ⊥
+Means rows octets event (did.Answered answer.NoMemory) = event ≡ None
+Means rows octets event (did.Answered answer.Busy) = (event ≡ None) × (q : Question) × Asks octets (asked.Question q) × AsksForWatchers q
+Means rows octets event (did.Repeated a) = ⊥
+Means rows octets event did.Unanswered = (event ≡ None) × Asks octets asked.Nothing
+Means rows octets event did.Counters = (event ≡ None) × Asks octets (asked.Question question.Status)
+Means rows octets event (did.Shown n) =
+    (event ≡ None) × (name : List ℕ) × Asks octets (asked.Question (question.Show name)) × (place name rows ≡ Some n)
+Means rows octets event (did.Dumped n) = (event ≡ None) × (q : Question) × Asks octets (asked.Question q) × BeginsAt rows n q
+Means rows octets event did.Closing = (event ≡ None) × Asks octets asked.Close
+Means rows octets event did.Gone = (e : Event) × (event ≡ Some e) × Tells rows octets e
 
--- it means what was done, and is answered accordingly
-pub record IsLine (mailboxes : List (List ℕ)) (line : Line) : Type 0 where
-  pub meant : IsMeant mailboxes line.came.octets line.event line.done
-  pub answered : MayReply line.done line.reply
+-- its token was answered so before, or it has none or one that was not, and means what was done
+abbrev pub IsMeant : DeskSeen → List ℕ → Option Event → Done → Type 0
+IsMeant desk octets event d =
+    ((a : Answer) × (event ≡ None) × (d ≡ did.Repeated a) × (kept_answer desk.kept.items (token octets) ≡ Some a))
+    ⊎ ((kept_answer desk.kept.items (token octets) ≡ None) × Means desk.rows (line octets) event d)
+
+-- ---- what the desk knows
+
+abbrev pub rows_after : Option Event → List Row → List Row
+rows_after None rows = rows
+rows_after (Some e) rows = told_by e rows
+
+abbrev pub desk_after : Line → DeskSeen → DeskSeen
+desk_after l desk = record {
+  workers = desk.workers;
+  rows = rows_after l.event desk.rows;
+  kept = kept_with l.is_kept (token l.came.octets) l.done desk.kept;
+}
+
+-- after these lines, in order
+abbrev pub desk_then : List Line → DeskSeen → DeskSeen
+desk_then [] desk = desk
+desk_then (l ∷ log) desk = desk_then log (desk_after l desk)
+
+-- it means what was done by a desk that knows this, and is answered by what that knows then
+pub record IsLine (desk : DeskSeen) (l : Line) : Type 0 where
+  pub meant : IsMeant desk l.came.octets l.event l.done
+  pub answered : MayReply (desk_after l desk) l.done l.reply
+
+-- each of these lines is done and answered by what the lines before it told
+abbrev pub AreLines : DeskSeen → List Line → Type 0
+AreLines desk [] = Unit {0}
+AreLines desk (l ∷ log) = IsLine desk l × AreLines (desk_after l desk) log
 
 abbrev pub datagrams_of : List Line → List Datagram
 datagrams_of log = map (λ (l : Line). l.came) log
@@ -149,9 +286,13 @@ abbrev pub is_none : Option (List ℕ) → Bool
 is_none None = true
 is_none (Some octets) = false
 
+-- the line has no answer, and one was due
+abbrev pub has_none : Line → Bool
+has_none l = gets_answer l.done && is_none l.reply
+
 -- how many lines the wire failed to answer
 abbrev pub unanswered : List Line → ℕ
-unanswered log = length (filter (λ (l : Line). is_none l.reply) log)
+unanswered log = length (filter has_none log)
 
 -- the event of the last line was missed, and those before it were sent
 pub record MissesLine (log : List Line) (old new : PortSeats) : Type 0 where
@@ -190,9 +331,9 @@ Stops log ends.Done = EndsWith did.Closing log ⊎ AllGoOn log
 Stops log ends.Fault = AllGoOn log
 Stops log ends.Gone = EndsWith did.Gone log
 
--- each of these lines was done as it asks, until one ended it, and the port has sent their events
-pub record AreTaken (mailboxes : List (List ℕ)) (log : List Line) (old new : PortSeats) (end : FeedEnd) : Type 0 where
-  pub each : AllByRecursion (IsLine mailboxes) log
+-- each of these lines was done as it asks by a desk that knew this at first, until one ended it, and the port has sent their events
+pub record AreTaken (desk : DeskSeen) (log : List Line) (old new : PortSeats) (end : FeedEnd) : Type 0 where
+  pub each : AreLines desk log
   pub stops : Stops log end
   pub sends : SendsLines log old new end
 
@@ -207,20 +348,23 @@ abbrev pub has_octets : List ℕ → Bool
 has_octets [] = false
 has_octets (octet ∷ octets) = true
 
+-- these bytes get an answer: they are some, and no answer themselves
+abbrev pub is_due : List ℕ → Bool
+is_due octets = has_octets octets && not (is_answer octets)
+
 abbrev pub is_line : Datagram → Bool
-is_line d = has_octets d.octets
+is_line d = is_due d.octets
 
--- a count of failures, after one more or none
-abbrev pub failures_then : Bool → ℕ → ℕ
-failures_then false n = n
-failures_then true n = one_more n
+-- it was answered `closed`, or the wire failed at it
+abbrev pub IsRefused : Line → Type 0
+IsRefused l = (l.done ≡ did.Answered answer.Closed) × ((l.reply ≡ Some (answer_text answer.Closed)) ⊎ (l.reply ≡ None))
 
--- what came until all was sent out, or until nothing could come any more: each that isn't empty was answered `closed`, or the other
--- wire failed at it, and nothing else was sent
+-- what came until all was sent out, or until nothing could come any more: each that isn't empty and no answer itself was answered
+-- `closed`, or the other wire failed at it, and nothing else was sent
 pub record AreRefused (given given' taken taken' : Option (List Datagram)) (failures failures' : ℕ) : Type 0 where
   pub came : List Datagram
   pub gave : Grows given given' came
   pub log : List Line
   pub lines : datagrams_of log ≡ filter is_line came
-  pub each : AllByRecursion (λ (l : Line). MayReply (did.Answered answer.Closed) l.reply) log
+  pub each : AllByRecursion IsRefused log
   pub answered : AreAnswered log taken taken' failures failures'

@@ -1,48 +1,152 @@
-//! What SIP datagrams say, sent on.
-ghost use Rattle.std.specs.Prelude.{◌≡◌, ◌<◌, List, [], nat_le};
+//! What SIP datagrams say, sent on where their sources are heard.
+ghost use Rattle.std.specs.Prelude.{◌≡◌, ◌≤◌, ◌<◌, List, Option, [], true, nat_le, IfSome};
 ghost use Rattle.std.specs.List.{filter};
+ghost use Rattle.admission.specs.declared.judging.Verdict.{Verdict as VerdictSeen};
+ghost use Rattle.admission.specs.Verdicts.{hears};
 ghost use Rattle.crew.specs.Kept.{SameSeats};
 ghost use Rattle.transport.specs.Wires.{Grows};
 ghost use Rattle.feeds.specs.Heard.{SipSays};
-ghost use Rattle.feeds.specs.Fed.{Log, datagrams};
-ghost use Rattle.service.specs.Listening.{ListensUntil, ListensStill};
-ghost use Rattle.service.specs.Served as spec;
-ghost use Rattle.service.specs.Served.{AreServed, is_short};
+ghost use Rattle.service.specs.Admitted as spec;
+ghost use Rattle.service.specs.Admitted.{Case, IsRead, Meets, Refuses, arrived, AreHeard, AreRefused};
+ghost use Rattle.service.specs.Listening.{IsDeafAsTold, is_fault};
+ghost use Rattle.service.specs.Served.{is_gone, is_short};
 ghost use Rattle.transport.specs.declared.datagram.Datagram.{Datagram};
 
 use crate::listening::{FaultLog, receive};
 use crate::shared::{Counter, Shared};
+use admission::{Admission, Arrival, Cause, Reading, Verdict};
 use crew::Port;
 use feeds::{FeedEnd, Heard, Told, hear_message, tell};
-use sip_read::{Message, ReadError, read};
-use sip_text::Addr;
+use notifier_model::Event;
+use sip_read::{ReadError, read};
+use sip_text::{Addr, Octets};
 use std::alloc::Global;
 use std::rt::Clock;
 use std::sync::Wait;
-use transport::Ear;
+use transport::{Ear, Wire};
 
 /// The room for a datagram: none is longer.
 const ROOM: usize = 65536;
 
-/// Counts the cause for which a datagram couldn't be read, if it couldn't.
-fn count_cause(shared: &Shared, message: &Result<Message, ReadError>) {
-    if let Err(error) = message {
-        shared.count_unread(error);
+/// What a SIP datagram says, and why it can't be read, if it can't.
+#[derive(Drop)]
+struct Said {
+    heard: Heard,
+    error: Option<ReadError>,
+}
+
+/// Reads a SIP datagram.
+fn hear(alloc: Global, source: Addr, octets: &[u8]) -> Said
+    ensures { SipSays source octets.now result.heard }
+{
+    let message = read(alloc, octets);
+    let error = message.as_ref().err().copied();
+    Said {
+        heard: hear_message(source, message),
+        error,
     }
 }
 
-/// What a SIP datagram says. Where it can't be read, the cause is counted.
-fn hear(alloc: Global, shared: &Shared, source: Addr, octets: &[u8]) -> Heard
-    ensures { SipSays source octets.now result }
+/// What was read, as the admission is told of it.
+fn reading(heard: &Heard) -> Reading<'_>
+    ensures { IsRead heard.now result }
 {
-    let message = read(alloc, octets);
-    count_cause(shared, &message);
-    hear_message(source, message)
+    match heard {
+        Heard::Event(Event::Request(_, request)) => Reading::Request(request),
+        Heard::Event(Event::Reply(_)) => Reading::Response,
+        _ => Reading::Unread,
+    }
+}
+
+/// Counts why a datagram can't be read, if it can't.
+fn count_unread(shared: &Shared, error: Option<ReadError>) {
+    if let Some(error) = error {
+        shared.count_unread(&error);
+    }
+}
+
+/// Counts a request that is challenged, by its cause.
+fn count_challenge(shared: &Shared, cause: Cause) {
+    match cause {
+        Cause::Absent => shared.count(Counter::Challenged),
+        Cause::Malformed | Cause::Wrong => {
+            shared.count(Counter::Challenged);
+            shared.count(Counter::Wrong);
+        }
+        Cause::Stale => shared.count(Counter::Stale),
+    }
+}
+
+/// Counts a datagram that isn't heard, by its verdict.
+fn count_verdict(shared: &Shared, verdict: &Verdict) {
+    match verdict {
+        Verdict::Allowed => {}
+        Verdict::Foreign => shared.count(Counter::Foreign),
+        Verdict::Limited => shared.count(Counter::Limited),
+        Verdict::Challenge(cause, _) => count_challenge(shared, *cause),
+        Verdict::Forbidden(_) => shared.count(Counter::Forbidden),
+    }
+}
+
+/// Whether it is heard.
+fn allows(verdict: &Verdict) -> bool
+    ensures { result ≡ spec.allows verdict.now }
+{
+    matches!(verdict, Verdict::Allowed)
+}
+
+/// What goes to the source of a datagram that isn't heard, if it may be told.
+fn refusal(verdict: Verdict) -> Option<Octets>
+    ensures { result ≡ spec.refusal verdict }
+{
+    match verdict {
+        Verdict::Challenge(_, octets) | Verdict::Forbidden(octets) => Some(octets),
+        Verdict::Allowed | Verdict::Foreign | Verdict::Limited => None,
+    }
+}
+
+/// Sends a refusal to who is refused. One that can't be sent is counted: who asked asks again.
+fn send_refusal<R: Wait, W: Wire>(rt: &R, wire: &mut W, shared: &Shared, to: Addr, octets: &[u8])
+    ensures refused { Refuses to (Some octets.now)
+        (W.taken wire.old) (W.taken wire.new) (W.failures wire.old) (W.failures wire.new) }
+    ensures given { Grows (W.given wire.old) (W.given wire.new) [] }
+{
+    if wire.send(rt, to, octets).is_err() {
+        shared.count(Counter::Failed);
+    }
+}
+
+/// The same of a refusal, if there is one.
+fn refuse<R: Wait, W: Wire>(
+    rt: &R,
+    wire: &mut W,
+    shared: &Shared,
+    to: Addr,
+    refusal: Option<Octets>,
+)
+    ensures refused { Refuses to refusal
+        (W.taken wire.old) (W.taken wire.new) (W.failures wire.old) (W.failures wire.new) }
+    ensures given { Grows (W.given wire.old) (W.given wire.new) [] }
+{
+    match refusal {
+        Some(octets) => send_refusal(rt, wire, shared, to, octets.as_slice()),
+        None => {}
+    }
+}
+
+/// A moment of the service, in milliseconds, that isn't before this one. Where the clock can't be read it is this one.
+fn next_moment<R: Clock>(rt: &R, shared: &Shared, earlier: u64) -> u64
+    ensures { earlier ≤ result }
+{
+    match shared.moment(rt) {
+        Some(now) => now.max(earlier),
+        None => earlier,
+    }
 }
 
 /// Whether the worker of an event is gone. An event that was sent is counted.
 fn is_gone(shared: &Shared, told: Told) -> bool
-    ensures { result ≡ spec.is_gone told }
+    ensures { result ≡ is_gone told }
 {
     match told {
         Told::Gone => true,
@@ -59,8 +163,12 @@ fn is_gone(shared: &Shared, told: Told) -> bool
 pub struct SipDesk<W> {
     /// Where they come in.
     pub coming: W,
+    /// Where refusals leave: the other end of the same socket.
+    pub going: W,
     /// How many octets a datagram has at most that is read.
     pub longest: u32,
+    /// Who is heard.
+    pub admission: Admission,
 }
 
 impl<W: Ear> SipDesk<W> {
@@ -75,9 +183,43 @@ impl<W: Ear> SipDesk<W> {
         is_short
     }
 
-    /// Sends what SIP datagrams say, until the service closes, the wire is deaf or a worker is gone. What can't be read, or is too
-    /// long, is counted and dropped. Of an answer to a NOTIFY a note is put first, for the thread that sends NOTIFYs again. The port
-    /// isn't closed.
+    /// Whether the datagram is heard. Any other is counted by its verdict. A refusal goes to its source.
+    fn admits<R: Wait>(
+        &mut self,
+        rt: &R,
+        alloc: Global,
+        shared: &Shared,
+        arrival: Arrival<'_>,
+    ) -> bool
+        ensures admits { (v : Option VerdictSeen)
+            × Meets self.old.admission arrival.entry v self.new.admission
+            × (result ≡ spec.is_allowed v)
+            × Refuses arrival.entry.source (spec.refusal_in v)
+            (W.taken self.old.going) (W.taken self.new.going)
+            (W.failures self.old.going) (W.failures self.new.going) }
+        ensures given { Grows (W.given self.old.going) (W.given self.new.going) [] }
+        ensures coming { self.new.coming ≡ self.old.coming }
+        ensures longest { self.new.longest ≡ self.old.longest }
+    {
+        let Ok(verdict) = self.admission.judge(alloc, arrival) else {
+            shared.count_unread(&ReadError::NoMemory);
+            return false;
+        };
+        count_verdict(shared, &verdict);
+        let is_allowed = allows(&verdict);
+        refuse(
+            rt,
+            &mut self.going,
+            shared,
+            arrival.source,
+            refusal(verdict),
+        );
+        is_allowed
+    }
+
+    /// Sends what SIP datagrams say whose sources are heard, until the service closes, the wire is deaf or a worker is gone. Who isn't
+    /// heard for a reason that may be told gets a refusal (RFC 3261 sections 21.4.2 and 21.4.4). What can't be read, or is too long, is
+    /// counted and dropped. Of an answer to a NOTIFY a note is put first, for the thread that sends NOTIFYs again. The port isn't closed.
     pub fn hear_datagrams<R: Wait + Clock + Eprint>(
         &mut self,
         rt: &R,
@@ -86,18 +228,24 @@ impl<W: Ear> SipDesk<W> {
         shared: &Shared,
     ) -> FeedEnd
         requires still_open { 0 < port.old.still_open }
-        // Each datagram that came is handed on, but for those that are too long.
-        ensures served { (came : List Datagram) × (log : Log)
+        // Each datagram that came is judged, but for those that are too long. Those that are allowed are handed on, and a refusal goes to
+        // the source of each that is refused.
+        ensures served { (came : List Datagram) × (cases : List Case)
             × Grows (W.given self.old.coming) (W.given self.new.coming) came
-            × (datagrams log ≡ filter (is_short self.old.longest) came)
-            × AreServed log port.old port.new result }
-        ensures until { ListensUntil result (W.misses self.old.coming) (W.misses self.new.coming) }
+            × (arrived cases ≡ filter (is_short self.old.longest) came)
+            × AreHeard self.old.admission cases self.new.admission port.old port.new result
+            × AreRefused cases (W.taken self.old.going) (W.taken self.new.going)
+            (W.failures self.old.going) (W.failures self.new.going) }
+        // Nothing is sent where datagrams come in, and nothing is received where refusals go.
         ensures taken { Grows (W.taken self.old.coming) (W.taken self.new.coming) [] }
+        ensures going { Grows (W.given self.old.going) (W.given self.new.going) [] }
+        ensures deaf { IsDeafAsTold (is_fault result) (W.misses self.old.coming) (W.misses self.new.coming) }
         ensures longest { self.new.longest ≡ self.old.longest }
         ensures seats { SameSeats port.old port.new }
     {
         let mut octets = [0; ROOM];
         let mut log = FaultLog::new();
+        let mut moment = 0;
         for _ in rt.forever() {
             if shared.is_closing() {
                 return FeedEnd::Done;
@@ -112,9 +260,20 @@ impl<W: Ear> SipDesk<W> {
             if !self.takes(shared, length) {
                 continue;
             }
-            let heard = hear(alloc, shared, source, &octets[..length]);
-            shared.notes.put(rt, alloc, &heard);
-            let told = tell(rt, port, heard);
+            moment = next_moment(rt, shared, moment);
+            let said = hear(alloc, source, &octets[..length]);
+            let arrival = Arrival {
+                octets: &octets[..length],
+                reading: reading(&said.heard),
+                source,
+                moment,
+            };
+            if !self.admits(rt, alloc, shared, arrival) {
+                continue;
+            }
+            count_unread(shared, said.error);
+            shared.notes.put(rt, alloc, &said.heard);
+            let told = tell(rt, port, said.heard);
             if is_gone(shared, told) {
                 return FeedEnd::Gone;
             }
@@ -122,8 +281,32 @@ impl<W: Ear> SipDesk<W> {
         unreachable!()
     }
 
-    /// Puts notes of the answers to NOTIFYs that come while the service closes, until all was sent out or the wire is deaf: true
-    /// then. Any other datagram is dropped.
+    /// What a datagram says that comes while the service closes, where its source is heard and it isn't too long. Anything else is counted.
+    fn hear_late(
+        &self,
+        alloc: Global,
+        shared: &Shared,
+        source: Addr,
+        octets: &[u8],
+    ) -> Option<Heard>
+        ensures near { IfSome result (λ heard. hears self.now.admission source.ip ≡ true) }
+        ensures says { IfSome result (SipSays source octets.now) }
+    {
+        if !self.takes(shared, octets.len()) {
+            return None;
+        }
+        if !self.admission.hears(source.ip) {
+            shared.count(Counter::Foreign);
+            return None;
+        }
+        let said = hear(alloc, source, octets);
+        count_unread(shared, said.error);
+        Some(said.heard)
+    }
+
+    /// Puts notes of the answers to NOTIFYs that come while the service closes from sources that are heard, until all was sent out or the
+    /// wire is deaf: true then. Any other datagram is dropped. Answers take no token and are asked for no password, so none is judged
+    /// further.
     pub fn hear_answers<R: Wait + Clock + Eprint>(
         &mut self,
         rt: &R,
@@ -132,9 +315,11 @@ impl<W: Ear> SipDesk<W> {
     ) -> bool
         ensures given { (came : List Datagram)
             × Grows (W.given self.old.coming) (W.given self.new.coming) came }
-        ensures until { ListensStill result (W.misses self.old.coming) (W.misses self.new.coming) }
+        ensures deaf { IsDeafAsTold result (W.misses self.old.coming) (W.misses self.new.coming) }
         ensures taken { Grows (W.taken self.old.coming) (W.taken self.new.coming) [] }
+        ensures going { self.new.going ≡ self.old.going }
         ensures longest { self.new.longest ≡ self.old.longest }
+        ensures admission { self.new.admission ≡ self.old.admission }
     {
         let mut octets = [0; ROOM];
         let mut log = FaultLog::new();
@@ -148,8 +333,7 @@ impl<W: Ear> SipDesk<W> {
             let Some((length, source)) = came else {
                 continue;
             };
-            if self.takes(shared, length) {
-                let heard = hear(alloc, shared, source, &octets[..length]);
+            if let Some(heard) = self.hear_late(alloc, shared, source, &octets[..length]) {
                 shared.notes.put(rt, alloc, &heard);
             }
         }

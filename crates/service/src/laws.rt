@@ -1,9 +1,21 @@
-//! Laws of what a service sends again, over the definitions alone.
+//! Laws of whom a service hears and what it sends again, over the definitions alone.
 
+ghost use Rattle.service.specs.Admitted.{EachIsVouched, OpenHearsAll};
 ghost use Rattle.service.specs.Sending.{EachRepeatIsOfANotify};
 
 /// What is sent again is the datagram of a NOTIFY that was put before, half a second before at least and less than 32 seconds before
 /// (RFC 3261 section 17.1.2.2), and no answer that ends it was noted since.
 pub fn each_repeat()
     ensures { EachRepeatIsOfANotify }
+{}
+
+/// Where a service has passwords, each SUBSCRIBE and each REFER that its port was sent answered a challenge (RFC 3261 section 22) which the
+/// definition accepts, for its source, at a moment of the service.
+pub fn each_is_vouched()
+    ensures { EachIsVouched }
+{}
+
+/// Where it asks nothing, all datagrams that are not too long are sent on, and none is refused.
+pub fn open_hears_all()
+    ensures { OpenHearsAll }
 {}

@@ -1,6 +1,6 @@
 //! A service: the threads that feed a crew for as long as it runs, and the one that sends what it posts.
 //!
-//! Three threads feed the ports of a crew: one with the SIP datagrams of a socket ([`SipDesk`]), one with control
+//! Three threads feed the ports of a crew: one with the SIP datagrams of a socket whose sources are heard ([`SipDesk`]), one with control
 //! lines, each of which it answers ([`ControlDesk`]), one with the time (`tell_time`). The calling thread sends out what the
 //! workers post (`send_outs`). [`run_crew`] starts all of them, and ends at CLOSE, a deaf socket, a fault of the clock, or a
 //! worker that is gone.
@@ -19,7 +19,7 @@
 //!
 //! What it isn't: what the workers do is `notifier`'s, what a port sends `crew`'s, and what a datagram says `feeds`'s; the
 //! counters of [`Shared`] are no part of any contract. Begin with [`run_crew`], then `specs/Ticks`, `specs/Listening`, `specs/Served`,
-//! `specs/Taken` and `specs/Running`.
+//! `specs/Admitted`, `specs/Taken` and `specs/Running`.
 #![tactic(auto)]
 
 mod clock;
@@ -31,14 +31,17 @@ mod lines;
 mod listening;
 mod notes;
 mod outs;
+mod reports;
 mod running;
 mod sending;
 mod shared;
+mod statuses;
+mod waking;
 
 pub use clock::Stopwatch;
 pub use datagrams::SipDesk;
 pub use error::RunError;
-pub use lines::ControlDesk;
+pub use lines::{ControlDesk, ControlPort};
 pub use outs::Exit;
 pub use running::{Outcome, Work, run_crew};
 pub use shared::Shared;

@@ -1,25 +1,35 @@
 //! Control lines, each answered.
-ghost use Rattle.std.specs.Prelude.{◌≡◌, ◌<◌, List, [], IfOk, IfSome, bytes_eq, string_bytes};
-ghost use Rattle.std.specs.List.{list_any};
+ghost use Rattle.std.specs.Prelude.{◌≡◌, ◌<◌, List, [], Some, IfOk, max};
+ghost use Rattle.std.specs.Int.NonZero.{non_zero_u32_get};
+ghost use Rattle.circular_buffer.specs.Buffer.{buffer};
 ghost use Rattle.transport.specs.Wires.{Grows};
 ghost use Rattle.crew.specs.Kept.{SameSeats};
 ghost use Rattle.control_lines.specs.Lines.{answer_text};
+ghost use Rattle.control_lines.specs.declared.question.Question.TheVariants as questions;
+ghost use Rattle.told_counts.specs.Told.{AreUntold};
+ghost use Rattle.service.specs.declared.lines.Done.TheVariants as did;
 ghost use Rattle.service.specs.Taken as spec;
-ghost use Rattle.service.specs.Taken.{Line, IsSent, IsChanged, IsDone, IsReport, Offers, IsAnswered, datagrams_of, AreTaken, AreAnswered, AreRefused};
-ghost use Rattle.service.specs.Listening.{ListensUntil, ListensStill};
+ghost use Rattle.service.specs.Taken.{Line, IsSent, IsChanged, IsDone, IsFound, IsTaken, Offers, IsAnswered, datagrams_of, AreTaken, AreAnswered, AreRefused, seen};
+ghost use Rattle.service.specs.Listening.{IsDeafAsTold, is_fault};
 
 use crate::listening::{FaultLog, receive};
+use crate::reports::{counters, dumped, shown};
 use crate::shared::{Counter, Shared};
-use control_lines::{Answer, Asked, hear_line};
+use control_lines::{Answer, Asked, KeptAnswers, Question, Token, cut_token, hear_line, is_answer};
 use crew::Port;
 use feeds::{FeedEnd, send_event};
 use notifier_model::Event;
 use package::MailChange;
 use sip_text::{Addr, NoMemory, Text};
 use std::alloc::Global;
+use std::num::NonZeroU32;
 use std::rt::Clock;
 use std::sync::Wait;
+use told_counts::ToldCounts;
 use transport::{Ear, Wire};
+
+/// How many answers to lines with a token are kept.
+pub const KEPT: usize = 4096;
 
 /// The room for a control line: as long as a datagram may be. A line that were cut might still be read, with a wrong number.
 const ROOM: usize = 65536;
@@ -29,8 +39,16 @@ const ROOM: usize = 65536;
 pub enum Done {
     /// It is answered so, and the service goes on.
     Answered(Answer),
+    /// It came before, with the same token, and is answered so again.
+    Repeated(Answer),
+    /// It is an answer itself, and gets none.
+    Unanswered,
     /// The counters were asked for.
     Counters,
+    /// What the mailbox at this place was last told was asked for.
+    Shown(usize),
+    /// What the mailboxes from this place on were last told was asked for.
+    Dumped(usize),
     /// The service is to close.
     Closing,
     /// A worker is gone.
@@ -42,17 +60,15 @@ fn end_after(done: Done) -> Option<FeedEnd>
     ensures { result ≡ spec.end_after done }
 {
     match done {
-        Done::Answered(_) | Done::Counters => None,
         Done::Closing => Some(FeedEnd::Done),
         Done::Gone => Some(FeedEnd::Gone),
+        Done::Answered(_)
+        | Done::Repeated(_)
+        | Done::Unanswered
+        | Done::Counters
+        | Done::Shown(_)
+        | Done::Dumped(_) => None,
     }
-}
-
-/// Whether this is one of the mailboxes.
-fn is_held(mailboxes: &[Text], mailbox: &str) -> bool
-    ensures { result ≡ list_any (λ held. bytes_eq held mailbox.now) mailboxes.now }
-{
-    mailboxes.iter().any(|held| held.is(mailbox))
 }
 
 /// Sends an event that a line told.
@@ -68,17 +84,51 @@ fn send<R: Wait>(rt: &R, port: &mut Port, event: Event) -> Done
     }
 }
 
-/// Sends the change of a mailbox of the service. That of any other is dropped.
-fn send_change<R: Wait>(rt: &R, port: &mut Port, mailboxes: &[Text], change: MailChange) -> Done
+/// Notes and sends the change of a mailbox of the service. That of any other is dropped.
+fn send_change<R: Wait>(rt: &R, port: &mut Port, told: &mut ToldCounts, change: MailChange) -> Done
     requires still_open { 0 < port.old.still_open }
-    ensures done { IsChanged mailboxes.now change port.old port.new result }
+    ensures done { IsChanged change told.old told.new port.old port.new result }
     ensures seats { SameSeats port.old port.new }
 {
-    if !is_held(mailboxes, change.mailbox()) {
+    let Some(_place) = told.place(change.mailbox()) else {
         drop(change);
         return Done::Answered(Answer::UnknownMailbox);
-    }
+    };
+    told.tell(&change);
     send(rt, port, Event::Mail(change))
+}
+
+/// What SHOW asks for.
+fn find_shown(told: &ToldCounts, mailbox: &Text) -> Done
+    ensures { IsFound told.now (questions.Show mailbox.now) result }
+{
+    match told.place(mailbox.as_str()) {
+        Some(place) => Done::Shown(place),
+        None => Done::Answered(Answer::UnknownMailbox),
+    }
+}
+
+/// What DUMP asks for that names a mailbox.
+fn find_dumped(told: &ToldCounts, mailbox: &Text) -> Done
+    ensures { IsFound told.now (questions.Dump (Some mailbox.now)) result }
+{
+    match told.behind(mailbox.as_str()) {
+        Some(place) => Done::Dumped(place),
+        None => Done::Answered(Answer::UnknownMailbox),
+    }
+}
+
+/// What a question asks for.
+fn find(told: &ToldCounts, question: &Question) -> Done
+    ensures { IsFound told.now question.now result }
+{
+    match question {
+        Question::Status => Done::Counters,
+        Question::Show(mailbox) => find_shown(told, mailbox),
+        Question::Dump(None) => Done::Dumped(0),
+        Question::Dump(Some(mailbox)) => find_dumped(told, mailbox),
+        Question::Watchers(..) => Done::Answered(Answer::Busy),
+    }
 }
 
 /// Does what a control line asks. `Answer::Done` is answered once its event is in the worker's inbox.
@@ -86,41 +136,48 @@ pub fn take_line<R: Wait>(
     rt: &R,
     alloc: Global,
     port: &mut Port,
-    mailboxes: &[Text],
+    told: &mut ToldCounts,
     octets: &[u8],
 ) -> Done
     requires still_open { 0 < port.old.still_open }
-    ensures done { IsDone mailboxes.now octets.now port.old port.new result }
+    ensures done { IsDone octets.now told.old told.new port.old port.new result }
     ensures seats { SameSeats port.old port.new }
 {
     match hear_line(alloc, octets) {
-        Asked::Mail(change) => send_change(rt, port, mailboxes, change),
+        Asked::Mail(change) => send_change(rt, port, told, change),
         Asked::Progress(progress) => send(rt, port, Event::Progress(progress)),
         Asked::Close => Done::Closing,
-        Asked::Status => Done::Counters,
+        Asked::Question(question) => find(told, &question),
+        Asked::Nothing => Done::Unanswered,
         Asked::Bad => Done::Answered(Answer::BadLine),
         Asked::NoMemory => Done::Answered(Answer::NoMemory),
     }
 }
 
-/// These lines behind an `ok`.
-fn report(alloc: Global, lines: &str) -> Result<String, NoMemory>
-    ensures { IfOk result (λ text. IsReport (string_bytes text)) }
+/// Keeps an answer to a line with this token. False where there is no memory for it: the line is done again if it comes again.
+fn keep_answer(kept: &mut KeptAnswers, token: Option<Token>, answer: Answer) -> bool
+    ensures { kept.new ≡ spec.kept_with result token (did.Answered answer) kept.old }
 {
-    let mut text = String::from_str(alloc, "ok\n")?;
-    text.push_str(lines)?;
-    Ok(text)
+    match kept.keep(token, answer) {
+        Ok(()) => true,
+        Err(_) => false,
+    }
 }
 
-/// The counters behind an `ok`. None where there is no memory for them, or no clock.
-fn counters<R: Clock>(rt: &R, alloc: Global, shared: &Shared) -> Option<String>
-    ensures { IfSome result (λ text. IsReport (string_bytes text)) }
+/// Keeps the answer to a line with this token, if it was done and answered. Tells whether it is kept.
+fn keep(kept: &mut KeptAnswers, token: Option<Token>, done: Done) -> bool
+    ensures { kept.new ≡ spec.kept_with result token done kept.old }
 {
-    let seconds = shared.seconds(rt)?;
-    let Ok(lines) = shared.lines(alloc, seconds) else {
-        return None;
-    };
-    report(alloc, lines.as_str()).ok()
+    match done {
+        Done::Answered(answer) => keep_answer(kept, token, answer),
+        Done::Repeated(_)
+        | Done::Unanswered
+        | Done::Counters
+        | Done::Shown(_)
+        | Done::Dumped(_)
+        | Done::Closing
+        | Done::Gone => false,
+    }
 }
 
 /// Sends an answer. One that can't be sent is counted: who asked asks again.
@@ -135,12 +192,63 @@ fn reply<R: Wait, W: Wire>(rt: &R, wire: &mut W, shared: &Shared, to: Addr, octe
     }
 }
 
-/// What takes control lines: the two ends of a socket, and the mailboxes of the service.
+/// Whether these bytes get an answer: they are some, and no answer themselves.
+fn is_due(octets: &[u8]) -> bool
+    ensures { result ≡ spec.is_due octets.now }
+{
+    !octets.is_empty() && !is_answer(octets)
+}
+
+/// Where control lines come in and answers go, and the mailboxes of the service.
+#[derive(Drop)]
+pub struct ControlPort<W> {
+    pub coming: W,
+    pub going: W,
+    pub mailboxes: Vec<Text>,
+}
+
+/// What takes control lines: the two ends of a socket, what the mailboxes of the service were last told, and the answers to the last
+/// lines with a token.
 #[derive(Drop)]
 pub struct ControlDesk<W> {
     pub coming: W,
     pub going: W,
-    pub mailboxes: Vec<Text>,
+    pub told: ToldCounts,
+    pub kept: KeptAnswers,
+    /// How many workers the service has.
+    pub workers: NonZeroU32,
+}
+
+impl<W: Drop> ControlDesk<W> {
+    /// One at this port, of a service with so many workers. It was told nothing yet.
+    pub(crate) fn at(
+        alloc: Global,
+        port: ControlPort<W>,
+        workers: u32,
+    ) -> Result<ControlDesk<W>, NoMemory>
+        ensures coming { IfOk result (λ d. d.coming ≡ port.coming) }
+        ensures untold { IfOk result (λ d. AreUntold port.mailboxes.items d.told) }
+        ensures unkept { IfOk result (λ d. d.kept ≡ buffer [] KEPT) }
+        ensures workers { IfOk result (λ d. non_zero_u32_get d.workers ≡ max 1 workers) }
+    {
+        let ControlPort {
+            coming,
+            going,
+            mailboxes,
+        } = port;
+        let told = ToldCounts::new(alloc, mailboxes.as_slice())?;
+        let kept = KeptAnswers::with_room(alloc, KEPT)?;
+        let Some(workers) = NonZeroU32::new(workers.max(1)) else {
+            unreachable!()
+        };
+        Ok(ControlDesk {
+            coming,
+            going,
+            told,
+            kept,
+            workers,
+        })
+    }
 }
 
 impl<W: Wire> ControlDesk<W> {
@@ -151,21 +259,21 @@ impl<W: Wire> ControlDesk<W> {
             (W.failures self.old.going) (W.failures self.new.going) }
         ensures given { Grows (W.given self.old.going) (W.given self.new.going) [] }
         ensures coming { self.new.coming ≡ self.old.coming }
-        ensures mailboxes { self.new.mailboxes ≡ self.old.mailboxes }
+        ensures seen { seen self.new ≡ seen self.old }
     {
         reply(rt, &mut self.going, shared, to, answer.text().as_bytes());
     }
 
-    /// Sends the counters, or that they could not be told, for want of memory or of a clock.
-    fn say_counters<R: Wait + Clock>(&mut self, rt: &R, alloc: Global, shared: &Shared, to: Addr)
-        ensures answered { IsAnswered Done.Counters to
+    /// Sends what a question is told, or that it could not be told, for want of memory or of a clock.
+    fn say_report<R: Wait>(&mut self, rt: &R, shared: &Shared, to: Addr, text: Option<String>)
+        ensures offered { Offers to (spec.report_or_none text)
             (W.taken self.old.going) (W.taken self.new.going)
             (W.failures self.old.going) (W.failures self.new.going) }
         ensures given { Grows (W.given self.old.going) (W.given self.new.going) [] }
         ensures coming { self.new.coming ≡ self.old.coming }
-        ensures mailboxes { self.new.mailboxes ≡ self.old.mailboxes }
+        ensures seen { seen self.new ≡ seen self.old }
     {
-        match counters(rt, alloc, shared) {
+        match text {
             Some(text) => reply(rt, &mut self.going, shared, to, text.as_bytes()),
             None => self.say(rt, shared, to, Answer::NoMemory),
         }
@@ -180,22 +288,50 @@ impl<W: Wire> ControlDesk<W> {
         to: Addr,
         done: Done,
     )
-        ensures answered { IsAnswered done to
+        ensures answered { IsAnswered (seen self.old) done to
             (W.taken self.old.going) (W.taken self.new.going)
             (W.failures self.old.going) (W.failures self.new.going) }
         ensures given { Grows (W.given self.old.going) (W.given self.new.going) [] }
         ensures coming { self.new.coming ≡ self.old.coming }
-        ensures mailboxes { self.new.mailboxes ≡ self.old.mailboxes }
+        ensures seen { seen self.new ≡ seen self.old }
     {
+        shared.count(Counter::ControlLine);
         match done {
             Done::Answered(answer) => self.say(rt, shared, to, answer),
-            Done::Counters => self.say_counters(rt, alloc, shared, to),
+            Done::Repeated(answer) => self.say(rt, shared, to, answer),
+            Done::Unanswered => {}
+            Done::Counters => self.say_report(rt, shared, to, counters(rt, alloc, shared)),
+            Done::Shown(place) => {
+                let text = shown(alloc, &self.told, self.workers, place);
+                self.say_report(rt, shared, to, text);
+            }
+            Done::Dumped(from) => {
+                let text = dumped(alloc, &self.told, from);
+                self.say_report(rt, shared, to, text);
+            }
             Done::Closing => {
                 shared.close();
                 self.say(rt, shared, to, Answer::Done);
             }
             Done::Gone => self.say(rt, shared, to, Answer::Closed),
         }
+    }
+
+    /// Does what a control line asks, unless it came before with the same token.
+    fn take<R: Wait>(&mut self, rt: &R, alloc: Global, port: &mut Port, octets: &[u8]) -> Done
+        requires still_open { 0 < port.old.still_open }
+        ensures done { IsTaken octets.now (seen self.old) (seen self.new) port.old port.new result }
+        ensures coming { self.new.coming ≡ self.old.coming }
+        ensures going { self.new.going ≡ self.old.going }
+        ensures seats { SameSeats port.old port.new }
+    {
+        let (token, line) = cut_token(octets);
+        if let Some(answer) = self.kept.answer_to(token) {
+            return Done::Repeated(answer);
+        }
+        let done = take_line(rt, alloc, port, &mut self.told, line);
+        keep(&mut self.kept, token, done);
+        done
     }
 }
 
@@ -212,14 +348,13 @@ impl<W: Ear> ControlDesk<W> {
         requires still_open { 0 < port.old.still_open }
         ensures taken { (log : List Line)
             × Grows (W.given self.old.coming) (W.given self.new.coming) (datagrams_of log)
-            × AreTaken self.old.mailboxes.items log port.old port.new result
+            × AreTaken (seen self.old) log port.old port.new result
             × AreAnswered log (W.taken self.old.going) (W.taken self.new.going)
             (W.failures self.old.going) (W.failures self.new.going) }
         // Nothing is sent where lines come in, and nothing is received where answers go.
         ensures coming { Grows (W.taken self.old.coming) (W.taken self.new.coming) [] }
-        ensures until { ListensUntil result (W.misses self.old.coming) (W.misses self.new.coming) }
+        ensures deaf { IsDeafAsTold (is_fault result) (W.misses self.old.coming) (W.misses self.new.coming) }
         ensures going { Grows (W.given self.old.going) (W.given self.new.going) [] }
-        ensures mailboxes { self.new.mailboxes ≡ self.old.mailboxes }
         ensures seats { SameSeats port.old port.new }
     {
         let mut octets = [0; ROOM];
@@ -234,8 +369,7 @@ impl<W: Ear> ControlDesk<W> {
             let Some((length, source)) = came else {
                 continue;
             };
-            let mailboxes = self.mailboxes.as_slice();
-            let done = take_line(rt, alloc, port, mailboxes, &octets[..length]);
+            let done = self.take(rt, alloc, port, &octets[..length]);
             self.answer(rt, alloc, shared, source, done);
             if let Some(end) = end_after(done) {
                 return end;
@@ -244,15 +378,16 @@ impl<W: Ear> ControlDesk<W> {
         unreachable!()
     }
 
-    /// Answers `closed` to whoever asks, until all was sent out or the wire is deaf: true then. An empty datagram is not answered.
+    /// Answers `closed` to whoever asks, until all was sent out or the wire is deaf: true then. An empty datagram is not answered, nor
+    /// is an answer.
     pub fn refuse_lines<R: Wait + Clock + Eprint>(&mut self, rt: &R, shared: &Shared) -> bool
         ensures refused { AreRefused (W.given self.old.coming) (W.given self.new.coming)
             (W.taken self.old.going) (W.taken self.new.going)
             (W.failures self.old.going) (W.failures self.new.going) }
         ensures coming { Grows (W.taken self.old.coming) (W.taken self.new.coming) [] }
-        ensures until { ListensStill result (W.misses self.old.coming) (W.misses self.new.coming) }
+        ensures deaf { IsDeafAsTold result (W.misses self.old.coming) (W.misses self.new.coming) }
         ensures going { Grows (W.given self.old.going) (W.given self.new.going) [] }
-        ensures mailboxes { self.new.mailboxes ≡ self.old.mailboxes }
+        ensures seen { seen self.new ≡ seen self.old }
     {
         let mut octets = [0; ROOM];
         let mut log = FaultLog::new();
@@ -266,7 +401,7 @@ impl<W: Ear> ControlDesk<W> {
             let Some((length, source)) = came else {
                 continue;
             };
-            if length > 0 {
+            if is_due(&octets[..length]) {
                 self.say(rt, shared, source, Answer::Closed);
             }
         }

@@ -1,8 +1,8 @@
 //! Receives that may fail, and are tried again.
-ghost use Rattle.std.specs.Prelude.{◌≤◌, [], IfOk, IfErr, IfSome, length};
+ghost use Rattle.std.specs.Prelude.{◌≤◌, [], IfOk, IfSome, is_err, length};
 ghost use Rattle.transport.specs.Ears.{GivesInTime};
 ghost use Rattle.transport.specs.Wires.{Grows};
-ghost use Rattle.service.specs.Listening.{IsDeaf};
+ghost use Rattle.service.specs.Listening.{IsDeafAsTold};
 
 use crate::shared::{Counter, Shared};
 use sip_text::Addr;
@@ -75,8 +75,7 @@ pub(crate) fn receive<R: Wait + Clock + Eprint, W: Ear>(
     ensures within { IfOk result (λ came. IfSome came (λ r. r.0 ≤ length octets.new)) }
     ensures given { GivesInTime (W.given wire.old) (W.given wire.new) octets.new result }
     ensures taken { Grows (W.taken wire.old) (W.taken wire.new) [] }
-    ensures hears { IfOk result (λ _. IsDeaf (W.misses wire.new) → ⊥) }
-    ensures deaf { IfErr result (λ _. IsDeaf (W.misses wire.new)) }
+    ensures deaf { IsDeafAsTold (is_err result) (W.misses wire.old) (W.misses wire.new) }
 {
     let fault = match wire.recv_in_time(rt, octets) {
         Ok(came) => return Ok(came),

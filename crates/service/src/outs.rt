@@ -10,6 +10,7 @@ ghost use Rattle.service.specs.Sending.{Act, IsSentOut, fates};
 
 use crate::sending::{Waiting, Watch};
 use crate::shared::{Counter, Shared};
+use crossbeam_utils::sync::Parker;
 use feeds::{Fate, put_out};
 use notifier_model::Out;
 use queues::outbox::{Posted, Taker};
@@ -21,10 +22,13 @@ use std::time::Duration;
 use transport::{Sink, Wire};
 
 /// How often nothing may be posted before the thread sleeps.
-const TURNS: u32 = 200;
+const TURNS: u32 = 32;
 
-/// How long it sleeps then, in microseconds: much less than a phone notices.
-const NAP: u64 = 500;
+/// How many milliseconds it sleeps then at most, unless a worker wakes it.
+const NAP: u64 = 20;
+
+/// How many where NOTIFYs are due again that may not leave yet.
+const PACED_NAP: u64 = 1;
 
 /// What an out counts as.
 fn counter_for(out: &Out, fate: Fate) -> Counter {
@@ -48,6 +52,9 @@ fn count(shared: &Shared, out: &Out, fate: Fate) {
     {
         shared.count_notice(*number, *terminated);
     }
+    if let (Out::Answer { bytes, .. }, Fate::Sent) = (out, fate) {
+        shared.count_status(bytes.as_slice());
+    }
     shared.count(counter_for(out, fate));
 }
 
@@ -68,15 +75,6 @@ fn idle_turns(idle: u32, was_due: bool) -> u32 {
     if was_due { 0 } else { idle }
 }
 
-/// Waits a little where nothing was posted and nothing was due so many times in a row.
-fn rest<R: Wait + Clock>(rt: &R, idle: u32) {
-    if idle < TURNS {
-        thread::yield_now();
-        return;
-    }
-    thread::sleep(rt, Duration::from_micros(NAP));
-}
-
 /// What outs leave by: datagrams by the wire, START lines by the writer.
 #[derive(Drop)]
 pub struct Exit<W, F> {
@@ -92,6 +90,28 @@ pub(crate) struct Outgoing {
     pub(crate) waiting: Waiting,
     /// For how many milliseconds at most the answers to the last NOTIFYs are waited for.
     pub(crate) linger: u64,
+    /// What a worker wakes the thread by.
+    pub(crate) parker: Parker,
+}
+
+impl Outgoing {
+    /// How many milliseconds the thread may sleep at this moment.
+    fn nap(&self, now: u64) -> u64 {
+        match self.waiting.transactions.next_moment() {
+            Some(moment) if moment <= now => PACED_NAP,
+            _ => NAP,
+        }
+    }
+
+    /// Waits where nothing was posted and nothing was due so many times in a row: until a worker posts, but not for long.
+    fn rest<R: Wait + Clock>(&self, rt: &R, now: u64, idle: u32) {
+        if idle < TURNS {
+            thread::yield_now();
+            return;
+        }
+        self.parker
+            .park_timeout(rt, Duration::from_millis(self.nap(now)));
+    }
 }
 
 /// Sends out what the workers post, in the order in which it is taken, until each has ended: answers and NOTIFYs by the wire,
@@ -135,7 +155,10 @@ pub(crate) fn send_outs<R: Wait + Clock + Eprint, W: Wire, F: Write>(
             .tend(rt, &mut exit.wire, &mut watch, shared);
         idle = idle_turns(idle, was_due);
         match next_posted(rt, &mut outgoing.taker, left) {
-            Some(Posted::Ended(_)) => left -= 1,
+            Some(Posted::Ended(_)) => {
+                shared.count(Counter::WorkerEnded);
+                left -= 1;
+            }
             Some(Posted::Out(_, out)) => {
                 idle = 0;
                 let fate = put_out(rt, &mut exit.wire, &mut exit.sink, &out);
@@ -145,7 +168,7 @@ pub(crate) fn send_outs<R: Wait + Clock + Eprint, W: Wire, F: Write>(
             }
             None => {
                 watch.pause();
-                rest(rt, idle);
+                outgoing.rest(rt, watch.now(), idle);
                 idle = idle.saturating_add(1);
             }
         }

@@ -5,7 +5,7 @@ ghost use Rattle.crew.specs.Ports.{PortSeats};
 ghost use Rattle.crew.specs.Ready.{start_of};
 ghost use Rattle.crew.specs.Started.{IsStarted};
 ghost use Rattle.service.specs.Handing.{IsNew, NoneWaits, NoneClosed, AreLent, AreErrands};
-ghost use Rattle.service.specs.Running as spec;
+ghost use Rattle.service.specs.Listening as spec;
 ghost use Rattle.service.specs.declared.clock.Stopwatch.{Stopwatch};
 ghost use Rattle.service.specs.declared.error.RunError.TheVariants as error;
 ghost use Rattle.service.specs.declared.feeding.Task.TheVariants as tasks;
@@ -13,17 +13,19 @@ ghost use Rattle.service.specs.declared.datagrams.SipDesk.{SipDesk};
 ghost use Rattle.service.specs.declared.lines.ControlDesk.{ControlDesk};
 ghost use Rattle.transport.specs.Sockets.{misses};
 ghost use Rattle.transport.specs.declared.udp.UdpWire.{UdpWire};
-ghost use Rattle.service.specs.Running.{Runs, Leaves, AreFaults, is_faulty};
+ghost use Rattle.service.specs.Running.{Runs, Leaves, AreFaults, IsFresh, is_faulty};
+ghost use Rattle.service.specs.Taken.{seen};
 
 use crate::clock::Stopwatch;
 use crate::datagrams::SipDesk;
 use crate::error::RunError;
 use crate::feeding::{Feeder, Task, start_feeder};
-use crate::lines::ControlDesk;
+use crate::lines::{ControlDesk, ControlPort};
 use crate::outs::{Exit, Outgoing, send_outs};
 use crate::sending::Waiting;
 use crate::shared::Shared;
-use crew::{Crew, Open, Port, Report};
+use crate::waking::Waker;
+use crew::{Crew, Port, Report};
 use feeds::FeedEnd;
 use notifier_model::Setup;
 use package::Package;
@@ -42,8 +44,8 @@ pub struct Work {
     pub setup: Setup,
     /// What hears SIP datagrams.
     pub sip: SipDesk<UdpWire>,
-    /// What takes control lines.
-    pub desk: ControlDesk<UdpWire>,
+    /// Where control lines come in, and of which mailboxes.
+    pub desk: ControlPort<UdpWire>,
     pub shared: Arc<Shared, Global>,
     /// How many NOTIFYs may wait for their answers at once, and are sent again until these come. 0: each is sent once.
     pub repeats: u32,
@@ -275,7 +277,8 @@ fn serve_to_end<R: Threads + Wait + Clock + Eprint, W: Wire, F: Write>(
         → AreFaults (misses phones.coming) (misses desk.coming) result }
     ensures runs { (start : ℕ → Start) (lent : List PortSeats) (phones : SipDesk UdpWire) (desk : ControlDesk UdpWire) (repeats : ℕ)
         → IsNew start lent running → NoneWaits repeats running → AreLent lent feeders → AreErrands phones desk feeders
-        → Runs start running.outgoing.workers repeats desk.mailboxes.items
+        → (mailboxes : List (List ℕ)) → IsFresh mailboxes running.outgoing.workers (seen desk)
+        → Runs start running.outgoing.workers repeats mailboxes phones.admission
         (record { taken = W.taken exit.old.wire; failures = W.failures exit.old.wire })
         (record { taken = W.taken exit.new.wire; failures = W.failures exit.new.wire })
         (record { contents = F.contents exit.old.sink.writer; failures = exit.old.sink.failures })
@@ -326,7 +329,8 @@ where
     requires some { 0 < running.outgoing.workers }
     requires new { (start : ℕ → Start) × IsNew start ports.items running }
     ensures served { IfOk result (λ o. (start : ℕ → Start) (repeats : ℕ) → IsNew start ports.items running
-        → NoneWaits repeats running → Runs start running.outgoing.workers repeats ears.desk.mailboxes.items
+        → NoneWaits repeats running → (mailboxes : List (List ℕ)) → IsFresh mailboxes running.outgoing.workers (seen ears.desk)
+        → Runs start running.outgoing.workers repeats mailboxes ears.sip.admission
         (record { taken = W.taken exit.old.wire; failures = W.failures exit.old.wire })
         (record { taken = W.taken exit.new.wire; failures = W.failures exit.new.wire })
         (record { contents = F.contents exit.old.sink.writer; failures = exit.old.sink.failures })
@@ -349,12 +353,13 @@ where
     }
 }
 
-/// Starts a crew with these packages and three ports.
+/// Starts a crew with these packages and three ports, whose workers pass this gate.
 fn start_crew<R, P>(
     rt: R,
     alloc: Global,
     setup: &Setup,
     boxes: Vec<Vec<P>>,
+    waker: Waker,
 ) -> Result<(Crew, Vec<Port>, Taker), RunError>
 where
     R: Threads + Wait + Copy + Send + 'static,
@@ -364,13 +369,14 @@ where
         (λ w. start_of P.seen setup.now w (get_or boxes.items w b).items) (vec_len boxes) 3 r.0 r.1.items r.2) }
     ensures some { IfOk result (λ _. 0 < vec_len boxes) }
 {
-    let gate = Arc::new(alloc, Open)?;
-    let started = Crew::start(rt, alloc, setup, 3, boxes, gate)?;
+    let gate = Arc::new(alloc, waker)?;
+    let started = Crew::start_any(rt, alloc, setup, 3, boxes, gate)?;
     Ok(started)
 }
 
 /// Runs a crew with these packages as a service: a thread for each of three ports feeds it, with what SIP datagrams say, with
-/// what control lines tell, and with the time, while this one sends out what the workers post; then all are joined.
+/// what control lines tell, and with the time, while this one sends out what the workers post; then all are joined. Of the SIP datagrams
+/// only those are sent on that the admission of `work` allows.
 pub fn run_crew<R, P, W, F>(
     rt: R,
     alloc: Global,
@@ -386,12 +392,13 @@ where
     requires few_workers { vec_len boxes ≤ 256 }
     ensures runs { IfOk result (λ o. (b : _)
         → Runs (λ w. start_of P.seen work.setup w (get_or boxes.items w b).items) (vec_len boxes) work.repeats
-        work.desk.mailboxes.items
+        work.desk.mailboxes.items work.sip.admission
         (record { taken = W.taken exit.old.wire; failures = W.failures exit.old.wire })
         (record { taken = W.taken exit.new.wire; failures = W.failures exit.new.wire })
         (record { contents = F.contents exit.old.sink.writer; failures = exit.old.sink.failures })
         (record { contents = F.contents exit.new.sink.writer; failures = exit.new.sink.failures }) o) }
-    // It tells of a fault exactly where a socket was deaf or a read of the clock failed.
+    // A socket that wasn't deaf before is so now exactly where a fault of it is told; a read of the clock failed exactly where one of
+    // it is.
     ensures faults { IfOk result (AreFaults (misses work.sip.coming) (misses work.desk.coming)) }
     // Without memory nothing is started, and nothing leaves. Where a thread is refused only outs of workers with these starts do.
     ensures no_memory { result ≡ Err error.NoMemory → exit.new ≡ exit.old }
@@ -403,21 +410,25 @@ where
         (record { contents = F.contents exit.new.sink.writer; failures = exit.new.sink.failures }))) }
 {
     let workers = boxes.len() as u32;
-    let transactions = Transactions::new(alloc, work.repeats)?;
-    let (crew, ports, taker) = start_crew(rt, alloc, &work.setup, boxes)?;
     let Work {
+        setup,
         sip,
         desk,
         shared,
         repeats,
         linger,
-        ..
     } = work;
+    let transactions = Transactions::new(alloc, repeats)?;
+    let desk = ControlDesk::at(alloc, desk, workers)?;
+    shared.set_workers(workers);
+    let (parker, waker) = Waker::pair(alloc, &shared)?;
+    let (crew, ports, taker) = start_crew(rt, alloc, &setup, boxes, waker)?;
     let outgoing = Outgoing {
         taker,
         workers,
         waiting: Waiting::new(transactions, repeats),
         linger: u64::from(linger) * 1000,
+        parker,
     };
     let running = Running {
         crew,

@@ -7,7 +7,6 @@ ghost use Rattle.service.specs.Taken.{failures_then};
 ghost use Rattle.service.specs.Noted.{answer_of};
 ghost use Rattle.service.specs.declared.notes.Note.{Note};
 
-use crate::notes::Notes;
 use crate::shared::{Counter, LAST_MOMENT, Shared};
 use notifier_model::{NotifyOut, Out};
 use std::rt::Clock;
@@ -17,6 +16,9 @@ use transport::Wire;
 
 /// How many notes are taken between two looks at what is due and what was posted.
 const NOTES_AT_ONCE: u32 = 16;
+
+/// The status of an answer that says that the dialog or its usage is gone (RFC 3261 section 12.2.1.2).
+const GONE: u16 = 481;
 
 /// How many NOTIFYs are sent again within a millisecond at most: so the answers to many of them don't overflow the buffer of the
 /// socket by which they come, and what the workers post never waits behind them.
@@ -208,15 +210,18 @@ impl Waiting {
         }
     }
 
-    /// Takes notes of answers, a few at a time.
-    fn take_notes<R: Wait>(&mut self, rt: &R, notes: &Notes)
+    /// Takes notes of answers, a few at a time, and counts those that say that a subscription is gone.
+    fn take_notes<R: Wait>(&mut self, rt: &R, shared: &Shared)
         ensures noted { (taken : List Note)
             × (self.new.transactions ≡ state_after (map answer_of taken) self.old.transactions) }
     {
         for _ in 0..NOTES_AT_ONCE {
-            let Some(note) = notes.take(rt) else {
+            let Some(note) = shared.notes.take(rt) else {
                 return;
             };
+            if note.status == GONE {
+                shared.count(Counter::Gone);
+            }
             self.transactions
                 .answer(note.tag.as_str(), note.number, note.status);
         }
@@ -269,7 +274,7 @@ impl Waiting {
         if watch.is_busy() {
             return false;
         }
-        self.take_notes(rt, &shared.notes);
+        self.take_notes(rt, shared);
         if watch.repeats == 0 {
             return false;
         }

@@ -2,15 +2,19 @@
 ghost use Rattle.std.specs.Prelude.{◌<◌, ◌^◌, IfSome};
 
 use crate::notes::Notes;
+use crate::statuses::Statuses;
 use sip_read::ReadError;
 use sip_text::NoMemory;
 use std::alloc::Global;
 use std::rt::Clock;
-use std::sync::atomic::{AtomicBool, AtomicU64, Ordering};
+use std::sync::atomic::{AtomicBool, AtomicU32, AtomicU64, Ordering};
 use std::time::Instant;
 
 /// The last moment, in milliseconds: no service is up for so long.
 pub(crate) const LAST_MOMENT: u64 = (1 << 63) - 1;
+
+/// No worker has this number.
+const NOBODY: u32 = u32::MAX;
 
 /// How far a service is, what its threads have counted since it began, and the notes of answers to NOTIFYs.
 #[derive(Drop)]
@@ -23,6 +27,7 @@ pub struct Shared {
     unread: [AtomicU64; 7],
     events: AtomicU64,
     answers: AtomicU64,
+    statuses: Statuses,
     notifies: AtomicU64,
     starts: AtomicU64,
     failed: AtomicU64,
@@ -32,9 +37,32 @@ pub struct Shared {
     given_up: AtomicU64,
     once: AtomicU64,
     lost: AtomicU64,
+    gone_by_481: AtomicU64,
     failed_receives: AtomicU64,
     too_long: AtomicU64,
+    foreign: AtomicU64,
+    limited: AtomicU64,
+    challenged: AtomicU64,
+    wrong: AtomicU64,
+    stale: AtomicU64,
+    forbidden: AtomicU64,
+    control_lines: AtomicU64,
+    workers: AtomicU64,
+    workers_ended: AtomicU64,
+    // the number of the first worker that ran out of memory, or NOBODY
+    spent_worker: AtomicU32,
 }
+
+/// The causes for which a datagram couldn't be read, by the number of the error, from 1.
+const CAUSES: [&str; 7] = [
+    "not_sip",
+    "bad_header",
+    "header_missing",
+    "header_twice",
+    "short_body",
+    "too_long",
+    "no_memory",
+];
 
 /// What is counted, each by one.
 #[derive(Clone, Copy)]
@@ -57,10 +85,41 @@ pub enum Counter {
     GivenUp,
     /// A NOTIFY is not sent again, since as many others wait for their answers as may.
     Once,
+    /// A NOTIFY was answered by 481: its subscription is gone (RFC 6665 section 4.2.2).
+    Gone,
     /// A receive failed.
     FailedReceive,
     /// A datagram was dropped since it was too long.
     TooLong,
+    /// A datagram was dropped since its source is of none of the networks that are heard.
+    Foreign,
+    /// A datagram was dropped since its source sends too much.
+    Limited,
+    /// A request was challenged: it shows no credentials, or some that can't be read or are wrong (RFC 3261 section 22).
+    Challenged,
+    /// Of those one that shows credentials.
+    Wrong,
+    /// A request was challenged anew whose credentials are right, but to a nonce that is too old.
+    Stale,
+    /// A request was refused since its user may not have the mailbox.
+    Forbidden,
+    /// A control line came.
+    ControlLine,
+    /// A worker has ended.
+    WorkerEnded,
+}
+
+/// No datagram that couldn't be read, of any cause.
+fn no_causes() -> [AtomicU64; 7] {
+    [
+        AtomicU64::new(0),
+        AtomicU64::new(0),
+        AtomicU64::new(0),
+        AtomicU64::new(0),
+        AtomicU64::new(0),
+        AtomicU64::new(0),
+        AtomicU64::new(0),
+    ]
 }
 
 /// Appends what was counted by this name, on a line of its own.
@@ -94,17 +153,10 @@ impl Shared {
             is_finished: AtomicBool::new(false),
             notes,
             datagrams: AtomicU64::new(0),
-            unread: [
-                AtomicU64::new(0),
-                AtomicU64::new(0),
-                AtomicU64::new(0),
-                AtomicU64::new(0),
-                AtomicU64::new(0),
-                AtomicU64::new(0),
-                AtomicU64::new(0),
-            ],
+            unread: no_causes(),
             events: AtomicU64::new(0),
             answers: AtomicU64::new(0),
+            statuses: Statuses::new(),
             notifies: AtomicU64::new(0),
             starts: AtomicU64::new(0),
             failed: AtomicU64::new(0),
@@ -114,8 +166,19 @@ impl Shared {
             given_up: AtomicU64::new(0),
             once: AtomicU64::new(0),
             lost: AtomicU64::new(0),
+            gone_by_481: AtomicU64::new(0),
             failed_receives: AtomicU64::new(0),
             too_long: AtomicU64::new(0),
+            foreign: AtomicU64::new(0),
+            limited: AtomicU64::new(0),
+            challenged: AtomicU64::new(0),
+            wrong: AtomicU64::new(0),
+            stale: AtomicU64::new(0),
+            forbidden: AtomicU64::new(0),
+            control_lines: AtomicU64::new(0),
+            workers: AtomicU64::new(0),
+            workers_ended: AtomicU64::new(0),
+            spent_worker: AtomicU32::new(NOBODY),
         })
     }
 
@@ -151,6 +214,22 @@ impl Shared {
         self.is_closing.store(true, Ordering::SeqCst);
     }
 
+    /// The number of the first worker that ran out of memory. None where each still handles what comes.
+    pub fn spent_worker(&self) -> Option<u32> {
+        match self.spent_worker.load(Ordering::SeqCst) {
+            NOBODY => None,
+            worker => Some(worker),
+        }
+    }
+
+    /// The worker with this number ran out of memory, and so the service closes.
+    pub(crate) fn close_without(&self, worker: u32) {
+        let _ = self
+            .spent_worker
+            .compare_exchange(NOBODY, worker, Ordering::SeqCst, Ordering::SeqCst);
+        self.close();
+    }
+
     /// Whether all was sent out.
     pub fn is_finished(&self) -> bool {
         self.is_finished.load(Ordering::SeqCst)
@@ -173,10 +252,35 @@ impl Shared {
             Counter::Repeat => &self.repeats,
             Counter::GivenUp => &self.given_up,
             Counter::Once => &self.once,
+            Counter::Gone => &self.gone_by_481,
             Counter::FailedReceive => &self.failed_receives,
             Counter::TooLong => &self.too_long,
+            Counter::Foreign => &self.foreign,
+            Counter::Limited => &self.limited,
+            Counter::Challenged => &self.challenged,
+            Counter::Wrong => &self.wrong,
+            Counter::Stale => &self.stale,
+            Counter::Forbidden => &self.forbidden,
+            Counter::ControlLine => &self.control_lines,
+            Counter::WorkerEnded => &self.workers_ended,
         };
         counted.fetch_add(1, Ordering::SeqCst);
+    }
+
+    /// Counts an answer to a request by its status code.
+    pub(crate) fn count_status(&self, answer: &[u8]) {
+        self.statuses.count(answer);
+    }
+
+    /// The service has so many workers.
+    pub(crate) fn set_workers(&self, count: u32) {
+        self.workers.store(u64::from(count), Ordering::SeqCst);
+    }
+
+    /// How many subscriptions live: those that began, without those whose last NOTIFY was made.
+    fn live(&self) -> u64 {
+        let begun = self.begun.load(Ordering::SeqCst);
+        begun.saturating_sub(self.over.load(Ordering::SeqCst))
     }
 
     /// Counts a datagram that couldn't be read for this reason.
@@ -231,8 +335,18 @@ impl Shared {
             ("given_up", &self.given_up),
             ("once", &self.once),
             ("lost", &self.lost),
+            ("gone_by_481", &self.gone_by_481),
             ("failed_receives", &self.failed_receives),
             ("too_long", &self.too_long),
+            ("foreign", &self.foreign),
+            ("limited", &self.limited),
+            ("challenged", &self.challenged),
+            ("wrong", &self.wrong),
+            ("stale", &self.stale),
+            ("forbidden", &self.forbidden),
+            ("control_lines", &self.control_lines),
+            ("workers", &self.workers),
+            ("workers_ended", &self.workers_ended),
         ];
         for (name, counted) in named {
             add_line(alloc, text, name, counted)?;
@@ -250,12 +364,27 @@ impl Shared {
         Ok(())
     }
 
+    /// Appends the datagrams that couldn't be read, a line for each cause.
+    fn add_causes(&self, alloc: Global, text: &mut String) -> Result<(), NoMemory> {
+        for (cause, counted) in CAUSES.iter().zip(self.unread.iter()) {
+            let count = counted.load(Ordering::SeqCst);
+            let line = format!(in alloc; "unread_{cause} {count}\n")?;
+            text.push_str(line.as_str())?;
+        }
+        Ok(())
+    }
+
     /// The counters, each on a line of its own, behind the seconds that the service is up. The datagrams that couldn't be
-    /// read are counted by the number of the error, from 1.
+    /// read are counted by the number of the error, from 1, on one line, and by cause, the answers by status code.
     pub fn lines(&self, alloc: Global, seconds: u64) -> Result<String, NoMemory> {
         let mut text = format!(in alloc; "up {seconds}\n")?;
         self.add_named(alloc, &mut text)?;
         self.add_unread(alloc, &mut text)?;
+        let live = self.live();
+        let line = format!(in alloc; "live {live}\n")?;
+        text.push_str(line.as_str())?;
+        self.statuses.add_lines(alloc, &mut text)?;
+        self.add_causes(alloc, &mut text)?;
         Ok(text)
     }
 }

@@ -1,6 +1,6 @@
 //! The alarms of all places, in a tournament: each inner node is the sooner of the two below it.
 
-ghost use Rattle.std.specs.Prelude.{◌≡◌, ◌<◌, ◌≤◌, ◌+◌, ◌-◌, ℕ, length, if◌then◌else◌, ◌==◌, true};
+ghost use Rattle.std.specs.Prelude.{◌≡◌, ◌<◌, ◌≤◌, ◌+◌, ◌-◌, ℕ, length, if◌then◌else◌, ◌==◌, true, MatchBool};
 ghost use Rattle.transactions.specs.Tournament as tree;
 
 /// A moment, and the serial of the transaction whose alarm it is.
@@ -25,6 +25,12 @@ impl Alarm {
         self.moment < other.moment || (self.moment == other.moment && self.serial <= other.serial)
     }
 
+    fn is(self, other: Alarm) -> bool
+        ensures { MatchBool result (self ≡ other) (self ≡ other → ⊥) }
+    {
+        self == other
+    }
+
     #[tactic(auto, unfolding(crate::specs::Tournament::sooner))]
     fn sooner(self, other: Alarm) -> Alarm
         ensures { result ≡ tree.sooner self other }
@@ -45,7 +51,12 @@ pub fn set_leaf(nodes: &mut [Alarm], places: usize, place: usize, alarm: Alarm)
     nodes[node] = alarm;
     while node > 1 {
         node /= 2;
-        nodes[node] = nodes[2 * node].sooner(nodes[2 * node + 1]);
+        let first = nodes[2 * node].sooner(nodes[2 * node + 1]);
+        // A later alarm seldom changes what stands above it.
+        if nodes[node].is(first) {
+            return;
+        }
+        nodes[node] = first;
     }
 }
 

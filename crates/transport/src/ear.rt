@@ -57,7 +57,7 @@ impl Error for ReceiveFault {}
 /// A wire that looks up while it waits for a datagram: so who listens by it sees what else is so. It knows how many of its last
 /// receives failed.
 pub trait Ear: Wire {
-    /// How its last receives in time failed.
+    /// How its receives in time failed.
     ghost misses: { Self → Misses };
 
     /// Where it listens, if that is at a socket.

@@ -1,5 +1,5 @@
 //! Wires in memory, for tests.
-ghost use Rattle.std.specs.Prelude.{◌≡◌, ◌≤◌, ◌++◌, ◌∷◌, [], false, length, reverse, Some, MatchResult};
+ghost use Rattle.std.specs.Prelude.{◌≡◌, ◌≤◌, ◌++◌, ◌∷◌, ◌||◌, [], false, length, max, reverse, Some, MatchResult};
 ghost use Rattle.transport.specs.Devices.{one_more};
 ghost use Rattle.transport.specs.Ears.{is_lost};
 ghost use Rattle.transport.specs.Wires.{datagram};
@@ -28,6 +28,7 @@ pub struct MemoryWire {
     taken: Vec<Datagram>,
     failures: u64,
     row: u64,
+    most: u64,
     is_lost: bool,
     // how many receives and sends are left up to the one that fails, and how many receives in time up to the one that gives nothing
     receives: Option<u64>,
@@ -58,6 +59,7 @@ impl MemoryWire {
         ensures taken { result.taken.items ≡ [] }
         ensures failures { result.failures ≡ 0 }
         ensures row { result.row ≡ 0 }
+        ensures most { result.most ≡ 0 }
         ensures lost { result.is_lost ≡ false }
     {
         coming.reverse();
@@ -68,6 +70,7 @@ impl MemoryWire {
             taken: Vec::new(alloc),
             failures: 0,
             row: 0,
+            most: 0,
             is_lost: false,
             receives: None,
             sends: None,
@@ -122,6 +125,7 @@ impl MemoryWire {
         ensures taken { self.new.taken ≡ self.old.taken }
         ensures failures { self.new.failures ≡ one_more self.old.failures }
         ensures row { self.new.row ≡ self.old.row }
+        ensures most { self.new.most ≡ self.old.most }
         ensures lost { self.new.is_lost ≡ self.old.is_lost }
     {
         self.failures = self.failures.saturating_add(1);
@@ -134,12 +138,14 @@ impl MemoryWire {
         ensures taken { self.new.taken ≡ self.old.taken }
         ensures failures { self.new.failures ≡ one_more self.old.failures }
         ensures row { self.new.row ≡ one_more self.old.row }
-        ensures lost { self.new.is_lost ≡ is_lost result }
+        ensures most { self.new.most ≡ max self.old.most (one_more self.old.row) }
+        ensures lost { self.new.is_lost ≡ (self.old.is_lost || is_lost result) }
     {
         let fault = ReceiveFault { number };
         let _ = self.fail();
         self.row = self.row.saturating_add(1);
-        self.is_lost = fault.is_lost();
+        self.most = self.most.max(self.row);
+        self.is_lost = self.is_lost || fault.is_lost();
         fault
     }
 
@@ -149,10 +155,10 @@ impl MemoryWire {
         ensures taken { self.new.taken ≡ self.old.taken }
         ensures failures { self.new.failures ≡ self.old.failures }
         ensures row { self.new.row ≡ 0 }
-        ensures lost { self.new.is_lost ≡ false }
+        ensures most { self.new.most ≡ self.old.most }
+        ensures lost { self.new.is_lost ≡ self.old.is_lost }
     {
         self.row = 0;
-        self.is_lost = false;
     }
 
     /// Keeps a copy of what it gives.
@@ -163,6 +169,7 @@ impl MemoryWire {
         ensures taken { self.new.taken ≡ self.old.taken }
         ensures failures { self.new.failures ≡ self.old.failures }
         ensures row { self.new.row ≡ self.old.row }
+        ensures most { self.new.most ≡ self.old.most }
         ensures lost { self.new.is_lost ≡ self.old.is_lost }
     {
         let copy = Vec::from_slice(self.alloc, octets)?;
@@ -181,6 +188,7 @@ impl MemoryWire {
         ensures given { self.new.given ≡ self.old.given }
         ensures failures { self.new.failures ≡ self.old.failures }
         ensures row { self.new.row ≡ self.old.row }
+        ensures most { self.new.most ≡ self.old.most }
         ensures lost { self.new.is_lost ≡ self.old.is_lost }
     {
         let copy = Vec::from_slice(self.alloc, octets)?;
@@ -231,7 +239,7 @@ impl Wire for MemoryWire {
 }
 
 impl Ear for MemoryWire {
-    ghost misses = { λ w. record { row = w.row; lost = w.is_lost } };
+    ghost misses = { λ w. record { row = w.row; most = w.most; lost = w.is_lost } };
 
     fn place(&self) -> Option<Addr> {
         None

@@ -1,6 +1,6 @@
 //! Sockets as wires.
 ghost use Rattle.std.specs.Prelude.{◌≡◌, ◌≤◌, IfOk, Some};
-ghost use Rattle.transport.specs.Sockets.{loopback, IsNew, failed, missed, heard};
+ghost use Rattle.transport.specs.Sockets.{loopback, IsNew, IsFurther, failed, missed, heard};
 ghost use Rattle.transport.specs.Ears.{is_lost};
 
 use crate::ear::{Ear, ReceiveFault};
@@ -24,7 +24,10 @@ pub struct UdpWire {
     socket: UdpSocket,
     local: Addr,
     failures: u64,
+    // how many of the last receives in time failed, one after the other, and how many did so at most
     row: u64,
+    most: u64,
+    // whether a receive in time ever failed since the descriptor is no socket any more
     is_lost: bool,
 }
 
@@ -84,6 +87,7 @@ impl UdpWire {
             local,
             failures: 0,
             row: 0,
+            most: 0,
             is_lost: false,
         };
         let second = UdpWire {
@@ -91,9 +95,25 @@ impl UdpWire {
             local,
             failures: 0,
             row: 0,
+            most: 0,
             is_lost: false,
         };
         Ok((first, second))
+    }
+
+    /// A further wire over its socket. A [`WireFault`] where the system has no descriptor left for it.
+    pub fn further(&self) -> Result<UdpWire, WireFault>
+        ensures { IfOk result (IsFurther self.now) }
+    {
+        let socket = self.socket.try_clone()?;
+        Ok(UdpWire {
+            socket,
+            local: self.local,
+            failures: 0,
+            row: 0,
+            most: 0,
+            is_lost: false,
+        })
     }
 
     /// The address that its socket is bound to.
@@ -146,7 +166,8 @@ impl UdpWire {
     {
         let _ = self.fail();
         self.row = self.row.saturating_add(1);
-        self.is_lost = fault.is_lost();
+        self.most = self.most.max(self.row);
+        self.is_lost = self.is_lost || fault.is_lost();
         fault
     }
 
@@ -155,7 +176,6 @@ impl UdpWire {
         ensures { self.new ≡ heard self.old }
     {
         self.row = 0;
-        self.is_lost = false;
     }
 
     /// Counts a failure.
@@ -189,7 +209,7 @@ impl Wire for UdpWire {
 }
 
 impl Ear for UdpWire {
-    ghost misses = { λ w. record { row = w.row; lost = w.is_lost } };
+    ghost misses = { λ w. record { row = w.row; most = w.most; lost = w.is_lost } };
 
     ghost at = { λ w. Some w.local };
 

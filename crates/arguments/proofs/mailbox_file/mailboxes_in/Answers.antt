@@ -14,7 +14,7 @@ returns-clause-names c =
     c.in_ok-push.ensures.items ∙ ap (λ (names : List (List ℕ)). names ++ c.in_ok-name.name ∷ []) c.new-names.ensures.items ∙ ap (λ (name : List ℕ). name ∷ []) named in
     inr (inl (
       record {
-        mailbox = c.is_mailbox.ensures.0 c.if-not-is_mailbox.false;
+        mailbox = c.is_mailbox.ensures.is.0 c.if-not-is_mailbox.false;
         no_comment = no_comment line (never c.is_blank.result (IsBlank line) c.is_blank.ensures c.if-is_blank.false);
         no_range = rw c.as_bytes.ensures.value at c.in_default.ensures.none;
       },

@@ -1,16 +1,15 @@
 use Rattle.std.proofs.Common.{arith}
-use Rattle.arguments.specs.Boxes.{box_seen}
 use Rattle.commands.proofs.UdpStarted.{workers_are, crew_is}
 use Rattle.commands.proofs.udp.start_crew.Goals as goal
 
-pub start-requires-clause-few_workers : goal.start-requires-clause-few_workers
-start-requires-clause-few_workers g c κs within =
+pub start_any-requires-clause-few_workers : goal.start_any-requires-clause-few_workers
+start_any-requires-clause-few_workers g c κs within =
     let boxes = c.in-Ok.boxes in let size = boxes.ok.0 in
-    let len = workers_are box_seen c.setup_at-setup.result boxes.items c.args.call.now c.setup_at-setup.ensures (rw c.as_slice.ensures at c.in-Ok.ensures) in
+    let len = workers_are g.P.Package.seen c.setup_at-setup.result boxes.items c.args.call.now c.setup_at-setup.ensures (rw c.as_slice.ensures at c.in-Ok.ensures) in
     let few = c.requires.few in omega arith
 
-pub returns-in-Ok-start-clause-started : goal.returns-in-Ok-start-clause-started
-returns-in-Ok-start-clause-started g c =
+pub returns-in-Ok-start_any-clause-started : goal.returns-in-Ok-start_any-clause-started
+returns-in-Ok-start_any-clause-started g c =
     let boxes = c.in-Ok.boxes in
-    crew_is box_seen c.setup_at-setup.result boxes.items c.args.call.now c.setup_at-setup.ensures (rw c.as_slice.ensures at c.in-Ok.ensures)
-    _ boxes.ok.0 c.requires.some c.in-Ok-start.ensures.started
+    crew_is g.P.Package.seen c.setup_at-setup.result boxes.items c.args.call.now c.setup_at-setup.ensures (rw c.as_slice.ensures at c.in-Ok.ensures)
+    _ boxes.ok.0 c.requires.some c.in-Ok-start_any.ensures.started

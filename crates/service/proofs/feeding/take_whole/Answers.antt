@@ -1,5 +1,7 @@
 use Rattle.std.proofs.Common.{refl, ◌∙◌}
 use Rattle.transport.specs.Sockets.{misses}
+use Rattle.service.specs.Listening.{is_fault}
+use Rattle.service.proofs.Deafness.{deaf_after}
 use Rattle.service.proofs.feeding.take_whole.Goals as goal
 
 pub returns : goal.returns
@@ -12,5 +14,5 @@ returns g c =
         ends = shut.ends;
         seats = shut.seats ∙ took.seats;
       };
-      fails = (late.new.self, refl, (misses c.take_lines-end.new.self.coming, took.until, late.ensures.until));
+      fails = (late.new.self, refl, deaf_after (is_fault c.take_lines-end.result) late.result (misses c.args.desk.coming) (misses c.take_lines-end.new.self.coming) (misses late.new.self.coming) took.deaf late.ensures.deaf);
     }

@@ -1,10 +1,14 @@
-use Rattle.service.proofs.Doing.{done_changed, done_progress}
+use Rattle.service.proofs.Doing.{done_changed, done_progress, done_found}
 use Rattle.service.proofs.lines.take_line.Goals as goal
 
 pub returns-in-Mail-clause-done : goal.returns-in-Mail-clause-done
 returns-in-Mail-clause-done g c =
-    done_changed c.args.mailboxes.now c.args.octets.now c.args.port.now c.send_change.new.port c.in-Mail.change c.send_change.result c.in-Mail.ensures c.send_change.ensures.done
+    done_changed c.args.octets.now c.args.told.now c.send_change.new.told c.args.port.now c.send_change.new.port c.in-Mail.change c.send_change.result c.in-Mail.ensures c.send_change.ensures.done
 
 pub returns-in-Progress-clause-done : goal.returns-in-Progress-clause-done
 returns-in-Progress-clause-done g c =
-    done_progress c.args.mailboxes.now c.args.octets.now c.args.port.now c.send.new.port c.in-Progress.progress c.send.result c.in-Progress.ensures c.send.ensures.done
+    done_progress c.args.octets.now c.args.told.now c.args.port.now c.send.new.port c.in-Progress.progress c.send.result c.in-Progress.ensures c.send.ensures.done
+
+pub returns-in-Question-clause-done : goal.returns-in-Question-clause-done
+returns-in-Question-clause-done g c =
+    done_found c.args.octets.now c.args.told.now c.args.port.now c.args.port.now c.in-Question.question c.find.result c.in-Question.ensures c.find.ensures

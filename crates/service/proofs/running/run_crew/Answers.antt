@@ -18,7 +18,8 @@ serve-requires-clause-new g c κs within =
 pub returns-clause-runs : goal.returns-clause-runs
 returns-clause-runs g c =
     on_ok c.serve.result c.serve.ensures.served
-    (λ o runs held. runs_with c.len-workers.ensures (runs _ c.args.work.repeats (started_with c.len-workers.ensures (c.in_ok-crew.ensures.started held)) (c.new-2.ensures ∙ c.in_ok-transactions.ensures)))
+    (λ o runs held. runs_with c.len-workers.ensures (runs _ c.args.work.repeats (started_with c.len-workers.ensures (c.in_ok-crew.ensures.started held)) (c.new-2.ensures ∙ c.in_ok-transactions.ensures)
+    c.args.work.desk.mailboxes.items (record { untold = c.in_ok-desk.ensures.untold; unkept = c.in_ok-desk.ensures.unkept; workers_are = c.in_ok-desk.ensures.workers })))
 
 pub returns-clause-no_memory : goal.returns-clause-no_memory
 returns-clause-no_memory g c = λ e. no_other c.serve.result _ _ c.serve.ensures.refused e (λ same. cc)

@@ -23,11 +23,11 @@ loop-node-preserved c =
     let m = c.loop-node.node / 2 in
     let h = c.loop-node.invariant in
     let within : m < places = omega arith in
-    let is : slice_set xs m c.sooner.result ≡ mended xs m = ap (slice_set xs m) c.sooner.ensures in
+    let is : slice_set xs m c.sooner-first.result ≡ mended xs m = ap (slice_set xs m) c.sooner-first.ensures in
     record {
-      size = length-set xs m c.sooner.result ∙ h.size;
+      size = length-set xs m c.sooner-first.result ∙ h.size;
       some = omega arith;
       within = omega arith;
       won = subst (IsWonBut places (m / 2)) (sym is) (mend places xs m h.size (omega arith) within h.won);
-      leaves = λ p inside. leaf_kept places xs m p c.sooner.result within ∙ h.leaves p inside;
+      leaves = λ p inside. leaf_kept places xs m p c.sooner-first.result within ∙ h.leaves p inside;
     }

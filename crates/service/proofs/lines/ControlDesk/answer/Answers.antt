@@ -1,18 +1,56 @@
-use Rattle.std.proofs.Common.{refl}
+use Rattle.std.proofs.Common.{◌≡◌, List, ℕ, inl, inr, refl, subst, Option, None, Some, IfSome, String, string_bytes}
+use Rattle.std.specs.declared.alloc.Global.{Global}
 use Rattle.control_lines.specs.declared.answer.Answer.TheVariants as answer
 use Rattle.control_lines.specs.Lines.{answer_text}
 use Rattle.service.specs.declared.lines.Done.TheVariants as did
-use Rattle.service.proofs.Answering.{answered_by}
+use Rattle.service.specs.Taken.{IsReply, seen}
+use Rattle.service.specs.Told.{IsReport, IsShown, dumped}
+use Rattle.service.proofs.Answering.{answered_by, unanswered_by, either_report}
 use Rattle.service.proofs.lines.ControlDesk.answer.Goals as goal
 
 pub returns-in-Answered-clause-answered : goal.returns-in-Answered-clause-answered
 returns-in-Answered-clause-answered g c =
-    let a = c.in-Answered.answer in rw c.in-Answered.is (answered_by (did.Answered a) c.args.to (answer_text a) _ _ _ _ refl c.say.ensures.offered)
+    let a = c.in-Answered.answer in
+    rw c.in-Answered.is (answered_by (seen c.args.self.now) (did.Answered a) c.args.to (answer_text a) _ _ _ _ refl refl c.say.ensures.offered)
+
+pub returns-in-Repeated-clause-answered : goal.returns-in-Repeated-clause-answered
+returns-in-Repeated-clause-answered g c =
+    let a = c.in-Repeated.answer in
+    rw c.in-Repeated.is (answered_by (seen c.args.self.now) (did.Repeated a) c.args.to (answer_text a) _ _ _ _ refl refl c.say-in-Repeated.ensures.offered)
+
+pub returns-in-Unanswered-clause-answered : goal.returns-in-Unanswered-clause-answered
+returns-in-Unanswered-clause-answered g c =
+    rw c.in-Unanswered.is (unanswered_by (seen c.args.self.now) c.args.to (g.W.Wire.taken c.args.self.now.going) (g.W.Wire.failures c.args.self.now.going))
+
+pub returns-in-Counters-clause-answered : goal.returns-in-Counters-clause-answered
+returns-in-Counters-clause-answered g c =
+    rw c.in-Counters.is (answered_by (seen c.args.self.now) did.Counters c.args.to _ _ _ _ _ refl
+    (either_report (IsReply (seen c.args.self.now) did.Counters) c.counters.result
+    (λ t is. inl (subst (λ (o : Option (String Global)). IfSome o (λ x. IsReport (string_bytes x))) is c.counters.ensures)) (inr refl))
+    c.say_report.ensures.offered)
+
+pub returns-in-Shown-clause-answered : goal.returns-in-Shown-clause-answered
+returns-in-Shown-clause-answered g c =
+    let desk = seen c.args.self.now in
+    let n = c.in-Shown.place in
+    rw c.in-Shown.is (answered_by desk (did.Shown n) c.args.to _ _ _ _ _ refl
+    (either_report (IsReply desk (did.Shown n)) c.shown-text.result
+    (λ t is. inl (subst (λ (o : Option (String Global)). IfSome o (λ x. IsShown desk.rows desk.workers n (string_bytes x))) is c.shown-text.ensures)) (inr refl))
+    c.say_report-in-Shown.ensures.offered)
+
+pub returns-in-Dumped-clause-answered : goal.returns-in-Dumped-clause-answered
+returns-in-Dumped-clause-answered g c =
+    let desk = seen c.args.self.now in
+    let n = c.in-Dumped.from in
+    rw c.in-Dumped.is (answered_by desk (did.Dumped n) c.args.to _ _ _ _ _ refl
+    (either_report (IsReply desk (did.Dumped n)) c.dumped-text.result
+    (λ t is. inl (subst (λ (o : Option (String Global)). IfSome o (λ x. string_bytes x ≡ dumped desk.rows n)) is c.dumped-text.ensures)) (inr refl))
+    c.say_report-in-Dumped.ensures.offered)
 
 pub returns-in-Closing-clause-answered : goal.returns-in-Closing-clause-answered
 returns-in-Closing-clause-answered g c =
-    rw c.in-Closing.is (answered_by did.Closing c.args.to (answer_text answer.Done) _ _ _ _ refl c.say-in-Closing.ensures.offered)
+    rw c.in-Closing.is (answered_by (seen c.args.self.now) did.Closing c.args.to (answer_text answer.Done) _ _ _ _ refl refl c.say-in-Closing.ensures.offered)
 
 pub returns-in-Gone-clause-answered : goal.returns-in-Gone-clause-answered
 returns-in-Gone-clause-answered g c =
-    rw c.in-Gone.is (answered_by did.Gone c.args.to (answer_text answer.Closed) _ _ _ _ refl c.say-in-Gone.ensures.offered)
+    rw c.in-Gone.is (answered_by (seen c.args.self.now) did.Gone c.args.to (answer_text answer.Closed) _ _ _ _ refl refl c.say-in-Gone.ensures.offered)

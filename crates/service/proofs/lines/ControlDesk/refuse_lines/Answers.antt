@@ -1,15 +1,16 @@
-use Rattle.std.proofs.Common.{◌∙◌, ◌∷◌, [], refl, take}
+use Rattle.std.proofs.Common.{◌∙◌, ◌∷◌, [], refl, sym, take, false, true}
 use Rattle.transport.specs.Wires.{Grows, datagram}
 use Rattle.feeds.proofs.Telling.{grows_none, grows_same}
-use Rattle.service.proofs.Receiving.{gave_one, gave_none, within_one}
-use Rattle.service.proofs.Refusing.{refusing_none, refusing_blank, refusing_more, refusing_silent, some_taken, none_taken}
+use Rattle.service.proofs.Deafness.{deaf_same, deaf_after}
+use Rattle.service.proofs.Receiving.{gave_one, gave_none}
+use Rattle.service.proofs.Refusing.{refusing_none, refusing_blank, refusing_more, refusing_silent}
 use Rattle.service.proofs.lines.ControlDesk.refuse_lines.Goals as goal
 
 pub loop-init : goal.loop-init
 loop-init g c = record {
-  mailboxes = refl;
+  seen = refl;
   coming = grows_none (g.W.Wire.taken c.args.self.now.coming);
-  until = λ deaf. deaf;
+  deaf = deaf_same (g.W.Ear.misses c.args.self.now.coming);
   going = grows_none (g.W.Wire.given c.args.self.now.going);
   refusing = refusing_none (g.W.Wire.given c.args.self.now.coming) (g.W.Wire.taken c.args.self.now.going) (g.W.Wire.failures c.args.self.now.going);
 }
@@ -23,40 +24,40 @@ returns-in_default-clause-refused g c = refusing_silent c.loop.invariant.refusin
 pub loop-preserved-in_default-came : goal.loop-preserved-in_default-came
 loop-preserved-in_default-came g c =
     let at = c.loop.invariant in record {
-      mailboxes = at.mailboxes;
+      seen = at.seen;
       coming = grows_same (g.W.Wire.taken c.args.self.now.coming) (g.W.Wire.taken c.loop.self.coming) (g.W.Wire.taken c.receive.new.wire) _ at.coming c.receive.ensures.taken;
-      until = λ deaf. absurd (c.in-Ok.ensures.hears deaf);
+      deaf = deaf_after false false (g.W.Ear.misses c.args.self.now.coming) (g.W.Ear.misses c.loop.self.coming) (g.W.Ear.misses c.receive.new.wire) at.deaf c.in-Ok.ensures.deaf;
       going = at.going;
       refusing = refusing_silent at.refusing (g.W.Wire.given c.receive.new.wire) (gave_none _ _ _ _ c.in-Ok.ensures.given c.in_default-came.is);
     }
 
-pub loop-preserved-then-length-gt0 : goal.loop-preserved-then-length-gt0
-loop-preserved-then-length-gt0 g c =
+pub loop-preserved-then-is_due : goal.loop-preserved-then-is_due
+loop-preserved-then-is_due g c =
     let at = c.loop.invariant in let one = c.in-Some-came in
     let came = datagram one.source (take one.length c.receive.new.octets) in
     let first : Grows (g.W.Wire.given c.loop.self.coming) (g.W.Wire.given c.receive.new.wire) (came ∷ []) = gave_one _ _ _ _ c.in-Ok.ensures.given (one.length, one.source) one.is in
-    let within = within_one c.receive.new.octets c.in-Ok.came (one.length, one.source) one.is c.in-Ok.ensures.within in
     let after = g.W.Wire.given c.say.new.self.coming in
     let gave : Grows (g.W.Wire.given c.loop.self.coming) after (came ∷ []) = rw c.say.ensures.coming first in record {
-      mailboxes = c.say.ensures.mailboxes ∙ at.mailboxes;
+      seen = c.say.ensures.seen ∙ at.seen;
       coming = rw c.say.ensures.coming (grows_same (g.W.Wire.taken c.args.self.now.coming) (g.W.Wire.taken c.loop.self.coming) (g.W.Wire.taken c.receive.new.wire) _ at.coming c.receive.ensures.taken);
-      until = rw c.say.ensures.coming (λ deaf. absurd (c.in-Ok.ensures.hears deaf));
+      deaf = rw c.say.ensures.coming (deaf_after false false (g.W.Ear.misses c.args.self.now.coming) (g.W.Ear.misses c.loop.self.coming) (g.W.Ear.misses c.receive.new.wire) at.deaf c.in-Ok.ensures.deaf);
       going = grows_same (g.W.Wire.given c.args.self.now.going) (g.W.Wire.given c.loop.self.going) (g.W.Wire.given c.say.new.self.going) _ at.going c.say.ensures.given;
       refusing = refusing_more at.refusing after came gave (g.W.Wire.taken c.say.new.self.going) (g.W.Wire.failures c.say.new.self.going)
-          (some_taken one.length c.receive.new.octets within c.if-length-gt0.true) c.say.ensures.offered;
+          (sym c.is_due.ensures ∙ c.if-is_due.true) c.say.ensures.offered;
     }
 
 pub loop-preserved : goal.loop-preserved
 loop-preserved g c =
     let at = c.loop.invariant in let one = c.in-Some-came in
     let came = datagram one.source (take one.length c.receive.new.octets) in
-    let first : Grows (g.W.Wire.given c.loop.self.coming) (g.W.Wire.given c.receive.new.wire) (came ∷ []) = gave_one _ _ _ _ c.in-Ok.ensures.given (one.length, one.source) one.is in
-    let within = within_one c.receive.new.octets c.in-Ok.came (one.length, one.source) one.is c.in-Ok.ensures.within in
-    record {
-      mailboxes = at.mailboxes;
+    let first : Grows (g.W.Wire.given c.loop.self.coming) (g.W.Wire.given c.receive.new.wire) (came ∷ []) = gave_one _ _ _ _ c.in-Ok.ensures.given (one.length, one.source) one.is in record {
+      seen = at.seen;
       coming = grows_same (g.W.Wire.taken c.args.self.now.coming) (g.W.Wire.taken c.loop.self.coming) (g.W.Wire.taken c.receive.new.wire) _ at.coming c.receive.ensures.taken;
-      until = λ deaf. absurd (c.in-Ok.ensures.hears deaf);
+      deaf = deaf_after false false (g.W.Ear.misses c.args.self.now.coming) (g.W.Ear.misses c.loop.self.coming) (g.W.Ear.misses c.receive.new.wire) at.deaf c.in-Ok.ensures.deaf;
       going = at.going;
       refusing = refusing_blank at.refusing (g.W.Wire.given c.receive.new.wire) came first
-          (none_taken one.length c.receive.new.octets within c.if-length-gt0.false);
+          (sym c.is_due.ensures ∙ c.if-is_due.false);
     }
+
+pub returns-in_default-clause-deaf : goal.returns-in_default-clause-deaf
+returns-in_default-clause-deaf g c = deaf_after false true (g.W.Ear.misses c.args.self.now.coming) (g.W.Ear.misses c.loop.self.coming) (g.W.Ear.misses c.receive.new.wire) c.loop.invariant.deaf c.in_default.ensures.deaf

@@ -1,19 +1,20 @@
-use Rattle.std.proofs.Common.{◌∙◌, ◌∷◌, [], refl, sym, take, arith}
+use Rattle.std.proofs.Common.{◌∙◌, ◌∷◌, [], refl, sym, subst, take, arith, false, true}
 use Rattle.transport.specs.Wires.{Grows, datagram}
 use Rattle.feeds.proofs.Telling.{grows_none, grows_same}
+use Rattle.service.specs.Taken.{DeskSeen, IsTaken, MayReply, seen}
+use Rattle.service.proofs.Deafness.{deaf_same, deaf_after, no_fault_after}
 use Rattle.service.proofs.Receiving.{gave_one, gave_none}
-use Rattle.service.proofs.Taking.{taking_none, taking_more, taking_silent, taken_last, taken_done, taken_fault, taking_open, until_last}
+use Rattle.service.proofs.Taking.{taking_none, taking_more, taking_silent, taken_last, taken_done, taken_fault, taking_open}
 use Rattle.service.proofs.lines.ControlDesk.take_lines.Goals as goal
 
 pub loop-init : goal.loop-init
 loop-init g c = record {
   still_open = c.requires.still_open;
   seats = refl;
-  mailboxes = refl;
   coming = grows_none (g.W.Wire.taken c.args.self.now.coming);
-  until = λ deaf. deaf;
+  deaf = deaf_same (g.W.Ear.misses c.args.self.now.coming);
   going = grows_none (g.W.Wire.given c.args.self.now.going);
-  taking = taking_none c.args.self.now.mailboxes.items c.args.port.now (g.W.Wire.given c.args.self.now.coming)
+  taking = taking_none (seen c.args.self.now) c.args.port.now (g.W.Wire.given c.args.self.now.coming)
       (g.W.Wire.taken c.args.self.now.going) (g.W.Wire.failures c.args.self.now.going);
 }
 
@@ -28,9 +29,8 @@ loop-preserved-in_default-came g c =
     let at = c.loop.invariant in record {
       still_open = at.still_open;
       seats = at.seats;
-      mailboxes = at.mailboxes;
       coming = grows_same (g.W.Wire.taken c.args.self.now.coming) (g.W.Wire.taken c.loop.self.coming) (g.W.Wire.taken c.receive.new.wire) _ at.coming c.receive.ensures.taken;
-      until = λ deaf. absurd (c.in-Ok.ensures.hears deaf);
+      deaf = deaf_after false false (g.W.Ear.misses c.args.self.now.coming) (g.W.Ear.misses c.loop.self.coming) (g.W.Ear.misses c.receive.new.wire) at.deaf c.in-Ok.ensures.deaf;
       going = at.going;
       taking = taking_silent at.taking (g.W.Wire.given c.receive.new.wire) (gave_none _ _ _ _ c.in-Ok.ensures.given c.in_default-came.is);
     }
@@ -41,16 +41,19 @@ returns-in-Some-end_after-clause-taken g c =
     let came = datagram one.source (take one.length c.receive.new.octets) in
     let after = g.W.Wire.given c.answer.new.self.coming in
     let first : Grows (g.W.Wire.given c.loop.self.coming) (g.W.Wire.given c.receive.new.wire) (came ∷ []) = gave_one _ _ _ _ c.in-Ok.ensures.given (one.length, one.source) one.is in
-    let gave : Grows (g.W.Wire.given c.loop.self.coming) after (came ∷ []) = rw c.answer.ensures.coming first in
-    let is = rw (c.as_slice-mailboxes.ensures.value, at.mailboxes) at c.take_line-done.ensures.done in
-    let sent = c.answer.ensures.answered in
-    taken_last at.taking c.take_line-done.new.port after (g.W.Wire.taken c.answer.new.self.going) (g.W.Wire.failures c.answer.new.self.going)
-    came sent.0 gave c.take_line-done.result c.in-Some-end_after.end (sym c.end_after.ensures ∙ c.in-Some-end_after.is) is sent.1 sent.2
+    let gave : Grows (g.W.Wire.given c.loop.self.coming) after (came ∷ []) = rw (c.answer.ensures.coming, c.take-done.ensures.coming) first in
+    let is : IsTaken came.octets (seen c.loop.self) (seen c.answer.new.self) c.loop.port c.take-done.new.port c.take-done.result =
+    subst (λ (s : DeskSeen). IsTaken came.octets (seen c.loop.self) s c.loop.port c.take-done.new.port c.take-done.result) (sym c.answer.ensures.seen) c.take-done.ensures.done in
+    let replied = c.answer.ensures.answered in
+    let said = rw c.take-done.ensures.going at replied.2 in
+    let may = subst (λ (s : DeskSeen). MayReply s c.take-done.result replied.0) (sym c.answer.ensures.seen) replied.1 in
+    taken_last at.taking c.take-done.new.port after (g.W.Wire.taken c.answer.new.self.going) (g.W.Wire.failures c.answer.new.self.going)
+    came replied.0 gave c.take-done.result c.in-Some-end_after.end (seen c.answer.new.self) (sym c.end_after.ensures ∙ c.in-Some-end_after.is) is may said
 
-pub returns-in-Some-end_after-clause-until : goal.returns-in-Some-end_after-clause-until
-returns-in-Some-end_after-clause-until g c =
-    rw c.answer.ensures.coming (until_last c.take_line-done.result c.in-Some-end_after.end (g.W.Ear.misses c.args.self.now.coming) (g.W.Ear.misses c.receive.new.wire)
-    (sym c.end_after.ensures ∙ c.in-Some-end_after.is) c.in-Ok.ensures.hears)
+pub returns-in-Some-end_after-clause-deaf : goal.returns-in-Some-end_after-clause-deaf
+returns-in-Some-end_after-clause-deaf g c =
+    rw (c.answer.ensures.coming, c.take-done.ensures.coming, no_fault_after c.take-done.result c.in-Some-end_after.end (sym c.end_after.ensures ∙ c.in-Some-end_after.is))
+    (deaf_after false false (g.W.Ear.misses c.args.self.now.coming) (g.W.Ear.misses c.loop.self.coming) (g.W.Ear.misses c.receive.new.wire) c.loop.invariant.deaf c.in-Ok.ensures.deaf)
 
 pub loop-preserved : goal.loop-preserved
 loop-preserved g c =
@@ -58,17 +61,22 @@ loop-preserved g c =
     let came = datagram one.source (take one.length c.receive.new.octets) in
     let after = g.W.Wire.given c.answer.new.self.coming in
     let first : Grows (g.W.Wire.given c.loop.self.coming) (g.W.Wire.given c.receive.new.wire) (came ∷ []) = gave_one _ _ _ _ c.in-Ok.ensures.given (one.length, one.source) one.is in
-    let gave : Grows (g.W.Wire.given c.loop.self.coming) after (came ∷ []) = rw c.answer.ensures.coming first in
-    let is = rw (c.as_slice-mailboxes.ensures.value, at.mailboxes) at c.take_line-done.ensures.done in
-    let sent = c.answer.ensures.answered in
+    let gave : Grows (g.W.Wire.given c.loop.self.coming) after (came ∷ []) = rw (c.answer.ensures.coming, c.take-done.ensures.coming) first in
+    let is : IsTaken came.octets (seen c.loop.self) (seen c.answer.new.self) c.loop.port c.take-done.new.port c.take-done.result =
+    subst (λ (s : DeskSeen). IsTaken came.octets (seen c.loop.self) s c.loop.port c.take-done.new.port c.take-done.result) (sym c.answer.ensures.seen) c.take-done.ensures.done in
+    let replied = c.answer.ensures.answered in
+    let said = rw c.take-done.ensures.going at replied.2 in
+    let may = subst (λ (s : DeskSeen). MayReply s c.take-done.result replied.0) (sym c.answer.ensures.seen) replied.1 in
     let on = sym c.end_after.ensures ∙ c.in_default-end_after.is in
-    let taking = taking_more at.taking c.take_line-done.new.port after (g.W.Wire.taken c.answer.new.self.going) (g.W.Wire.failures c.answer.new.self.going)
-    came sent.0 gave c.take_line-done.result is sent.1 sent.2 on in record {
+    let taking = taking_more at.taking c.take-done.new.port after (g.W.Wire.taken c.answer.new.self.going) (g.W.Wire.failures c.answer.new.self.going)
+    came replied.0 gave (seen c.answer.new.self) c.take-done.result is may said on in record {
       still_open = (let now = taking_open taking in let same = c.requires.still_open in omega arith);
-      seats = c.take_line-done.ensures.seats ∙ at.seats;
-      mailboxes = c.answer.ensures.mailboxes ∙ at.mailboxes;
-      coming = rw c.answer.ensures.coming (grows_same (g.W.Wire.taken c.args.self.now.coming) (g.W.Wire.taken c.loop.self.coming) (g.W.Wire.taken c.receive.new.wire) _ at.coming c.receive.ensures.taken);
-      until = rw c.answer.ensures.coming (λ deaf. absurd (c.in-Ok.ensures.hears deaf));
-      going = grows_same (g.W.Wire.given c.args.self.now.going) (g.W.Wire.given c.loop.self.going) (g.W.Wire.given c.answer.new.self.going) _ at.going c.answer.ensures.given;
+      seats = c.take-done.ensures.seats ∙ at.seats;
+      coming = rw (c.answer.ensures.coming, c.take-done.ensures.coming) (grows_same (g.W.Wire.taken c.args.self.now.coming) (g.W.Wire.taken c.loop.self.coming) (g.W.Wire.taken c.receive.new.wire) _ at.coming c.receive.ensures.taken);
+      deaf = rw (c.answer.ensures.coming, c.take-done.ensures.coming) (deaf_after false false (g.W.Ear.misses c.args.self.now.coming) (g.W.Ear.misses c.loop.self.coming) (g.W.Ear.misses c.receive.new.wire) at.deaf c.in-Ok.ensures.deaf);
+      going = grows_same (g.W.Wire.given c.args.self.now.going) (g.W.Wire.given c.loop.self.going) (g.W.Wire.given c.answer.new.self.going) _ at.going (rw c.take-done.ensures.going at c.answer.ensures.given);
       taking = taking;
     }
+
+pub returns-in_default-clause-deaf : goal.returns-in_default-clause-deaf
+returns-in_default-clause-deaf g c = deaf_after false true (g.W.Ear.misses c.args.self.now.coming) (g.W.Ear.misses c.loop.self.coming) (g.W.Ear.misses c.receive.new.wire) c.loop.invariant.deaf c.in_default.ensures.deaf

@@ -1,7 +1,8 @@
-use Rattle.std.proofs.Common.{◌≡◌, ◌<◌, []}
+use Rattle.std.proofs.Common.{◌≡◌, ◌<◌, [], false}
 use Rattle.transport.specs.Wires.{Grows}
 use Rattle.crew.specs.Kept.{SameSeats}
-use Rattle.service.specs.Listening.{IsDeaf}
+use Rattle.service.specs.Listening.{IsDeafAsTold}
+use Rattle.service.specs.Taken.{seen}
 use Rattle.service.proofs.Taking.{Taking}
 use Rattle.service.proofs.lines.ControlDesk.take_lines.Given as goal
 
@@ -9,10 +10,9 @@ abbrev pub invariant-loop : goal.invariant-loop
 invariant-loop g l = record {
   still_open : 0 < l.port.still_open;
   seats : SameSeats l.fn.port l.port;
-  mailboxes : l.self.mailboxes ≡ l.fn.self.mailboxes;
   coming : Grows (g.W.Wire.taken l.fn.self.coming) (g.W.Wire.taken l.self.coming) [];
-  until : IsDeaf (g.W.Ear.misses l.self.coming) → IsDeaf (g.W.Ear.misses l.fn.self.coming);
+  deaf : IsDeafAsTold false (g.W.Ear.misses l.fn.self.coming) (g.W.Ear.misses l.self.coming);
   going : Grows (g.W.Wire.given l.fn.self.going) (g.W.Wire.given l.self.going) [];
-  taking : Taking l.fn.self.mailboxes.items l.fn.port l.port (g.W.Wire.given l.fn.self.coming) (g.W.Wire.given l.self.coming)
+  taking : Taking (seen l.fn.self) (seen l.self) l.fn.port l.port (g.W.Wire.given l.fn.self.coming) (g.W.Wire.given l.self.coming)
       (g.W.Wire.taken l.fn.self.going) (g.W.Wire.taken l.self.going) (g.W.Wire.failures l.fn.self.going) (g.W.Wire.failures l.self.going);
 }

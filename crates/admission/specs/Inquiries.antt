@@ -1,0 +1,105 @@
+-- Requests that are asked who they are from (RFC 3261 section 22).
+use Rattle.std.specs.Prelude.{◌≡◌, ℕ, Bool, true, false, ◌||◌, ◌==◌, List, length, ◌⊎◌, None, bytes_eq, codes}
+use Rattle.sip_text.specs.declared.address.Addr.{Addr}
+use Rattle.sip_read.specs.declared.message.Request.{Request}
+use Rattle.notifier_model.specs.Requests.{user_part}
+use Rattle.digest.specs.declared.credentials.Credentials.{Credentials}
+use Rattle.digest.specs.declared.guard.Guard.{Guard}
+use Rattle.digest.specs.declared.guard.Verdict.{Verdict}
+use Rattle.digest.specs.declared.guard.Verdict.TheVariants as verdict
+use Rattle.digest.specs.Posed.{challenges}
+use Rattle.digest.specs.Verdicts as digest
+use Rattle.digest.specs.Verdicts.{IsAccepted, Judges}
+use Rattle.digest.specs.Watching.{MayWatch}
+use Rattle.admission.specs.declared.authentication.Authentication.{Authentication}
+use Rattle.admission.specs.declared.authentication.Cause.{Cause}
+use Rattle.admission.specs.declared.authentication.Cause.TheVariants as cause
+use Rattle.admission.specs.declared.authentication.Conclusion.{Conclusion}
+use Rattle.admission.specs.declared.authentication.Conclusion.TheVariants as conclusion
+use Rattle.admission.specs.declared.authentication.Finding.{Finding}
+use Rattle.admission.specs.declared.authentication.Finding.TheVariants as finding
+use Rattle.admission.specs.declared.authentication.Inquiry.{Inquiry as Borrowed}
+use Rattle.admission.specs.Authorization.{authorization, Shows, IsMalformed}
+use Rattle.admission.specs.Challenge.{forbidden_text, challenge_text}
+
+-- a request, the datagram that it was read from, where that came from, and when, in seconds
+pub record Inquiry : Type 0 where
+  pub request : Request
+  pub octets : List ℕ
+  pub source : Addr
+  pub now : ℕ
+
+abbrev pub inquiry_seen : Borrowed → Inquiry
+inquiry_seen i = record { request = i.request.now; octets = i.octets.now; source = i.source; now = i.now }
+
+-- what a guard looks at
+abbrev pub asked : Inquiry → digest.Request
+asked i = record { method = i.request.method; uri = i.request.uri; source = i.source; now = i.now }
+
+-- ---- who asks
+
+-- who a guard says that it is
+abbrev pub told : Verdict → Finding
+told (verdict.Accepted user) = finding.User user
+told verdict.StaleNonce = finding.Nobody cause.Stale
+told verdict.WrongRealm = finding.Nobody cause.Wrong
+told verdict.OtherUri = finding.Nobody cause.Wrong
+told verdict.WrongAlgorithm = finding.Nobody cause.Wrong
+told verdict.OldForm = finding.Nobody cause.Wrong
+told verdict.ForeignNonce = finding.Nobody cause.Wrong
+told verdict.UnknownUser = finding.Nobody cause.Wrong
+told verdict.BadResponse = finding.Nobody cause.Wrong
+
+-- the guard finds this of the credentials that the request shows
+pub record IsJudged (g : Guard) (i : Inquiry) (v : Verdict) : Type 0 where
+  pub credentials : Credentials
+  pub shows : Shows i.octets credentials
+  pub judges : Judges g (asked i) credentials v
+
+-- who is found to ask: who shows no credentials, or none that can be read, is nobody
+abbrev pub IsFound : Guard → Inquiry → Finding → Type 0
+IsFound g i f =
+    ((f ≡ finding.Nobody cause.Absent) × (authorization i.octets ≡ None))
+    ⊎ (((f ≡ finding.Nobody cause.Malformed) × IsMalformed i.octets)
+    ⊎ ((v : Verdict) × IsJudged g i v × (f ≡ told v)))
+
+-- ---- whether they may
+
+-- a REFER is for any user, and so is a request whose Request-URI names no mailbox, as one in a dialog
+abbrev pub is_for_any : Request → Bool
+is_for_any r = bytes_eq r.method (codes "REFER") || (length (user_part r.uri) == 0)
+
+-- else a user may have the mailbox of their name, and what they were allowed
+abbrev pub MayHave : Request → List ℕ → List (List ℕ × List ℕ) → Type 0
+MayHave r user further = (is_for_any r ≡ true) ⊎ MayWatch user (user_part r.uri) further
+
+-- it shows credentials that the guard accepts, of a user who may have what it asks for
+pub record IsAdmitted (k : Authentication) (i : Inquiry) : Type 0 where
+  pub credentials : Credentials
+  pub shows : Shows i.octets credentials
+  pub accepted : IsAccepted k.guard (asked i) credentials
+  pub may : MayHave i.request credentials.username k.further.items
+
+-- ---- what comes of it
+
+abbrev pub is_stale : Cause → Bool
+is_stale cause.Stale = true
+is_stale cause.Absent = false
+is_stale cause.Malformed = false
+is_stale cause.Wrong = false
+
+-- the 401: its challenges are to a new nonce for the source
+abbrev pub challenge : Authentication → Inquiry → Cause → List ℕ
+challenge k i c = challenge_text i.source i.request k.tag (challenges k.guard i.source i.now (is_stale c))
+
+-- a known user asks for what they may not have
+pub record IsForbidden (k : Authentication) (i : Inquiry) : Type 0 where
+  pub credentials : Credentials
+  pub shows : Shows i.octets credentials
+  pub accepted : IsAccepted k.guard (asked i) credentials
+  pub may_not : ¬ (MayHave i.request credentials.username k.further.items)
+
+abbrev pub IsConcluded : Authentication → Inquiry → Conclusion → Type 0
+IsConcluded k i conclusion.Admitted = IsAdmitted k i
+IsConcluded k i (conclusion.Challenge c octets) = IsFound k.guard i (finding.Nobody c) × (octets ≡ challenge k i c)
+IsConcluded k i (conclusion.Forbidden octets) = IsForbidden k i × (octets ≡ forbidden_text i.source i.request k.tag)

@@ -1,0 +1,5 @@
+pub mod Networks
+pub mod Authorization
+pub mod Challenge
+pub mod Inquiries
+pub mod Verdicts

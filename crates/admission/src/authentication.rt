@@ -1,0 +1,181 @@
+//! Who asks, and whether they may.
+ghost use Rattle.std.specs.Prelude.{◌≡◌, ◌↔◌, IfOk, IsTrue};
+ghost use Rattle.digest.specs.declared.credentials.Credentials.{Credentials as CredentialsSeen};
+ghost use Rattle.digest.specs.Verdicts.{IsAccepted};
+ghost use Rattle.admission.specs.declared.authentication.Conclusion.TheVariants as conclusion;
+ghost use Rattle.admission.specs.declared.authentication.Finding.TheVariants as finding;
+ghost use Rattle.admission.specs.Authorization.{Shows};
+ghost use Rattle.admission.specs.Inquiries as spec;
+ghost use Rattle.admission.specs.Inquiries.{inquiry_seen, asked, MayHave, IsFound, IsAdmitted, IsConcluded};
+
+use crate::answer::Reply;
+use crate::shown::{Shown, show};
+use digest::{Asked, Guard, Verdict as Judged, may_watch};
+use notifier_model::user_part;
+use sip_read::Request;
+use sip_text::{Addr, NoMemory, Octets, Text};
+use std::alloc::Global;
+
+/// Who may ask for what.
+#[derive(Drop)]
+pub struct Authentication {
+    /// The users, and the nonces that they are challenged with.
+    pub guard: Guard,
+    /// Mailboxes that users may watch beside their own: each a user and a mailbox.
+    pub further: Vec<(Text, Text)>,
+    /// The tag that refusals add to a To without one.
+    pub tag: Text,
+}
+
+/// Why a request is challenged.
+#[derive(Clone, Copy, Debug, PartialEq, Eq, Drop)]
+pub enum Cause {
+    /// It shows no credentials.
+    Absent,
+    /// Its credentials can't be read.
+    Malformed,
+    /// Its credentials are wrong.
+    Wrong,
+    /// They are right, but to a nonce that is too old: the challenge says `stale=true`.
+    Stale,
+}
+
+/// Who is found to ask.
+#[derive(Debug, Drop)]
+pub(crate) enum Finding {
+    /// This user.
+    User(Text),
+    /// Nobody that is known.
+    Nobody(Cause),
+}
+
+/// What comes of a request that is asked who it is from.
+#[derive(Debug, Drop)]
+pub(crate) enum Conclusion {
+    /// It may go on.
+    Admitted,
+    /// The 401.
+    Challenge(Cause, Octets),
+    /// The 403.
+    Forbidden(Octets),
+}
+
+/// A request that is asked who it is from.
+#[derive(Clone, Copy)]
+pub(crate) struct Inquiry<'a> {
+    pub request: &'a Request,
+    /// The datagram that it was read from.
+    pub octets: &'a [u8],
+    pub source: Addr,
+    /// Now, in seconds.
+    pub now: u64,
+}
+
+/// Whether any user may have what the request asks for: a transfer, or what a request asks for that names no mailbox, as one in a dialog.
+fn is_for_any(request: &Request) -> bool
+    ensures { result ≡ spec.is_for_any request.now }
+{
+    request.method.is("REFER") || user_part(request.uri.as_str()).is_empty()
+}
+
+/// Whether the user may have what the request asks for.
+fn may_have(request: &Request, user: &str, further: &[(Text, Text)]) -> bool
+    ensures { IsTrue result ↔ MayHave request.now user.now further.now }
+{
+    if is_for_any(request) {
+        return true;
+    }
+    may_watch(user, user_part(request.uri.as_str()), further)
+}
+
+/// Who the guard says that it is.
+fn told(judged: Judged) -> Finding
+    ensures { result ≡ spec.told judged }
+{
+    match judged {
+        Judged::Accepted(user) => Finding::User(user),
+        Judged::StaleNonce => Finding::Nobody(Cause::Stale),
+        Judged::WrongRealm
+        | Judged::OtherUri
+        | Judged::WrongAlgorithm
+        | Judged::OldForm
+        | Judged::ForeignNonce
+        | Judged::UnknownUser
+        | Judged::BadResponse => Finding::Nobody(Cause::Wrong),
+    }
+}
+
+impl Authentication {
+    /// Who is found to ask. Its error is want of memory.
+    fn find(&self, alloc: Global, inquiry: Inquiry<'_>) -> Result<Finding, NoMemory>
+        ensures found { IfOk result (IsFound self.now.guard (inquiry_seen inquiry.entry)) }
+        ensures accepts { IfOk result (λ f. (c : CredentialsSeen) → Shows inquiry.entry.octets.now c
+            → IsAccepted self.now.guard (asked (inquiry_seen inquiry.entry)) c → f ≡ finding.User c.username) }
+    {
+        let credentials = match show(alloc, inquiry.octets)? {
+            Shown::Credentials(credentials) => credentials,
+            Shown::Absent => return Ok(Finding::Nobody(Cause::Absent)),
+            Shown::Malformed => return Ok(Finding::Nobody(Cause::Malformed)),
+        };
+        let asked = Asked {
+            method: inquiry.request.method.as_str(),
+            uri: inquiry.request.uri.as_str(),
+            source: inquiry.source,
+            now: inquiry.now,
+        };
+        let judged = self.guard.judge(alloc, asked, &credentials)?;
+        Ok(told(judged))
+    }
+
+    /// The 401 to a request, for this cause.
+    fn challenge(
+        &self,
+        alloc: Global,
+        inquiry: Inquiry<'_>,
+        cause: Cause,
+    ) -> Result<Octets, NoMemory>
+        ensures { IfOk result (λ o. o ≡ spec.challenge self.now (inquiry_seen inquiry.entry) cause) }
+    {
+        let is_stale = matches!(cause, Cause::Stale);
+        let challenges = self
+            .guard
+            .challenges(alloc, inquiry.source, inquiry.now, is_stale)?;
+        self.reply(inquiry).challenge(alloc, &challenges)
+    }
+
+    fn reply<'a>(&'a self, inquiry: Inquiry<'a>) -> Reply<'a>
+        ensures request { result.request.now ≡ inquiry.entry.request.now }
+        ensures source { result.source ≡ inquiry.entry.source }
+        ensures tag { result.tag.now ≡ self.now.tag }
+    {
+        Reply {
+            request: inquiry.request,
+            source: inquiry.source,
+            tag: self.tag.as_str(),
+        }
+    }
+
+    /// What comes of the request. Its error is want of memory.
+    pub(crate) fn conclude(
+        &self,
+        alloc: Global,
+        inquiry: Inquiry<'_>,
+    ) -> Result<Conclusion, NoMemory>
+        ensures concluded { IfOk result (IsConcluded self.now (inquiry_seen inquiry.entry)) }
+        ensures admits { IfOk result (λ c. IsAdmitted self.now (inquiry_seen inquiry.entry) → c ≡ conclusion.Admitted) }
+    {
+        match self.find(alloc, inquiry)? {
+            Finding::Nobody(cause) => {
+                let octets = self.challenge(alloc, inquiry, cause)?;
+                Ok(Conclusion::Challenge(cause, octets))
+            }
+            Finding::User(user) => {
+                if may_have(inquiry.request, user.as_str(), &self.further) {
+                    return Ok(Conclusion::Admitted);
+                }
+                let octets = self.reply(inquiry).forbidden(alloc)?;
+                Ok(Conclusion::Forbidden(octets))
+            }
+        }
+    }
+}

@@ -1,0 +1,178 @@
+//! What comes of a datagram.
+ghost use Rattle.std.specs.Prelude.{◌≡◌, ◌⊎◌, option_map, IfOk, OnOk, OnErr};
+ghost use Rattle.admission.specs.declared.judging.Arrival.{Arrival as ArrivalSeen};
+ghost use Rattle.admission.specs.declared.judging.Verdict.TheVariants as verdict;
+ghost use Rattle.admission.specs.Verdicts as spec;
+ghost use Rattle.admission.specs.Verdicts.{Judges, IsFree, behind};
+
+use crate::authentication::{Authentication, Cause, Conclusion, Inquiry};
+use crate::network::{Network, number};
+use rates::Rates;
+use sip_read::Request;
+use sip_text::{Addr, NoMemory, Octets};
+use std::alloc::Global;
+
+/// What a datagram is.
+#[derive(Clone, Copy)]
+pub enum Reading<'a> {
+    /// This request.
+    Request(&'a Request),
+    /// An answer.
+    Response,
+    /// Nothing that can be read.
+    Unread,
+}
+
+/// A datagram that came.
+#[derive(Clone, Copy)]
+pub struct Arrival<'a> {
+    pub octets: &'a [u8],
+    /// What those are.
+    pub reading: Reading<'a>,
+    pub source: Addr,
+    /// When it came, in milliseconds.
+    pub moment: u64,
+}
+
+/// What comes of a datagram.
+#[derive(Debug, Drop)]
+pub enum Verdict {
+    /// It is heard.
+    Allowed,
+    /// It is dropped: its source is of none of the networks.
+    Foreign,
+    /// It is dropped: its source sends too much.
+    Limited,
+    /// It isn't heard, and this 401 goes to its source.
+    Challenge(Cause, Octets),
+    /// It isn't heard, and this 403 goes to its source: a known user asks for another's mailbox.
+    Forbidden(Octets),
+}
+
+/// Who is heard.
+#[derive(Drop)]
+pub struct Admission {
+    /// Where sources have to be: anywhere, where there is none.
+    pub networks: Vec<Network>,
+    /// How much each source may send: as much as it likes, where there is none.
+    pub rates: Option<Rates>,
+    /// Who may subscribe and refer: anyone, where there is none.
+    pub authentication: Option<Authentication>,
+}
+
+/// Whether the address is of one of these networks.
+fn is_one_of(networks: &[Network], ip: [u8; 4]) -> bool
+    ensures { result ≡ spec.is_one_of networks.now ip }
+{
+    networks.iter().any(|network| network.contains(ip))
+}
+
+/// Whether a datagram takes a token of its source: a request outside a dialog does, and what can't be read.
+fn is_counted(reading: Reading<'_>) -> bool
+    ensures { result ≡ spec.is_counted reading.entry }
+{
+    match reading {
+        Reading::Request(request) => request.head.to.tag.is_none(),
+        Reading::Response => false,
+        Reading::Unread => true,
+    }
+}
+
+/// Whether a request is asked who it is from: a SUBSCRIBE or a REFER is, in a dialog too.
+fn is_asked(request: &Request) -> bool
+    ensures { result ≡ spec.is_asked request.now }
+{
+    request.method.is("SUBSCRIBE") || request.method.is("REFER")
+}
+
+/// The request that is asked, if the datagram is one.
+fn asked(reading: Reading<'_>) -> Option<&Request>
+    ensures { option_map (λ r. r.now) result ≡ spec.asked reading.entry }
+{
+    match reading {
+        Reading::Request(request) if is_asked(request) => Some(request),
+        _ => None,
+    }
+}
+
+impl Admission {
+    /// One that hears everything: from anywhere, as much as comes, whoever asks.
+    pub fn open(alloc: Global) -> Admission
+        // Whatever comes is allowed, and it stays the same.
+        ensures open { spec.IsOpen result }
+        ensures allows { (x : ArrivalSeen) → spec.IsAllowed result x }
+        ensures stays { (x : ArrivalSeen) → spec.after result x ≡ result }
+    {
+        Admission {
+            networks: Vec::new(alloc),
+            rates: None,
+            authentication: None,
+        }
+    }
+
+    /// Whether the address is of one of the networks, or there is none.
+    pub fn hears(&self, ip: [u8; 4]) -> bool
+        ensures { result ≡ spec.hears self.now ip }
+    {
+        self.networks.is_empty() || is_one_of(&self.networks, ip)
+    }
+
+    /// Whether the datagram's source has a token for it, which it takes.
+    fn lets(&mut self, arrival: Arrival<'_>) -> Result<bool, NoMemory>
+        ensures lets { IfOk result (λ r. r ≡ spec.lets self.old arrival.entry) }
+        ensures behind { OnOk result (self.new ≡ behind self.old arrival.entry) }
+        ensures err { OnErr result (self.new ≡ self.old) }
+        ensures wanting { OnErr result (self.old.rates ≡ None → ⊥) }
+    {
+        match &mut self.rates {
+            Some(rates) if is_counted(arrival.reading) => {
+                rates.hear(number(arrival.source.ip), arrival.moment)
+            }
+            _ => Ok(true),
+        }
+    }
+
+    /// What comes of a datagram of a source that is heard and has a token.
+    fn conclude(&self, alloc: Global, arrival: Arrival<'_>) -> Result<Verdict, NoMemory>
+        ensures concluded { IfOk result (spec.IsConcluded self.now arrival.entry) }
+        ensures free { IfOk result (λ v. IsFree self.now arrival.entry → v ≡ verdict.Allowed) }
+        ensures wanting { OnErr result (self.now.authentication ≡ None → ⊥) }
+    {
+        let (Some(authentication), Some(request)) = (&self.authentication, asked(arrival.reading))
+        else {
+            return Ok(Verdict::Allowed);
+        };
+        let inquiry = Inquiry {
+            request,
+            octets: arrival.octets,
+            source: arrival.source,
+            now: arrival.moment / 1000,
+        };
+        match authentication.conclude(alloc, inquiry)? {
+            Conclusion::Admitted => Ok(Verdict::Allowed),
+            Conclusion::Challenge(cause, octets) => Ok(Verdict::Challenge(cause, octets)),
+            Conclusion::Forbidden(octets) => Ok(Verdict::Forbidden(octets)),
+        }
+    }
+
+    /// What comes of a datagram. It takes a token of its source where it is counted. Its error is want of memory.
+    pub fn judge(&mut self, alloc: Global, arrival: Arrival<'_>) -> Result<Verdict, NoMemory>
+        // The verdict is the definition's.
+        ensures judges { IfOk result (Judges self.old arrival.entry) }
+        // What is to be heard is.
+        ensures allows { IfOk result (λ v. spec.IsAllowed self.old arrival.entry → v ≡ verdict.Allowed) }
+        // Only tokens change.
+        ensures behind { OnOk result (self.new ≡ spec.after self.old arrival.entry) }
+        ensures err { OnErr result ((self.new ≡ self.old) ⊎ (self.new ≡ spec.after self.old arrival.entry)) }
+        // Where it asks nothing it needs no memory.
+        ensures wanting { OnErr result (spec.IsOpen self.old → ⊥) }
+    {
+        if !self.hears(arrival.source.ip) {
+            return Ok(Verdict::Foreign);
+        }
+        if !self.lets(arrival)? {
+            return Ok(Verdict::Limited);
+        }
+        self.conclude(alloc, arrival)
+    }
+}

@@ -1,0 +1,25 @@
+//! Who is heard: of each SIP datagram, whether it may reach a worker. A machine of its own: it asks no clock, opens no socket, starts no thread
+//! and draws nothing at random. What came, from where and when is handed in.
+//!
+//! [`Admission::judge`] asks three things in this order, each only where the service was told to:
+//!
+//! 1. Is the source's address within one of the [`Network`]s? Else [`Verdict::Foreign`].
+//! 2. Has the source a token left ([`rates`])? Else [`Verdict::Limited`]. Requests outside a dialog take one, and what can't be read.
+//! 3. Does a SUBSCRIBE or a REFER, in a dialog too, answer a challenge (RFC 3261 section 22, [`digest`])? Else [`Verdict::Challenge`], with the
+//!    bytes of a 401. May the user have the mailbox that it names? Else [`Verdict::Forbidden`], with those of a 403.
+//!
+//! Begin with `specs/Verdicts`: it says exactly which datagram gets which verdict. `specs/Authorization` says which text of a datagram shows who
+//! asks, `specs/Challenge` how a 401 is laid out.
+#![tactic(auto)]
+
+mod answer;
+mod authentication;
+mod authorization;
+mod judging;
+mod lines;
+mod network;
+mod shown;
+
+pub use authentication::{Authentication, Cause};
+pub use judging::{Admission, Arrival, Reading, Verdict};
+pub use network::Network;

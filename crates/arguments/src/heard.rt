@@ -1,0 +1,76 @@
+//! Who is heard by the settings of a service: networks that are let in, and mailboxes that users may watch beside their own.
+ghost use Rattle.std.specs.Prelude.{◌≡◌, IfOk, OnOk};
+ghost use Rattle.arguments.specs.Choices as spec;
+ghost use Rattle.arguments.specs.Choices.{with_network, with_watched, with_passwords};
+
+use crate::setting::Setting;
+use admission::Network;
+use sip_text::{NoMemory, Text};
+use std::alloc::Global;
+
+/// Adds the network that a setting lets in, if it names one.
+fn add_network(networks: &mut Vec<Network>, setting: &Setting) -> Result<(), NoMemory>
+    ensures { OnOk result (networks.new.items ≡ with_network networks.old.items setting.now) }
+{
+    if let Setting::Allow(network) = setting {
+        networks.push(*network)?;
+    }
+    Ok(())
+}
+
+/// The networks that the settings let in, in order. Its error is want of memory.
+pub fn networks_of(alloc: Global, settings: &[Setting]) -> Result<Vec<Network>, NoMemory>
+    ensures { IfOk result (λ networks. networks.items ≡ spec.networks_of settings.now) }
+{
+    let mut networks = Vec::new(alloc);
+    for setting in settings {
+        add_network(&mut networks, setting)?;
+    }
+    Ok(networks)
+}
+
+/// Adds the user and the mailbox that a setting names together, if it does.
+fn add_watched(
+    alloc: Global,
+    pairs: &mut Vec<(Text, Text)>,
+    setting: &Setting,
+) -> Result<(), NoMemory>
+    ensures { OnOk result (pairs.new.items ≡ with_watched pairs.old.items setting.now) }
+{
+    if let Setting::Watch(user, mailbox) = setting {
+        pairs.push((user.copy(alloc)?, mailbox.copy(alloc)?))?;
+    }
+    Ok(())
+}
+
+/// The mailboxes that users may watch beside their own, each behind its user, in order. Its error is want of memory.
+pub fn watched_of(alloc: Global, settings: &[Setting]) -> Result<Vec<(Text, Text)>, NoMemory>
+    ensures { IfOk result (λ pairs. pairs.items ≡ spec.watched_of settings.now) }
+{
+    let mut pairs = Vec::new(alloc);
+    for setting in settings {
+        add_watched(alloc, &mut pairs, setting)?;
+    }
+    Ok(pairs)
+}
+
+/// The path of a file of passwords behind a setting: of two the last counts.
+fn add_path(alloc: Global, path: &mut Option<Text>, setting: &Setting) -> Result<(), NoMemory>
+    ensures { OnOk result (path.new ≡ with_passwords path.old setting.now) }
+{
+    if let Setting::PasswordFile(named) = setting {
+        *path = Some(named.copy(alloc)?);
+    }
+    Ok(())
+}
+
+/// The path of the file of passwords that the settings name, if they name one. Its error is want of memory.
+pub fn passwords_of(alloc: Global, settings: &[Setting]) -> Result<Option<Text>, NoMemory>
+    ensures { IfOk result (λ path. path ≡ spec.passwords_of settings.now) }
+{
+    let mut path = None;
+    for setting in settings {
+        add_path(alloc, &mut path, setting)?;
+    }
+    Ok(path)
+}

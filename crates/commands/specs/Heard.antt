@@ -1,0 +1,86 @@
+-- Who is heard by a service, as its settings and its file of passwords say.
+use Rattle.std.specs.Prelude.{◌≡◌, ◌≢◌, ℕ, Bool, true, false, not, ◌||◌, ◌==◌, is_some, length, List, [], ◌∷◌, All, Option, Some, None}
+use Rattle.notifier_model.specs.Tag.{refusal_tag}
+use Rattle.digest.specs.declared.algorithm.Algorithm.{Algorithm}
+use Rattle.digest.specs.declared.algorithm.Algorithm.TheVariants as algorithm
+use Rattle.digest.specs.declared.passwords.Passwords.{Passwords}
+use Rattle.digest.specs.Passwords.{known, Takes}
+use Rattle.rates.specs.declared.bucket.Rate.{Rate}
+use Rattle.rates.specs.declared.table.Rates.{Rates}
+use Rattle.rates.specs.Table.{empty}
+use Rattle.admission.specs.declared.authentication.Authentication.{Authentication}
+use Rattle.admission.specs.declared.judging.Admission.{Admission}
+use Rattle.arguments.specs.declared.choices.Choices.{Choices}
+use Rattle.arguments.specs.declared.setting.Setting.{Setting}
+use Rattle.arguments.specs.Choices.{choices_of, networks_of, passwords_of, watched_of}
+
+-- ---- the users of a file
+
+-- no line was taken in
+pub record IsEmpty (p : Passwords) : Type 0 where
+  pub realm : p.realm ≡ None
+  pub unknown : (a : Algorithm) (user : List ℕ) → known p a user ≡ None
+
+-- these lines were taken in, one behind the other
+abbrev pub AreTaken : Passwords → List (List ℕ) → Passwords → Type 0
+AreTaken old [] new = new ≡ old
+AreTaken old (line ∷ lines) new = (next : Passwords) × Takes old line next × AreTaken next lines new
+
+-- what some lines make of an empty table: which stand in a file no contract can tell
+pub record IsTable (p : Passwords) : Type 0 where
+  pub start : Passwords
+  pub is_empty : IsEmpty start
+  pub lines : List (List ℕ)
+  pub taken : AreTaken start lines p
+
+-- such a table with some user
+pub record AreUsers (p : Passwords) : Type 0 where
+  pub table : IsTable p
+  pub some : p.realm ≢ None
+
+-- a password of this user is known
+abbrev pub is_user : Passwords → List ℕ → Bool
+is_user p user = is_some (known p algorithm.Md5 user) || is_some (known p algorithm.Sha256 user)
+
+-- ---- who asks
+
+-- for how many seconds a nonce is good: five minutes, where nothing is said of it
+abbrev pub time_or : Option ℕ → ℕ
+time_or None = 300
+time_or (Some seconds) = seconds
+
+abbrev pub nonce_time : Choices → ℕ
+nonce_time choices = time_or choices.numbers.nonce_time
+
+-- users of a file are asked for their passwords, and may watch these mailboxes beside their own. The workers have numbers below 256
+pub record IsAuthentication (choices : Choices) (watched : List (List ℕ × List ℕ)) (k : Authentication) : Type 0 where
+  pub users : AreUsers k.guard.passwords
+  pub further : k.further.items ≡ watched
+  pub known : All (λ pair. is_user k.guard.passwords pair.0 ≡ true) watched
+  pub time : k.guard.nonces.time ≡ nonce_time choices
+  pub old_digest : k.guard.old_digest ≡ choices.old_digest
+  pub tag : k.tag ≡ refusal_tag 256
+
+-- this is said of passwords, which makes no sense without a file of them
+abbrev pub needs_passwords : Choices → List (List ℕ × List ℕ) → Bool
+needs_passwords choices further =
+    not (length further == 0) || (is_some choices.numbers.nonce_time || choices.old_digest)
+
+-- who may subscribe and refer, where a file of passwords is named or none
+abbrev pub Asks : Option (List ℕ) → Choices → List (List ℕ × List ℕ) → Option Authentication → Type 0
+Asks None choices further k = (k ≡ None) × (needs_passwords choices further ≡ false)
+Asks (Some path) choices further None = ⊥
+Asks (Some path) choices further (Some k) = IsAuthentication choices further k
+
+-- ---- all of it
+
+-- a bucket for each of 16,384 source addresses at most
+abbrev pub rates_of : Option Rate → Option Rates
+rates_of None = None
+rates_of (Some rate) = Some (empty rate 16384)
+
+-- the networks that are let in, how much each source may send, and who may subscribe and refer
+pub record IsAdmission (settings : List Setting) (a : Admission) : Type 0 where
+  pub networks : a.networks.items ≡ networks_of settings
+  pub rates : a.rates ≡ rates_of (choices_of settings).rate
+  pub authentication : Asks (passwords_of settings) (choices_of settings) (watched_of settings) a.authentication

@@ -1,0 +1,158 @@
+//! Who is heard by a service, as its settings and its file of passwords say.
+ghost use Rattle.std.specs.Prelude.{◌≡◌, true, All, IfOk, IfErr, OnOk};
+ghost use Rattle.notifier_model.specs.Tag.{refusal_tag};
+ghost use Rattle.arguments.specs.Choices.{choices_of, passwords_of as path_of, watched_of as pairs_of};
+ghost use Rattle.commands.specs.declared.error.ServeError.TheVariants as error;
+ghost use Rattle.commands.specs.Heard as spec;
+ghost use Rattle.commands.specs.Heard.{Asks, IsAdmission};
+ghost use Rattle.commands.specs.Refused.{IsOfWatched, IsOfAdmission};
+
+use crate::error::ServeError;
+use crate::passwords::users_at;
+use admission::{Admission, Authentication};
+use arguments::{Choices, Setting, networks_of, passwords_of, watched_of};
+use digest::{Algorithm, Guard, Nonces, Passwords};
+use rates::{Rate, Rates};
+use sip_text::{NoMemory, Text};
+use std::alloc::Global;
+use std::num::NonZeroUsize;
+use std::random::RandomSource;
+use std::rt::Files;
+
+/// So many source addresses have a bucket of tokens at most.
+const SOURCES: usize = 16384;
+
+/// For how many seconds a nonce is good, where nothing is said of it.
+const NONCE_TIME: u32 = 300;
+
+/// So many workers a service has at most. Their numbers are below it.
+const WORKERS: u32 = 256;
+
+/// 32 bytes of the system's randomness.
+pub(crate) fn secret<R: RandomSource>(rt: &R) -> Result<[u8; 32], ServeError>
+    ensures refused { IfErr result (λ e. e ≡ error.System) }
+{
+    let mut secret = [0; 32];
+    match rt.fill_bytes(&mut secret) {
+        Ok(()) => Ok(secret),
+        Err(_) => Err(ServeError::System),
+    }
+}
+
+/// The buckets of a service that hears so much of each source.
+fn rates_of(alloc: Global, asked: Option<Rate>) -> Result<Option<Rates>, NoMemory>
+    ensures { IfOk result (λ rates. rates ≡ spec.rates_of asked) }
+{
+    let Some(size) = NonZeroUsize::new(SOURCES) else {
+        unreachable!();
+    };
+    match asked {
+        Some(rate) => Ok(Some(Rates::new(alloc, rate, size)?)),
+        None => Ok(None),
+    }
+}
+
+/// The tag of refusals: as that of a worker, but with a number that none has.
+#[tactic(auto, unfolding(notifier_model::specs::Tag::refusal_tag))]
+fn tag(alloc: Global) -> Result<Text, NoMemory>
+    ensures { IfOk result (λ tag. tag ≡ refusal_tag 256) }
+{
+    let worker = WORKERS;
+    let tag = format!(in alloc; "w{worker}-0")?;
+    Ok(Text::new(tag))
+}
+
+/// Whether a password of the user is known.
+fn is_user(passwords: &Passwords, user: &str) -> bool
+    ensures { result ≡ spec.is_user passwords.now user.now }
+{
+    passwords.hash(Algorithm::Md5, user).is_some()
+        || passwords.hash(Algorithm::Sha256, user).is_some()
+}
+
+/// Sees that a password is known of each user who may watch a further mailbox.
+fn check_users(
+    alloc: Global,
+    passwords: &Passwords,
+    further: &[(Text, Text)],
+) -> Result<(), ServeError>
+    ensures known { OnOk result (All (λ pair. spec.is_user passwords.now pair.0 ≡ true) further.now) }
+    ensures refused { IfErr result (IsOfWatched further.now) }
+{
+    for pair in further {
+        if !is_user(passwords, pair.0.as_str()) {
+            let user = pair.0.copy(alloc)?;
+            return Err(ServeError::NoUser(user));
+        }
+    }
+    Ok(())
+}
+
+/// Whether the settings speak of passwords, so that a file of them must be there.
+fn needs_passwords(choices: &Choices, further: &[(Text, Text)]) -> bool
+    ensures { result ≡ spec.needs_passwords choices.now further.now }
+{
+    !further.is_empty() || choices.numbers.nonce_time.is_some() || choices.old_digest
+}
+
+/// The nonces of a service. Their secret is random.
+fn nonces<R: RandomSource>(rt: &R, choices: &Choices) -> Result<Nonces, ServeError>
+    ensures time { IfOk result (λ nonces. nonces.time ≡ spec.nonce_time choices.now) }
+    ensures refused { IfErr result (λ e. e ≡ error.System) }
+{
+    let time = choices.numbers.nonce_time.unwrap_or(NONCE_TIME);
+    Ok(Nonces {
+        secret: secret(rt)?,
+        time: u64::from(time),
+    })
+}
+
+/// Who may subscribe and refer: the users of the file that the settings name, or anyone, where they name none.
+#[tactic(auto, using(crate::proofs::Heard::asks_none, crate::proofs::Heard::asks_some))]
+fn authentication_of<R>(rt: &R, settings: &[Setting]) -> Result<Option<Authentication>, ServeError>
+where
+    R: Files + RandomSource + AllocGlobal,
+    ensures asks { IfOk result (Asks (path_of settings.now) (choices_of settings.now) (pairs_of settings.now)) }
+    ensures refused { IfErr result (IsOfAdmission settings.now) }
+{
+    let alloc = rt.alloc();
+    let choices = Choices::of(settings);
+    let further = watched_of(alloc, settings)?;
+    let Some(path) = passwords_of(alloc, settings)? else {
+        if needs_passwords(&choices, &further) {
+            return Err(ServeError::NoPasswords);
+        }
+        return Ok(None);
+    };
+    let passwords = users_at(rt, &path)?;
+    check_users(alloc, &passwords, &further)?;
+    let guard = Guard {
+        passwords,
+        nonces: nonces(rt, &choices)?,
+        old_digest: choices.old_digest,
+    };
+    Ok(Some(Authentication {
+        guard,
+        further,
+        tag: tag(alloc)?,
+    }))
+}
+
+/// Who is heard by a service with these settings. The file of passwords is read, and the system is asked for randomness.
+pub(crate) fn admission_of<R>(rt: &R, settings: &[Setting]) -> Result<Admission, ServeError>
+where
+    R: Files + RandomSource + AllocGlobal,
+    ensures admission { IfOk result (IsAdmission settings.now) }
+    ensures refused { IfErr result (IsOfAdmission settings.now) }
+{
+    let alloc = rt.alloc();
+    let choices = Choices::of(settings);
+    let networks = networks_of(alloc, settings)?;
+    let rates = rates_of(alloc, choices.rate)?;
+    let authentication = authentication_of(rt, settings)?;
+    Ok(Admission {
+        networks,
+        rates,
+        authentication,
+    })
+}

@@ -1,0 +1,112 @@
+//! What a control line asks to be told.
+ghost use Rattle.std.specs.Prelude.{◌≡◌};
+ghost use Rattle.sip_text.specs.Bytes.{Finds, Gives};
+ghost use Rattle.control_lines.specs.Questions as spec;
+
+use sip_text::{NoMemory, Text, cut_at, plain_number, text_of};
+use std::alloc::Global;
+
+/// What a control line asks to be told. It changes nothing.
+#[derive(Debug, Drop)]
+pub enum Question {
+    /// The counters.
+    Status,
+    /// What this mailbox was last told, and which worker has it.
+    Show(Text),
+    /// What each mailbox was last told, or each behind the one with this name.
+    Dump(Option<Text>),
+    /// Who watches this mailbox, or any, from this place in the list on.
+    Watchers(Option<Text>, u64),
+}
+
+/// The line without the LF at its end.
+#[tactic(auto, unfolding(crate::specs::Questions::line_in))]
+fn line_in(octets: &[u8]) -> Option<&[u8]>
+    ensures { Finds (λ x. x.now) result (spec.line_in octets.now) }
+{
+    match cut_at(b'\n', octets) {
+        Some((line, [])) => Some(line),
+        Some(_) => None,
+        None => Some(octets),
+    }
+}
+
+/// Who watches the mailbox that this word names, or any where it is `*`, from this place on.
+#[tactic(auto, unfolding(crate::specs::Questions::watched))]
+fn watched(alloc: Global, word: &[u8], from: u64) -> Result<Option<Question>, NoMemory>
+    ensures { Gives (λ x. x) result (spec.watched word.now from) }
+{
+    if word == b"*".as_slice() {
+        return Ok(Some(Question::Watchers(None, from)));
+    }
+    let Some(name) = text_of(word) else {
+        return Ok(None);
+    };
+    let mailbox = Text::of(alloc, name)?;
+    Ok(Some(Question::Watchers(Some(mailbox), from)))
+}
+
+/// What stands behind `WATCHERS`.
+#[tactic(auto, unfolding(crate::specs::Questions::watchers_behind))]
+fn watchers_behind(alloc: Global, rest: &[u8]) -> Result<Option<Question>, NoMemory>
+    ensures { Gives (λ x. x) result (spec.watchers_behind rest.now) }
+{
+    let Some((word, number)) = cut_at(b' ', rest) else {
+        return watched(alloc, rest, 0);
+    };
+    let Some(from) = plain_number(number) else {
+        return Ok(None);
+    };
+    watched(alloc, word, from)
+}
+
+/// The question of this first word and of what stands behind it.
+#[tactic(auto, unfolding(crate::specs::Questions::named))]
+fn named(alloc: Global, name: &[u8], rest: &[u8]) -> Result<Option<Question>, NoMemory>
+    ensures { Gives (λ x. x) result (spec.named name.now rest.now) }
+{
+    if name == b"WATCHERS".as_slice() {
+        return watchers_behind(alloc, rest);
+    }
+    let Some(mailbox) = text_of(rest) else {
+        return Ok(None);
+    };
+    if name == b"SHOW".as_slice() {
+        return Ok(Some(Question::Show(Text::of(alloc, mailbox)?)));
+    }
+    if name == b"DUMP".as_slice() {
+        return Ok(Some(Question::Dump(Some(Text::of(alloc, mailbox)?))));
+    }
+    Ok(None)
+}
+
+/// The question that a line without its LF asks, if it asks one.
+#[tactic(auto, unfolding(crate::specs::Questions::question_of))]
+fn question_of(alloc: Global, line: &[u8]) -> Result<Option<Question>, NoMemory>
+    ensures { Gives (λ x. x) result (spec.question_of line.now) }
+{
+    if line == b"STATUS".as_slice() {
+        return Ok(Some(Question::Status));
+    }
+    if line == b"DUMP".as_slice() {
+        return Ok(Some(Question::Dump(None)));
+    }
+    if line == b"WATCHERS".as_slice() {
+        return Ok(Some(Question::Watchers(None, 0)));
+    }
+    let Some((name, rest)) = cut_at(b' ', line) else {
+        return Ok(None);
+    };
+    named(alloc, name, rest)
+}
+
+/// The question that these bytes ask, with a LF at the end or without.
+#[tactic(auto, unfolding(crate::specs::Questions::question_in))]
+pub(crate) fn question_in(alloc: Global, octets: &[u8]) -> Result<Option<Question>, NoMemory>
+    ensures { Gives (λ x. x) result (spec.question_in octets.now) }
+{
+    match line_in(octets) {
+        Some(line) => question_of(alloc, line),
+        None => Ok(None),
+    }
+}

@@ -1,0 +1,4 @@
+pub mod Lookups
+pub mod Allowances
+pub mod Shares
+pub mod Alone

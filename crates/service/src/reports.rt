@@ -1,0 +1,67 @@
+//! What a question is told.
+ghost use Rattle.std.specs.Prelude.{◌≡◌, ◌%◌, IfOk, IfSome, string_bytes};
+ghost use Rattle.std.specs.Int.NonZero.{non_zero_u32_get};
+ghost use Rattle.service.specs.Told as spec;
+ghost use Rattle.service.specs.Told.{IsReport, IsShown};
+
+use crate::shared::Shared;
+use home::key_hash;
+use sip_text::NoMemory;
+use std::alloc::Global;
+use std::num::NonZeroU32;
+use std::rt::Clock;
+use told_counts::{ToldCounts, dump_page, show_page};
+
+/// These lines behind an `ok`.
+fn report(alloc: Global, lines: &str) -> Result<String, NoMemory>
+    ensures { IfOk result (λ text. string_bytes text ≡ spec.report lines.now) }
+{
+    let mut text = String::from_str(alloc, "ok\n")?;
+    text.push_str(lines)?;
+    Ok(text)
+}
+
+/// The counters behind an `ok`. None where there is no memory for them, or no clock.
+pub(crate) fn counters<R: Clock>(rt: &R, alloc: Global, shared: &Shared) -> Option<String>
+    ensures { IfSome result (λ text. IsReport (string_bytes text)) }
+{
+    let seconds = shared.seconds(rt)?;
+    let Ok(lines) = shared.lines(alloc, seconds) else {
+        return None;
+    };
+    report(alloc, lines.as_str()).ok()
+}
+
+/// The worker that has this mailbox.
+fn worker_for(workers: NonZeroU32, mailbox: &str) -> u32
+    ensures { result ≡ spec.worker_for (non_zero_u32_get workers) mailbox.now }
+{
+    key_hash(mailbox) % workers.get()
+}
+
+/// What the mailbox at this place was last told, behind an `ok`.
+pub(crate) fn shown(
+    alloc: Global,
+    told: &ToldCounts,
+    workers: NonZeroU32,
+    place: usize,
+) -> Option<String>
+    ensures { IfSome result (λ text. IsShown told.now (non_zero_u32_get workers) place (string_bytes text)) }
+{
+    let (mailbox, counts) = told.get(place)?;
+    let worker = worker_for(workers, mailbox);
+    let Ok(lines) = show_page(alloc, worker, mailbox, &counts) else {
+        return None;
+    };
+    report(alloc, lines.as_str()).ok()
+}
+
+/// What the mailboxes from this place on were last told, as far as a page goes, behind an `ok`.
+pub(crate) fn dumped(alloc: Global, told: &ToldCounts, from: usize) -> Option<String>
+    ensures { IfSome result (λ text. string_bytes text ≡ spec.dumped told.now from) }
+{
+    let Ok(lines) = dump_page(alloc, told, from) else {
+        return None;
+    };
+    report(alloc, lines.as_str()).ok()
+}

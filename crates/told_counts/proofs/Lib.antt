@@ -1,0 +1,2 @@
+mod PageSteps
+mod Rows

@@ -1,0 +1,429 @@
+"""Who is heard by `notifyd serve`: phones with passwords (RFC 3261 section 22, RFC 7616), networks and rates, from outside. Python's hashlib
+computes each digest."""
+
+import hashlib
+import os
+import random
+import re
+import socket
+import time
+
+from phone import NO_MESSAGES, Message, persist
+from service import HEARD, Service, address, counters_become
+from suite import Running, ended_with, free_port, run, same
+
+REALM = "pbx"
+USERS = {"alice": "wonderland", "bob": "can he"}
+
+ASKED = "SIP/2.0 401 Unauthorized"
+FORBIDDEN = "SIP/2.0 403 Forbidden"
+TAKEN = "SIP/2.0 200 OK"
+
+# So many malformed values are shown, and so many of them wait for their answers at a time.
+MALFORMED, AT_A_TIME = 10_000, 50
+
+COUNTED = ("foreign", "limited", "challenged", "wrong", "stale", "forbidden")
+
+
+def hexed(text, algorithm="MD5"):
+    """H(text) of an algorithm."""
+    return (hashlib.sha256 if algorithm == "SHA-256" else hashlib.md5)(text.encode()).hexdigest()
+
+
+def secret(user, password, algorithm="MD5", realm=REALM):
+    """H(A1)."""
+    return hexed(f"{user}:{realm}:{password}", algorithm)
+
+
+def password_file(folder, *lines, algorithms=("MD5",)):
+    """A file of the users, and of these lines."""
+    path = os.path.join(folder, "passwords")
+    own = [f"{user}:{REALM}:{secret(user, USERS[user], it)}" for user in USERS for it in algorithms]
+    with open(path, "w") as file:
+        file.write("\n".join(["# users", *own, *lines]) + "\n")
+    return path
+
+
+def challenges(answer):
+    """The challenges of a 401, each as its parameters by name."""
+    values = [line.partition(": ")[2] for line in answer.lines if line.startswith("WWW-Authenticate: Digest ")]
+    return [dict(re.findall(r'(\w+)="?([^",]*)"?', value)) for value in values]
+
+
+def credentials(asked, user, password, own, method="SUBSCRIBE", old=False, **changed):
+    """The parameters by which a user answers a challenge (RFC 7616 section 3.4.1; in the old form section 2.2.1 of RFC 2069), with these
+    changes behind the computation."""
+    algorithm = asked.get("algorithm", "MD5")
+    told = {"username": user, "realm": asked["realm"], "nonce": asked["nonce"], "uri": own, "algorithm": algorithm}
+    if not old:
+        told.update(qop="auth", nc="00000001", cnonce="0a4f113b")
+    middle = "" if old else f"{told['nc']}:{told['cnonce']}:{told['qop']}:"
+    key = secret(user, password, algorithm, asked["realm"])
+    told["response"] = hexed(f"{key}:{asked['nonce']}:{middle}{hexed(f'{method}:{own}', algorithm)}", algorithm)
+    return {**told, **changed}
+
+
+def written(told):
+    """The value of Authorization."""
+    bare = ("algorithm", "qop", "nc")
+    return "Digest " + ", ".join(f"{name}={value}" if name in bare else f'{name}="{value}"' for name, value in told.items())
+
+
+def own_uri(phone):
+    return f"sip:{phone.user}@127.0.0.1"
+
+
+class Caller:
+    """What a phone asks, again and again in one dialog, with credentials or without."""
+
+    def __init__(self, phone, method="SUBSCRIBE", lines=("Event: message-summary",)):
+        self.phone, self.method, self.lines = phone, method, lines
+        self.dialog = phone.begin(method, lines[0].removeprefix("Event: "), lines)
+        self.answer = phone.receive()
+
+    def again(self, told, first):
+        """The request again with these credentials, or the value of them, whose answer has this first line."""
+        value = told if isinstance(told, str) else written(told)
+        self.dialog.asked += 1
+        lines = (*self.lines, f"Authorization: {value}")
+        self.phone.send(self.phone.request(self.method, self.dialog.call_id, self.dialog.asked, self.dialog.tag, lines))
+        self.answer = self.phone.expect(first)
+        return self.answer
+
+    def asked(self):
+        """The challenge that came last."""
+        same(f"what {self.phone.user} is told", ASKED, self.answer.first)
+        return challenges(self.answer)[0]
+
+    def right(self, password=None, **changed):
+        """The credentials of the phone's user to the last challenge."""
+        user = self.phone.user
+        return credentials(self.asked(), user, password or USERS[user], own_uri(self.phone), self.method, **changed)
+
+
+def enters(phone, body=NO_MESSAGES, **changed):
+    """A phone subscribes by its password."""
+    caller = Caller(phone)
+    caller.dialog.tag = caller.again(caller.right(**changed), TAKEN).tag("To")
+    phone.expect_notify("active", body)
+    return caller
+
+
+def counted(operator):
+    """What STATUS counts of who isn't heard."""
+    came = operator.counters()
+    return {name: int(came[name]) for name in COUNTED}
+
+
+def count_is(operator, **wanted):
+    same("what is counted", {**dict.fromkeys(COUNTED, 0), **wanted}, counted(operator))
+
+
+def a_password_lets_in(program, folder):
+    with Service(program, "--passwords", password_file(folder), "alice", "bob") as service, service.operator() as operator:
+        with service.phone("alice") as phone:
+            caller = enters(phone)
+            operator.tell("MAIL alice voice 2 8 0 2")
+            phone.expect_notify("active", HEARD)
+            # In the dialog too each request is asked.
+            phone.go_on(caller.dialog, 1800)
+            asked = challenges(phone.expect(ASKED))[0]
+            told = credentials(asked, "alice", USERS["alice"], own_uri(phone))
+            caller.lines = (*caller.lines, "Expires: 0")
+            caller.again(told, TAKEN)
+            phone.expect_notify("terminated;reason=timeout", HEARD)
+        count_is(operator, challenged=2)
+        service.close()
+
+
+def both_algorithms(program, folder):
+    path = password_file(folder, algorithms=("MD5", "SHA-256"))
+    with Service(program, "--passwords", path, "alice") as service:
+        for place, algorithm in enumerate(("SHA-256", "MD5")):
+            with service.phone("alice") as phone:
+                caller = Caller(phone)
+                same("the algorithms", ["SHA-256", "MD5"], [it["algorithm"] for it in challenges(caller.answer)])
+                asked = challenges(caller.answer)[place]
+                told = credentials(asked, "alice", USERS["alice"], own_uri(phone))
+                same("the algorithm", algorithm, told["algorithm"])
+                caller.again(told, TAKEN)
+                phone.expect_notify("active", NO_MESSAGES)
+
+
+def who_is_wrong(program, folder):
+    with Service(program, "--passwords", password_file(folder), "alice") as service, service.operator() as operator:
+        with service.phone("alice") as phone:
+            caller = Caller(phone)
+            right = caller.right()
+            wrong = (
+                caller.right("wonder"),
+                credentials(caller.asked(), "carol", USERS["alice"], own_uri(phone)),
+                credentials(caller.asked(), "alice", USERS["alice"], own_uri(phone), method="REFER"),
+                credentials(caller.asked(), "alice", USERS["alice"], "sip:bob@127.0.0.1"),
+                caller.right(uri="sip:bob@127.0.0.1"),
+                caller.right(realm="other"),
+                caller.right(nonce="0-" + "0" * 64),
+                caller.right(nc="00000002"),
+                caller.right(username="bob"),
+                caller.right(algorithm="SHA-256"),
+                caller.right(response=right["response"][:31]),
+                caller.right(old=True),
+            )
+            for told in wrong:
+                caller.again(told, ASKED)
+            count_is(operator, challenged=1 + len(wrong), wrong=len(wrong))
+            caller.again(right, TAKEN)
+            phone.expect_notify("active", NO_MESSAGES)
+
+
+def a_nonce_is_for_one_source(program, folder):
+    with Service(program, "--passwords", password_file(folder), "alice") as service:
+        with service.phone("alice") as phone, service.phone("alice") as other:
+            told = Caller(phone).right()
+            caller = Caller(other)
+            caller.again(told, ASKED)
+            caller.again(caller.right(), TAKEN)
+            other.expect_notify("active", NO_MESSAGES)
+
+
+def anothers_mailbox(program, folder):
+    words = ("--passwords", password_file(folder), "--watch", "bob:desk", "alice", "bob", "desk", "door")
+    with Service(program, *words) as service, service.operator() as operator:
+        for mailbox, first in (("alice", FORBIDDEN), ("door", FORBIDDEN), ("bob", TAKEN), ("desk", TAKEN)):
+            with service.phone(mailbox) as phone:
+                caller = Caller(phone)
+                caller.again(credentials(caller.asked(), "bob", USERS["bob"], own_uri(phone)), first)
+                if first == TAKEN:
+                    phone.expect_notify("active", NO_MESSAGES)
+        count_is(operator, challenged=4, forbidden=2)
+
+
+def a_late_answer(program, folder):
+    words = ("--passwords", password_file(folder), "--nonce-time", "1", "alice")
+    with Service(program, *words) as service, service.operator() as operator, service.phone("alice") as phone:
+        caller = Caller(phone)
+        late = caller.right()
+        time.sleep(2.2)
+        asked = challenges(caller.again(late, ASKED))[0]
+        same("whether it is stale", "true", asked.get("stale"))
+        count_is(operator, challenged=1, stale=1)
+        caller.again(caller.right(), TAKEN)
+        phone.expect_notify("active", NO_MESSAGES)
+
+
+def a_transfer_wants_a_user(program, folder):
+    with Service(program, "--passwords", password_file(folder), "alice") as service, service.phone("carol") as phone:
+        caller = Caller(phone, "REFER", ("Refer-To: <sip:dave@127.0.0.1>",))
+        caller.dialog.event = "refer;id=2"
+        told = credentials(caller.asked(), "bob", USERS["bob"], own_uri(phone), "REFER")
+        caller.again(told, "SIP/2.0 202 Accepted")
+        phone.expect_notify("active;expires=180", "SIP/2.0 100 Trying\r\n")
+
+
+def the_old_form(program, folder):
+    with Service(program, "--passwords", password_file(folder), "--old-digest", "alice") as service:
+        with service.phone("alice") as phone:
+            enters(phone, old=True)
+
+
+def malformed(random_source, value):
+    """A value that is cut, doubled, or has other characters at some places."""
+    octets = list(value)
+    for _ in range(random_source.randrange(1, 6)):
+        place = random_source.randrange(len(octets))
+        kind = random_source.randrange(4)
+        if kind == 0:
+            octets[place] = random_source.choice('",;=\\ \tÄ:<>()0aZ%')
+        elif kind == 1:
+            del octets[place : place + random_source.randrange(1, 40)]
+        elif kind == 2:
+            octets[place:place] = octets[random_source.randrange(len(octets)) :][:60]
+        else:
+            octets[place:place] = random_source.choice(('"', "\\", ",", "==", '""', ", nc=", ' realm="pbx"', "Digest "))
+        octets = octets or list(value)
+    return "".join(octets)
+
+
+def malformed_values(program, folder):
+    """Values that are made of one with a wrong password: none of them may pass, and each is answered, or counted as unread."""
+    source = random.Random(7616)
+    with Service(program, "--passwords", password_file(folder), "alice") as service, service.operator() as operator:
+        with service.phone("alice") as phone:
+            value = written(Caller(phone).right("wonder"))
+            phone.socket.settimeout(2)
+            left, firsts = MALFORMED, set()
+            while left:
+                batch = min(left, AT_A_TIME)
+                left -= batch
+                for number in range(batch):
+                    lines = ("Event: message-summary", f"Authorization: {malformed(source, value)}")
+                    phone.send(phone.request("SUBSCRIBE", f"m{left + number}", 1, "", lines))
+                for _ in range(batch):
+                    try:
+                        firsts.add(Message(persist(phone.socket.recv, 65535)).first)
+                    except socket.timeout:
+                        break
+            same("what is answered", {ASKED}, firsts)
+            came = operator.counters()
+            unread = sum(map(int, came["unread"].split()))
+            same("the challenges, and what can't be read", MALFORMED + 1, int(came["challenged"]) + unread)
+            same("the events that a worker was sent", "0", came["events"])
+        with service.phone("alice") as phone:
+            enters(phone)
+        service.close(lambda: None)
+
+
+class Elsewhere:
+    """A socket of another address of this machine."""
+
+    def __init__(self, ip, server):
+        self.socket = socket.socket(socket.AF_INET, socket.SOCK_DGRAM)
+        self.socket.bind((ip, 0))
+        self.socket.connect(("127.0.0.1", server))
+        self.socket.settimeout(0.4)
+
+    def __enter__(self):
+        return self
+
+    def __exit__(self, *_):
+        self.socket.close()
+
+    def answers(self, octets, count=1):
+        """How many answers come to so many of this datagram."""
+        for _ in range(count):
+            persist(self.socket.send, octets)
+        came = 0
+        try:
+            while True:
+                self.socket.recv(65535)
+                came += 1
+        except socket.timeout:
+            return came
+
+
+def question(call_id):
+    """A request that no notifier understands."""
+    return "\r\n".join([
+        "OPTIONS sip:alice@127.0.0.1 SIP/2.0", f"Via: SIP/2.0/UDP 127.0.0.1:5070;branch=z9hG4bK{call_id};rport",
+        "From: <sip:alice@127.0.0.1>;tag=f1", "To: <sip:alice@127.0.0.1>", f"Call-ID: {call_id}", "CSeq: 1 OPTIONS",
+        "Content-Length: 0", "", ""]).encode()
+
+
+def networks(program, folder):
+    words = ("--allow", "127.0.0.4/30", "--allow=127.0.1.0/24", "alice")
+    with Service(program, *words) as service, service.operator() as operator:
+        for ip, count in (("127.0.0.1", 0), ("127.0.0.3", 0), ("127.0.0.5", 1), ("127.0.1.9", 1), ("127.0.2.9", 0)):
+            with Elsewhere(ip, service.sip) as elsewhere:
+                same(f"how many answers come to {ip}", count, elsewhere.answers(question(f"o{ip}")))
+        count_is(operator, foreign=3)
+
+
+def rates(program, folder):
+    with Service(program, "--rate", "1/3", "alice") as service, service.operator() as operator:
+        with Elsewhere("127.0.0.2", service.sip) as one, Elsewhere("127.0.0.3", service.sip) as other:
+            came = one.answers(question("r1"), 12)
+            same("whether the burst and little more is answered", True, 3 <= came <= 4)
+            same("how many answers come to another source", 3, other.answers(question("r2"), 3))
+            time.sleep(2)
+            same("whether more comes later", True, one.answers(question("r3"), 1) == 1)
+            same("whether the others are counted", 12 - came, counted(operator)["limited"])
+
+
+def refused(program, folder, *words):
+    places = ["serve", "--listen", address(free_port()), "--control", address(free_port())]
+    return run(program, [*places, *words])
+
+
+def bad_files(program, folder):
+    own = secret("alice", USERS["alice"])
+    lines = (
+        ("bob", "not user:realm:hash"),
+        ("bob:pbx:" + "0" * 31, "the hash isn't 32 or 64 hex digits in small letters"),
+        ("bob:pbx:" + "A" * 32, "the hash isn't 32 or 64 hex digits in small letters"),
+        ("bob:home:" + "0" * 32, "not the realm of the lines before"),
+        (f"alice:pbx:{own}", "the user has such a hash already"),
+    )
+    path = os.path.join(folder, "passwords")
+    for line, why in lines:
+        with open(path, "w") as file:
+            file.write(f"# users\n\nalice:pbx:{own}\n{line}\n")
+        ended = refused(program, folder, "--passwords", path, "alice")
+        ended_with(ended, 3, b"", f"notifyd: {path}, line 4: {why}\n".encode())
+    with open(path, "w") as file:
+        file.write("# none\n")
+    why = f"notifyd: no user: {path} (a line each: user:realm:hash, as htdigest writes it)\n"
+    ended_with(refused(program, folder, "--passwords", path, "alice"), 3, b"", why.encode())
+    why = f"notifyd: no such file, or it can't be read: {path}s\n"
+    ended_with(refused(program, folder, "--passwords", path + "s", "alice"), 3, b"", why.encode())
+
+
+def options_in_vain(program, folder):
+    path = password_file(folder)
+    for words in (["--watch", "alice:desk"], ["--nonce-time", "60"], ["--old-digest"]):
+        why = b"notifyd: no passwords: --watch, --nonce-time and --old-digest need --passwords <file>\n"
+        ended_with(refused(program, folder, *words, "alice"), 1, b"", why)
+    why = b"notifyd: no password of the user of --watch: carol\n"
+    ended_with(refused(program, folder, "--passwords", path, "--watch", "bob:desk", "--watch", "carol:desk", "alice"), 1, b"", why)
+    forms = (
+        ("--watch", "alice", "<user:mailbox>"),
+        ("--watch", "alice:", "<user:mailbox>"),
+        ("--watch", "alice:de sk", "<user:mailbox>"),
+        ("--rate", "5", "<a second>/<at once>, each 1 to 65536"),
+        ("--rate", "0/5", "<a second>/<at once>, each 1 to 65536"),
+        ("--rate", "5/65537", "<a second>/<at once>, each 1 to 65536"),
+        ("--allow", "192.0.2.0", "<a.b.c.d/bits>"),
+        ("--allow", "192.0.2.0/33", "<a.b.c.d/bits>"),
+        ("--nonce-time", "0", "<1 to 86400>"),
+    )
+    for option, value, form in forms:
+        why = f"notifyd: a bad value: {option} {form}\n"
+        ended_with(refused(program, folder, option, value, "alice"), 1, b"", why.encode())
+
+
+def secrets_stay_secret(program, folder):
+    path = password_file(folder)
+    with Service(program, "--passwords", path, "alice") as service, service.operator() as operator:
+        with service.phone("alice") as phone:
+            caller = Caller(phone)
+            told = caller.right("wonder")
+            caller.again(told, ASKED)
+        status = operator.ask("STATUS")
+        ended = service.close()
+        for text in (secret("alice", USERS["alice"]), told["response"], told["nonce"], USERS["alice"]):
+            same("whether a secret is told", False, text in status or text.encode() in ended.err + ended.out)
+
+
+LAMP = os.path.join(os.path.dirname(os.path.dirname(os.path.abspath(__file__))), "contrib", "lamp")
+
+
+def lamps(program, folder):
+    path = password_file(folder, algorithms=("MD5", "SHA-256"))
+    with Service(program, "--passwords", path, "alice", "bob") as service:
+        place = f"127.0.0.1:{service.sip}"
+        with Running(LAMP, ["--password", USERS["alice"], place, "alice"]) as lamp:
+            lines = [lamp.process.stdout.readline() for _ in range(2)]
+            same("the answer", b"SIP/2.0 200 OK\n", sorted(lines)[0])
+        none = b"lamp: the notifier asks for a password: --password <password>\n"
+        wrong = b"lamp: the notifier refuses the password of alice: 401 Unauthorized\n"
+        others = b"lamp: the notifier refuses: 403 Forbidden\n"
+        ended_with(run(LAMP, [place, "alice"]), 1, b"", none)
+        ended_with(run(LAMP, ["--password", "wonder", place, "alice"]), 1, b"", wrong)
+        ended_with(run(LAMP, ["--user", "bob", "--password", USERS["bob"], place, "alice"]), 1, b"", others)
+
+
+def checks():
+    yield "a password lets in, and asks again in the dialog", a_password_lets_in
+    yield "a file has hashes of both algorithms", both_algorithms
+    yield "who is wrong isn't let in", who_is_wrong
+    yield "a nonce is for one address and port", a_nonce_is_for_one_source
+    yield "another's mailbox is forbidden, a further one is not", anothers_mailbox
+    yield "a late answer is stale", a_late_answer
+    yield "a transfer wants a user of the file", a_transfer_wants_a_user
+    yield "the old form is taken where it is wanted", the_old_form
+    yield "malformed values never pass", malformed_values
+    yield "networks are let in", networks
+    yield "each source has its rate", rates
+    yield "bad files of passwords end the start", bad_files
+    yield "options in vain, and in a bad form", options_in_vain
+    yield "secrets are told nobody", secrets_stay_secret
+    yield "a lamp answers a challenge", lamps
