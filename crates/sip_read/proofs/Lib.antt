@@ -18,3 +18,5 @@ pub mod BadLines
 pub mod Assembling
 pub mod Kept
 pub mod PlainLines
+pub mod Names
+pub mod LineEnds

@@ -55,6 +55,3 @@ fields_seen f = record { event = f.event; expires = f.expires; accept = option_m
 
 abbrev pub gathered_seen : GatheredHeld → Gathered
 gathered_seen g = record { vias = g.vias.items; top = g.top; from = g.call.from; to = g.call.to; call_id = g.call.call_id; cseq = g.call.cseq; content_length = g.content_length; fields = fields_seen g.fields }
-
-abbrev pub gathered_pair : (GatheredHeld × Bor (List ℕ)) → Gathered × List ℕ
-gathered_pair x = (gathered_seen x.0, x.1.now)

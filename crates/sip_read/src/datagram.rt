@@ -8,7 +8,7 @@ ghost use Rattle.sip_read.specs.MessageComputed.{read_of};
 use crate::assemble::message_of;
 use crate::error::ReadError;
 use crate::first_line::first_at;
-use crate::gathered::gather;
+use crate::gathered::Gathered;
 use crate::message::Message;
 use std::alloc::Global;
 
@@ -23,7 +23,9 @@ fn parse(alloc: Global, bytes: &[u8]) -> Result<Message, ReadError>
     let Some((first, section)) = first_at(bytes) else {
         return Err(ReadError::NotSip);
     };
-    let Some((gathered, rest)) = gather(alloc, section)? else {
+    // Filled in place: what the lines say is large, and moved once.
+    let mut gathered = Gathered::new(alloc);
+    let Some(rest) = gathered.add_lines(alloc, section)? else {
         return Err(ReadError::BadLine);
     };
     message_of(alloc, first, gathered, rest)

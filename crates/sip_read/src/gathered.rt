@@ -5,7 +5,7 @@ ghost use Rattle.sip_read.specs.GatheredComputed.{nothing, with_item, Adds, gath
 ghost use Rattle.sip_read.specs.ItemsComputed.{element_at, line_values, line_items};
 ghost use Rattle.sip_read.specs.AddressesComputed.{contact_of as contact_text};
 ghost use Rattle.sip_text.specs.Reading.{elements_of};
-ghost use Rattle.sip_read.specs.Views.{item as item_view, party as party_view, gathered_seen, gathered_pair};
+ghost use Rattle.sip_read.specs.Views.{item as item_view, party as party_view, gathered_seen};
 
 use crate::call::{CSeq, Sequence};
 use crate::call_lines::CallLines;
@@ -76,7 +76,8 @@ impl Gathered {
         Ok(())
     }
 
-    /// Takes in a value.
+    /// Takes in a value. It stands at the call, where the value is made, so that no value is put together only to be taken apart.
+    #[inline(always)]
     fn add(&mut self, alloc: Global, item: Item<'_>) -> Result<(), NoMemory>
         ensures { OnOk result (gathered_seen self.new ≡ with_item (gathered_seen self.old) (item_view item.entry)) }
     {
@@ -175,7 +176,11 @@ impl Gathered {
     }
 
     /// Takes in the header lines at the front, up to the empty line. What follows that.
-    fn add_lines<'a>(&mut self, alloc: Global, text: &'a [u8]) -> Result<Option<&'a [u8]>, NoMemory>
+    pub fn add_lines<'a>(
+        &mut self,
+        alloc: Global,
+        text: &'a [u8],
+    ) -> Result<Option<&'a [u8]>, NoMemory>
         ensures { Gives (λ r. (gathered_seen self.new, r.now)) result (gather (gathered_seen self.old) text.now) }
     {
         let mut rest = text;
@@ -191,16 +196,5 @@ impl Gathered {
             };
             rest = next;
         }
-    }
-}
-
-/// What the header lines at the front say, up to the empty line, and what follows that.
-pub fn gather(alloc: Global, text: &[u8]) -> Result<Option<(Gathered, &[u8])>, NoMemory>
-    ensures { Gives gathered_pair result (gather nothing text.now) }
-{
-    let mut gathered = Gathered::new(alloc);
-    match gathered.add_lines(alloc, text)? {
-        Some(rest) => Ok(Some((gathered, rest))),
-        None => Ok(None),
     }
 }

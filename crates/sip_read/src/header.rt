@@ -1,5 +1,6 @@
 //! Names of headers.
 ghost use Rattle.std.specs.Prelude.{◌≡◌};
+ghost use Rattle.std.specs.Str.{str_eq_ignore_ascii_case};
 ghost use Rattle.sip_read.specs.Headers.{is_name, header_named};
 
 /// Which header a line is of, as far as the reader keeps its value.
@@ -23,11 +24,21 @@ pub enum Header {
     Other,
 }
 
-/// Whether it is this name or its compact form. Names ignore case.
+/// Whether it is this name. Names ignore case. Lengths are compared here, at the call: they tell most names apart.
+#[inline(always)]
+#[tactic(auto, using(crate::proofs::Names::other_length))]
+fn is_same(name: &[u8], other: &[u8]) -> bool
+    ensures { result ≡ str_eq_ignore_ascii_case name.now other.now }
+{
+    name.len() == other.len() && name.eq_ignore_ascii_case(other)
+}
+
+/// Whether it is this name or its compact form.
+#[inline(always)]
 fn is_name(name: &[u8], long: &[u8], compact: &[u8]) -> bool
     ensures { result ≡ is_name name.now long.now compact.now }
 {
-    name.eq_ignore_ascii_case(long) || name.eq_ignore_ascii_case(compact)
+    is_same(name, long) || is_same(name, compact)
 }
 
 /// The header that a name stands for (RFC 3261 section 7.3.3, RFC 6665 section 8.2, RFC 3515 section 2.1,
@@ -43,7 +54,7 @@ pub fn header_named(name: &[u8]) -> Header
         Header::To
     } else if is_name(name, b"call-id", b"i") {
         Header::CallId
-    } else if name.eq_ignore_ascii_case(b"cseq") {
+    } else if is_same(name, b"cseq") {
         Header::CSeq
     } else if is_name(name, b"content-length", b"l") {
         Header::ContentLength
@@ -51,17 +62,17 @@ pub fn header_named(name: &[u8]) -> Header
         Header::Contact
     } else if is_name(name, b"event", b"o") {
         Header::Event
-    } else if name.eq_ignore_ascii_case(b"expires") {
+    } else if is_same(name, b"expires") {
         Header::Expires
-    } else if name.eq_ignore_ascii_case(b"accept") {
+    } else if is_same(name, b"accept") {
         Header::Accept
     } else if is_name(name, b"refer-to", b"r") {
         Header::ReferTo
-    } else if name.eq_ignore_ascii_case(b"refer-sub") {
+    } else if is_same(name, b"refer-sub") {
         Header::ReferSub
-    } else if name.eq_ignore_ascii_case(b"require") {
+    } else if is_same(name, b"require") {
         Header::Require
-    } else if name.eq_ignore_ascii_case(b"record-route") {
+    } else if is_same(name, b"record-route") {
         Header::RecordRoute
     } else {
         Header::Other
