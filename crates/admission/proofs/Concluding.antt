@@ -2,7 +2,7 @@
 use Rattle.std.proofs.Common.{◌≡◌, Option, Some, None, refl, sym, ◌∙◌}
 use Rattle.std.specs.Prelude.{Result, Ok, Err, IfOk, OnErr}
 use Rattle.sip_text.specs.declared.error.NoMemory.{NoMemory}
-use Rattle.rates.specs.declared.table.Rates.{Rates}
+use Rattle.admission.specs.declared.table.Rates.{Rates}
 use Rattle.admission.specs.declared.judging.Admission.{Admission}
 use Rattle.admission.specs.declared.judging.Arrival.{Arrival}
 use Rattle.admission.specs.declared.judging.Verdict.{Verdict}

@@ -4,3 +4,7 @@ pub mod Concluding
 pub mod HeaderLines
 pub mod Searching
 pub mod Open
+pub mod Lookups
+pub mod Allowances
+pub mod Shares
+pub mod Alone

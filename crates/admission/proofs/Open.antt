@@ -1,7 +1,7 @@
 -- An admission that asks nothing.
 use Rattle.std.proofs.Common.{◌≡◌, ℕ, Bool, true, false, List, Option, Some, None, refl, sym, ap, ◌∙◌}
 use Rattle.std.specs.Prelude.{◌||◌, if◌then◌else◌}
-use Rattle.rates.specs.declared.table.Rates.{Rates}
+use Rattle.admission.specs.declared.table.Rates.{Rates}
 use Rattle.admission.specs.declared.judging.Admission.{Admission}
 use Rattle.admission.specs.declared.judging.Arrival.{Arrival}
 use Rattle.admission.specs.declared.judging.Verdict.{Verdict}

@@ -2,8 +2,8 @@
 use Rattle.std.specs.Prelude.{◌≡◌, ℕ, ◌/◌, Bool, true, false, ◌||◌, ◌==◌, length, is_none, if◌then◌else◌, List, [], Option, Some, None, bytes_eq, codes}
 use Rattle.std.specs.List.{list_any}
 use Rattle.sip_read.specs.declared.message.Request.{Request}
-use Rattle.rates.specs.declared.table.Rates.{Rates}
-use Rattle.rates.specs.Table as rates
+use Rattle.admission.specs.declared.table.Rates.{Rates}
+use Rattle.admission.specs.Table as rates
 use Rattle.admission.specs.declared.authentication.Authentication.{Authentication}
 use Rattle.admission.specs.declared.authentication.Cause.{Cause}
 use Rattle.admission.specs.declared.authentication.Finding.TheVariants as finding

@@ -7,7 +7,7 @@ ghost use Rattle.admission.specs.Verdicts.{Judges, IsFree, behind};
 
 use crate::authentication::{Authentication, Cause, Conclusion, Inquiry};
 use crate::network::{Network, number};
-use rates::Rates;
+use crate::table::Rates;
 use sip_read::Request;
 use sip_text::{Addr, NoMemory, Octets};
 use std::alloc::Global;

@@ -4,22 +4,32 @@
 //! [`Admission::judge`] asks three things in this order, each only where the service was told to:
 //!
 //! 1. Is the source's address within one of the [`Network`]s? Else [`Verdict::Foreign`].
-//! 2. Has the source a token left ([`rates`])? Else [`Verdict::Limited`]. Requests outside a dialog take one, and what can't be read.
+//! 2. Has the source a token left ([`Rates`])? Else [`Verdict::Limited`]. Requests outside a dialog take one, and what can't be read.
 //! 3. Does a SUBSCRIBE or a REFER, in a dialog too, answer a challenge (RFC 3261 section 22, [`digest`])? Else [`Verdict::Challenge`], with the
 //!    bytes of a 401. May the user have the mailbox that it names? Else [`Verdict::Forbidden`], with those of a 403.
 //!
+//! [`Rates`] holds a bucket for each source that was heard lately, in a table of bounded size. A source without a bucket has a full one, so a
+//! full bucket tells no more than none: where the table is full, the bucket of the source that was heard the longest ago goes, once it is full
+//! again. Until then a new source is refused. So no source gets a second burst by pushing its own bucket out. [`laws`] says what holds of
+//! whole runs.
+//!
 //! Begin with `specs/Verdicts`: it says exactly which datagram gets which verdict. `specs/Authorization` says which text of a datagram shows who
-//! asks, `specs/Challenge` how a 401 is laid out.
+//! asks, `specs/Challenge` how a 401 is laid out, `specs/Buckets` and `specs/Table` what each datagram makes of the buckets.
 #![tactic(auto)]
 
 mod answer;
 mod authentication;
 mod authorization;
+mod bucket;
 mod judging;
+pub mod laws;
 mod lines;
 mod network;
 mod shown;
+mod table;
 
 pub use authentication::{Authentication, Cause};
+pub use bucket::{Bucket, Rate};
 pub use judging::{Admission, Arrival, Reading, Verdict};
 pub use network::Network;
+pub use table::Rates;

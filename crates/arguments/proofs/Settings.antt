@@ -16,7 +16,7 @@ use Rattle.sip_text.proofs.Pieces.{bind_some, some_is, and_both, prefix_passes, 
 use Rattle.sip_text.proofs.PlainNumbers.{up_to_takes, up_to_again}
 use Rattle.sip_text.proofs.Addresses.{addr_takes, addr_again, decimal_lacks}
 use Rattle.package.specs.Texts.{is_word}
-use Rattle.rates.specs.declared.bucket.Rate.{Rate}
+use Rattle.admission.specs.declared.bucket.Rate.{Rate}
 use Rattle.admission.specs.declared.network.Network.{Network}
 use Rattle.admission.specs.Networks.{network}
 use Rattle.arguments.specs.declared.flag.Bound.{Bound}

@@ -6,7 +6,7 @@ use Rattle.hex.specs.declared.error.FromHexError.{FromHexError}
 use Rattle.hex.specs.Hex.{decode_sized}
 use Rattle.sip_text.specs.Reading.{◌>>=◌, begins, addr_of, cut_at, plain_up_to}
 use Rattle.package.specs.Texts.{is_word}
-use Rattle.rates.specs.declared.bucket.Rate.{Rate}
+use Rattle.admission.specs.declared.bucket.Rate.{Rate}
 use Rattle.admission.specs.Networks.{network}
 use Rattle.arguments.specs.declared.flag.Place.{Place}
 use Rattle.arguments.specs.declared.flag.Place.TheVariants as place

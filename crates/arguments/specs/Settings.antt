@@ -26,7 +26,7 @@ use Rattle.hex.specs.Hex.{decode_sized}
 use Rattle.sip_text.specs.Addresses.{addr_text, IsAddr}
 use Rattle.sip_text.specs.Reading.{begins}
 use Rattle.package.specs.Texts.{is_word}
-use Rattle.rates.specs.declared.bucket.Rate.{Rate}
+use Rattle.admission.specs.declared.bucket.Rate.{Rate}
 use Rattle.admission.specs.Networks.{network}
 use Rattle.arguments.specs.declared.flag.Flag.{Flag}
 use Rattle.arguments.specs.declared.switch.Switch.{Switch}

@@ -6,7 +6,7 @@ ghost use Rattle.arguments.specs.Choices.{default_choices, default_numbers, with
 use crate::flag::{Bound, Place};
 use crate::setting::Setting;
 use crate::switch::Switch;
-use rates::Rate;
+use admission::Rate;
 use sip_text::Addr;
 
 /// The numbers of the options; times are seconds. Which of them go together, `Limits::new` of the crate `notifier` decides.

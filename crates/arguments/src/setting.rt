@@ -11,10 +11,9 @@ ghost use Rattle.sip_text.specs.Reading.{begins, plain_up_to};
 use crate::error::OptionsError;
 use crate::flag::{Bound, Flag, Place, flag_of, joined_of};
 use crate::switch::{Switch, switch_of};
-use admission::Network;
+use admission::{Network, Rate};
 use hex::FromHex;
 use package::texts::is_word;
-use rates::Rate;
 use sip_text::{Addr, NoMemory, Text, cut_at, plain_number};
 use std::alloc::Global;
 

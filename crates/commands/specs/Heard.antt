@@ -5,9 +5,9 @@ use Rattle.digest.specs.declared.algorithm.Algorithm.{Algorithm}
 use Rattle.digest.specs.declared.algorithm.Algorithm.TheVariants as algorithm
 use Rattle.digest.specs.declared.passwords.Passwords.{Passwords}
 use Rattle.digest.specs.Passwords.{known, Takes}
-use Rattle.rates.specs.declared.bucket.Rate.{Rate}
-use Rattle.rates.specs.declared.table.Rates.{Rates}
-use Rattle.rates.specs.Table.{empty}
+use Rattle.admission.specs.declared.bucket.Rate.{Rate}
+use Rattle.admission.specs.declared.table.Rates.{Rates}
+use Rattle.admission.specs.Table.{empty}
 use Rattle.admission.specs.declared.authentication.Authentication.{Authentication}
 use Rattle.admission.specs.declared.judging.Admission.{Admission}
 use Rattle.arguments.specs.declared.choices.Choices.{Choices}

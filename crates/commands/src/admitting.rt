@@ -9,10 +9,9 @@ ghost use Rattle.commands.specs.Refused.{IsOfWatched, IsOfAdmission};
 
 use crate::error::ServeError;
 use crate::passwords::users_at;
-use admission::{Admission, Authentication};
+use admission::{Admission, Authentication, Rate, Rates};
 use arguments::{Choices, Setting, networks_of, passwords_of, watched_of};
 use digest::{Algorithm, Guard, Nonces, Passwords};
-use rates::{Rate, Rates};
 use sip_text::{NoMemory, Text};
 use std::alloc::Global;
 use std::num::NonZeroUsize;

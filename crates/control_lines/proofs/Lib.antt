@@ -1,3 +1,5 @@
 pub mod Lines
 pub mod Slots
 pub mod Unasked
+mod PageSteps
+mod Rows

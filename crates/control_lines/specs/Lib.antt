@@ -4,3 +4,5 @@ pub mod Lines
 pub mod Questions
 pub mod Slots
 pub mod Tokens
+pub mod Pages
+pub mod Told

@@ -4,22 +4,30 @@
 //! an [`Answer`] or with what the line asks. `notifyd tell` sends one with
 //! [`tell_line`], again while nobody answers, and its exit status is that of the [`Outcome`].
 //!
+//! [`ToldCounts`] holds the service's mailboxes, in order, each with the counts that a MAIL line told last. It finds one by its name
+//! in the same time however many there are, and tells the counts as MAIL lines, of one mailbox or of all, page by page.
+//!
 //! What it isn't: it changes nothing of a service, which is the crate `service`. Begin with `specs/Lines`: which bytes are
-//! which line, `specs/Questions`: what may be asked, and `specs/Asking`: how often is asked.
+//! which line, `specs/Questions`: what may be asked, `specs/Asking`: how often is asked, and
+//! `specs/Told`, `specs/Pages`: what is told of the counts.
 #![tactic(auto)]
 
 mod answer;
 mod asking;
 mod kept;
 mod line;
+mod pages;
 mod question;
 mod token;
+mod told;
 mod udp;
 
 pub use answer::{Answer, is_answer};
 pub use asking::{Outcome, Speaker, SpeakerFault, TRIES, tell_line};
 pub use kept::{Kept, KeptAnswers};
 pub use line::{Asked, hear_line};
+pub use pages::{dump_page, show_page};
 pub use question::Question;
 pub use token::{Token, cut_token};
+pub use told::ToldCounts;
 pub use udp::UdpSpeaker;

@@ -1,8 +1,7 @@
 //! Who may ask for what.
 
-use admission::{Admission, Authentication, Network};
+use admission::{Admission, Authentication, Network, Rate, Rates};
 use digest::{Guard, Nonces, Passwords};
-use rates::{Rate, Rates};
 use sip_text::{NoMemory, Text};
 use std::alloc::Global;
 use std::num::NonZeroUsize;

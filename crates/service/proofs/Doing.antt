@@ -7,7 +7,7 @@ use Rattle.control_lines.specs.declared.answer.Answer.TheVariants as answer
 use Rattle.control_lines.specs.declared.line.Asked.TheVariants as asked
 use Rattle.control_lines.specs.declared.question.Question.{Question}
 use Rattle.control_lines.specs.Lines.{Asks}
-use Rattle.told_counts.specs.Told.{Row, told}
+use Rattle.control_lines.specs.Told.{Row, told}
 use Rattle.service.specs.declared.lines.Done.{Done}
 use Rattle.service.specs.declared.lines.Done.TheVariants as did
 use Rattle.service.specs.Taken.{Has, IsSent, IsChanged, IsFound, IsDone}

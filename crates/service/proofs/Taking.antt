@@ -18,7 +18,7 @@ use Rattle.service.specs.declared.lines.Done.{Done}
 use Rattle.service.specs.declared.lines.Done.TheVariants as did
 use Rattle.control_lines.specs.Kept.{kept_answer}
 use Rattle.control_lines.specs.Tokens.{token, line}
-use Rattle.told_counts.specs.Told.{Row}
+use Rattle.control_lines.specs.Told.{Row}
 use Rattle.service.specs.Taken.{DeskSeen, Line, IsLine, IsMeant, Means, IsDone, IsAgain, IsNews, IsTaken, Stays, told_by, kept_with, desk_after, desk_then, AreLines, end_after, MayReply, Replies, gets_answer, has_none, failures_then, datagrams_of, events, replies, reply_to, is_none, unanswered, AllGoOn, EndsWith, AreTaken, AreAnswered}
 
 pub all_more : (P : Line → Type 0) (log more : List Line) → AllByRecursion P log → AllByRecursion P more → AllByRecursion P (log ++ more)

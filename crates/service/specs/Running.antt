@@ -28,7 +28,7 @@ use Rattle.service.specs.declared.feeding.Fed.{Fed}
 use Rattle.service.specs.declared.feeding.Task.{Task}
 use Rattle.service.specs.declared.feeding.Task.TheVariants as task
 use Rattle.circular_buffer.specs.Buffer.{buffer}
-use Rattle.told_counts.specs.Told.{AreUntold}
+use Rattle.control_lines.specs.Told.{AreUntold}
 use Rattle.service.specs.declared.datagrams.SipDesk.{SipDesk}
 use Rattle.service.specs.declared.lines.ControlDesk.{ControlDesk}
 use Rattle.service.specs.declared.lines.TheConstants.{KEPT}

@@ -26,7 +26,7 @@ use Rattle.control_lines.specs.declared.token.Token.{Token}
 use Rattle.control_lines.specs.Kept.{kept_answer, with_answer}
 use Rattle.control_lines.specs.Lines.{Asks, is_answer, answer_text}
 use Rattle.control_lines.specs.Tokens.{token, line}
-use Rattle.told_counts.specs.Told.{Row, place, told}
+use Rattle.control_lines.specs.Told.{Row, place, told}
 use Rattle.service.specs.Told.{IsReport, IsShown, dumped}
 use Rattle.service.specs.declared.lines.Done.{Done}
 use Rattle.service.specs.declared.lines.Done.TheVariants as did

@@ -2,8 +2,8 @@
 use Rattle.std.specs.Prelude.{◌≡◌, ◌%◌, ℕ, List, ◌++◌, codes, slice_get, Some}
 use Rattle.notifier_model.specs.Home.{key_hash}
 use Rattle.scripts.specs.Script.{lf}
-use Rattle.told_counts.specs.Told.{Row}
-use Rattle.told_counts.specs.Pages.{show_text, dump_text}
+use Rattle.control_lines.specs.Told.{Row}
+use Rattle.control_lines.specs.Pages.{show_text, dump_text}
 
 abbrev pub report : List ℕ → List ℕ
 report lines = codes "ok" ++ (lf ++ lines)

@@ -6,7 +6,7 @@ ghost use Rattle.transport.specs.Wires.{Grows};
 ghost use Rattle.crew.specs.Kept.{SameSeats};
 ghost use Rattle.control_lines.specs.Lines.{answer_text};
 ghost use Rattle.control_lines.specs.declared.question.Question.TheVariants as questions;
-ghost use Rattle.told_counts.specs.Told.{AreUntold};
+ghost use Rattle.control_lines.specs.Told.{AreUntold};
 ghost use Rattle.service.specs.declared.lines.Done.TheVariants as did;
 ghost use Rattle.service.specs.Taken as spec;
 ghost use Rattle.service.specs.Taken.{Line, IsSent, IsChanged, IsDone, IsFound, IsTaken, Offers, IsAnswered, datagrams_of, AreTaken, AreAnswered, AreRefused, seen};
@@ -15,7 +15,9 @@ ghost use Rattle.service.specs.Listening.{IsDeafAsTold, is_fault};
 use crate::listening::{FaultLog, receive};
 use crate::reports::{counters, dumped, shown};
 use crate::shared::{Counter, Shared};
-use control_lines::{Answer, Asked, KeptAnswers, Question, Token, cut_token, hear_line, is_answer};
+use control_lines::{
+    Answer, Asked, KeptAnswers, Question, Token, ToldCounts, cut_token, hear_line, is_answer,
+};
 use crew::Port;
 use feeds::{FeedEnd, send_event};
 use notifier_model::Event;
@@ -25,7 +27,6 @@ use std::alloc::Global;
 use std::num::NonZeroU32;
 use std::rt::Clock;
 use std::sync::Wait;
-use told_counts::ToldCounts;
 use transport::{Ear, Wire};
 
 /// How many answers to lines with a token are kept.

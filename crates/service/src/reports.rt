@@ -5,12 +5,12 @@ ghost use Rattle.service.specs.Told as spec;
 ghost use Rattle.service.specs.Told.{IsReport, IsShown};
 
 use crate::shared::Shared;
+use control_lines::{ToldCounts, dump_page, show_page};
 use home::key_hash;
 use sip_text::NoMemory;
 use std::alloc::Global;
 use std::num::NonZeroU32;
 use std::rt::Clock;
-use told_counts::{ToldCounts, dump_page, show_page};
 
 /// These lines behind an `ok`.
 fn report(alloc: Global, lines: &str) -> Result<String, NoMemory>

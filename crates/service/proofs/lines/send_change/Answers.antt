@@ -1,5 +1,5 @@
 use Rattle.std.proofs.Common.{ap, sym, subst, refl, ◌∙◌, List, ℕ}
-use Rattle.told_counts.specs.Told.{Row, place}
+use Rattle.control_lines.specs.Told.{Row, place}
 use Rattle.service.specs.Taken.{Has, IsChanged}
 use Rattle.service.proofs.Doing.{changed_sent}
 use Rattle.service.proofs.lines.send_change.Goals as goal

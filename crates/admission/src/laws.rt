@@ -1,0 +1,14 @@
+//! Laws of whole runs, over the definitions alone.
+ghost use Rattle.admission.specs.Runs.{AtMostBurstAndRate, NoneBelowIsRefused};
+
+/// Whatever came before, in whatever order and at whatever moments: of datagrams that come in the order of time at most the burst and the rate
+/// times the time that they take are let through of each source.
+pub fn each_source_gets_at_most_its_rate()
+    ensures { AtMostBurstAndRate }
+{}
+
+/// A source whose datagrams stay within the burst and the rate in each stretch of time has all of them let through, whatever others send,
+/// while the table has room for it.
+pub fn no_source_below_its_rate_is_refused()
+    ensures { NoneBelowIsRefused }
+{}

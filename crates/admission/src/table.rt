@@ -1,0 +1,60 @@
+//! The buckets of all sources.
+ghost use Rattle.std.specs.Prelude.{◌≡◌, IfOk, OnOk, OnErr};
+ghost use Rattle.std.specs.NonZero.{non_zero_usize_get};
+ghost use Rattle.admission.specs.Table as spec;
+ghost use Rattle.admission.specs.Table.{empty, after};
+
+use crate::bucket::{Bucket, Rate, is_enough, left};
+use lru::LruCache;
+use sip_text::NoMemory;
+use std::alloc::Global;
+use std::num::NonZeroUsize;
+
+/// The buckets of the sources that were heard lately, all of one rate. A source is an IPv4 address, as a number.
+#[derive(Drop)]
+pub struct Rates {
+    pub rate: Rate,
+    /// By source, the one heard last first.
+    pub buckets: LruCache<u32, Bucket>,
+}
+
+impl Rates {
+    /// Of a service that has heard no source yet. So many may have a bucket at once. Its error is want of memory.
+    pub fn new(alloc: Global, rate: Rate, size: NonZeroUsize) -> Result<Rates, NoMemory>
+        ensures { IfOk result (λ r. r ≡ empty rate (non_zero_usize_get size)) }
+    {
+        let buckets = LruCache::new(alloc, size)?;
+        Ok(Rates { rate, buckets })
+    }
+
+    /// Whether a further source finds a place at this moment: a free one, or that of the source that was heard the longest ago, where its bucket
+    /// is full again.
+    fn has_place(&self, now: u64) -> bool
+        ensures { result ≡ spec.has_place self.now now }
+    {
+        if self.buckets.len() < self.buckets.cap().get() {
+            return true;
+        }
+        match self.buckets.peek_lru() {
+            Some((_, bucket)) => self.rate.is_full(*bucket, now),
+            None => false,
+        }
+    }
+
+    /// Whether a datagram of this source is let through at this moment, in milliseconds. It takes a token of the source's bucket, if one is there.
+    /// Its error is want of memory.
+    #[tactic(auto, unfolding(crate::specs::Table::is_let, crate::specs::Table::after))]
+    pub fn hear(&mut self, source: u32, now: u64) -> Result<bool, NoMemory>
+        ensures verdict { IfOk result (λ r. r ≡ spec.is_let self.old source now) }
+        ensures after { OnOk result (self.new ≡ after self.old source now) }
+        ensures err { OnErr result (self.new ≡ self.old) }
+    {
+        let bucket = self.buckets.peek(&source).copied();
+        if bucket.is_none() && !self.has_place(now) {
+            return Ok(false);
+        }
+        let tokens = self.rate.usable(bucket, now);
+        self.buckets.put(source, left(tokens, now))?;
+        Ok(is_enough(tokens))
+    }
+}

@@ -1,0 +1,12 @@
+use Rattle.std.proofs.Common.{sym, ◌∙◌}
+use Rattle.control_lines.proofs.Rows.{add_there, add_new}
+use Rattle.control_lines.proofs.told.add.Goals as goal
+
+pub returns-then-contains_key : goal.returns-then-contains_key
+returns-then-contains_key c =
+    add_there _ c.args.mailboxes.now.entries (sym (rw c.as_str.ensures.value at c.contains_key.ensures) ∙ c.if-contains_key.true)
+
+pub returns : goal.returns
+returns c =
+    add_new c.args.name c.unset.result c.args.mailboxes.now.entries c.insert.new.self.entries (sym (rw c.as_str.ensures.value at c.contains_key.ensures) ∙ c.if-contains_key.false)
+    c.unset.ensures c.in_ok-insert.ensures.entries

@@ -1,4 +1,0 @@
-pub mod Lookups
-pub mod Allowances
-pub mod Shares
-pub mod Alone

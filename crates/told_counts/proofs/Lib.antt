@@ -1,2 +1,0 @@
-mod PageSteps
-mod Rows
