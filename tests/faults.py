@@ -24,10 +24,11 @@ PLACE = "10.99.7.1"
 # Where allocations are checked none of more bytes succeeds: a worker's table outgrows them at 2,048 subscriptions.
 CHECKED = {"ASAN_OPTIONS": "allocator_may_return_null=1:max_allocation_size_mb=1:symbolize=0"}
 
-# The bytes that a program may take beside those that it has once it listens. Checks of allocations reserve more than the other number.
-SPARE, RESERVED = 1 << 20, 1 << 40
+# A worker's table grows at so many subscriptions, by more than a program may take then beside what it has shortly before. Less is left
+# to the others, who say farewell. Checks of allocations reserve more than the last number.
+TABLE, FEW, SPARE, RESERVED = 2048, 8, 1 << 19, 1 << 40
 
-# As many subscriptions outgrow both.
+# So many outgrow each bound.
 MANY = 6000
 
 
@@ -142,21 +143,20 @@ def an_address_is_taken_away(program, folder):
 
 
 class Bounded(Service):
-    """A service that can't have more memory than at its start, and a little."""
+    """A service that can't have more memory than it has at a moment, and a little."""
 
     def __init__(self, program, *words):
         self.program, self.sip, self.control = program, free_port(), free_port()
         places = ("--listen", address(self.sip), "--control", address(self.control))
         self.running = Running(program, ["serve", *places, *words], LONG_LIMIT, env={**os.environ, **CHECKED})
 
-    def __enter__(self):
-        super().__enter__()
+    def bound(self):
+        """From now on it can't."""
         process = self.running.process.pid
         with open(f"/proc/{process}/status", encoding="ascii") as lines:
             held = next(int(line.split()[1]) << 10 for line in lines if line.startswith("VmData"))
         if held < RESERVED:
             resource.prlimit(process, resource.RLIMIT_DATA, (held + SPARE, held + SPARE))
-        return self
 
 
 def has_closed(operator, number):
@@ -173,15 +173,19 @@ def has_closed(operator, number):
 
 
 def fill(service, operator, mailbox):
-    """Subscribes strangers to this mailbox, and has them told of changes, until the service closes."""
+    """Subscribes strangers to this mailbox, and has them told of changes, until the service closes. Its memory is bounded shortly
+    before the table of their worker grows."""
     request = SUBSCRIBE.replace(b"alice", mailbox.encode())
     with open_socket(("127.0.0.1", service.sip)) as stranger:
         for number in range(1, MANY):
             persist(stranger.send, request.replace(b"Call-ID: c1", b"Call-ID: c%d" % number).replace(b"bKa1", b"bK%d" % number))
             if number % 1000 == 0:
                 operator.ask(f"MAIL {mailbox} voice {number} 0 0 0")
-            if number % 50 == 0 and has_closed(operator, number):
+            is_near = number >= TABLE - FEW
+            if (is_near or number % 50 == 0) and has_closed(operator, number):
                 return
+            if number == TABLE - FEW:
+                service.bound()
     raise AssertionError(f"{MANY} subscriptions don't fill it")
 
 
