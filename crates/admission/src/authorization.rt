@@ -3,7 +3,8 @@ ghost use Rattle.std.specs.Prelude.{◌≡◌, find};
 ghost use Rattle.sip_text.specs.Bytes.{Finds, Gives};
 ghost use Rattle.admission.specs.Authorization as spec;
 
-use crate::lines::{header, header_lines, line_at};
+use crate::lines::header_lines;
+use sip_read::{header_of, line_at};
 use sip_text::{NoMemory, Octets, Text, text_of};
 use std::alloc::Global;
 
@@ -11,7 +12,7 @@ use std::alloc::Global;
 fn is_authorization(line: &[u8]) -> bool
     ensures { result ≡ spec.is_authorization line.now }
 {
-    match header(line) {
+    match header_of(line) {
         Some((name, _)) => name.eq_ignore_ascii_case(b"authorization"),
         None => false,
     }
@@ -43,7 +44,7 @@ pub(crate) fn authorization(alloc: Global, octets: &[u8]) -> Result<Option<Text>
     let Some(line) = first_authorization(&lines) else {
         return Ok(None);
     };
-    let Some((_, value)) = header(line.as_slice()) else {
+    let Some((_, value)) = header_of(line.as_slice()) else {
         return Ok(None);
     };
     match text_of(value) {

@@ -17,6 +17,7 @@ pub struct Line<'a> {
 }
 
 impl Line<'_> {
+    /// Its octets, without its end.
     pub fn as_slice(&self) -> &[u8]
         ensures { result.now ≡ line_seen self.now }
     {

@@ -32,5 +32,7 @@ mod via;
 
 pub use datagram::read;
 pub use error::{HeaderName, ReadError};
+pub use folding::{Line, unfolded_of};
+pub use line::{header_of, line_at};
 pub use message::{Head, Message, Party, Request, Response, Via};
 pub use sip_text::Addr;
