@@ -9,7 +9,7 @@ import subprocess
 import time
 
 from phone import NO_MESSAGES, OVER, PATIENCE, Message, Operator, Phone, open_socket, persist
-from suite import LIMIT, Running, ended_with, free_port, run, same
+from suite import LIMIT, LONG_LIMIT, Running, ended_with, free_port, run, same
 from tags import home_of, local_tag
 
 # With a seed of zeros and this address for phones a notifier's messages are known to the byte, at whatever port it listens.
@@ -519,6 +519,36 @@ def refer_may_be_left_out(program, folder):
         same("what is printed", 0, service.close().out.count(b"START"))
 
 
+def each_answer_is_logged(program, folder):
+    """A line tells each answer, also a refusal. Without the option none does."""
+    for words, told in (((), False), (("--log-requests",), True)):
+        with Service(program, *words, "alice") as service:
+            with service.phone("alice") as phone, service.phone("bob") as stranger:
+                dialog = phone.subscribe()
+                phone.leave(dialog, NO_MESSAGES)
+                stranger.ask("SIP/2.0 404 Not Found")
+                lines = [f"notifyd: {phone.me} SUBSCRIBE <sip:alice@127.0.0.1>;tag={dialog.tag} 200"] * 2
+                refused = f"notifyd: {stranger.me} SUBSCRIBE <sip:bob@127.0.0.1>;tag="
+            logged = service.close().err.decode().splitlines()
+        same("the lines of what was granted", lines if told else [], [line for line in logged if line in lines])
+        same("whether the refusal is told", told, any(line.startswith(refused) and line.endswith(" 404") for line in logged))
+
+
+def what_is_refused_is_told_once_a_minute(program, folder):
+    """The first minute's: two requests to nobody's mailbox, three datagrams that are no SIP."""
+    with Service(program, "alice", limit=LONG_LIMIT) as service:
+        with service.phone("bob") as stranger:
+            for _ in range(2):
+                stranger.ask("SIP/2.0 404 Not Found")
+            for _ in range(3):
+                stranger.send(b"hello")
+        for line in (b"notifyd: 3 datagrams were no SIP messages\n", b"notifyd: 2 requests were answered 404\n"):
+            service.running.lines_until(line)
+        told = [line for line in service.running.err.decode().splitlines() if "listening" not in line]
+        same("how many lines there are", 2, len(told))
+        service.close()
+
+
 def the_longest_time_is_an_hour(program, folder):
     with Service(program, "alice") as service:
         with service.phone("alice") as phone:
@@ -575,6 +605,8 @@ def checks():
     yield "serve: a file of MAIL lines is done first", the_state_is_told_first
     yield "serve: files of MAIL lines that are refused", a_state_is_refused
     yield "serve: --no-refer", refer_may_be_left_out
+    yield "serve: --log-requests", each_answer_is_logged
+    yield "serve: what is refused is told once a minute", what_is_refused_is_told_once_a_minute
     yield "serve: the longest time is an hour", the_longest_time_is_an_hour
     yield "serve: the end of its input closes it", the_end_of_input_closes
     yield "serve: CLOSE ends it while its input goes on", a_close_ends_it_while_input_goes_on

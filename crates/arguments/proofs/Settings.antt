@@ -299,6 +299,7 @@ switch_begins switch.KeepSubscriptions = refl
 switch_begins switch.NoRefer = refl
 switch_begins switch.UntilInputEnds = refl
 switch_begins switch.OldDigest = refl
+switch_begins switch.LogRequests = refl
 
 plain_is_no_flag : (word : List ℕ) → begins 45 word ≡ false → flag_of word ≡ None
 plain_is_no_flag word plain = step (flag_of word) refl where

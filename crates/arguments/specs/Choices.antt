@@ -52,6 +52,7 @@ default_choices = record {
   until_input_ends = false;
   rate = None;
   old_digest = false;
+  log_requests = false;
 }
 
 abbrev pub with_number : Bound → ℕ → Numbers → Numbers
@@ -82,6 +83,7 @@ with_switch switch.KeepSubscriptions choices = record choices { keep_subscriptio
 with_switch switch.NoRefer choices = record choices { no_refer = true }
 with_switch switch.UntilInputEnds choices = record choices { until_input_ends = true }
 with_switch switch.OldDigest choices = record choices { old_digest = true }
+with_switch switch.LogRequests choices = record choices { log_requests = true }
 
 -- the choices after this setting. Mailboxes, files and who may watch or is let in are gathered apart
 abbrev pub after : Choices → Setting → Choices

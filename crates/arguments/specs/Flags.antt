@@ -49,6 +49,7 @@ switch_text switch.KeepSubscriptions = codes "--keep-subscriptions"
 switch_text switch.NoRefer = codes "--no-refer"
 switch_text switch.UntilInputEnds = codes "--until-input-ends"
 switch_text switch.OldDigest = codes "--old-digest"
+switch_text switch.LogRequests = codes "--log-requests"
 
 -- the least number that an option takes
 abbrev pub least : Bound → ℕ

@@ -58,6 +58,8 @@ pub struct Choices {
     pub rate: Option<Rate>,
     /// Whether a response without `qop` is taken, as clients of RFC 2069 make it.
     pub old_digest: bool,
+    /// Whether each request that is answered is told on standard error.
+    pub log_requests: bool,
 }
 
 /// 127.0.0.1 with this port.
@@ -135,6 +137,7 @@ impl Choices {
             until_input_ends: false,
             rate: None,
             old_digest: false,
+            log_requests: false,
         }
     }
 
@@ -156,6 +159,7 @@ impl Choices {
             Switch::NoRefer => self.no_refer = true,
             Switch::UntilInputEnds => self.until_input_ends = true,
             Switch::OldDigest => self.old_digest = true,
+            Switch::LogRequests => self.log_requests = true,
         }
     }
 

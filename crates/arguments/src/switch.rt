@@ -15,6 +15,8 @@ pub enum Switch {
     UntilInputEnds,
     /// `--old-digest`: a response without `qop` is taken, as clients of RFC 2069 make it.
     OldDigest,
+    /// `--log-requests`: a line on standard error for each request that is answered.
+    LogRequests,
 }
 
 impl Switch {
@@ -27,6 +29,7 @@ impl Switch {
             Switch::NoRefer => "--no-refer",
             Switch::UntilInputEnds => "--until-input-ends",
             Switch::OldDigest => "--old-digest",
+            Switch::LogRequests => "--log-requests",
         }
     }
 }
@@ -44,6 +47,8 @@ pub(crate) fn switch_of(word: &str) -> Option<Switch>
         Some(Switch::UntilInputEnds)
     } else if word == "--old-digest" {
         Some(Switch::OldDigest)
+    } else if word == "--log-requests" {
+        Some(Switch::LogRequests)
     } else {
         None
     }

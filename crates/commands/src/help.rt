@@ -27,6 +27,7 @@ usage: notifyd serve [options] [<mailbox>...]      (also --option=value)
   --seed <64 hex digits>     for local tags (the system's randomness)
   --keep-subscriptions       no farewell at the end
   --no-refer                 no package refer: a REFER is answered 489
+  --log-requests             a line for each request that is answered
   --until-input-ends         closes where standard input ends; see notifyd-run
   --min-time <seconds>       the shortest time granted (60)
   --max-time <seconds>       the longest time granted (3600)

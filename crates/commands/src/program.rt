@@ -221,6 +221,9 @@ where
         sockets,
     } = fit_out(&rt, &plan, make)?;
     let is_watched = plan.choices.until_input_ends;
+    if plan.choices.log_requests {
+        shared.log_requests();
+    }
     let (work, wire) = work_of(plan, sockets, theirs);
     let sink = Sink::new(writer);
     let watch = Watch::begin(rt, &shared, is_watched)?;

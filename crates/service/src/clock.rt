@@ -5,7 +5,7 @@ ghost use Rattle.feeds.specs.Fed.{failures_at};
 ghost use Rattle.service.specs.Taken.{failures_then};
 ghost use Rattle.service.specs.Ticks.{rises_from, AreTold, new_stopwatch};
 
-use crate::shared::Shared;
+use crate::shared::{COMPLAINTS, Shared};
 use crew::Port;
 use feeds::{FeedEnd, send_event};
 use notifier_model::Event;
@@ -17,7 +17,7 @@ use std::time::Duration;
 /// How long the clock sleeps at most before it looks whether the service closes, in milliseconds.
 const NAP: u64 = 50;
 
-/// How many seconds pass between two looks at what couldn't be read.
+/// How many seconds pass between two looks at what goes wrong.
 const MINUTE: u64 = 60;
 
 /// What the time is read by. It counts how often the clock couldn't be read.
@@ -48,33 +48,42 @@ impl Stopwatch {
     }
 }
 
-/// What couldn't be read, as it was told once a minute.
-#[derive(Clone, Copy)]
-struct Complaint {
+/// What goes wrong, as it was told once a minute.
+#[derive(Drop)]
+struct Complaints {
     /// The second of the last look.
     looked: u64,
-    /// How many datagrams couldn't be read until then.
-    unread: u64,
+    /// How often each had happened until then.
+    told: [u64; COMPLAINTS],
 }
 
-impl Complaint {
-    /// Says on standard error once a minute how many datagrams couldn't be read in it, if some couldn't.
+impl Complaints {
+    /// Of a service that begins now.
+    fn new() -> Complaints {
+        Complaints {
+            looked: 0,
+            told: [0; COMPLAINTS],
+        }
+    }
+
+    /// Says on standard error once a minute what happened in it, and how often.
     fn look<R: Eprint>(&mut self, rt: &R, shared: &Shared, now: u64) {
         if now.saturating_sub(self.looked) < MINUTE {
             return;
         }
-        let unread = shared.unread();
-        let more = unread.saturating_sub(self.unread);
-        if more > 0 {
-            let _ = eprintln!(rt; "notifyd: {more} datagrams were no SIP messages");
-        }
         self.looked = now;
-        self.unread = unread;
+        for (told, (what, count)) in self.told.iter_mut().zip(shared.complaints()) {
+            let more = count.saturating_sub(*told);
+            if more > 0 {
+                let _ = eprintln!(rt; "notifyd: {more} {what}");
+            }
+            *told = count;
+        }
     }
 }
 
 /// Sends a tick each second of the monotonic clock, with the seconds since the service began, until it closes, the clock
-/// fails or a worker is gone. Once a minute it says on standard error how many datagrams couldn't be read, if some couldn't.
+/// fails or a worker is gone. Once a minute it says on standard error what was refused, dropped or not sent in it.
 /// The port isn't closed.
 pub fn tell_time<R: Wait + Clock + Eprint>(
     rt: &R,
@@ -88,10 +97,7 @@ pub fn tell_time<R: Wait + Clock + Eprint>(
     ensures failures { stopwatch.new.failures ≡ failures_at result stopwatch.old.failures }
     ensures seats { SameSeats port.old port.new }
 {
-    let mut complaint = Complaint {
-        looked: 0,
-        unread: 0,
-    };
+    let mut complaints = Complaints::new();
     let mut second = 0;
     for _ in rt.forever() {
         thread::sleep(rt, Duration::from_millis(NAP));
@@ -101,7 +107,7 @@ pub fn tell_time<R: Wait + Clock + Eprint>(
         let Some(now) = stopwatch.seconds(rt, shared) else {
             return FeedEnd::Fault;
         };
-        complaint.look(rt, shared, now);
+        complaints.look(rt, shared, now);
         if now <= second {
             continue;
         }

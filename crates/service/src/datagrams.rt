@@ -13,6 +13,7 @@ ghost use Rattle.service.specs.Served.{is_gone, is_short};
 ghost use Rattle.transport.specs.declared.datagram.Datagram.{Datagram};
 
 use crate::listening::{FaultLog, receive};
+use crate::request_log::log_answer;
 use crate::shared::{Counter, Shared};
 use admission::{Admission, Arrival, Cause, Reading, Verdict};
 use crew::Port;
@@ -106,7 +107,13 @@ fn refusal(verdict: Verdict) -> Option<Octets>
 }
 
 /// Sends a refusal to who is refused. One that can't be sent is counted: who asked asks again.
-fn send_refusal<R: Wait, W: Wire>(rt: &R, wire: &mut W, shared: &Shared, to: Addr, octets: &[u8])
+fn send_refusal<R: Wait + Eprint, W: Wire>(
+    rt: &R,
+    wire: &mut W,
+    shared: &Shared,
+    to: Addr,
+    octets: &[u8],
+)
     ensures refused { Refuses to (Some octets.now)
         (W.taken wire.old) (W.taken wire.new) (W.failures wire.old) (W.failures wire.new) }
     ensures given { Grows (W.given wire.old) (W.given wire.new) [] }
@@ -114,10 +121,13 @@ fn send_refusal<R: Wait, W: Wire>(rt: &R, wire: &mut W, shared: &Shared, to: Add
     if wire.send(rt, to, octets).is_err() {
         shared.count(Counter::Failed);
     }
+    if shared.logs_requests() {
+        log_answer(rt, to, octets);
+    }
 }
 
 /// The same of a refusal, if there is one.
-fn refuse<R: Wait, W: Wire>(
+fn refuse<R: Wait + Eprint, W: Wire>(
     rt: &R,
     wire: &mut W,
     shared: &Shared,
@@ -184,7 +194,7 @@ impl<W: Ear> SipDesk<W> {
     }
 
     /// Whether the datagram is heard. Any other is counted by its verdict. A refusal goes to its source.
-    fn admits<R: Wait>(
+    fn admits<R: Wait + Eprint>(
         &mut self,
         rt: &R,
         alloc: Global,

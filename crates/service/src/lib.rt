@@ -32,6 +32,7 @@ mod listening;
 mod notes;
 mod outs;
 mod reports;
+mod request_log;
 mod running;
 mod sending;
 mod shared;

@@ -8,6 +8,7 @@ ghost use Rattle.feeds.specs.Emitted as spec;
 ghost use Rattle.transactions.specs.Machine.{empty};
 ghost use Rattle.service.specs.Sending.{Act, IsSentOut, fates};
 
+use crate::request_log::log_answer;
 use crate::sending::{Waiting, Watch};
 use crate::shared::{Counter, Shared};
 use crossbeam_utils::sync::Parker;
@@ -56,6 +57,15 @@ fn count(shared: &Shared, out: &Out, fate: Fate) {
         shared.count_status(bytes.as_slice());
     }
     shared.count(counter_for(out, fate));
+}
+
+/// Says to whom an answer goes, where the operator wants to know of each.
+fn log<R: Eprint>(rt: &R, shared: &Shared, out: &Out) {
+    if let Out::Answer { to, bytes } = out {
+        if shared.logs_requests() {
+            log_answer(rt, *to, bytes.as_slice());
+        }
+    }
 }
 
 /// What comes next of so many workers that haven't ended, if anything was posted.
@@ -163,6 +173,7 @@ pub(crate) fn send_outs<R: Wait + Clock + Eprint, W: Wire, F: Write>(
                 idle = 0;
                 let fate = put_out(rt, &mut exit.wire, &mut exit.sink, &out);
                 count(shared, &out, fate);
+                log(rt, shared, &out);
                 outgoing.waiting.keep(watch.now(), out, shared);
                 watch.count_out();
             }

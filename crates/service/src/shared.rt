@@ -22,6 +22,7 @@ pub struct Shared {
     began: Instant,
     is_closing: AtomicBool,
     is_finished: AtomicBool,
+    logs_requests: AtomicBool,
     pub(crate) notes: Notes,
     datagrams: AtomicU64,
     unread: [AtomicU64; 7],
@@ -63,6 +64,9 @@ const CAUSES: [&str; 7] = [
     "too_long",
     "no_memory",
 ];
+
+/// Of how many things an operator hears once a minute.
+pub(crate) const COMPLAINTS: usize = 17;
 
 /// What is counted, each by one.
 #[derive(Clone, Copy)]
@@ -151,6 +155,7 @@ impl Shared {
             began,
             is_closing: AtomicBool::new(false),
             is_finished: AtomicBool::new(false),
+            logs_requests: AtomicBool::new(false),
             notes,
             datagrams: AtomicU64::new(0),
             unread: no_causes(),
@@ -240,6 +245,16 @@ impl Shared {
         self.is_finished.store(true, Ordering::SeqCst);
     }
 
+    /// From now on each request that is answered is told on standard error.
+    pub fn log_requests(&self) {
+        self.logs_requests.store(true, Ordering::SeqCst);
+    }
+
+    /// Whether it is.
+    pub(crate) fn logs_requests(&self) -> bool {
+        self.logs_requests.load(Ordering::SeqCst)
+    }
+
     /// Counts one.
     pub fn count(&self, counter: Counter) {
         let counted = match counter {
@@ -299,6 +314,36 @@ impl Shared {
         if number > 1 && is_terminated {
             self.over.fetch_add(1, Ordering::SeqCst);
         }
+    }
+
+    /// What an operator hears of once a minute, and how often each has happened.
+    pub(crate) fn complaints(&self) -> [(&'static str, u64); COMPLAINTS] {
+        let told = |counted: &AtomicU64| counted.load(Ordering::SeqCst);
+        [
+            ("datagrams were no SIP messages", self.unread()),
+            (
+                "datagrams came from none of the networks of --allow",
+                told(&self.foreign),
+            ),
+            ("datagrams were more than --rate", told(&self.limited)),
+            (
+                "datagrams were longer than --max-datagram",
+                told(&self.too_long),
+            ),
+            ("datagrams or lines could not be sent", told(&self.failed)),
+            ("requests were answered 401", told(&self.challenged)),
+            ("requests were answered 403", told(&self.forbidden)),
+            ("requests were answered 400", self.statuses.sent("400")),
+            ("requests were answered 404", self.statuses.sent("404")),
+            ("requests were answered 405", self.statuses.sent("405")),
+            ("requests were answered 406", self.statuses.sent("406")),
+            ("requests were answered 420", self.statuses.sent("420")),
+            ("requests were answered 423", self.statuses.sent("423")),
+            ("requests were answered 481", self.statuses.sent("481")),
+            ("requests were answered 489", self.statuses.sent("489")),
+            ("requests were answered 500", self.statuses.sent("500")),
+            ("requests were answered 503", self.statuses.sent("503")),
+        ]
     }
 
     /// Counts the NOTIFYs that nobody had answered when the service ended.

@@ -58,6 +58,17 @@ impl Statuses {
         }
     }
 
+    /// How many answers were sent with this status code.
+    pub(crate) fn sent(&self, code: &str) -> u64 {
+        let mut sent = 0;
+        for (known, counted) in CODES.iter().zip(self.counts.iter()) {
+            if *known == code {
+                sent = counted.load(Ordering::SeqCst);
+            }
+        }
+        sent
+    }
+
     /// Appends a line for each status code.
     pub(crate) fn add_lines(&self, alloc: Global, text: &mut String) -> Result<(), NoMemory> {
         for (code, counted) in CODES.iter().zip(self.counts.iter()) {
