@@ -181,7 +181,8 @@ def a_nonce_is_for_one_source(program, folder):
         with service.phone("alice") as phone, service.phone("alice") as other:
             told = Caller(phone).right()
             caller = Caller(other)
-            caller.again(told, ASKED)
+            asked = challenges(caller.again(told, ASKED))[0]
+            same("whether the nonce alone is told as wrong", "true", asked.get("stale"))
             caller.again(caller.right(), TAKEN)
             other.expect_notify("active", NO_MESSAGES)
 

@@ -41,12 +41,12 @@ asked i = record { method = i.request.method; uri = i.request.uri; source = i.so
 -- who a guard says that it is
 abbrev pub told : Verdict → Finding
 told (verdict.Accepted user) = finding.User user
+told verdict.ForeignNonce = finding.Nobody cause.Stale
 told verdict.StaleNonce = finding.Nobody cause.Stale
 told verdict.WrongRealm = finding.Nobody cause.Wrong
 told verdict.OtherUri = finding.Nobody cause.Wrong
 told verdict.WrongAlgorithm = finding.Nobody cause.Wrong
 told verdict.OldForm = finding.Nobody cause.Wrong
-told verdict.ForeignNonce = finding.Nobody cause.Wrong
 told verdict.UnknownUser = finding.Nobody cause.Wrong
 told verdict.BadResponse = finding.Nobody cause.Wrong
 

@@ -94,12 +94,11 @@ fn told(judged: Judged) -> Finding
 {
     match judged {
         Judged::Accepted(user) => Finding::User(user),
-        Judged::StaleNonce => Finding::Nobody(Cause::Stale),
+        Judged::ForeignNonce | Judged::StaleNonce => Finding::Nobody(Cause::Stale),
         Judged::WrongRealm
         | Judged::OtherUri
         | Judged::WrongAlgorithm
         | Judged::OldForm
-        | Judged::ForeignNonce
         | Judged::UnknownUser
         | Judged::BadResponse => Finding::Nobody(Cause::Wrong),
     }

@@ -38,14 +38,15 @@ pub enum Verdict {
     WrongAlgorithm,
     /// The response is made without `qop`, and such aren't taken.
     OldForm,
-    /// The nonce wasn't made here, or for another source.
-    ForeignNonce,
     /// No password is known of the user, by this algorithm.
     UnknownUser,
     /// The response isn't the one that who knows the password makes.
     BadResponse,
-    /// All is right but the nonce is too old, or from later than now. Only who knows the password is told so: a challenge says `stale=true`
-    /// (RFC 7616 section 3.3).
+    /// All is right but the nonce, which wasn't made here, or for another source: before a restart, say, or behind a NAT that changed the
+    /// port. Only who knows the password is told so: a challenge says `stale=true` (RFC 7616 section 3.3), so that no phone takes its
+    /// password for wrong.
+    ForeignNonce,
+    /// The same of a nonce that is too old, or from later than now.
     StaleNonce,
 }
 
@@ -117,11 +118,6 @@ impl Guard {
             Ok(algorithm) => algorithm,
             Err(verdict) => return Ok(verdict),
         };
-        let nonce = credentials.nonce.as_str();
-        let freshness = self.nonces.judge(alloc, nonce, asked.source, asked.now)?;
-        if matches!(freshness, Freshness::Foreign) {
-            return Ok(Verdict::ForeignNonce);
-        }
         let Some(secret) = self
             .passwords
             .hash(algorithm, credentials.username.as_str())
@@ -135,9 +131,11 @@ impl Guard {
         ) {
             return Ok(Verdict::BadResponse);
         }
-        match freshness {
+        let nonce = credentials.nonce.as_str();
+        match self.nonces.judge(alloc, nonce, asked.source, asked.now)? {
             Freshness::Fresh => Ok(Verdict::Accepted(credentials.username.copy(alloc)?)),
-            _ => Ok(Verdict::StaleNonce),
+            Freshness::Stale => Ok(Verdict::StaleNonce),
+            Freshness::Foreign => Ok(Verdict::ForeignNonce),
         }
     }
 
