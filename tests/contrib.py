@@ -7,6 +7,7 @@ import re
 import signal
 import socket
 import stat
+import time
 
 from phone import NO_MESSAGES, PATIENCE, REPEATED, Message, Phone
 from service import Service
@@ -308,18 +309,20 @@ def more_time(program, folder):
     """The lamp asks for more time before its own is up, and for a new subscription where the old one is forgotten."""
     with Notifier() as notifier:
         request = notifier.subscribed(1, "")
-        notifier.accept(request, 2)
-        notifier.notify(request, 1, "active;expires=2")
+        notifier.accept(request, 6)
+        began = time.monotonic()
+        notifier.notify(request, 1, "active;expires=6")
         renewal = notifier.subscribed(2, "n")
+        same("whether it asks before its time is up", True, time.monotonic() - began < 6)
         same("its address", "SUBSCRIBE sip:127.0.0.1 SIP/2.0", renewal.first)
         same("its dialog", (request.value("Call-ID"), request.value("From")), (renewal.value("Call-ID"), renewal.value("From")))
         notifier.answer(renewal, "481 Subscription Does Not Exist")
         other = notifier.subscribed(1, "")
         same("whether its dialog is another", True, other.value("Call-ID") != request.value("Call-ID"))
-        notifier.notify(request, 2, "active;expires=2", answer="SIP/2.0 481 ")
+        notifier.notify(request, 2, "active;expires=6", answer="SIP/2.0 481 ")
         notifier.accept(other)
         notifier.notify(other, 1, "terminated;reason=timeout")
-        lines = b"SIP/2.0 200 OK\nSubscription-State: active;expires=2\nSIP/2.0 200 OK\nSubscription-State: terminated;reason=timeout\n"
+        lines = b"SIP/2.0 200 OK\nSubscription-State: active;expires=6\nSIP/2.0 200 OK\nSubscription-State: terminated;reason=timeout\n"
         notifier.end(0, lines)
 
 
@@ -343,6 +346,35 @@ def a_lamp_is_refused(program, folder):
         notifier.end(1, b"", b"lamp: the notifier refuses: 404 Not Found\n")
 
 
+def nobody_answers_a_lamp(program, folder):
+    """The same bytes come eleven times within 32 seconds (RFC 3261 section 17.1.2), and then it gives up."""
+    with Notifier() as notifier:
+        came = {notifier.hear("SUBSCRIBE sip:")[1] for _ in range(11)}
+        same("different datagrams", 1, len(came))
+        notifier.end(3, b"", "lamp: nobody answers at {}:{}\n".format(*notifier.socket.getsockname()).encode())
+
+
+def no_notify_comes_to_a_lamp(program, folder):
+    with Notifier() as notifier:
+        notifier.accept(notifier.subscribed(1, ""))
+        notifier.end(3, b"SIP/2.0 200 OK\n", b"lamp: no NOTIFY comes\n")
+
+
+def nobody_reads_a_lamp(program, folder):
+    """Who reads it goes: then it unsubscribes, as at Ctrl-C."""
+    with Notifier() as notifier:
+        request = notifier.subscribed(1, "")
+        notifier.running.process.stdout.close()
+        notifier.accept(request)
+        notifier.notify(request, 1, "active;expires=3600")
+        last = notifier.subscribed(2, "n")
+        same("the time that is asked for", "0", last.value("Expires"))
+        notifier.accept(last, 0)
+        notifier.notify(request, 2, "terminated;reason=timeout")
+        same("the exit status", 0, notifier.running.process.wait(PATIENCE))
+        same("what it complains of", b"", notifier.running.process.stderr.read())
+
+
 def nobody_listens_to_a_lamp(program, folder):
     notifier = f"127.0.0.1:{free_port()}"
     ended = called(folder, "lamp", notifier, "alice")
@@ -350,7 +382,8 @@ def nobody_listens_to_a_lamp(program, folder):
 
 
 def bad_words_of_a_lamp(program, folder):
-    for words in [], ["127.0.0.1:5060"], ["127.0.0.1", "alice"], ["localhost:5060", "alice"], ["127.0.0.1:5060", "a b"], ["127.0.0.1:5060", "alice", "bob"]:
+    places = "127.0.0.1", "localhost:5060", "1.2.3.456:5060", "127.0.0.1:0", "127.0.0.1:65536", "\u0661.2.3.4:5060"
+    for words in [], ["127.0.0.1:5060"], *([place, "alice"] for place in places), ["127.0.0.1:5060", "a b"], ["127.0.0.1:5060", "alice", "bob"]:
         same(f"its end at {words}", Ended(1, b"", b"lamp: it wants: [--user <user>] [--password <password>] <a.b.c.d:port of the notifier> <mailbox>\n"), called(folder, "lamp", *words))
 
 
@@ -417,4 +450,7 @@ def checks_apart():
     yield "contrib: a lamp leaves at Ctrl-C", a_lamp_leaves
     yield "contrib: a lamp is refused", a_lamp_is_refused
     yield "contrib: a lamp where nobody listens", nobody_listens_to_a_lamp
+    yield "contrib: a lamp where nobody answers", nobody_answers_a_lamp
+    yield "contrib: a lamp where no NOTIFY comes", no_notify_comes_to_a_lamp
+    yield "contrib: a lamp that nobody reads", nobody_reads_a_lamp
     yield "contrib: bad words of a lamp", bad_words_of_a_lamp

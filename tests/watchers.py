@@ -95,6 +95,13 @@ def open_socket(port, room):
     return opened
 
 
+def overrun(port):
+    """Datagrams to a port of 127.0.0.1 that the system dropped since its socket was full."""
+    with open("/proc/net/udp") as table:
+        rows = [line.split() for line in table]
+    return sum(int(row[-1]) for row in rows if row[1] == f"0100007F:{port:04X}")
+
+
 class Watcher:
     """A phone that watches the mailbox of this user at the service at this port. It keeps the answers to NOTIFYs that it gave,
     or not, as phones without transactions do, which go by the number alone."""
@@ -117,8 +124,8 @@ class Watcher:
         self.since = 0.0  # when it was told so first
         self.notifies = self.repeats = self.stale = 0
 
-    def subscribe(self):
-        """Subscribes, or asks for more time."""
+    def subscribe(self, seconds=GRANTED):
+        """Subscribes, or asks for so much more time; for none it leaves."""
         self.asked += 1
         self.status, self.interval = 0, T1
         to = f";tag={self.tag}" if self.tag else ""
@@ -132,7 +139,7 @@ class Watcher:
             f"CSeq: {self.asked} SUBSCRIBE",
             f"Contact: <sip:{self.user}@{self.me}>",
             "Event: message-summary",
-            f"Expires: {GRANTED}",
+            f"Expires: {seconds}",
             "Content-Length: 0", "", "",
         ]).encode()
         self.ask(self.asked, request, time.monotonic() + TIMER_F)
