@@ -32,4 +32,5 @@ pub use authentication::{Authentication, Cause};
 pub use bucket::{Bucket, Rate};
 pub use judging::{Admission, Arrival, Reading, Verdict};
 pub use network::Network;
+pub use sip_text::NoMemory;
 pub use table::Rates;

@@ -34,3 +34,4 @@ pub use asking::{Told, ask_by, ask_page, tell};
 pub use error::ServeError;
 pub use plan::Plan;
 pub use program::{Served, print_help, serve, serve_words};
+pub use sip_text::NoMemory;

@@ -28,6 +28,7 @@ pub use kept::{Kept, KeptAnswers};
 pub use line::{Asked, hear_line};
 pub use pages::{dump_page, show_page};
 pub use question::Question;
+pub use sip_text::NoMemory;
 pub use token::{Token, cut_token};
 pub use told::ToldCounts;
 pub use udp::UdpSpeaker;

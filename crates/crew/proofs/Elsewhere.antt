@@ -15,14 +15,15 @@ use Rattle.notifier_model.specs.Home.{comes_to, at_the_stop}
 use Rattle.queues.specs.InboxEvents.{events_of, have_ended}
 use Rattle.queues.specs.InboxSeats.{SenderSeat, ReceiverSeat}
 use Rattle.crew.proofs.Folds.{values-append}
-use Rattle.crew.specs.Joined.{Reported, IsHeard}
+use Rattle.crew.specs.Joined.{Reported, IsHeard, IsJoined}
 use Rattle.crew.specs.Kept.{emptied}
 use Rattle.crew.specs.Ports.{PortSeats, new_seat, no_seats}
 use Rattle.crew.specs.Started.{Hired}
 use Rattle.crew.proofs.Keeping.{started_port}
 use Rattle.crew.specs.declared.report.WorkerReport.{WorkerReport}
 use Rattle.life.proofs.Homes.{nowhere_else_law}
-use Rattle.crew.specs.Elsewhere.{EveryPortLaw, NowhereElseLaw}
+use Rattle.notifier_model.specs.declared.event.Out.{Out}
+use Rattle.crew.specs.Elsewhere.{IsEveryPort, AllAtHome, events_taken, EveryPortLaw, NowhereElseLaw}
 
 -- ---- lists
 
@@ -107,25 +108,32 @@ every_port start n crew dealt ports taker is all =
 
 -- ---- the law
 
-pub nowhere_else_joined : NowhereElseLaw
-nowhere_else_joined crew ports got reports start serial other source x past h r joined every home born low elsewhere =
+-- each event that a worker took comes to it
+pub all_come : (crew : List Hired) (ports : List PortSeats) (got : List (Item Out)) (reports : List WorkerReport) (w : ℕ) (h : Hired) (r : WorkerReport)
+    → IsJoined crew ports got reports → IsEveryPort crew ports → AllAtHome crew ports → w < length crew
+    → All (λ e. comes_to (length crew) w e ≡ true) (events_taken crew reports w h r)
+all_come crew ports got reports w h r joined every home low =
     let n : ℕ = length crew in
-    let P : Event → Type 0 = λ e. comes_to n other e ≡ true in
-    let hired : Hired = get_or crew other h in
-    let report : WorkerReport = get_or reports other r in
-    let told : Reported hired got report = joined.reported other h r low in
+    let P : Event → Type 0 = λ e. comes_to n w e ≡ true in
+    let hired : Hired = get_or crew w h in
+    let report : WorkerReport = get_or reports w r in
+    let told : Reported hired got report = joined.reported w h r low in
     let q : PortSeats = no_seats in
     let s : SenderSeat = new_seat hired.reads.inbox 0 in
     let came : (k : ℕ) → k < hired.reads.ports → All P (values (items_of k report.receiver.taken)) = λ k lt.
-    let at = every.each other k h low lt in
+    let at = every.each w k h low lt in
     let p : ℕ = at.0 in
     let inside : p < length ports = at.1 in
-    let seat : SenderSeat = get_or (get_or ports p q).seats other s in
+    let seat : SenderSeat = get_or (get_or ports p q).seats w s in
     let is : seat.number ≡ k = at.2 q s in
-    let heard : IsHeard report seat = joined.heard p other q s r inside low in
-    let fits : other < length (get_or ports p q).seats = let l = every.len p q inside in omega arith in
+    let heard : IsHeard report seat = joined.heard p w q s r inside low in
+    let fits : w < length (get_or ports p q).seats = let l = every.len p q inside in omega arith in
     subst (λ (j : ℕ). All P (values (items_of j report.receiver.taken))) is
-    (all_that_came P seat.sent (items_of seat.number report.receiver.taken) heard.came.0 (home p q inside other s fits)) in
-    nowhere_else_law n serial other start source x past (events_of hired.start.place.stop hired.reads.ports report.receiver.taken) born elsewhere
-    (all_events n other hired.reads.ports hired.start.place.stop report.receiver.taken
-    (all_of_each P hired.reads.ports report.receiver.taken told.among came))
+    (all_that_came P seat.sent (items_of seat.number report.receiver.taken) heard.came.0 (home p q inside w s fits)) in
+    all_events n w hired.reads.ports hired.start.place.stop report.receiver.taken
+    (all_of_each P hired.reads.ports report.receiver.taken told.among came)
+
+pub nowhere_else_joined : NowhereElseLaw
+nowhere_else_joined crew ports got reports start serial other source x past h r joined every home born low elsewhere =
+    nowhere_else_law (length crew) serial other start source x past (events_taken crew reports other h r) born elsewhere
+    (all_come crew ports got reports other h r joined every home low)

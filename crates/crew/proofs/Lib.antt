@@ -16,3 +16,5 @@ pub mod Folds
 mod Loops
 mod Halting
 pub mod Counted
+pub mod OneSender
+pub mod OneHome

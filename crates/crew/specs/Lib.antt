@@ -14,3 +14,5 @@ pub mod Whole
 pub mod Recorded
 pub mod Worked
 pub mod Loop
+pub mod OneSender
+pub mod OneHome

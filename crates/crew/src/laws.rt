@@ -9,6 +9,8 @@
 //! Begin with `specs/Laws`, then `specs/Whole` and `specs/Elsewhere`.
 ghost use Rattle.crew.specs.AtHome.{NewLaw, SendLaw, TickLaw, CloseLaw};
 ghost use Rattle.crew.specs.One.{OnePortLaw};
+ghost use Rattle.crew.specs.OneHome.{OneHomeLaw};
+ghost use Rattle.crew.specs.OneSender.{OneSenderLaw};
 ghost use Rattle.crew.specs.Elsewhere.{EveryPortLaw, NowhereElseLaw};
 ghost use Rattle.crew.specs.Laws.{AllLaw, AloneLaw, LifeLaw};
 ghost use Rattle.crew.specs.Whole.{RisingLaw, TookLaw, WholeLaw};
@@ -73,4 +75,16 @@ pub fn nowhere_else()
 /// The ports of a new crew, each closed and handed in, are every port.
 pub fn every_port()
     ensures { EveryPortLaw }
+{}
+
+/// The same of each subscription that was born of what a worker took, by the run of the crew alone: that the request it was born of
+/// has its home there follows.
+pub fn one_home()
+    ensures { OneHomeLaw }
+{}
+
+/// Where one port sent all of a subscription's own events, its worker took them in that port's order, whatever other ports there
+/// are. The planned stop, which no port sends, comes behind them.
+pub fn one_sender()
+    ensures { OneSenderLaw }
 {}

@@ -41,3 +41,4 @@ pub mod UsualStart
 pub mod WorkedLives
 pub mod Parts
 pub mod LiveRows
+pub mod NeverFull

@@ -11,3 +11,4 @@ pub mod Notices
 pub mod Laws
 pub mod Sentences
 pub mod TagLaws
+pub mod NeverFull

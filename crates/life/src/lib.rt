@@ -12,6 +12,7 @@
 #![tactic(auto)]
 
 ghost use Rattle.life.specs.Laws.{LifeLaw, NoOtherLaw, NoticesLaw, NumbersLaw, EndsLaw};
+ghost use Rattle.life.specs.NeverFull.{NeverFullLaw};
 ghost use Rattle.life.specs.Sentences.{
   NowLaw,
   CountsLaw,
@@ -84,6 +85,12 @@ pub fn fresh()
 /// transfer that nobody watches, a place. Births are counted, and a subscription has a life from its birth on.
 pub fn born()
     ensures { BirthsLaw }
+{}
+
+/// A request in a dialog is never answered 503, but where a kept answer comes again: a full table keeps out nobody who is
+/// subscribed.
+pub fn never_full()
+    ensures { NeverFullLaw }
 {}
 
 /// A subscription that is gone stays gone: it was terminated, a 481 came, a NOTIFY stayed unanswered, or nobody watches

@@ -8,7 +8,8 @@
 //! its datagrams and the notifier's definition for its events. What is written is that page, or a front of it after a
 //! failed write; only bytes that are no script, or too many, are a bad script; a device fault comes only where a read or a
 //! write failed in that call, or a thread could not be started. `specs/Runs` says what is read and written, `specs/Call`
-//! what the program starts from and how it ends.
+//! what the program starts from and how it ends. What a caller with wires of his own needs, as [`feed`] and [`emit`], can be
+//! named here too.
 #![tactic(auto)]
 
 mod crew_work;
@@ -20,5 +21,8 @@ pub mod script;
 mod sending;
 mod work;
 
+pub use feeds::{EmitReport, FeedEnd, FeedReport, control, emit, feed};
 pub use program::run;
 pub use script::{script_many, script_one};
+pub use scripts::ScriptError;
+pub use transport::{UdpWire, Wire, WireFault};

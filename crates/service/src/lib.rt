@@ -46,3 +46,4 @@ pub use lines::{ControlDesk, ControlPort};
 pub use outs::Exit;
 pub use running::{Outcome, Work, run_crew};
 pub use shared::Shared;
+pub use sip_text::NoMemory;

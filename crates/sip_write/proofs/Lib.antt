@@ -11,3 +11,4 @@ pub mod TopVia
 pub mod TopViaText
 pub mod AnswerRead
 pub mod ReadValues
+pub mod NoticeRead

@@ -10,3 +10,4 @@ pub mod Laws
 pub mod ReadAgain
 pub mod AnswerAgain
 pub mod RequestRead
+pub mod NoticeRead

@@ -1,5 +1,6 @@
 //! What holds of the written texts.
 ghost use Rattle.sip_write.specs.AnswerAgain.{AnswerIsReadAgain};
+ghost use Rattle.sip_write.specs.NoticeRead.{NotifyToWhomWasReadIsReadAgain};
 ghost use Rattle.sip_write.specs.ReadAgain.{NotifyIsReadAgain, NotifyFixesItsValues, TopViaIsReadAgain};
 ghost use Rattle.sip_write.specs.RequestRead.{WhatIsReadIsInItsGrammar, AnswerToWhatWasReadIsReadAgain};
 ghost use Rattle.sip_write.specs.Laws.{CutsIntoParameters, TellsItsParameter};
@@ -46,4 +47,10 @@ pub fn what_is_read_is_in_its_grammar()
 /// response with the same status and the request's head, in which the top Via says the source and a To without a tag has got one.
 pub fn an_answer_to_what_was_read_is_read_again()
     ensures { AnswerToWhatWasReadIsReadAgain }
+{}
+
+/// A written NOTIFY of a dialog that a request made which was read is read, where it fits in a datagram and what it adds is in its
+/// grammar, as the request with its values to whom the dialog is with.
+pub fn a_notify_to_whom_was_read_is_read_again()
+    ensures { NotifyToWhomWasReadIsReadAgain }
 {}

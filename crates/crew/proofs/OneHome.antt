@@ -1,0 +1,110 @@
+-- A subscription was born of a request that its worker took, which has its home there.
+use Rattle.std.proofs.Common.{◌≡◌, ◌==◌, ◌<◌, ◌≤◌, ◌^◌, ℕ, Bool, true, false, List, [], ◌∷◌, Option, Some, None, length, get_or, refl, ap, sym, subst, ◌∙◌, arith}
+use Rattle.std.specs.Prelude.{◌+◌, if◌then◌else◌, option_map}
+use Rattle.std.specs.List.{All}
+use Rattle.std.proofs.lemmas.Bool.Decides.{nat_tests}
+use Rattle.std.proofs.lemmas.List.Elements.{All-nil, All-cons, All-head, All-tail}
+use Rattle.sip_text.specs.declared.address.Addr.{Addr}
+use Rattle.sip_read.specs.declared.message.Request.{Request}
+use Rattle.notifier_model.specs.declared.event.Event.{Event}
+use Rattle.notifier_model.specs.declared.event.Event.TheVariants.{Request as Comes}
+use Rattle.notifier_model.specs.Home.{comes_to, home}
+use Rattle.notifier_model.specs.Start.{Start}
+use Rattle.queues.specs.declared.items.Item.{Item}
+use Rattle.notifier_model.specs.declared.event.Out.{Out}
+use Rattle.life.specs.Life.{Life, birth, is_gone}
+use Rattle.life.specs.Lives.{or_before, births, life, birth_at, lived, befalls, befell}
+use Rattle.life.specs.Notices.{newest_first, onto}
+use Rattle.life.specs.Own.{born_of}
+use Rattle.life.proofs.IsolationLaw.{BirthKept, lived-kept}
+use Rattle.life.proofs.Homes.{nowhere_else_law}
+use Rattle.life.proofs.NextLives.{birth_of_some, life-next}
+use Rattle.crew.specs.Elsewhere.{IsEveryPort, AllAtHome, events_taken}
+use Rattle.crew.specs.Laws.{its_tag}
+use Rattle.crew.specs.OneHome.{OneHomeLaw}
+use Rattle.crew.specs.Started.{Hired}
+use Rattle.crew.specs.Whole.{IsCrewRun}
+use Rattle.crew.specs.declared.report.WorkerReport.{WorkerReport}
+use Rattle.crew.proofs.Elsewhere.{all_come}
+
+-- ---- the request that a subscription was born of came
+
+module _ (P : Event → Type 0) where
+  abbrev Came : Request → Type 0
+  Came x = (source : Addr) × P (Comes source x)
+
+  abbrev CameWith : Option Life → Type 0
+  CameWith None = Unit {0}
+  CameWith (Some l) = Came (birth l)
+
+  came_here : (start : Start) (past : List Event) (e : Event) (l : Life) → P e → birth_at start past e ≡ Some l → Came (birth l)
+  unfolding birth
+  came_here start past e l p h =
+      let b = birth_of_some start past e l h in
+      subst (λ (m : Life). Came (birth m)) (sym b.is) (b.source, subst P b.event p)
+
+  came_next : (start : Start) (past : List Event) (e : Event) (serial : ℕ) → P e → CameWith (life start past serial) → CameWith (or_before (befell start past e serial) (life start past serial))
+  unfolding befell
+  came_next start past e serial p before = by_life (life start past serial) before
+    where
+      unborn : (n : Bool) (b : Option Life) → birth_at start past e ≡ b → CameWith (or_before (befalls start serial past e n b None) None)
+      unborn true None is = unfold befalls in tt
+      unborn true (Some l) is = unfold befalls in came_here start past e l p is
+      unborn false b is = unfold befalls in tt
+
+      kept : (l : Life) (o : Option Life) → BirthKept l o → Came (birth l) → CameWith (or_before o (Some l))
+      kept l None k w = w
+      kept l (Some m) k w = subst Came (sym k) w
+
+      gone_or : (l : Life) → Came (birth l) → (d : Bool) → CameWith (or_before (if d then None else lived start serial past e l) (Some l))
+      gone_or l w true = w
+      gone_or l w false = kept l (lived start serial past e l) (lived-kept start serial past e l) w
+
+      by_life : (o : Option Life) → CameWith o → CameWith (or_before (befalls start serial past e (serial == births start past + 1) (birth_at start past e) o) o)
+      by_life None w = unborn (serial == births start past + 1) (birth_at start past e) refl
+      by_life (Some l) w = unfold befalls in gone_or l w (is_gone start.place.limits l)
+
+  none_came : (start : Start) (serial : ℕ) → CameWith (life start [] serial)
+  unfolding life
+  none_came start serial = tt
+
+  came : (start : Start) (past : List Event) (serial : ℕ) → All P past → CameWith (life start past serial)
+  came start [] serial all = none_came start serial
+  came start (e ∷ past) serial all =
+      subst CameWith (sym (life-next start past e serial)) (came_next start past e serial (All-head P e past all) (came start past serial (All-tail P e past all)))
+
+  born_came : (start : Start) (serial : ℕ) (past : List Event) (x : Request) → All P past → born_of start serial past ≡ Some x → Came x
+  unfolding born_of
+  born_came start serial past x all h = by_life (life start past serial) (came start past serial all) h
+    where
+      same : {a b : Request} → Some a ≡ Some b → a ≡ b
+      same is = cc
+
+      by_life : (o : Option Life) → CameWith o → option_map birth o ≡ Some x → Came x
+      by_life None w is = absurd (cc)
+      by_life (Some l) w is = subst Came (same is) w
+
+  all_onto : (past es : List Event) → All P past → All P es → All P (onto past es)
+  all_onto past [] old new = old
+  all_onto past (e ∷ es) old new = all_onto (e ∷ past) es (All-cons P e past (All-head P e es new) old) (All-tail P e es new)
+
+-- ---- the law
+
+at_home : (n w : ℕ) (source : Addr) (x : Request) → comes_to n w (Comes source x) ≡ true → home (Comes source x) n ≡ w
+at_home n w source x h = grind (arith, nat_tests)
+
+pub one_home_law : OneHomeLaw
+one_home_law start crew got reports w other serial x h r run every home here there elsewhere born =
+    let n : ℕ = length crew in
+    let P : Event → Type 0 = λ e. comes_to n w e ≡ true in
+    let hired : Hired = get_or crew w h in
+    let past : List Event = newest_first (events_taken crew reports w h r) in
+    let all : All P past = all_onto P [] (events_taken crew reports w h r) (All-nil P) (all_come crew run.ports got reports w h r run.joined every home here) in
+    let came_from = born_came P hired.start serial past x all born in
+    let begins : hired.start ≡ start w = (let is = run.started.each w h here in is.begins) in
+    let number : hired.start.place.worker ≡ w = ap (λ (s : Start). s.place.worker) begins ∙ run.starts.numbers w here in
+    let few : n ≤ 2 ^ 64 = (let l = run.starts.few in omega arith) in
+    nowhere_else_law n serial other hired.start came_from.0 x past (events_taken crew reports other h r)
+    (record { below = (let is = number in omega arith); few = few; born = born; home = at_home n w came_from.0 x came_from.1 ∙ sym number })
+    (λ same. elsewhere (same ∙ number))
+    (all_come crew run.ports got reports other h r run.joined every home there)
