@@ -2,14 +2,16 @@
 `notifyd` that they find is a script that writes down its words. Of the lamp: what it sends to a notifier that loses messages, and that
 it shows what the program tells it."""
 
+import fcntl
 import os
 import re
 import signal
 import socket
 import stat
 import time
+from concurrent.futures import ThreadPoolExecutor
 
-from phone import NO_MESSAGES, PATIENCE, REPEATED, Message, Phone
+from phone import NO_MESSAGES, PATIENCE, REPEATED, Message, Operator, Phone
 from service import Service
 from suite import Ended, Running, free_port, run, same
 
@@ -59,6 +61,28 @@ def a_maildir_is_told(program, folder):
     same("its end", Ended(0, told, b""), called(folder, "maildir-notify", "alice", maildir, NOTIFYD_CONTROL="--control 10.0.0.1:5061"))
     told = b"<over><there><MAIL alice text 3 2 0 0>"
     same("its end", Ended(0, told, b""), called(folder, "maildir-notify", "alice", maildir, NOTIFYD_TELL="notifyd over there"))
+
+
+def counts_come_in_their_order(program, folder):
+    """Who holds the lock of a mailbox's folder is waited for, by both scripts that tell counts of it."""
+    maildir = a_maildir(folder, "new/1.a")
+    box = os.path.join(folder, "default", "100")
+    os.makedirs(box)
+    calls = (
+        (maildir, "maildir-notify", ["alice", maildir], {}, b"MAIL alice text 2 0 0 0"),
+        (box, "asterisk-externnotify", ["default", "100", "1", "0", "0"], {"NOTIFYD_FOLDER": box}, b"MAIL 100 voice 1 0 0 0"),
+    )
+    for place, name, words, also, line in calls:
+        descriptor = os.open(place, os.O_RDONLY)
+        fcntl.flock(descriptor, fcntl.LOCK_EX)
+        with ThreadPoolExecutor(1) as pool:
+            later = pool.submit(called, folder, name, *words, **also)
+            time.sleep(0.5)
+            same(f"whether {name} waits", False, later.done() or os.path.exists(os.path.join(folder, "notifyd.told")))
+            open(os.path.join(maildir, "new", "9.z"), "w").close()
+            os.close(descriptor)
+            same("its end", Ended(0, b"<tell><" + line + b">", b""), later.result())
+        os.remove(os.path.join(folder, "notifyd.told"))
 
 
 def an_empty_maildir_is_told(program, folder):
@@ -211,6 +235,46 @@ def a_signal_is_a_close(program, folder):
     for signals in [signal.SIGTERM], [signal.SIGINT], [signal.SIGTERM, signal.SIGINT, signal.SIGTERM]:
         ended = stopped(program, signals, "--workers", "1", "alice")
         same("the end", (0, b"WORKER 0 N 3 closed\n"), (ended.status, re.sub(rb"(?m)^(WORKER \d) \d+", rb"\1 N", ended.out)))
+
+
+class Kept:
+    """A service by `notifyd-run` that keeps its counts in a file, at whose end it gets a TERM and must end well."""
+
+    def __init__(self, program, state, *words):
+        self.ports = free_port(), free_port()
+        places = ["--listen", f"127.0.0.1:{self.ports[0]}", "--control", f"127.0.0.1:{self.ports[1]}"]
+        env = {**os.environ, "NOTIFYD": program, "NOTIFYD_STATE": state}
+        self.running = Running(os.path.join(TOP, "contrib", "notifyd-run"), [*places, *words], env=env)
+
+    def __enter__(self):
+        self.running.__enter__()
+        self.running.lines_until(b"listening at")
+        return self
+
+    def __exit__(self, kind, *_):
+        if kind is None:
+            self.running.process.send_signal(signal.SIGTERM)
+            same("the exit status", 0, self.running.end().status)
+        self.running.__exit__()
+
+
+def counts_outlive_restarts(program, folder):
+    """At the first start there is no file. What was told is what phones hear after one restart, and after a second one without news."""
+    state = os.path.join(folder, "state")
+    with Kept(program, state, "alice", "bob") as service, Operator(service.ports[1]) as operator:
+        operator.tell("MAIL alice voice 2 8 0 2")
+        operator.tell("MAIL alice fax 1 0 0 0")
+    for _ in range(2):
+        with open(state, "rb") as file:
+            same("what is kept", b"MAIL alice voice 2 8 0 2\nMAIL alice fax 1 0 0 0\n", file.read())
+        with Kept(program, state, "alice", "bob") as service, Phone(service.ports[0], "alice") as phone:
+            counts = "Messages-Waiting: yes\r\nVoice-Message: 2/8 (0/2)\r\nFax-Message: 1/0 (0/0)\r\n"
+            phone.leave(phone.subscribe(counts), counts)
+    with Kept(program, state, "bob") as service, Operator(service.ports[1]) as operator:
+        operator.tell("MAIL bob text 1 0 0 0")
+    with open(state, "rb") as file:
+        same("what is kept then", b"MAIL alice voice 2 8 0 2\nMAIL alice fax 1 0 0 0\nMAIL bob text 1 0 0 0\n", file.read())
+    same("what stands in the folder", ["state"], os.listdir(folder))
 
 
 def the_status_is_handed_on(program, folder):
@@ -430,6 +494,7 @@ def checks():
     yield "contrib: a lamp shows a mailbox", a_lamp_shows_a_mailbox
     yield "contrib: the three windows of README", the_three_windows_of_readme
     yield "contrib: a signal to notifyd-run is a CLOSE", a_signal_is_a_close
+    yield "contrib: counts outlive restarts", counts_outlive_restarts
     yield "contrib: notifyd-run hands on the status", the_status_is_handed_on
 
 
@@ -438,6 +503,7 @@ def checks_apart():
     yield "contrib: all mailboxes of Asterisk are told", all_mailboxes_of_asterisk_are_told
     yield "contrib: a folder of Asterisk that isn't there is not told", no_context_is_told_as_nothing
     yield "contrib: a Maildir is told", a_maildir_is_told
+    yield "contrib: of a mailbox one after the other is told", counts_come_in_their_order
     yield "contrib: an empty Maildir is told", an_empty_maildir_is_told
     yield "contrib: a Maildir that isn't there is not told", no_maildir_is_told_as_nothing
     yield "contrib: counters are metrics", counters_are_metrics

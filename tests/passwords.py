@@ -9,7 +9,7 @@ import socket
 import time
 
 from phone import NO_MESSAGES, Message, persist
-from service import HEARD, Service, address, counters_become
+from service import HEARD, SUBSCRIBE, Service, address, counters_become
 from suite import Running, ended_with, free_port, run, same
 
 REALM = "pbx"
@@ -330,6 +330,51 @@ def rates(program, folder):
             same("whether the others are counted", 12 - came, counted(operator)["limited"])
 
 
+def strangers(service, count):
+    """So many strangers of one address subscribe to alice's mailbox, and answer each NOTIFY once."""
+    with socket.socket(socket.AF_INET, socket.SOCK_DGRAM) as stranger:
+        stranger.bind(("127.0.0.2", 0))
+        stranger.connect(("127.0.0.1", service.sip))
+        stranger.settimeout(0.2)
+        contact = "127.0.0.2:{}".format(stranger.getsockname()[1]).encode()
+        request = SUBSCRIBE.replace(b"127.0.0.1:5070", contact).replace(b"Content-Length", b"Expires: 4294967295\r\nContent-Length")
+        for number in range(count):
+            stranger.send(request.replace(b"Call-ID: c1", b"Call-ID: s%d" % number).replace(b"bKa1", b"bKs%d" % number))
+            if number % 64 == 63:
+                answer_all(stranger)
+
+
+def answer_all(stranger):
+    """Answers each NOTIFY that comes, until none comes for a while."""
+    try:
+        while True:
+            came = Message(stranger.recv(65535))
+            if came.is_notify():
+                stranger.send(came.answer("200 OK"))
+    except socket.timeout:
+        pass
+
+
+def strangers_keep_nobody_out(program, folder):
+    """1,024 strangers of one address ask for all time. A table of as many places is left to phones where sources have a rate, or users
+    passwords; a table as it comes has room for all of them and more."""
+    full = ("--workers", "1", "--table", "1024")
+    ways = (
+        ((), 1, 1024),
+        ((*full, "--rate", "10/20"), 20, 200),
+        ((*full, "--passwords", password_file(folder)), 0, 0),
+    )
+    for words, least, most in ways:
+        with Service(program, *words, "alice") as service, service.phone("alice") as phone, service.operator() as operator:
+            strangers(service, 1024)
+            begun = int(operator.counters()["begun"])
+            same(f"whether {least} to {most} of them were let in", True, least <= begun <= most)
+            if "--passwords" in words:
+                enters(phone)
+            else:
+                phone.leave(phone.subscribe(), NO_MESSAGES)
+
+
 def refused(program, folder, *words):
     places = ["serve", "--listen", address(free_port()), "--control", address(free_port())]
     return run(program, [*places, *words])
@@ -424,6 +469,7 @@ def checks():
     yield "malformed values never pass", malformed_values
     yield "networks are let in", networks
     yield "each source has its rate", rates
+    yield "1,024 strangers keep nobody out", strangers_keep_nobody_out
     yield "bad files of passwords end the start", bad_files
     yield "options in vain, and in a bad form", options_in_vain
     yield "secrets are told nobody", secrets_stay_secret
