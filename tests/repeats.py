@@ -21,8 +21,11 @@ MOMENTS = (0.0, 0.5, 1.5, 3.5, 7.5, 11.5, 15.5, 19.5, 23.5, 27.5, 31.5)
 # The same where a provisional answer comes to the first: each interval is T2, but for that which has begun (section 17.1.2.2).
 MOMENTS_WHEN_PROCEEDING = (0.0, 0.5, 4.5, 8.5)
 
-# Seconds by which a datagram may come before its moment, and behind.
+# Seconds by which a datagram may come before its moment, and behind the one before later than it should.
 EARLY, LATE = 0.02, 0.4
+
+# Seconds after which nothing is sent again (timer F).
+GIVEN_UP = 32.0
 
 # Seconds that are longer than the longest interval: what doesn't come for so long isn't sent again.
 QUIET = 4.5
@@ -103,11 +106,17 @@ class Observer(Phone):
 
 
 def are_sends(what, arrivals, moments):
-    """Raises AssertionError unless the same bytes came at these moments and no more often."""
+    """Raises AssertionError unless the same bytes came so often, none before its moment, and none much later behind the one before than
+    their moments are apart: the wait for each begins when the one before was sent. Where a busy machine was late with some of them, the
+    last one isn't sent any more, since it would come when the NOTIFY is given up."""
     first = arrivals[0]
     same(f"{what}: different datagrams", 1, len({arrival.octets for arrival in arrivals}))
     came = [round(arrival.time - first.time, 3) for arrival in arrivals]
-    if len(came) != len(moments) or any(not -EARLY <= time - moment <= LATE for time, moment in zip(came, moments)):
+    waits = [later - earlier for earlier, later in zip(moments, moments[1:])]
+    is_short = len(came) == len(moments) - 1 and came[-1] + waits[-1] >= GIVEN_UP - EARLY
+    is_early = any(time < moment - EARLY for time, moment in zip(came, moments))
+    is_late = any(time > before + wait + LATE for before, time, wait in zip(came, came[1:], waits))
+    if is_early or is_late or not (is_short or len(came) == len(moments)):
         raise AssertionError(f"{what}: sent after {moments} seconds was wanted, it came after {came}")
 
 
