@@ -33,4 +33,5 @@ pub use error::CredentialsError;
 pub use guard::{Asked, Guard, Verdict};
 pub use nonce::{Freshness, Nonces};
 pub use passwords::{Passwords, PasswordsError};
+pub use sip_text::NoMemory;
 pub use watching::may_watch;

@@ -12,7 +12,7 @@ use Rattle.notifier_model.specs.Fields.{or_empty, same_text}
 use Rattle.notifier_model.specs.Home.{comes_to, home, is_for_all}
 use Rattle.notifier_model.specs.Start.{Start, tag_of}
 use Rattle.notifier_model.specs.Requests.{is_subscribe, is_refer, misfit, user_part, event_of}
-use Rattle.home.proofs.Homes.{named_law, mailbox_law}
+use Rattle.notifier_model.proofs.HomeFacts.{named_law, mailbox_law}
 use Rattle.life.specs.Past.{is_fresh, is_placed, fits}
 use Rattle.life.specs.Life.{Life, birth, is_gone}
 use Rattle.life.specs.Lives.{or_before, is_in_dialog, is_answer_in_dialog, concerns, births, life, birth_at, lived, befalls, befell}

@@ -94,7 +94,7 @@ renewed_over : (start : Start) (past : List Event) (b : Book) (source : Addr) (r
     → Follows start s (Comes source r ∷ past) (turned start.place b.boxes b.clock source (row_of start s l).sub.want (with_sub (record (row_of start s l) { last_cseq = r.head.cseq })) (over (end (row_of start s l).sub Timeout))) (Then (now past) (Heard source r) l)
 unfolding end row_of sub_of usage_of
 renewed_over start past b source r s l accepted zero_asked same_body =
-    over_follows start b.boxes b.clock source (want_of start s l) (with_sub (record (row_of start s l) { last_cseq = r.head.cseq })) (usage_of start s l) (number start.place.limits l + 1) Timeout s (Comes source r ∷ past) (Then (now past) (Heard source r) l)
+    over_follows start b.boxes b.clock source (want_of start s l) (with_sub (record (row_of start s l) { last_cseq = r.head.cseq })) (usage_of start s l) (want_of start s l) (number start.place.limits l + 1) Timeout s (Comes source r ∷ past) (Then (now past) (Heard source r) l)
     refl (unfold number is_touched in (rw accepted refl)) (sym (address-accepted start.place.limits (now past) source r l accepted)) same_body (unfold is_touched in accepted) (unfold terminated is_touched ended in (rw (accepted, zero_asked) refl))
 
 -- or goes on

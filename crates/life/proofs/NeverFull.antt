@@ -39,7 +39,7 @@ Quiet rule = (row : Row) → All Fair (rule row).notifies
 turned-fair : (place : Place) (boxes : List Seen) (clock : ℕ) (to : Addr) (want : Want) (mk : State → Row) (next : Step) → All Fair (turned place boxes clock to want mk next).notifies
 unfolding turned
 turned-fair place boxes clock to want mk (Live sub notice) = All-cons Fair _ [] refl (All-nil Fair)
-turned-fair place boxes clock to want mk (Over usage notice) = All-cons Fair _ [] refl (All-nil Fair)
+turned-fair place boxes clock to want mk (Over usage asked notice) = All-cons Fair _ [] refl (All-nil Fair)
 
 only-fair : (serial : ℕ) (rule : Row → Told) → Quiet rule → Quiet (only serial rule)
 unfolding only wherever stays

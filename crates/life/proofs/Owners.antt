@@ -65,7 +65,7 @@ Own P rule = (row : Row) → P row.sub.usage.local_tag → AllTags P (rule row).
 turned-own : (place : Place) (boxes : List Seen) (clock : ℕ) (to : Addr) (want : Want) (mk : State → Row) (next : Step) (P : Bytes → Type 0) → P (usage_after next).local_tag → AllTags P (turned place boxes clock to want mk next).notifies
 unfolding turned notify
 turned-own place boxes clock to want mk (Live sub notice) P p = (p, tt)
-turned-own place boxes clock to want mk (Over usage notice) P p = (p, tt)
+turned-own place boxes clock to want mk (Over usage asked notice) P p = (p, tt)
 
 told-own : (s : State) (left : ℕ) (P : Bytes → Type 0) → P s.usage.local_tag → P (usage_after (told s left)).local_tag
 unfolding told

@@ -195,7 +195,7 @@ pub ended_follows : (start : Start) (es : List Event) (boxes : List Seen) (clock
     → is_touched start.place.limits m ≡ true → terminated start.place.limits m ≡ Some reason → Follows start s es (tells start.place boxes clock (row_of start s l) (over (end (row_of start s l).sub reason))) m
 unfolding tells end row_of sub_of usage_of want_of
 ended_follows start es boxes clock s l m reason num at b touched out =
-    over_follows start boxes clock (address start.place.limits l) (want_of start s l) (with_sub (row_of start s l)) (usage_of start s l) (number start.place.limits l + 1) reason s es m refl num at b touched out
+    over_follows start boxes clock (address start.place.limits l) (want_of start s l) (with_sub (row_of start s l)) (usage_of start s l) (want_of start s l) (number start.place.limits l + 1) reason s es m refl num at b touched out
 
 -- the body after an event that changes no content, without a birth
 quiet_body : (start : Start) (past : List Event) (e : Event) (boxes : List Seen) (s : ℕ) (l : Life) (moment : ℕ) (deed : Deed) → Ranges start.place.limits → birth_at start past e ≡ None → is_quiet e ≡ true → Holdings start past boxes → life start past s ≡ Some l → is_gone start.place.limits l ≡ false → status (Then moment deed l) ≡ status l

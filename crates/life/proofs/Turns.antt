@@ -56,11 +56,11 @@ others_notify tag mine to n e h =
     ap (λ (d : Bool). if d then notification to n ∷ [] else []) other
 
 -- a turn after which no state is left
-pub over_follows : (start : Start) (boxes : List Seen) (clock : ℕ) (to : Addr) (want : Want) (mk : State → Row) (usage : Usage) (n : ℕ) (reason : Reason) (serial : ℕ) (es : List Event) (l : Life)
+pub over_follows : (start : Start) (boxes : List Seen) (clock : ℕ) (to : Addr) (want : Want) (mk : State → Row) (usage : Usage) (asked : Want) (n : ℕ) (reason : Reason) (serial : ℕ) (es : List Event) (l : Life)
     → usage.local_tag ≡ tag_of start.place serial → n ≡ number start.place.limits l → to ≡ address start.place.limits l → body_of_held (content_in boxes want.event.package want.resource) ≡ body start es l
-    → is_touched start.place.limits l ≡ true → terminated start.place.limits l ≡ Some reason → Follows start serial es (turned start.place boxes clock to want mk (Over usage (record { number = n; phase = Terminated reason }))) l
+    → is_touched start.place.limits l ≡ true → terminated start.place.limits l ≡ Some reason → Follows start serial es (turned start.place boxes clock to want mk (Over usage asked (record { number = n; phase = Terminated reason }))) l
 unfolding turned notify live_row is_gone phase
-over_follows start boxes clock to want mk usage n reason serial es l tag num at b touched out = record {
+over_follows start boxes clock to want mk usage asked n reason serial es l tag num at b touched out = record {
   row = rw out refl;
   own = own_notify start serial es l to (notify start.place boxes usage want (record { number = n; phase = Terminated reason })) touched tag (notice-is start es l to (notify start.place boxes usage want (record { number = n; phase = Terminated reason })) num (rw out refl) b at);
   others = λ other h. others_notify other (tag_of start.place serial) to (notify start.place boxes usage want (record { number = n; phase = Terminated reason })) tag h;
@@ -90,8 +90,8 @@ told_at : (start : Start) (boxes : List Seen) (clock : ℕ) (to : Addr) (want : 
 unfolding told
 told_at start boxes clock to want mk left serial es l at b row time touched goes_on not_removed = unfold sub_of want_of in by_max (number start.place.limits l == start.place.limits.max_cseq) refl
   where
-    by_max : (d : Bool) → (number start.place.limits l == start.place.limits.max_cseq) ≡ d → Follows start serial es (turned start.place boxes clock to want mk (if d then Over (sub_of start serial l).usage (record { number = (sub_of start serial l).count; phase = Terminated Deactivated }) else Live (sub_of start serial l) (record { number = (sub_of start serial l).count; phase = Active left }))) l
-    by_max true e = unfold sub_of usage_of in over_follows start boxes clock to want mk (sub_of start serial l).usage (sub_of start serial l).count Deactivated serial es l refl refl at b touched (terminated-told start.place.limits l true touched goes_on e)
+    by_max : (d : Bool) → (number start.place.limits l == start.place.limits.max_cseq) ≡ d → Follows start serial es (turned start.place boxes clock to want mk (if d then Over (sub_of start serial l).usage (sub_of start serial l).want (record { number = (sub_of start serial l).count; phase = Terminated Deactivated }) else Live (sub_of start serial l) (record { number = (sub_of start serial l).count; phase = Active left }))) l
+    by_max true e = unfold sub_of usage_of in over_follows start boxes clock to want mk (sub_of start serial l).usage (sub_of start serial l).want (sub_of start serial l).count Deactivated serial es l refl refl at b touched (terminated-told start.place.limits l true touched goes_on e)
     by_max false e = unfold sub_of usage_of in live_follows start boxes clock to want mk (sub_of start serial l) (sub_of start serial l).count left serial es l refl refl at b row time touched (terminated-told start.place.limits l false touched goes_on e) not_removed
 
 pub told_follows : (start : Start) (boxes : List Seen) (clock : ℕ) (to : Addr) (want : Want) (mk : State → Row) (sub : State) (left : ℕ) (serial : ℕ) (es : List Event) (l : Life)

@@ -12,3 +12,4 @@ mod body;
 pub mod mailboxes;
 
 pub use mailboxes::Mailboxes;
+pub use sip_text::NoMemory;

@@ -10,13 +10,13 @@ use Rattle.package.specs.Content.{Maps, SeenBy}
 use Rattle.notifier_model.specs.declared.place.Place.{Place}
 use Rattle.notifier_model.specs.declared.row.Row.{Row}
 use Rattle.notifier_model.specs.declared.row.Unanswered.{Unanswered}
-use Rattle.notifier.specs.declared.rows.Rows.{Rows}
+use Rattle.notifier.specs.declared.store.rows.Rows.{Rows}
 use Rattle.notifier_model.specs.Rows.{Told, wherever, stays, only, answered, takes_answer, is_answered_by, watches, tells_change, tells_watcher, is_due, is_late, is_overdue, ends, times_out}
 use Rattle.subscription.specs.declared.notify.Reason.TheVariants.{Timeout}
 use Rattle.notifier.specs.Among.{has, Cover}
 use Rattle.notifier.specs.Stored.{rows_of, row_at, with_serial, by_time, gives_up, alarm_with, alarm_of, is_timed_at, is_of, IsIndexed, IsTimed}
 use Rattle.notifier.specs.Sound.{AreInOrder}
-use Rattle.notifier.specs.Watchers.{watched}
+use Rattle.notifier.specs.Watchers.{is_watched}
 use Rattle.notifier.proofs.Passes.{only-other}
 use Rattle.notifier.proofs.Rising.{with_serial-same}
 use Rattle.notifier.proofs.Timely.{after_oldest}
@@ -127,12 +127,11 @@ module _ {maps : Maps} (place : Place) (boxes : List (SeenBy maps)) (clock : ℕ
   there : (s : ℕ) (row : Row) → with_serial s (rows_of old) ≡ Some row → row_at old s ≡ Some row
   there s row found = sym (with_serial-rows old s i) ∙ found
 
-  pub change_covers : (name resource : List ℕ) (is_over : Bool) → ((s : ℕ) → has s serials ≡ watched old.watchers resource s) → Cover serials (tells_watcher place boxes clock name resource is_over) (rows_of old)
+  pub change_covers : (name resource : List ℕ) (is_over : Bool) → ((s : ℕ) → has s serials ≡ is_watched old.watchers name resource s) → Cover serials (tells_watcher place boxes clock name resource is_over) (rows_of old)
   unfolding tells_watcher
   change_covers name resource is_over all s row found = elim (tested (watches name resource row)) [
     | inl e ↦
-        let both = split_and (bytes_eq row.sub.want.event.package name) (bytes_eq row.sub.want.resource resource) e in
-        inl (all s ∙ i.watching resource s ∙ ap (is_of resource) (there s row found) ∙ both.1)
+        inl (all s ∙ i.watching name resource s ∙ ap (is_of name resource) (there s row found) ∙ e)
     | inr e ↦ inr (other_stays (watches name resource) (tells_change place boxes clock is_over) row e)
   ]
 

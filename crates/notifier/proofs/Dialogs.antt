@@ -6,7 +6,7 @@ use Rattle.sip_read.specs.declared.message.Request.{Request}
 use Rattle.sip_read.specs.declared.message.Response.{Response}
 use Rattle.notifier_model.specs.declared.place.Place.{Place}
 use Rattle.notifier_model.specs.declared.row.Row.{Row}
-use Rattle.notifier.specs.declared.rows.Rows.{Rows}
+use Rattle.notifier.specs.declared.store.rows.Rows.{Rows}
 use Rattle.notifier_model.specs.Rows.{is_dialog}
 use Rattle.notifier.specs.Sound.{IsOwn}
 use Rattle.notifier.specs.Stored.{rows_of, row_at, IsIndexed, Gives}

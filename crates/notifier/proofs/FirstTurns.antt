@@ -1,34 +1,40 @@
 -- The first step of a subscription, as the new row and its first NOTIFY.
-use Rattle.std.proofs.Common.{◌≡◌, ℕ, List, [], Option, Some, Result, ap, sym, subst}
-use Rattle.std.specs.Prelude.{IfOk}
+use Rattle.std.proofs.Common.{◌≡◌, ℕ, List, Option, Some, IfSome, ap, sym, subst, refl, ◌∙◌}
 use Rattle.sip_text.specs.declared.address.Addr.{Addr}
 use Rattle.sip_read.specs.declared.message.Request.{Request}
 use Rattle.subscription.specs.declared.life.Step.{Step}
+use Rattle.subscription.specs.declared.terms.Usage.{Usage}
 use Rattle.subscription.specs.declared.terms.Want.{Want}
 use Rattle.subscription.specs.State.{State}
+use Rattle.subscription.specs.Table.{accept, fetch, over}
 use Rattle.package.specs.Content.{Maps, SeenBy}
+use Rattle.notifier_model.specs.declared.birth.Birth.{Birth}
+use Rattle.notifier_model.specs.declared.birth.Birth.TheVariants.{Watch, Fetch, Transfer, Unwatched}
 use Rattle.notifier_model.specs.declared.place.Place.{Place}
-use Rattle.notifier_model.specs.declared.row.Row.{Row}
-use Rattle.notifier_model.specs.declared.row.Unanswered.{Unanswered}
-use Rattle.notifier.specs.declared.rules.After.{After}
-use Rattle.notifier_model.specs.Rows.{Told, turned}
-use Rattle.notifier.specs.Told.{row_with}
-use Rattle.notifier_model.specs.Book.{new_want, new_row, first_told}
+use Rattle.notifier_model.specs.Limits.{Limits}
+use Rattle.notifier_model.specs.Rows.{turned}
+use Rattle.notifier_model.specs.Book.{new_usage, new_want, new_row, first_step, first_told}
+use Rattle.notifier.specs.Told.{want_after}
+use Rattle.notifier.proofs.Renewal.{IsOf, is_of_told, same_turned}
 
--- no NOTIFY was sent yet
-pub first_row : (serial : ℕ) (r : Request) (unanswered : List Unanswered) → unanswered ≡ []
-    → row_with (record { serial = serial; last_cseq = r.head.cseq; unanswered = unanswered }) ≡ new_row serial r
-unfolding new_row
-first_row serial r unanswered e = ap (λ u. row_with (record { serial = serial; last_cseq = r.head.cseq; unanswered = u })) e
+-- a subscription to this, at its beginning
+abbrev beginning : Usage → Want → State
+beginning usage want = record { usage = usage; want = want; count = 1; due = 0 }
 
-module _ {maps : Maps} where
-  pub first_turned : {A E : Type 0} (place : Place) (boxes : List (SeenBy maps)) (clock : ℕ) (tag : List ℕ) (source : Addr) (r : Request) (serial : ℕ) (want : Want) (row_of : State → Row)
-      (next : Step) (begun : Option Step) (result : Result After E) (got : After → A) (shown : Told → A)
-      → want ≡ new_want place tag source r → row_of ≡ new_row serial r → begun ≡ Some next
-      → IfOk result (λ after. got after ≡ shown (turned place boxes clock source want row_of next))
-      → IfOk result (λ after. got after ≡ shown (first_told place boxes clock tag source r serial begun))
-  unfolding first_told
-  first_turned place boxes clock tag source r serial want row_of next begun result got shown w o b h =
-      subst (λ x. IfOk result (λ after. got after ≡ shown (first_told place boxes clock tag source r serial x))) (sym b)
-      (subst (λ x. IfOk result (λ after. got after ≡ shown (turned place boxes clock source (new_want place tag source r) x next))) o
-      (subst (λ x. IfOk result (λ after. got after ≡ shown (turned place boxes clock source x row_of next))) w h))
+first_is_of : (limits : Limits) (clock : ℕ) (usage : Usage) (want : Want) (r : Request) (kind : Birth) → IfSome (first_step limits clock usage want r kind) (IsOf (beginning usage want))
+unfolding first_step accept fetch
+first_is_of limits clock usage want r Watch = is_of_told (beginning usage want) _ _ refl refl refl
+first_is_of limits clock usage want r Fetch = (refl, refl, refl)
+first_is_of limits clock usage want r Transfer = is_of_told (beginning usage want) _ _ refl refl refl
+first_is_of limits clock usage want r Unwatched = tt
+
+-- what is told first, by its step
+pub first_is : {maps : Maps} (place : Place) (boxes : List (SeenBy maps)) (clock : ℕ) (tag : List ℕ) (source : Addr) (r : Request) (serial : ℕ) (kind : Birth) (begun : Option Step) (next : Step)
+    → begun ≡ first_step place.limits clock (new_usage tag r) (new_want place tag source r) r kind → begun ≡ Some next
+    → turned place boxes clock source (want_after next) (new_row serial r) next ≡ first_told place boxes clock tag source r serial (first_step place.limits clock (new_usage tag r) (new_want place tag source r) r kind)
+unfolding first_told
+first_is place boxes clock tag source r serial kind begun next e n =
+    let begins : first_step place.limits clock (new_usage tag r) (new_want place tag source r) r kind ≡ Some next = sym e ∙ n in
+    let is : IsOf (beginning (new_usage tag r) (new_want place tag source r)) next = subst (λ o. IfSome o (IsOf (beginning (new_usage tag r) (new_want place tag source r)))) begins (first_is_of place.limits clock (new_usage tag r) (new_want place tag source r) r kind) in
+    same_turned place boxes clock source (want_after next) (new_want place tag source r) (new_row serial r) next is.1 is.2
+    ∙ ap (first_told place boxes clock tag source r serial) (sym begins)

@@ -14,8 +14,8 @@ use Rattle.subscription.specs.Table.{told, refresh, end, over, changed, refuses}
 use Rattle.package.specs.Content.{Maps, SeenBy, is_final}
 use Rattle.notifier_model.specs.declared.place.Place.{Place}
 use Rattle.notifier_model.specs.declared.row.Row.{Row}
-use Rattle.notifier.specs.declared.rule.Cause.{Cause}
-use Rattle.notifier.specs.declared.rule.Cause.TheVariants.{Response as Answer, Refused, Renewal, Change, Time, Stop}
+use Rattle.notifier.specs.declared.sweep.rule.Cause.{Cause}
+use Rattle.notifier.specs.declared.sweep.rule.Cause.TheVariants.{Response as Answer, Refused, Renewal, Change, Time, Stop}
 use Rattle.notifier.specs.Causes.{rule_of, CanTell}
 use Rattle.notifier_model.specs.Fields.{value_of}
 use Rattle.notifier_model.specs.Requests.{asks_nothing, granted}
@@ -23,107 +23,108 @@ use Rattle.notifier_model.specs.Rows.{Told, wherever, has_serial, opened, with_s
 use Rattle.notifier.proofs.Lives.{all_left, only_keeps, watcher_lives, due_in_order}
 use Rattle.notifier.proofs.Owned.{Keeps, IsStill, some_weaker, answered_keeps, counted_keeps, renewed_keeps, watcher_keeps, due_keeps, stops_keeps}
 use Rattle.notifier.proofs.Passes.{KeepsSerials}
+use Rattle.notifier.specs.Watchers.{topic}
 
 -- ---- what a row watches
 
-abbrev pub KeepsResource : (Row → Told) → Type 0
-KeepsResource rule = (row : Row) → IfSome (rule row).row (λ after. after.sub.want.resource ≡ row.sub.want.resource)
+abbrev pub KeepsTopic : (Row → Told) → Type 0
+KeepsTopic rule = (row : Row) → IfSome (rule row).row (λ after. topic after.sub.want ≡ topic row.sub.want)
 
-wherever_same : (test : Row → Bool) (rule : Row → Told) → KeepsResource rule → KeepsResource (wherever test rule)
+wherever_same : (test : Row → Bool) (rule : Row → Told) → KeepsTopic rule → KeepsTopic (wherever test rule)
 unfolding wherever stays
 wherever_same test rule same row = by (test row)
   where
-    by : (b : Bool) → IfSome (if b then rule row else stays row).row (λ after. after.sub.want.resource ≡ row.sub.want.resource)
+    by : (b : Bool) → IfSome (if b then rule row else stays row).row (λ after. topic after.sub.want ≡ topic row.sub.want)
     by true = same row
     by false = refl
 
-only_same : (serial : ℕ) (rule : Row → Told) → KeepsResource rule → KeepsResource (only serial rule)
+only_same : (serial : ℕ) (rule : Row → Told) → KeepsTopic rule → KeepsTopic (only serial rule)
 unfolding only
 only_same serial rule same = wherever_same (has_serial serial) rule same
 
-counted_same : (serial : ℕ) (r : Request) → KeepsResource (only serial (counted r))
+counted_same : (serial : ℕ) (r : Request) → KeepsTopic (only serial (counted r))
 unfolding counted stays
 counted_same serial r = only_same serial (counted r) (λ row. refl)
 
-takes_same : (response : Response) → KeepsResource (takes_answer response)
+takes_same : (response : Response) → KeepsTopic (takes_answer response)
 unfolding takes_answer closed stays goes
 takes_same response row = by (refuses response) (is_final response.status)
   where
-    by : (b c : Bool) → IfSome (if b then goes else if c then stays (closed response.head.cseq row) else stays row).row (λ after. after.sub.want.resource ≡ row.sub.want.resource)
+    by : (b c : Bool) → IfSome (if b then goes else if c then stays (closed response.head.cseq row) else stays row).row (λ after. topic after.sub.want ≡ topic row.sub.want)
     by true c = tt
     by false true = refl
     by false false = refl
 
-answered_same : (response : Response) → KeepsResource (answered response)
+answered_same : (response : Response) → KeepsTopic (answered response)
 unfolding answered
 answered_same response = wherever_same (is_answered_by response) (takes_answer response) (takes_same response)
 
--- a step that goes on watches this resource
-abbrev pub StepOf : List ℕ → Step → Type 0
-StepOf resource (Live s notice) = s.want.resource ≡ resource
-StepOf resource (Over usage notice) = Unit {0}
+-- a step that goes on watches this resource of this package
+abbrev pub StepOf : List ℕ × List ℕ → Step → Type 0
+StepOf watch (Live s notice) = topic s.want ≡ watch
+StepOf watch (Over usage asked notice) = Unit {0}
 
-told_same : (s : State) (time : ℕ) → StepOf s.want.resource (told s time)
+told_same : (s : State) (time : ℕ) → StepOf (topic s.want) (told s time)
 unfolding told
 told_same s time = by (s.count == s.want.max_cseq) _ _
   where
-    by : (c : Bool) (m n : Notice) → StepOf s.want.resource (if c then Over s.usage m else Live s n)
+    by : (c : Bool) (m n : Notice) → StepOf (topic s.want) (if c then Over s.usage s.want m else Live s n)
     by true m n = tt
     by false m n = refl
 
-renewed_sub_same : (place : Place) (clock : ℕ) (source : Addr) (r : Request) (s : State) → StepOf s.want.resource (renewed_sub place clock source r s)
+renewed_sub_same : (place : Place) (clock : ℕ) (source : Addr) (r : Request) (s : State) → StepOf (topic s.want) (renewed_sub place clock source r s)
 unfolding renewed_sub refresh end
 renewed_sub_same place clock source r s = by (asks_nothing place.limits r)
   where
-    by : (b : Bool) → StepOf s.want.resource (if b then over (end s Timeout) else refresh s r.head.cseq (value_of r.contact) source clock (granted place.limits r))
+    by : (b : Bool) → StepOf (topic s.want) (if b then over (end s Timeout) else refresh s r.head.cseq (value_of r.contact) source clock (granted place.limits r))
     by true = tt
     by false = told_same _ _
 
-changed_same : (s : State) (clock : ℕ) (is_over : Bool) → StepOf s.want.resource (changed s clock is_over)
+changed_same : (s : State) (clock : ℕ) (is_over : Bool) → StepOf (topic s.want) (changed s clock is_over)
 unfolding changed end
 changed_same s clock true = tt
 changed_same s clock false = told_same _ _
 
 module _ {maps : Maps} (place : Place) (boxes : List (SeenBy maps)) (clock : ℕ) where
-  turned_same : (to : Addr) (want : Want) (row_of : State → Row) (next : Step) (resource : List ℕ) → ((s : State) → (row_of s).sub ≡ s) → StepOf resource next
-      → IfSome (turned place boxes clock to want row_of next).row (λ after. after.sub.want.resource ≡ resource)
+  turned_same : (to : Addr) (want : Want) (row_of : State → Row) (next : Step) (watch : List ℕ × List ℕ) → ((s : State) → (row_of s).sub ≡ s) → StepOf watch next
+      → IfSome (turned place boxes clock to want row_of next).row (λ after. topic after.sub.want ≡ watch)
   unfolding turned opened
-  turned_same to want row_of (Live s notice) resource same h = ap (λ x. x.want.resource) (same s) ∙ h
-  turned_same to want row_of (Over usage notice) resource same h = tt
+  turned_same to want row_of (Live s notice) watch same h = ap (λ (x : State). topic x.want) (same s) ∙ h
+  turned_same to want row_of (Over usage asked notice) watch same h = tt
 
-  renewed_same : (serial : ℕ) (source : Addr) (r : Request) → KeepsResource (only serial (renewed place boxes clock source r))
+  renewed_same : (serial : ℕ) (source : Addr) (r : Request) → KeepsTopic (only serial (renewed place boxes clock source r))
   unfolding renewed
   renewed_same serial source r =
-      only_same serial (renewed place boxes clock source r) (λ row. turned_same source row.sub.want _ _ row.sub.want.resource (λ s. refl) (renewed_sub_same place clock source r row.sub))
+      only_same serial (renewed place boxes clock source r) (λ row. turned_same source row.sub.want _ _ (topic row.sub.want) (λ s. refl) (renewed_sub_same place clock source r row.sub))
 
-  tells_same : (row : Row) (next : Step) → StepOf row.sub.want.resource next → IfSome (tells place boxes clock row next).row (λ after. after.sub.want.resource ≡ row.sub.want.resource)
+  tells_same : (row : Row) (next : Step) → StepOf (topic row.sub.want) next → IfSome (tells place boxes clock row next).row (λ after. topic after.sub.want ≡ topic row.sub.want)
   unfolding tells
-  tells_same row next h = turned_same row.sub.want.to row.sub.want (with_sub row) next row.sub.want.resource (λ s. refl) h
+  tells_same row next h = turned_same row.sub.want.to row.sub.want (with_sub row) next (topic row.sub.want) (λ s. refl) h
 
-  watcher_same : (name resource : List ℕ) (is_over : Bool) → KeepsResource (tells_watcher place boxes clock name resource is_over)
+  watcher_same : (name resource : List ℕ) (is_over : Bool) → KeepsTopic (tells_watcher place boxes clock name resource is_over)
   unfolding tells_watcher tells_change
   watcher_same name resource is_over =
       wherever_same (watches name resource) (tells_change place boxes clock is_over) (λ row. tells_same row (changed row.sub clock is_over) (changed_same row.sub clock is_over))
 
-  ends_same : (reason : Reason) → KeepsResource (ends place boxes clock reason)
+  ends_same : (reason : Reason) → KeepsTopic (ends place boxes clock reason)
   unfolding ends end
   ends_same reason row = tells_same row (over (end row.sub reason)) tt
 
-  times_out_same : KeepsResource (times_out place boxes clock)
+  times_out_same : KeepsTopic (times_out place boxes clock)
   unfolding times_out goes
   times_out_same row = by (is_overdue clock row)
     where
-      by : (b : Bool) → IfSome (if b then goes else wherever (is_due clock) (ends place boxes clock Timeout) row).row (λ after. after.sub.want.resource ≡ row.sub.want.resource)
+      by : (b : Bool) → IfSome (if b then goes else wherever (is_due clock) (ends place boxes clock Timeout) row).row (λ after. topic after.sub.want ≡ topic row.sub.want)
       by true = tt
       by false = wherever_same (is_due clock) (ends place boxes clock Timeout) (ends_same Timeout) row
 
-  stops_same : KeepsResource (stops place boxes clock)
+  stops_same : KeepsTopic (stops place boxes clock)
   unfolding stops
   stops_same = ends_same Deactivated
 
   -- ---- every cause
 
-  pub cause_same : (cause : Cause) → KeepsResource (rule_of place boxes clock cause)
+  pub cause_same : (cause : Cause) → KeepsTopic (rule_of place boxes clock cause)
   cause_same (Answer response) = answered_same response.now
   cause_same (Refused serial r) = counted_same serial r.now
   cause_same (Renewal serial source r) = renewed_same serial source r.now

@@ -56,13 +56,13 @@ only_keeps serial rule P row h k = by (row.serial == serial)
 -- a step that leaves time
 abbrev pub StepLives : ℕ → Step → Type 0
 StepLives clock (Live s notice) = (clock < s.due) × (s.due ≤ clock + 4294967295)
-StepLives clock (Over usage notice) = Unit {0}
+StepLives clock (Over usage asked notice) = Unit {0}
 
 pub told_lives : (clock : ℕ) (s : State) (time : ℕ) → clock < s.due → s.due ≤ clock + 4294967295 → StepLives clock (told s time)
 unfolding told
 told_lives clock s time a b = by (s.count == s.want.max_cseq) _ _
   where
-    by : (c : Bool) (m n : Notice) → StepLives clock (if c then Over s.usage m else Live s n)
+    by : (c : Bool) (m n : Notice) → StepLives clock (if c then Over s.usage s.want m else Live s n)
     by true m n = tt
     by false m n = (a, b)
 
@@ -75,7 +75,7 @@ module _ {maps : Maps} where
     time_fits = subst (λ x. x.due ≤ clock + 4294967295) (sym (same s).0) h.1;
     timely = timely_push clock (row_of s).unanswered _ refl (same s).1;
   }
-  turned_lives place boxes to want row_of clock (Over usage notice) same h = tt
+  turned_lives place boxes to want row_of clock (Over usage asked notice) same h = tt
 
 -- what is granted is some time, and a u32
 not_zero : (n : ℕ) → (n == 0) ≡ false → 1 ≤ n

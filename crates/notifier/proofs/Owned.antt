@@ -134,7 +134,7 @@ module _ {maps : Maps} where
       → ((s : State) → ((row_of s).serial ≡ serial) × ((row_of s).sub ≡ s)) → (usage_after next).local_tag ≡ tag → IfSome (turned place boxes clock to want row_of next).row (IsStill serial tag)
   unfolding turned opened
   turned_keeps place boxes clock to want row_of (Live s notice) serial tag same t = ((same s).0, ap (λ x. x.usage.local_tag) (same s).1 ∙ t)
-  turned_keeps place boxes clock to want row_of (Over usage notice) serial tag same t = tt
+  turned_keeps place boxes clock to want row_of (Over usage asked notice) serial tag same t = tt
 
   pub renewed_keeps : (place : Place) (boxes : List (SeenBy maps)) (clock serial : ℕ) (source : Addr) (r : Request) → Keeps (only serial (renewed place boxes clock source r))
   unfolding renewed

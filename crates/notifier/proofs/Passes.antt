@@ -4,7 +4,7 @@ use Rattle.std.proofs.lemmas.Bool.{cases_eq}
 use Rattle.std.specs.Option.{option_and_then}
 use Rattle.notifier_model.specs.declared.row.Row.{Row}
 use Rattle.notifier_model.specs.Rows.{Told, wherever, stays, left, only}
-use Rattle.notifier.specs.declared.rows.Rows.{Rows}
+use Rattle.notifier.specs.declared.store.rows.Rows.{Rows}
 use Rattle.notifier.specs.Stored.{rows_of, row_at, with_serial, IsIndexed, Turns}
 use Rattle.notifier.proofs.Rising.{Rises, neq-eqb, with_serial-same, with_serial-other, with_serial-below}
 use Rattle.notifier.proofs.Turning.{rows_rise, with_serial-rows, rows_are}

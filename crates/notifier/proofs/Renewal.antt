@@ -1,55 +1,161 @@
--- A step of a subscription leaves its local tag.
-use Rattle.std.proofs.Common.{◌≡◌, ℕ, List, [], ◌∷◌, Bool, true, false, if◌then◌else◌, ◌==◌, ◌&&◌, is_none, map, option_to_list, Result, Ok, Err, refl, ap, ◌∙◌}
+-- A step of a subscription leaves its local tag and what was asked for, and what is told of it.
+use Rattle.std.proofs.Common.{◌≡◌, ℕ, List, [], ◌∷◌, Bool, true, false, if◌then◌else◌, ◌==◌, ◌&&◌, is_none, map, Option, Some, None, option_to_list, Result, Ok, Err, refl, ap, sym, subst, ◌∙◌}
 use Rattle.std.specs.Prelude.{IfOk}
 use Rattle.sip_text.specs.declared.address.Addr.{Addr}
 use Rattle.sip_read.specs.declared.message.Request.{Request}
+use Rattle.sip_write.specs.Notify.{NotifyText}
 use Rattle.subscription.specs.declared.life.Step.{Step}
-use Rattle.subscription.specs.State.{State}
-use Rattle.subscription.specs.Table.{told, refresh, end}
-use Rattle.notifier_model.specs.declared.place.Place.{Place}
+use Rattle.subscription.specs.declared.life.Step.TheVariants.{Live, Over}
+use Rattle.subscription.specs.declared.notify.Notice.{Notice}
+use Rattle.subscription.specs.declared.notify.Reason.{Reason}
+use Rattle.subscription.specs.declared.terms.Usage.{Usage}
 use Rattle.subscription.specs.declared.terms.Want.{Want}
+use Rattle.subscription.specs.State.{State}
+use Rattle.subscription.specs.Table.{told, changed, refresh, end, over}
+use Rattle.notifier_model.specs.declared.place.Place.{Place}
 use Rattle.package.specs.Content.{Maps, SeenBy}
 use Rattle.notifier_model.specs.declared.row.Row.{Row}
-use Rattle.notifier.specs.declared.rules.After.{After}
+use Rattle.notifier.specs.declared.sweep.rules.After.TheVariants.{Stays, Goes}
 use Rattle.notifier_model.specs.Requests.{asks_nothing, is_of_refer}
-use Rattle.notifier_model.specs.Out.{out_of}
-use Rattle.notifier_model.specs.Rows.{Told, with_sub, turned, usage_after, renewed, renewed_sub, gone_at}
-use Rattle.notifier.specs.Told.{IsTold}
+use Rattle.notifier_model.specs.Out.{out_of, Notifies}
+use Rattle.notifier_model.specs.Rows.{Told, notify, opened, with_sub, turned, tells, ends, usage_after, renewed, renewed_sub, tells_change, gone_at}
+use Rattle.notifier.specs.Told.{IsTold, gone_from, want_after}
 
-by_if : (b : Bool) (x y : Step) (tag : List ℕ) → (usage_after x).local_tag ≡ tag → (usage_after y).local_tag ≡ tag → (usage_after (if b then x else y)).local_tag ≡ tag
-by_if true x y tag p q = p
-by_if false x y tag p q = q
+-- ---- what a step leaves of a subscription
+
+-- its local tag, and its event and its resource
+abbrev pub IsOf : State → Step → Type 0
+IsOf s next = ((usage_after next).local_tag ≡ s.usage.local_tag) × ((want_after next).event ≡ s.want.event) × ((want_after next).resource ≡ s.want.resource)
+
+is_of_if : (s : State) (b : Bool) (x y : Step) → IsOf s x → IsOf s y → IsOf s (if b then x else y)
+is_of_if s true x y p q = p
+is_of_if s false x y p q = q
+
+pub is_of_told : (s t : State) (left : ℕ) → t.usage.local_tag ≡ s.usage.local_tag → t.want.event ≡ s.want.event → t.want.resource ≡ s.want.resource → IsOf s (told t left)
+unfolding told
+is_of_told s t left tag event resource = is_of_if s (t.count == t.want.max_cseq) _ _ (tag, event, resource) (tag, event, resource)
+
+pub is_of_changed : (s : State) (clock : ℕ) (is_over : Bool) → IsOf s (changed s clock is_over)
+unfolding changed end
+is_of_changed s clock true = (refl, refl, refl)
+is_of_changed s clock false = is_of_told s _ _ refl refl refl
+
+pub is_of_renewed : (place : Place) (clock : ℕ) (source : Addr) (r : Request) (s : State) → IsOf s (renewed_sub place clock source r s)
+unfolding renewed_sub refresh end
+is_of_renewed place clock source r s = is_of_if s (asks_nothing place.limits r) _ _ (refl, refl, refl) (is_of_told s _ _ refl refl refl)
 
 pub tag_told : (s : State) (left : ℕ) → (usage_after (told s left)).local_tag ≡ s.usage.local_tag
-unfolding told
-tag_told s left = by_if (s.count == s.want.max_cseq) _ _ s.usage.local_tag refl refl
+tag_told s left = (is_of_told s s left refl refl refl).0
 
 pub tag_renewed : (place : Place) (clock : ℕ) (source : Addr) (r : Request) (s : State) → (usage_after (renewed_sub place clock source r s)).local_tag ≡ s.usage.local_tag
-unfolding renewed_sub refresh end
-tag_renewed place clock source r s = by_if (asks_nothing place.limits r) _ _ s.usage.local_tag refl (tag_told _ _)
+tag_renewed place clock source r s = (is_of_renewed place clock source r s).0
 
-pub if_ok_all : {T E : Type 0} {P Q R S : T → Type 0} (r : Result T E) → IfOk r P → IfOk r Q → IfOk r R → ((x : T) → P x → Q x → R x → S x) → IfOk r S
-if_ok_all (Ok x) p q r f = f x p q r
-if_ok_all (Err e) p q r f = p
+-- ---- a row that is told of it
 
-module _ {maps : Maps} (place : Place) (boxes : List (SeenBy maps)) (clock : ℕ) (source : Addr) (r : Request) (row : Row) where
-  abbrev pub step_for : Want → Step → Told
-  step_for want next = turned place boxes clock source want (with_sub (record row { last_cseq = r.head.cseq })) next
+-- no transfer goes with a row that stays
+none_goes : (b : Bool) (tag : List ℕ) (o : Option Row) (row : Row) → o ≡ Some row → ◌≡◌ {A = List (List ℕ)} [] (if b && is_none o then tag ∷ [] else [])
+none_goes true tag o row e = rw e refl
+none_goes false tag o row e = refl
 
-  abbrev pub gone_for : Want → Step → List (List ℕ)
-  gone_for want next = if is_of_refer want.event && is_none (step_for want next).row then (usage_after next).local_tag ∷ [] else []
+one_goes : (b c : Bool) (tag own : List ℕ) (o : Option Row) → b ≡ c → tag ≡ own → o ≡ None → ◌≡◌ {A = List (List ℕ)} (option_to_list (if b then Some tag else None)) (if c && is_none o then own ∷ [] else [])
+one_goes true true tag own o e t n = rw n (ap (λ x. x ∷ []) t)
+one_goes true false tag own o e t n = absurd (cc)
+one_goes false true tag own o e t n = absurd (cc)
+one_goes false false tag own o e t n = refl
 
-  -- the gone tag is that of the row
-  gone_of_row : (b : Bool) (t u : List ℕ) → t ≡ u → ◌≡◌ {A = List (List ℕ)} (if b then t ∷ [] else []) (if b then u ∷ [] else [])
-  gone_of_row true t u e = ap (λ t. t ∷ []) e
-  gone_of_row false t u e = refl
+abbrev told_by : Addr → Option Row → NotifyText → Told
+told_by to row n = record { row = row; notifies = Notifies to n ∷ [] }
 
-  pub renewed_told : (want : Want) (next : Step) (after : After) → want ≡ row.sub.want → next ≡ renewed_sub place clock source r row.sub
-      → after.row ≡ (step_for want next).row → option_to_list after.out ≡ map out_of (step_for want next).notifies → option_to_list after.gone ≡ gone_for want next
-      → IsTold (renewed place boxes clock source r) row after
-  unfolding renewed gone_at
-  renewed_told want next after w n stays sends forgets = record {
-    stays = stays ∙ ap (λ a. (step_for a next).row) w ∙ ap (λ a. (step_for row.sub.want a).row) n;
-    sends = sends ∙ ap (λ a. map out_of (step_for a next).notifies) w ∙ ap (λ a. map out_of (step_for row.sub.want a).notifies) n;
-    forgets = forgets ∙ ap (λ a. gone_for a next) w ∙ ap (λ a. gone_for row.sub.want a) n ∙ gone_of_row _ _ _ (tag_renewed place clock source r row.sub);
-  }
+module _ {maps : Maps} (place : Place) (boxes : List (SeenBy maps)) where
+  -- a NOTIFY tells of the event and the resource
+  pub same_notify : (usage : Usage) (a b : Want) (notice : Notice) → a.event ≡ b.event → a.resource ≡ b.resource → notify place boxes usage a notice ≡ notify place boxes usage b notice
+  unfolding notify
+  same_notify usage a b notice event resource =
+      ap (λ e. notify place boxes usage (record a { event = e }) notice) event
+      ∙ ap (λ x. notify place boxes usage (record a { event = b.event; resource = x }) notice) resource
+
+  -- and so does what is told of a step
+  pub same_turned : (clock : ℕ) (to : Addr) (a b : Want) (mk : State → Row) (next : Step) → a.event ≡ b.event → a.resource ≡ b.resource
+      → turned place boxes clock to a mk next ≡ turned place boxes clock to b mk next
+  unfolding turned
+  same_turned clock to a b mk (Live s notice) event resource =
+      ap (told_by to (Some (opened clock notice (mk s)))) (same_notify s.usage a b notice event resource)
+  same_turned clock to a b mk (Over usage want notice) event resource =
+      ap (told_by to None) (same_notify usage a b notice event resource)
+
+  module _ (clock : ℕ) (to : Addr) (rule : Row → Told) (row : Row) (mk : State → Row) where
+    -- it goes on
+    pub stays_told : (s : State) (notice : Notice) → rule row ≡ turned place boxes clock to row.sub.want mk (Live s notice) → IsOf row.sub (Live s notice)
+        → IsTold rule row (Stays (opened clock notice (mk s)) (Some (out_of (Notifies to (notify place boxes s.usage s.want notice)))))
+    unfolding turned gone_at
+    stays_told s notice r is = record {
+      stays = sym (ap (λ t. t.row) r);
+      sends = ap (λ n. map out_of (Notifies to n ∷ [])) (same_notify s.usage s.want row.sub.want notice is.1 is.2) ∙ sym (ap (λ t. map out_of t.notifies) r);
+      forgets = none_goes (is_of_refer row.sub.want.event) row.sub.usage.local_tag (rule row).row (opened clock notice (mk s)) (ap (λ t. t.row) r);
+      names = tt;
+    }
+
+    -- it is over
+    pub goes_told : (usage : Usage) (want : Want) (notice : Notice) → rule row ≡ turned place boxes clock to row.sub.want mk (Over usage want notice) → IsOf row.sub (Over usage want notice)
+        → IsTold rule row (Goes (gone_from usage want) (Some (out_of (Notifies to (notify place boxes usage want notice)))))
+    unfolding turned gone_at
+    goes_told usage want notice r is = record {
+      stays = sym (ap (λ t. t.row) r);
+      sends = ap (λ n. map out_of (Notifies to n ∷ [])) (same_notify usage want row.sub.want notice is.1 is.2) ∙ sym (ap (λ t. map out_of t.notifies) r);
+      forgets = one_goes (is_of_refer want.event) (is_of_refer row.sub.want.event) usage.local_tag row.sub.usage.local_tag (rule row).row (ap is_of_refer is.1) is.0 (ap (λ t. t.row) r);
+      names = λ i. ((is.1 i).package, is.2 i);
+    }
+
+-- ---- the rules that step a subscription
+
+module _ {maps : Maps} (place : Place) (boxes : List (SeenBy maps)) (clock : ℕ) (row : Row) where
+  -- a change, after which it goes on
+  pub change_stays : (is_over : Bool) (to : Addr) (next : Step) (s : State) (notice : Notice) → to ≡ row.sub.want.to → next ≡ changed row.sub clock is_over → next ≡ Live s notice
+      → IsTold (tells_change place boxes clock is_over) row (Stays (opened clock notice (with_sub row s)) (Some (out_of (Notifies to (notify place boxes s.usage s.want notice)))))
+  unfolding tells_change tells
+  change_stays is_over to next s notice at e n =
+      stays_told place boxes clock to (tells_change place boxes clock is_over) row (with_sub row) s notice
+      (ap (λ a. turned place boxes clock a row.sub.want (with_sub row) (changed row.sub clock is_over)) (sym at)
+      ∙ ap (turned place boxes clock to row.sub.want (with_sub row)) (sym e ∙ n))
+      (subst (IsOf row.sub) (sym e ∙ n) (is_of_changed row.sub clock is_over))
+
+  -- or is over
+  pub change_goes : (is_over : Bool) (to : Addr) (next : Step) (usage : Usage) (want : Want) (notice : Notice) → to ≡ row.sub.want.to → next ≡ changed row.sub clock is_over → next ≡ Over usage want notice
+      → IsTold (tells_change place boxes clock is_over) row (Goes (gone_from usage want) (Some (out_of (Notifies to (notify place boxes usage want notice)))))
+  unfolding tells_change tells
+  change_goes is_over to next usage want notice at e n =
+      goes_told place boxes clock to (tells_change place boxes clock is_over) row (with_sub row) usage want notice
+      (ap (λ a. turned place boxes clock a row.sub.want (with_sub row) (changed row.sub clock is_over)) (sym at)
+      ∙ ap (turned place boxes clock to row.sub.want (with_sub row)) (sym e ∙ n))
+      (subst (IsOf row.sub) (sym e ∙ n) (is_of_changed row.sub clock is_over))
+
+  -- a renewal, after which it goes on
+  pub renewal_stays : (source : Addr) (r : Request) (next : Step) (s : State) (notice : Notice) → next ≡ renewed_sub place clock source r row.sub → next ≡ Live s notice
+      → IsTold (renewed place boxes clock source r) row (Stays (opened clock notice (with_sub (record row { last_cseq = r.head.cseq }) s)) (Some (out_of (Notifies source (notify place boxes s.usage s.want notice)))))
+  unfolding renewed
+  renewal_stays source r next s notice e n =
+      stays_told place boxes clock source (renewed place boxes clock source r) row (with_sub (record row { last_cseq = r.head.cseq })) s notice
+      (ap (turned place boxes clock source row.sub.want (with_sub (record row { last_cseq = r.head.cseq }))) (sym e ∙ n))
+      (subst (IsOf row.sub) (sym e ∙ n) (is_of_renewed place clock source r row.sub))
+
+  -- or is over
+  pub renewal_goes : (source : Addr) (r : Request) (next : Step) (usage : Usage) (want : Want) (notice : Notice) → next ≡ renewed_sub place clock source r row.sub → next ≡ Over usage want notice
+      → IsTold (renewed place boxes clock source r) row (Goes (gone_from usage want) (Some (out_of (Notifies source (notify place boxes usage want notice)))))
+  unfolding renewed
+  renewal_goes source r next usage want notice e n =
+      goes_told place boxes clock source (renewed place boxes clock source r) row (with_sub (record row { last_cseq = r.head.cseq })) usage want notice
+      (ap (turned place boxes clock source row.sub.want (with_sub (record row { last_cseq = r.head.cseq }))) (sym e ∙ n))
+      (subst (IsOf row.sub) (sym e ∙ n) (is_of_renewed place clock source r row.sub))
+
+  -- the end
+  pub end_goes : (reason : Reason) (ended : Usage × Want × Notice) → ended ≡ end row.sub reason
+      → IsTold (ends place boxes clock reason) row (Goes (gone_from ended.0 ended.1) (Some (out_of (Notifies ended.1.to (notify place boxes ended.0 ended.1 ended.2)))))
+  unfolding ends tells end
+  end_goes reason ended e =
+      subst (λ (x : Usage × Want × Notice). IsTold (ends place boxes clock reason) row (Goes (gone_from x.0 x.1) (Some (out_of (Notifies x.1.to (notify place boxes x.0 x.1 x.2)))))) (sym e)
+      (goes_told place boxes clock row.sub.want.to (ends place boxes clock reason) row (with_sub row) row.sub.usage row.sub.want _ refl (refl, refl, refl))
+
+-- a result that is this
+pub if_is : {T E : Type 0} (P : T → Type 0) (r : Result T E) (x : T) → IfOk r (λ a. a ≡ x) → P x → IfOk r P
+if_is P (Ok a) x e p = subst P (sym e) p
+if_is P (Err a) x e p = tt

@@ -1,7 +1,7 @@
 -- What the slots of a ring say, when an answer comes and when one goes.
 use Rattle.std.proofs.Common.{◌≡◌, ◌∙◌, sym, ap, refl, subst, arith, ℕ, suc, ◌+◌, ◌-◌, ◌<◌, ◌≤◌, Bool, true, false, cond, List, [], ◌∷◌, ◌++◌, length, find, take, Option, Some, None, option_map, slice_get, ◌&&◌, string_bytes}
 use Rattle.std.specs.Str.{bytes_eq}
-use Rattle.std.specs.HashMap.{HashMap}
+use Rattle.std.specs.BTreeMap.{BTreeMap, is_at}
 use Rattle.std.proofs.lemmas.Bool.{and_parts}
 use Rattle.std.proofs.lemmas.List.{take_all, take_more, length-take, length-take-le}
 use Rattle.std.proofs.lemmas.Option.{get_or_from_slice_get}
@@ -10,8 +10,10 @@ use Rattle.std.proofs.lemmas.Slice.Eq.{bytes_eq-Decides}
 use Rattle.std.proofs.lemmas.Bool.Decides.{nat_tests}
 use Rattle.notifier_model.specs.declared.row.Key.{Key}
 use Rattle.notifier_model.specs.declared.row.Kept.{Kept}
-use Rattle.notifier.specs.declared.transaction.Transaction.{Transaction}
-use Rattle.notifier.specs.contracts.transaction.TransactionPartialEq.TheImpl as equality
+use Rattle.notifier.specs.declared.store.transaction.Transaction.{Transaction}
+use Rattle.notifier.specs.contracts.store.transaction.TransactionPartialEq.TheImpl as equality
+use Rattle.notifier.specs.contracts.store.transaction.TransactionOrd.TheImpl as order
+use Rattle.notifier.specs.contracts.store.transaction.TransactionOrd.TheImpl.Laws.{matches_eq-law}
 use Rattle.notifier_model.specs.Answers.{has_key}
 use Rattle.notifier.specs.Transactions.{key_of}
 use Rattle.notifier.specs.Slots.{after, slot_at, answers, place_of, slot_in, IsIndexed}
@@ -64,6 +66,10 @@ same_keys t u e =
 
     key_with : {a b c d f g : List ℕ} → a ≡ b → c ≡ d → f ≡ g → ◌≡◌ {A = Key} (record { branch = a; sent_by = c; method = f }) (record { branch = b; sent_by = d; method = g })
     key_with p q r = λ i. record { branch = p i; sent_by = q i; method = r i }
+
+-- one that stands neither before nor behind it in the order is equal to it
+same_place_in_order : (t q : Transaction) → is_at ((order.ghosts).cmp t) q ≡ (equality.ghosts).eq t q
+same_place_in_order t q = sym (matches_eq-law t q)
 
 -- a transaction is equal to itself
 itself : (t : Transaction) → (equality.ghosts).eq t t ≡ true
@@ -185,75 +191,74 @@ module _ (room newest : ℕ) (kept : List Kept) (oldest : Kept) (t : Transaction
 
 -- ---- the index of a ring
 
-module _ {S : Type 0} where
-  -- what the index leads to
-  pub no_answer : (ring : Buffer Kept) (slots : HashMap Transaction ℕ S) (newest : ℕ) (t : Transaction) → IsIndexed ring slots newest → slot_in slots t ≡ None → find (answers t) ring.items ≡ None
-  no_answer ring slots newest t h e = none_found t ring.items (step (place_of t ring.items) (sym (h.found t) ∙ e))
-    where
-      step : (o : Option ℕ) → option_map (slot_at ring.capacity newest) o ≡ None → o ≡ None
-      step None e = refl
-      step (Some p) e = absurd (cc)
+-- what the index leads to
+pub no_answer : (ring : Buffer Kept) (slots : BTreeMap Transaction ℕ) (newest : ℕ) (t : Transaction) → IsIndexed ring slots newest → slot_in slots t ≡ None → find (answers t) ring.items ≡ None
+no_answer ring slots newest t h e = none_found t ring.items (step (place_of t ring.items) (sym (h.found t) ∙ e))
+  where
+    step : (o : Option ℕ) → option_map (slot_at ring.capacity newest) o ≡ None → o ≡ None
+    step None e = refl
+    step (Some p) e = absurd (cc)
 
-  pub its_answer : (ring : Buffer Kept) (slots : HashMap Transaction ℕ S) (newest : ℕ) (t : Transaction) (slot landing : ℕ) → IsIndexed ring slots newest → slot_in slots t ≡ Some slot
-      → ((p : ℕ) → p < ring.capacity → slot ≡ slot_at ring.capacity newest p → landing ≡ p) → slice_get ring.items landing ≡ find (answers t) ring.items
-  its_answer ring slots newest t slot landing h e lands = step (place_of t ring.items) refl (sym (h.found t) ∙ e)
-    where
-      step : (o : Option ℕ) → place_of t ring.items ≡ o → option_map (slot_at ring.capacity newest) o ≡ Some slot → slice_get ring.items landing ≡ find (answers t) ring.items
-      step None k e = absurd (cc)
-      step (Some p) k e =
-          let there = found_at t ring.items p k in
-          let is : slot_at ring.capacity newest p ≡ slot = cc in
-          let fits = h.fits in
-          let below = there.1 in
-          ap (slice_get ring.items) (lands p (omega (arith, fits, below)) (sym is)) ∙ sym there.0
+pub its_answer : (ring : Buffer Kept) (slots : BTreeMap Transaction ℕ) (newest : ℕ) (t : Transaction) (slot landing : ℕ) → IsIndexed ring slots newest → slot_in slots t ≡ Some slot
+    → ((p : ℕ) → p < ring.capacity → slot ≡ slot_at ring.capacity newest p → landing ≡ p) → slice_get ring.items landing ≡ find (answers t) ring.items
+its_answer ring slots newest t slot landing h e lands = step (place_of t ring.items) refl (sym (h.found t) ∙ e)
+  where
+    step : (o : Option ℕ) → place_of t ring.items ≡ o → option_map (slot_at ring.capacity newest) o ≡ Some slot → slice_get ring.items landing ≡ find (answers t) ring.items
+    step None k e = absurd (cc)
+    step (Some p) k e =
+        let there = found_at t ring.items p k in
+        let is : slot_at ring.capacity newest p ≡ slot = cc in
+        let fits = h.fits in
+        let below = there.1 in
+        ap (slice_get ring.items) (lands p (omega (arith, fits, below)) (sym is)) ∙ sym there.0
 
-  -- an answer comes where there is room
-  pub indexed_more : (ring new : Buffer Kept) (slots after_it : HashMap Transaction ℕ S) (newest slot : ℕ) (kept : Kept) (t : Transaction) → IsIndexed ring slots newest → length ring.items < ring.capacity
-      → slot ≡ after ring.capacity newest → kept.key ≡ key_of t → new ≡ buffer (take ring.capacity (kept ∷ ring.items)) ring.capacity
-      → ((q : Transaction) → slot_in after_it q ≡ cond ((equality.ghosts).eq t q) (Some slot) (slot_in slots q)) → IsIndexed new after_it slot
-  indexed_more ring new slots after_it newest slot kept t h some is key made updates =
-      let whole : take ring.capacity (kept ∷ ring.items) ≡ kept ∷ ring.items = take_all ring.capacity (kept ∷ ring.items) (omega (arith, some)) in
-      let all : new ≡ buffer (kept ∷ ring.items) ring.capacity = made ∙ ap (λ xs. buffer xs ring.capacity) whole in
-      let within = h.within in
-      let next : after ring.capacity newest < ring.capacity = after_within ring.capacity newest within in
-      subst (λ (r : Buffer Kept). IsIndexed r after_it slot) (sym all) (record {
-        within = omega (arith, is, next);
-        fits = omega (arith, some);
-        found = λ q. updates q ∙ ap (λ (s : ℕ). cond ((equality.ghosts).eq t q) (Some s) (slot_in slots q)) is
-            ∙ comes ring.capacity newest kept t ring.items q (slot_in slots q) within some key (h.found q)
-            ∙ ap (λ (s : ℕ). option_map (slot_at ring.capacity s) (place_of q (kept ∷ ring.items))) (sym is);
-      })
+-- an answer comes where there is room
+pub indexed_more : (ring new : Buffer Kept) (slots after_it : BTreeMap Transaction ℕ) (newest slot : ℕ) (kept : Kept) (t : Transaction) → IsIndexed ring slots newest → length ring.items < ring.capacity
+    → slot ≡ after ring.capacity newest → kept.key ≡ key_of t → new ≡ buffer (take ring.capacity (kept ∷ ring.items)) ring.capacity
+    → ((q : Transaction) → slot_in after_it q ≡ cond (is_at ((order.ghosts).cmp t) q) (Some slot) (slot_in slots q)) → IsIndexed new after_it slot
+indexed_more ring new slots after_it newest slot kept t h some is key made updates =
+    let whole : take ring.capacity (kept ∷ ring.items) ≡ kept ∷ ring.items = take_all ring.capacity (kept ∷ ring.items) (omega (arith, some)) in
+    let all : new ≡ buffer (kept ∷ ring.items) ring.capacity = made ∙ ap (λ xs. buffer xs ring.capacity) whole in
+    let within = h.within in
+    let next : after ring.capacity newest < ring.capacity = after_within ring.capacity newest within in
+    subst (λ (r : Buffer Kept). IsIndexed r after_it slot) (sym all) (record {
+      within = omega (arith, is, next);
+      fits = omega (arith, some);
+      found = λ q. updates q ∙ ap (λ b. cond b (Some slot) (slot_in slots q)) (same_place_in_order t q) ∙ ap (λ (s : ℕ). cond ((equality.ghosts).eq t q) (Some s) (slot_in slots q)) is
+          ∙ comes ring.capacity newest kept t ring.items q (slot_in slots q) within some key (h.found q)
+          ∙ ap (λ (s : ℕ). option_map (slot_at ring.capacity s) (place_of q (kept ∷ ring.items))) (sym is);
+    })
 
-  -- the oldest goes, and its transaction where it leads to it
-  pub indexed_less : (ring less : Buffer Kept) (slots left : HashMap Transaction ℕ S) (newest slot : ℕ) (oldest : Kept) (t : Transaction) → IsIndexed ring slots newest → length ring.items ≡ ring.capacity
-      → Some oldest ≡ slice_get ring.items (length ring.items - 1) → less ≡ buffer (take (length ring.items - 1) ring.items) ring.capacity → slot ≡ after ring.capacity newest → key_of t ≡ oldest.key
-      → slot_in slots t ≡ Some slot → ((q : Transaction) → slot_in left q ≡ cond ((equality.ghosts).eq t q) None (slot_in slots q)) → IsIndexed less left newest
-  indexed_less ring less slots left newest slot oldest t h full last made is key leads updates =
-      let within = h.within in
-      let kept : List Kept = take (length ring.items - 1) ring.items in
-      let whole : ring.items ≡ kept ++ oldest ∷ [] = split_last ring.items oldest (sym last) (omega (arith, full, within)) in
-      let count : length kept + 1 ≡ ring.capacity = length_init ring.items (omega (arith, full, within)) ∙ full in
-      subst (λ (r : Buffer Kept). IsIndexed r left newest) (sym made) (record {
-        within = within;
-        fits = omega (arith, count);
-        found = λ q. updates q ∙ goes ring.capacity newest kept oldest t within count (sym key) (slot_in slots)
-            (λ u. h.found u ∙ ap (λ xs. option_map (slot_at ring.capacity newest) (place_of u xs)) whole) (leads ∙ ap (λ (s : ℕ). Some s) is) q;
-      })
+-- the oldest goes, and its transaction where it leads to it
+pub indexed_less : (ring less : Buffer Kept) (slots left : BTreeMap Transaction ℕ) (newest slot : ℕ) (oldest : Kept) (t : Transaction) → IsIndexed ring slots newest → length ring.items ≡ ring.capacity
+    → Some oldest ≡ slice_get ring.items (length ring.items - 1) → less ≡ buffer (take (length ring.items - 1) ring.items) ring.capacity → slot ≡ after ring.capacity newest → key_of t ≡ oldest.key
+    → slot_in slots t ≡ Some slot → ((q : Transaction) → slot_in left q ≡ cond (is_at ((order.ghosts).cmp t) q) None (slot_in slots q)) → IsIndexed less left newest
+indexed_less ring less slots left newest slot oldest t h full last made is key leads updates =
+    let within = h.within in
+    let kept : List Kept = take (length ring.items - 1) ring.items in
+    let whole : ring.items ≡ kept ++ oldest ∷ [] = split_last ring.items oldest (sym last) (omega (arith, full, within)) in
+    let count : length kept + 1 ≡ ring.capacity = length_init ring.items (omega (arith, full, within)) ∙ full in
+    subst (λ (r : Buffer Kept). IsIndexed r left newest) (sym made) (record {
+      within = within;
+      fits = omega (arith, count);
+      found = λ q. updates q ∙ ap (λ b. cond b None (slot_in slots q)) (same_place_in_order t q) ∙ goes ring.capacity newest kept oldest t within count (sym key) (slot_in slots)
+          (λ u. h.found u ∙ ap (λ xs. option_map (slot_at ring.capacity newest) (place_of u xs)) whole) (leads ∙ ap (λ (s : ℕ). Some s) is) q;
+    })
 
-  pub indexed_still : (ring less : Buffer Kept) (slots : HashMap Transaction ℕ S) (newest slot : ℕ) (oldest : Kept) (t : Transaction) → IsIndexed ring slots newest → length ring.items ≡ ring.capacity
-      → Some oldest ≡ slice_get ring.items (length ring.items - 1) → less ≡ buffer (take (length ring.items - 1) ring.items) ring.capacity → slot ≡ after ring.capacity newest → key_of t ≡ oldest.key
-      → (slot_in slots t ≡ Some slot → ⊥) → IsIndexed less slots newest
-  indexed_still ring less slots newest slot oldest t h full last made is key other =
-      let within = h.within in
-      let kept : List Kept = take (length ring.items - 1) ring.items in
-      let whole : ring.items ≡ kept ++ oldest ∷ [] = split_last ring.items oldest (sym last) (omega (arith, full, within)) in
-      let count : length kept + 1 ≡ ring.capacity = length_init ring.items (omega (arith, full, within)) ∙ full in
-      subst (λ (r : Buffer Kept). IsIndexed r slots newest) (sym made) (record {
-        within = within;
-        fits = omega (arith, count);
-        found = λ q. stays ring.capacity newest kept oldest t within count (sym key) (slot_in slots)
-            (λ u. h.found u ∙ ap (λ xs. option_map (slot_at ring.capacity newest) (place_of u xs)) whole) (λ e. other (e ∙ ap (λ (s : ℕ). Some s) (sym is))) q;
-      })
+pub indexed_still : (ring less : Buffer Kept) (slots : BTreeMap Transaction ℕ) (newest slot : ℕ) (oldest : Kept) (t : Transaction) → IsIndexed ring slots newest → length ring.items ≡ ring.capacity
+    → Some oldest ≡ slice_get ring.items (length ring.items - 1) → less ≡ buffer (take (length ring.items - 1) ring.items) ring.capacity → slot ≡ after ring.capacity newest → key_of t ≡ oldest.key
+    → (slot_in slots t ≡ Some slot → ⊥) → IsIndexed less slots newest
+indexed_still ring less slots newest slot oldest t h full last made is key other =
+    let within = h.within in
+    let kept : List Kept = take (length ring.items - 1) ring.items in
+    let whole : ring.items ≡ kept ++ oldest ∷ [] = split_last ring.items oldest (sym last) (omega (arith, full, within)) in
+    let count : length kept + 1 ≡ ring.capacity = length_init ring.items (omega (arith, full, within)) ∙ full in
+    subst (λ (r : Buffer Kept). IsIndexed r slots newest) (sym made) (record {
+      within = within;
+      fits = omega (arith, count);
+      found = λ q. stays ring.capacity newest kept oldest t within count (sym key) (slot_in slots)
+          (λ u. h.found u ∙ ap (λ xs. option_map (slot_at ring.capacity newest) (place_of u xs)) whole) (λ e. other (e ∙ ap (λ (s : ℕ). Some s) (sym is))) q;
+    })
 
 -- an answer that comes behind those that are left
 pub kept_less : {X : Type 0} (room : ℕ) (x : X) (xs : List X) → 0 < room → take room (x ∷ take (room - 1) xs) ≡ take room (x ∷ xs)

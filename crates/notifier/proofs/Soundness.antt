@@ -4,7 +4,7 @@ use Rattle.std.specs.Prelude.{IfSome, ◌^◌}
 use Rattle.package.specs.Content.{Maps, SeenBy}
 use Rattle.notifier_model.specs.declared.place.Place.{Place}
 use Rattle.notifier_model.specs.declared.row.Row.{Row}
-use Rattle.notifier.specs.declared.ledger.Ledger.{Ledger}
+use Rattle.notifier.specs.declared.store.Ledger.{Ledger}
 use Rattle.notifier_model.specs.Rows.{Told, left, times_out}
 use Rattle.notifier.specs.Ledger.{IsSound}
 use Rattle.notifier.specs.Stored.{rows_of, IsIndexed}

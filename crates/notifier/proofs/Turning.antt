@@ -1,5 +1,5 @@
 -- The stored rows, and what a step at one serial makes of them.
-use Rattle.std.proofs.Common.{◌≡◌, ◌≢◌, ◌∙◌, sym, ap, refl, inl, inr, ℕ, ◌+◌, ◌<◌, ◌≤◌, false, length, subst, cond, List, [], ◌∷◌, ◌++◌, Option, Some, None, arith, ◌==◌, eq-eqb, All, IfSome, option_map, bytes_eq, ◌&&◌}
+use Rattle.std.proofs.Common.{◌≡◌, ◌≢◌, ◌∙◌, sym, ap, refl, inl, inr, ℕ, ◌+◌, ◌<◌, ◌≤◌, false, length, subst, cond, List, [], ◌∷◌, ◌++◌, Option, Some, None, arith, ◌==◌, eq-eqb, All, IfSome, option_map, ◌&&◌}
 use Rattle.std.proofs.lemmas.Bool.{cases_eq}
 use Rattle.std.proofs.lemmas.List.Elements.{All-head, All-tail}
 use Rattle.std.specs.List.{AllByRecursion, cons_option}
@@ -10,13 +10,13 @@ use Rattle.std.specs.BTreeMap as tree
 use Rattle.std.specs.BTreeSet as sorted
 use Rattle.slab.specs.Slab as slab
 use Rattle.notifier_model.specs.declared.row.Row.{Row}
-use Rattle.notifier.specs.declared.rows.Rows.{Rows}
+use Rattle.notifier.specs.declared.store.rows.Rows.{Rows}
 use Rattle.notifier.specs.Stored.{rows_of, row_at, with_serial, by_time, alarm_of, is_timed_at, is_of, IsIndexed, Turns}
 use Rattle.std.specs.declared.result.Result.{Result}
 use Rattle.std.specs.declared.result.Result.TheVariants.{Ok, Err}
 use Rattle.std.specs.Result.{OnOk, IfOk}
 use Rattle.notifier.proofs.Times.{number_cond, unwatched}
-use Rattle.notifier.specs.Watchers.{watched, NoneIsLeft}
+use Rattle.notifier.specs.Watchers.{is_watched, NoSetIsEmpty, topic, is_topic, is_about}
 use Rattle.notifier.proofs.Rising.{Rises, Leads, led, rises_led, with_serial-led, leads_from, rising_same, neq-eqb, with_serial-same, with_serial-other}
 
 -- ---- the list that is stored
@@ -49,8 +49,8 @@ pub record Moves (old new : Rows) (serial key : ℕ) (row : Option Row) : Type 0
   pub own : IfSome row (λ r. r.serial ≡ serial)
   pub others : (k : ℕ) → k ≢ key → slab.get new.slab k ≡ slab.get old.slab k
   pub timers : (due s : ℕ) → sorted.contains by_time new.timers (due, s) ≡ cond (serial == s) (is_timed_at due row) (sorted.contains by_time old.timers (due, s))
-  pub watchers : (q : List ℕ) (s : ℕ) → watched new.watchers q s ≡ cond (serial == s) (is_of q row) (watched old.watchers q s)
-  pub none_left : NoneIsLeft new.watchers
+  pub watchers : (p q : List ℕ) (s : ℕ) → is_watched new.watchers p q s ≡ cond (serial == s) (is_of p q row) (is_watched old.watchers p q s)
+  pub none_left : NoSetIsEmpty new.watchers
 
 module _ (old new : Rows) (serial key : ℕ) (row : Option Row) (i : IsIndexed old) (m : Moves old new serial key row) where
   other_at : (s : ℕ) → s ≢ serial → (o : Option ℕ) → tree.get nat_cmp old.order s ≡ o → option_and_then (slab.get new.slab) o ≡ option_and_then (slab.get old.slab) o
@@ -99,9 +99,9 @@ module _ (old new : Rows) (serial key : ℕ) (row : Option Row) (i : IsIndexed o
       | inl e ↦ rw (turns.at s, eq-eqb serial s e) refl
       | inr d ↦ rw (turns.at s, neq-eqb serial s d) (i.timed due s)
     ];
-    watching = λ q s. m.watchers q s ∙ elim (cases_eq serial s) [
+    watching = λ p q s. m.watchers p q s ∙ elim (cases_eq serial s) [
       | inl e ↦ rw (turns.at s, eq-eqb serial s e) refl
-      | inr d ↦ rw (turns.at s, neq-eqb serial s d) (i.watching q s)
+      | inr d ↦ rw (turns.at s, neq-eqb serial s d) (i.watching p q s)
     ];
     none_left = m.none_left;
   }
@@ -162,18 +162,18 @@ module _ (old new : Rows) (serial key : ℕ) (row : Row) (i : IsIndexed old) (fo
     | inr d ↦ rw (neq-eqb serial s d) refl
   ]
 
-  pub own_watch : (q : List ℕ) → watched old.watchers q serial ≡ bytes_eq row.sub.want.resource q
-  own_watch q = i.watching q serial ∙ ap (is_of q) row_there
+  pub own_watch : (p q : List ℕ) → is_watched old.watchers p q serial ≡ is_about row.sub.want p q
+  own_watch p q = i.watching p q serial ∙ ap (is_of p q) row_there
 
-  same_watch : (q : List ℕ) (s : ℕ) → watched old.watchers q s ≡ cond (serial == s) (bytes_eq row.sub.want.resource q) (watched old.watchers q s)
-  same_watch q s = elim (cases_eq serial s) [
-    | inl e ↦ rw (eq-eqb serial s e) (ap (watched old.watchers q) (sym e) ∙ own_watch q)
+  same_watch : (p q : List ℕ) (s : ℕ) → is_watched old.watchers p q s ≡ cond (serial == s) (is_about row.sub.want p q) (is_watched old.watchers p q s)
+  same_watch p q s = elim (cases_eq serial s) [
+    | inl e ↦ rw (eq-eqb serial s e) (ap (is_watched old.watchers p q) (sym e) ∙ own_watch p q)
     | inr d ↦ rw (neq-eqb serial s d) refl
   ]
 
   pub stay_moves : (mid : slab.Slab Row) (due vacant : ℕ) (next : Row) → new.order ≡ old.order → slab.Updates old.slab mid key None → vacant ≡ key → slab.Updates mid new.slab vacant (Some next) → next.serial ≡ row.serial → due ≡ alarm_of next
       → ((d s : ℕ) → sorted.contains by_time new.timers (d, s) ≡ cond (serial == s) (due == d) (sorted.contains by_time old.timers (d, s)))
-      → next.sub.want.resource ≡ row.sub.want.resource → new.watchers ≡ old.watchers
+      → topic next.sub.want ≡ topic row.sub.want → new.watchers ≡ old.watchers
       → Moves old new serial key (Some next)
   stay_moves mid due vacant next o a v b n e t w x = record {
     ordered = rw o i.ordered;
@@ -183,14 +183,14 @@ module _ (old new : Rows) (serial key : ℕ) (row : Row) (i : IsIndexed old) (fo
     own = n ∙ own_serial;
     others = λ k d. b.others k (λ q. d (q ∙ v)) ∙ a.others k d;
     timers = λ d s. t d s ∙ ap (λ x. cond (serial == s) (x == d) (sorted.contains by_time old.timers (d, s))) e;
-    watchers = λ q s. ap (λ m. watched m q s) x ∙ same_watch q s ∙ ap (λ r. cond (serial == s) (bytes_eq r q) (watched old.watchers q s)) (sym w);
+    watchers = λ p q s. ap (λ m. is_watched m p q s) x ∙ same_watch p q s ∙ ap (λ t. cond (serial == s) (is_topic t p q) (is_watched old.watchers p q s)) (sym w);
     none_left = rw x i.none_left;
   }
 
   pub go_moves : tree.IsOrdered nat_cmp new.order → ((s : ℕ) → tree.get nat_cmp new.order s ≡ cond (tree.is_at (nat_cmp serial) s) None (tree.get nat_cmp old.order s)) → slab.Updates old.slab new.slab key None
       → ((d s : ℕ) → sorted.contains by_time new.timers (d, s) ≡ cond (serial == s) false (sorted.contains by_time old.timers (d, s)))
-      → ((q : List ℕ) (s : ℕ) → watched new.watchers q s ≡ cond (bytes_eq row.sub.want.resource q && (serial == s)) false (watched old.watchers q s))
-      → (NoneIsLeft old.watchers → NoneIsLeft new.watchers)
+      → ((p q : List ℕ) (s : ℕ) → is_watched new.watchers p q s ≡ cond (is_about row.sub.want p q && (serial == s)) false (is_watched old.watchers p q s))
+      → (NoSetIsEmpty old.watchers → NoSetIsEmpty new.watchers)
       → Moves old new serial key None
   go_moves w o a t x n = record {
     ordered = w;
@@ -200,7 +200,7 @@ module _ (old new : Rows) (serial key : ℕ) (row : Row) (i : IsIndexed old) (fo
     own = tt;
     others = a.others;
     timers = t;
-    watchers = λ q s. unwatched (bytes_eq row.sub.want.resource q) serial s (watched old.watchers q s) (watched new.watchers q s) (x q s) (λ e. ap (watched old.watchers q) (sym e) ∙ own_watch q);
+    watchers = λ p q s. unwatched (is_about row.sub.want p q) serial s (is_watched old.watchers p q s) (is_watched new.watchers p q s) (x p q s) (λ e. ap (is_watched old.watchers p q) (sym e) ∙ own_watch p q);
     none_left = n i.none_left;
   }
 

@@ -3,8 +3,8 @@ use Rattle.std.specs.Prelude.{ℕ, List}
 use Rattle.package.specs.Content.{Maps, SeenBy}
 use Rattle.notifier_model.specs.declared.place.Place.{Place}
 use Rattle.notifier_model.specs.declared.row.Row.{Row}
-use Rattle.notifier.specs.declared.rule.Cause.{Cause}
-use Rattle.notifier.specs.declared.rule.Cause.TheVariants.{Response, Refused, Renewal, Change, Time, Stop}
+use Rattle.notifier.specs.declared.sweep.rule.Cause.{Cause}
+use Rattle.notifier.specs.declared.sweep.rule.Cause.TheVariants.{Response, Refused, Renewal, Change, Time, Stop}
 use Rattle.notifier.specs.Sound.{IsLive, AreInOrder}
 use Rattle.notifier_model.specs.Rows.{Told, only, answered, counted, renewed, tells_watcher, times_out, stops}
 

@@ -2,7 +2,7 @@
 use Rattle.std.specs.Prelude.{ℕ, List, map, Option, option_map}
 use Rattle.package.specs.Content.{Seen}
 use Rattle.notifier_model.specs.declared.place.Place.{Place}
-use Rattle.notifier.specs.declared.ledger.Ledger.{Ledger}
+use Rattle.notifier.specs.declared.store.Ledger.{Ledger}
 use Rattle.notifier_model.specs.declared.row.Row.{Row}
 use Rattle.notifier_model.specs.declared.row.Kept.{Kept}
 use Rattle.notifier.specs.Stored.{rows_of}

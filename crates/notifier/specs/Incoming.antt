@@ -1,20 +1,16 @@
 -- A request that came in, and what serving it makes of a ledger.
-use Rattle.std.specs.Prelude.{◌≡◌, ℕ, List, option_map}
+use Rattle.std.specs.Prelude.{ℕ, List}
+use Rattle.sip_text.specs.declared.address.Addr.{Addr}
+use Rattle.sip_read.specs.declared.message.Request.{Request}
 use Rattle.package.specs.Content.{Seen, SeenBy, finite_maps}
 use Rattle.notifier_model.specs.declared.event.Out.{Out}
 use Rattle.notifier.specs.declared.incoming.Incoming.{Incoming}
-use Rattle.notifier.specs.declared.ledger.Ledger.{Ledger}
+use Rattle.notifier.specs.declared.store.Ledger.{Ledger}
 use Rattle.notifier_model.specs.declared.place.Place.{Place}
-use Rattle.notifier.specs.declared.birth.Newborn.{Newborn}
+use Rattle.notifier.specs.declared.create.birth.Newborn.{Newborn}
 use Rattle.notifier_model.specs.Book.{Verdict, served, new_usage, new_want, first_step, first_told}
 use Rattle.notifier.specs.Ledger.{book_of, IsStep}
-use Rattle.notifier_model.specs.Requests.{key_of_request}
 use Rattle.notifier_model.specs.Rows.{Told}
-use Rattle.notifier.specs.Transactions.{key_of}
-
--- its texts name the transaction of its request
-abbrev pub IsNamed : Incoming → Type 0
-IsNamed incoming = option_map key_of incoming.transaction ≡ key_of_request incoming.request.now
 
 module _ {P : Type 0} (seen : P → Seen) where
   -- the ledger after the request got this verdict, and what goes out
@@ -22,9 +18,8 @@ module _ {P : Type 0} (seen : P → Seen) where
   Serves place before incoming verdict after outs =
       IsStep (served place (book_of seen before) incoming.source incoming.request.now verdict) (book_of seen after) outs
 
--- what is told first of the subscription that it makes
-abbrev pub first_told_of : Place → List (SeenBy finite_maps) → ℕ → Incoming → Newborn → Told
-first_told_of place boxes clock incoming newborn =
-    first_told place boxes clock newborn.tag incoming.source incoming.request.now newborn.serial
-    (first_step place.limits clock (new_usage newborn.tag incoming.request.now)
-    (new_want place newborn.tag incoming.source incoming.request.now) incoming.request.now newborn.kind)
+-- what is told first of the subscription that a request makes
+abbrev pub first_told_of : Place → List (SeenBy finite_maps) → ℕ → Addr → Request → Newborn → Told
+first_told_of place boxes clock source r newborn =
+    first_told place boxes clock newborn.tag source r newborn.serial
+    (first_step place.limits clock (new_usage newborn.tag r) (new_want place newborn.tag source r) r newborn.kind)

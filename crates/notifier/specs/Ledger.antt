@@ -1,7 +1,7 @@
 -- The book that the stored parts of a desk stand for.
 use Rattle.std.specs.Prelude.{◌≡◌, ◌<◌, ◌≤◌, ◌^◌, List, map, All}
 use Rattle.package.specs.Content.{Seen, finite_maps}
-use Rattle.notifier.specs.declared.ledger.Ledger.{Ledger}
+use Rattle.notifier.specs.declared.store.Ledger.{Ledger}
 use Rattle.notifier_model.specs.declared.event.Out.{Out}
 use Rattle.notifier_model.specs.declared.place.Place.{Place}
 use Rattle.notifier_model.specs.Out.{out_of}

@@ -3,11 +3,11 @@
 -- The slots of a ring are numbered: each answer takes the slot after that of the one before it, and behind the last slot comes
 -- the first again. So a slot stands for one answer as long as that is kept.
 use Rattle.std.specs.Prelude.{◌≡◌, ℕ, suc, ◌+◌, ◌-◌, ◌<◌, ◌≤◌, Bool, List, [], ◌∷◌, length, take, Option, Some, None, option_map, if◌then◌else◌, nat_le, ◌==◌}
-use Rattle.std.specs.HashMap.{HashMap, get}
+use Rattle.std.specs.BTreeMap.{BTreeMap, get}
 use Rattle.circular_buffer.specs.Buffer.{Buffer, buffer}
 use Rattle.notifier_model.specs.declared.row.Kept.{Kept}
-use Rattle.notifier.specs.declared.transaction.Transaction.{Transaction}
-use Rattle.notifier.specs.contracts.transaction.TransactionPartialEq.TheImpl as equality
+use Rattle.notifier.specs.declared.store.transaction.Transaction.{Transaction}
+use Rattle.notifier.specs.contracts.store.transaction.TransactionOrd.TheImpl as order
 use Rattle.notifier_model.specs.Answers.{has_key}
 use Rattle.notifier.specs.Transactions.{key_of}
 
@@ -28,15 +28,15 @@ place_of t [] = None
 place_of t (kept ∷ older) = if answers t kept then Some 0 else option_map suc (place_of t older)
 
 -- the slot that a map has at the transaction
-abbrev pub slot_in : {S : Type 0} → HashMap Transaction ℕ S → Transaction → Option ℕ
-slot_in slots t = get (equality.ghosts).eq slots t
+abbrev pub slot_in : BTreeMap Transaction ℕ → Transaction → Option ℕ
+slot_in slots t = get (order.ghosts).cmp slots t
 
 -- with this answer before the others. The oldest goes when there is no room
 abbrev pub with_newest : Buffer Kept → Kept → Buffer Kept
 with_newest ring kept = buffer (take ring.capacity (kept ∷ ring.items)) ring.capacity
 
 -- the map leads each transaction to the slot of the newest answer to it
-pub record IsIndexed {S : Type 0} (ring : Buffer Kept) (slots : HashMap Transaction ℕ S) (newest : ℕ) : Type 0 where
+pub record IsIndexed (ring : Buffer Kept) (slots : BTreeMap Transaction ℕ) (newest : ℕ) : Type 0 where
   pub within : newest < ring.capacity
   pub fits : length ring.items ≤ ring.capacity
   pub found : (t : Transaction) → slot_in slots t ≡ option_map (slot_at ring.capacity newest) (place_of t ring.items)

@@ -1,5 +1,5 @@
 -- The live subscriptions as they are stored, and the list that they stand for.
-use Rattle.std.specs.Prelude.{◌≡◌, ◌≤◌, ◌<◌, ℕ, Bool, true, false, ◌==◌, List, [], ◌∷◌, Option, Some, None, filter_map, find, min, ◌+◌, ◌-◌, ◌^◌, if◌then◌else◌, bytes_eq}
+use Rattle.std.specs.Prelude.{◌≡◌, ◌≤◌, ◌<◌, ℕ, Bool, true, false, ◌==◌, List, [], ◌∷◌, Option, Some, None, filter_map, find, min, ◌+◌, ◌-◌, ◌^◌, if◌then◌else◌}
 use Rattle.std.specs.Option.{IsSomeAnd, option_and_then}
 use Rattle.std.specs.Ordering.{nat_cmp, ordering_then}
 use Rattle.std.specs.declared.cmp.Ordering.{Ordering}
@@ -11,8 +11,8 @@ use Rattle.notifier_model.specs.declared.row.Row.{Row}
 use Rattle.notifier_model.specs.declared.row.Unanswered.{Unanswered}
 use Rattle.notifier_model.specs.declared.place.Place.{Place}
 use Rattle.notifier_model.specs.Start.{patience, tag_of}
-use Rattle.notifier.specs.Watchers.{watched, NoneIsLeft}
-use Rattle.notifier.specs.declared.rows.Rows.{Rows}
+use Rattle.notifier.specs.Watchers.{is_watched, is_about, NoSetIsEmpty}
+use Rattle.notifier.specs.declared.store.rows.Rows.{Rows}
 
 -- the rows, by rising serial
 abbrev pub rows_of : Rows → List Row
@@ -46,17 +46,17 @@ abbrev pub is_timed_at : ℕ → Option Row → Bool
 is_timed_at moment None = false
 is_timed_at moment (Some row) = alarm_of row == moment
 
-abbrev pub is_of : List ℕ → Option Row → Bool
-is_of resource None = false
-is_of resource (Some row) = bytes_eq row.sub.want.resource resource
+abbrev pub is_of : List ℕ → List ℕ → Option Row → Bool
+is_of name resource None = false
+is_of name resource (Some row) = is_about row.sub.want name resource
 
 -- each serial leads to its row, each live row has its timer, and the watchers of each resource are its rows
 pub record IsIndexed (r : Rows) : Type 0 where
   pub ordered : tree.IsOrdered nat_cmp r.order
   pub held : (serial key : ℕ) → tree.get nat_cmp r.order serial ≡ Some key → IsSomeAnd (slab.get r.slab key) (λ row. row.serial ≡ serial)
   pub timed : (due serial : ℕ) → sorted.contains by_time r.timers (due, serial) ≡ is_timed_at due (row_at r serial)
-  pub watching : (resource : List ℕ) (serial : ℕ) → watched r.watchers resource serial ≡ is_of resource (row_at r serial)
-  pub none_left : NoneIsLeft r.watchers
+  pub watching : (name resource : List ℕ) (serial : ℕ) → is_watched r.watchers name resource serial ≡ is_of name resource (row_at r serial)
+  pub none_left : NoSetIsEmpty r.watchers
 
 -- after a step at one serial that leaves this row there, if any
 pub record Turns (old new : Rows) (serial : ℕ) (row : Option Row) : Type 0 where

@@ -2,7 +2,7 @@
 use Rattle.std.specs.Prelude.{List, map}
 use Rattle.package.specs.Content.{Seen, SeenBy, finite_maps}
 use Rattle.notifier_model.specs.declared.row.Row.{Row}
-use Rattle.notifier.specs.declared.rule.Cause.{Cause}
+use Rattle.notifier.specs.declared.sweep.rule.Cause.{Cause}
 use Rattle.notifier.specs.declared.teller.Teller.{Teller}
 use Rattle.notifier.specs.Causes.{rule_of}
 use Rattle.notifier_model.specs.Rows.{Told}

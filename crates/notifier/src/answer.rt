@@ -1,15 +1,20 @@
-//! The answers of a desk, as bytes.
+//! The answers of a desk: their bytes, and that they are kept.
 #![tactic(auto, unfolding(notifier_model::specs::Answers::refusal_answer, notifier_model::specs::Answers::refusal_text, notifier_model::specs::Answers::renewal_answer, notifier_model::specs::Answers::birth_answer))]
 
 ghost use Rattle.std.specs.Prelude.{◌≡◌, ◌++◌, ◌∷◌, [], map, option_map, filter, IfOk, OnOk};
+ghost use Rattle.circular_buffer.specs.Buffer.{buffer};
 ghost use Rattle.sip_write.specs.Answer.{answer_text};
 ghost use Rattle.sip_write.specs.Views.{answer_view};
 ghost use Rattle.notifier_model.specs.Answers as spec;
+ghost use Rattle.notifier_model.specs.Limits.{Limits as LimitsSeen};
 ghost use Rattle.notifier_model.specs.Requests.{is_strange as is_strange_word};
+ghost use Rattle.notifier.specs.Transactions.{key_of};
 
 use crate::incoming::Incoming;
-use crate::request::{granted, is_refer, is_strange, is_unwatched};
+use crate::store::kept::KeptAnswers;
 use crate::tag::refusal_tag;
+use crate::verdict::request::{granted, is_refer, is_strange, is_unwatched};
+use notifier_model::event::Out;
 use notifier_model::limits::Limits;
 use notifier_model::place::Place;
 use notifier_model::refusal::Refusal;
@@ -220,4 +225,31 @@ pub fn refusal_answer<P: Package>(
         strange: strange.as_slice(),
     };
     refusal_bytes(alloc, place, incoming, refused, &words)
+}
+
+pub fn copy_bytes(alloc: Global, bytes: &Octets) -> Result<Octets, NoMemory>
+    ensures { IfOk result (λ b. b ≡ bytes.now) }
+{
+    let bytes = Vec::from_slice(alloc, bytes.as_slice())?;
+    Ok(Octets::new(bytes))
+}
+
+/// Answers a request, and keeps the answer where the request names a transaction.
+pub fn respond(
+    alloc: Global,
+    ring: &mut KeptAnswers,
+    incoming: Incoming<'_>,
+    bytes: Octets,
+) -> Result<Vec<Out>, NoMemory>
+    ensures ring { OnOk result ((limits : LimitsSeen) → ring.old.capacity ≡ limits.kept
+        → ring.new ≡ buffer
+        (spec.ring_with limits ring.old.items (option_map key_of incoming.entry.transaction) bytes) ring.old.capacity) }
+    ensures outs { IfOk result (λ outs. outs.items ≡ Out.Answer incoming.entry.source bytes ∷ []) }
+{
+    let copy = copy_bytes(alloc, &bytes)?;
+    let to = incoming.source;
+    ring.keep(alloc, incoming.transaction, copy)?;
+    let mut outs = Vec::new(alloc);
+    outs.push(Out::Answer { to, bytes })?;
+    Ok(outs)
 }

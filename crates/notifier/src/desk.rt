@@ -7,9 +7,9 @@ ghost use Rattle.notifier.specs.Held.{seen_by};
 ghost use Rattle.notifier.specs.Errors.{number_of};
 ghost use Rattle.notifier_model.specs.Start.{place_of};
 
-use crate::kept::KeptAnswers;
-use crate::ledger::Ledger;
-use crate::rows::Rows;
+use crate::store::Ledger;
+use crate::store::kept::KeptAnswers;
+use crate::store::rows::Rows;
 use notifier_model::event::{Event, Out};
 use notifier_model::place::{Place, Setup};
 use package::Package;

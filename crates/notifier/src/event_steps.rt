@@ -5,8 +5,8 @@ ghost use Rattle.std.specs.Prelude.{IfOk, OnOk};
 ghost use Rattle.notifier_model.specs.Book.{step};
 ghost use Rattle.notifier.specs.Ledger.{book_of, IsStep, IsSound};
 
-use crate::changes::News;
-use crate::ledger::Ledger;
+use crate::store::Ledger;
+use crate::sweep::News;
 use notifier_model::event::{Event, Out};
 use notifier_model::place::Place;
 use package::{Change, MailChange, Package, Progress};

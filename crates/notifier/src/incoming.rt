@@ -1,6 +1,11 @@
 //! Requests that came in.
 
-use crate::transaction::Transaction;
+ghost use Rattle.std.specs.Prelude.{◌≡◌, option_map};
+ghost use Rattle.std.proofs.Props.{props};
+ghost use Rattle.notifier_model.specs.Requests.{key_of_request};
+ghost use Rattle.notifier.specs.Transactions.{key_of};
+
+use crate::store::transaction::Transaction;
 use sip_read::{Addr, Request};
 
 /// A request that came in.
@@ -11,4 +16,5 @@ pub struct Incoming<'a> {
     pub request: &'a Request,
     /// What names its transaction, if anything does.
     pub transaction: Option<Transaction>,
+    ghost named: { option_map key_of transaction ≡ key_of_request request.now } by { Prim.hlevel props },
 }

@@ -9,33 +9,22 @@
 #![tactic(auto)]
 
 mod answer;
-mod birth;
-mod birth_steps;
 mod boxes;
-mod changes;
+mod create;
 pub mod desk;
-mod dialog;
 mod event_steps;
+mod in_dialog;
 mod incoming;
-mod kept;
 pub mod laws;
-mod ledger;
 mod notice;
-mod placing;
-mod request;
-mod request_steps;
-mod rows;
-mod rule;
-mod rules;
+mod store;
+mod sweep;
 mod tag;
 mod teller;
-mod telling;
-mod timers;
-mod touched;
-mod transaction;
-mod watchers;
+mod verdict;
 pub mod whole_run;
 
 pub use desk::{Desk, DeskError};
 pub use notifier_model::{Event, Limits, Out, Place, Refusal, Setup, user_part};
+pub use sip_text::NoMemory;
 pub use whole_run::play;

@@ -21,20 +21,6 @@ use sip_write::{NotifyText, write_notify};
 use std::alloc::Global;
 use subscription::{Notice, Phase, Usage, Want};
 
-/// The same want once more.
-pub fn copy_want(alloc: Global, want: &Want) -> Result<Want, NoMemory>
-    ensures { IfOk result (λ w. w ≡ want.now) }
-{
-    let event = want.event.copy(alloc)?;
-    let resource = want.resource.copy(alloc)?;
-    Ok(Want {
-        event,
-        resource,
-        to: want.to,
-        max_cseq: want.max_cseq,
-    })
-}
-
 /// The Subscription-State of a phase (RFC 6665 section 4.1.3).
 fn state_value(alloc: Global, phase: Phase) -> Result<StateValue, NoMemory>
     ensures { IfOk result (λ s. s ≡ state_of phase) }

@@ -10,5 +10,6 @@ pub mod Out
 pub mod Sent
 pub mod Rows
 pub mod Home
+pub mod HomeLaws
 pub mod Book
 pub mod Run

@@ -78,7 +78,7 @@ module _ {maps : Maps} where
     row = Some (opened clock notice (row_of sub));
     notifies = Notifies to (notify place boxes sub.usage want notice) ∷ [];
   }
-  turned place boxes clock to want row_of (Over usage notice) = record {
+  turned place boxes clock to want row_of (Over usage _ notice) = record {
     row = None;
     notifies = Notifies to (notify place boxes usage want notice) ∷ [];
   }
@@ -121,7 +121,7 @@ module _ {maps : Maps} where
 -- the dialog after a step
 abbrev pub usage_after : Step → Usage
 usage_after (Live sub notice) = sub.usage
-usage_after (Over usage notice) = usage
+usage_after (Over usage want notice) = usage
 
 -- ---- a request in a dialog
 

@@ -2,8 +2,8 @@
 //!
 //! The types of what comes to a desk and what it sends, its limits, its place, and what it keeps of each subscription; and
 //! the definitions of what each [`Event`] does: `step` of `specs/Book` reads as a table of cases, `specs/Run` joins steps to
-//! whole runs, and [`laws`] says how runs grow. Whole worked runs are computed in `proofs/WorkedRuns`. What it isn't: no
-//! function here handles an event.
+//! whole runs, and [`laws`] says how runs grow. [`homes`] says which of several workers an event goes to. Whole worked runs
+//! are computed in `proofs/WorkedRuns`. What it isn't: no function here handles an event.
 //!
 //! Begin with `specs/Book`, then `specs/Rows` (what an event makes of each subscription) and `specs/Requests` (the tests on
 //! one request, in the order in which they are looked for).
@@ -11,6 +11,7 @@
 
 pub mod birth;
 pub mod event;
+pub mod homes;
 pub mod laws;
 pub mod limits;
 pub mod place;

@@ -24,3 +24,4 @@ pub use counts::{Class, Counts, MailCounts};
 pub use interface::Package;
 pub use mail_change::MailChange;
 pub use progress::Progress;
+pub use sip_text::NoMemory;

@@ -19,5 +19,6 @@ mod views;
 
 pub use items::{Entry, Item};
 pub use rule::{InOrder, Roles};
+pub use sip_text::NoMemory;
 pub use steps::{Compares, Sends, Takes};
 pub use views::View;

@@ -12,4 +12,5 @@ mod body;
 mod status;
 pub mod transfers;
 
+pub use sip_text::NoMemory;
 pub use transfers::Transfers;

@@ -23,3 +23,4 @@ pub use output::write_page;
 pub use page::Page;
 pub use parse::{one_reading, parse_control, parse_script};
 pub use script::{Block, Control};
+pub use sip_text::NoMemory;

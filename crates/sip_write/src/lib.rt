@@ -22,4 +22,5 @@ mod via;
 
 pub use answer::{Answer, write_response};
 pub use notify::{NotifyText, write_notify};
+pub use sip_text::NoMemory;
 pub use status::Status;

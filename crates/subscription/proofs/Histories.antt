@@ -17,14 +17,14 @@ use Rattle.subscription.specs.History.{Beginning, Accepted, Fetched, Cause, Refr
 
 -- a state that is told of is the last of its dialog, or goes on
 pub told-cases : (s : State) (left : ℕ) (P : Step → Type 0) →
-    ((s.count == s.want.max_cseq) ≡ true → P (Over s.usage (record { number = s.count; phase = Terminated Deactivated }))) →
+    ((s.count == s.want.max_cseq) ≡ true → P (Over s.usage s.want (record { number = s.count; phase = Terminated Deactivated }))) →
     ((s.count == s.want.max_cseq) ≡ false → P (Live s (record { number = s.count; phase = Active left }))) →
     P (told s left)
 unfolding told
 told-cases s left P last goes_on =
     (elim (s.count == s.want.max_cseq)
     as (λ b. (s.count == s.want.max_cseq) ≡ b →
-    P (if b then Over s.usage (record { number = s.count; phase = Terminated Deactivated })
+    P (if b then Over s.usage s.want (record { number = s.count; phase = Terminated Deactivated })
     else Live s (record { number = s.count; phase = Active left })))
     [ true ↦ last | false ↦ goes_on ]) refl
 

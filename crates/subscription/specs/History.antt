@@ -31,17 +31,17 @@ pub record Outcome : Type 0 where
 
 abbrev pub of_step : Step → Outcome
 of_step (Live s notice) = record { state = Some s; notices = notice ∷ [] }
-of_step (Over usage notice) = record { state = None; notices = notice ∷ [] }
+of_step (Over usage want notice) = record { state = None; notices = notice ∷ [] }
 
-abbrev pub of_end : Usage × Notice → Outcome
-of_end ended = record { state = None; notices = ended.1 ∷ [] }
+abbrev pub of_end : Usage × Want × Notice → Outcome
+of_end ended = record { state = None; notices = ended.2 ∷ [] }
 
 abbrev pub of_answer : Result Usage State → Outcome
 of_answer (Ok usage) = record { state = None; notices = [] }
 of_answer (Err s) = record { state = Some s; notices = [] }
 
-abbrev pub of_loss : Usage → Outcome
-of_loss usage = record { state = None; notices = [] }
+abbrev pub of_loss : Usage × Want → Outcome
+of_loss gone = record { state = None; notices = [] }
 
 abbrev pub begins : Beginning → Outcome
 begins (Accepted usage want moment granted) = of_step (accept usage want moment granted)

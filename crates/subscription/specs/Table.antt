@@ -14,12 +14,12 @@ use Rattle.subscription.specs.declared.life.Step.TheVariants.{Live, Over}
 use Rattle.subscription.specs.State.{State}
 
 -- A state that goes on is told by an active NOTIFY with the seconds that are left (4.2.1.2). The last number that its
--- dialog may use ends it instead: the subscriber may subscribe again at once (4.1.3). The dialog handed back is then that
--- of the state that would have gone on.
+-- dialog may use ends it instead: the subscriber may subscribe again at once (4.1.3). The dialog handed back, and what was
+-- asked for, are then those of the state that would have gone on.
 unfoldable pub told : State → ℕ → Step
 told s left =
     if s.count == s.want.max_cseq
-    then Over s.usage (record { number = s.count; phase = Terminated Deactivated })
+    then Over s.usage s.want (record { number = s.count; phase = Terminated Deactivated })
     else Live s (record { number = s.count; phase = Active left })
 
 -- A SUBSCRIBE outside a dialog makes a subscription (4.2.1.1), and its state is told at once (4.2.1.2).
@@ -28,8 +28,8 @@ accept usage want moment granted =
     told (record { usage = usage; want = want; count = 1; due = moment + granted }) granted
 
 -- One that asks for no time is told the state once, and leaves none (4.4.3).
-unfoldable pub fetch : Usage → Want → Usage × Notice
-fetch usage want = (usage, record { number = 1; phase = Terminated Timeout })
+unfoldable pub fetch : Usage → Want → Usage × Want × Notice
+fetch usage want = (usage, want, record { number = 1; phase = Terminated Timeout })
 
 -- A SUBSCRIBE in the dialog begins the time anew (4.2.1.4). It replaces the target where it brings one (RFC 3261 section
 -- 12.2.2), and the NOTIFYs go to its source from then on.
@@ -43,11 +43,11 @@ refresh s cseq target to moment granted =
     }) granted
 
 -- It ends, and a last NOTIFY says why (4.2.1.4 for its time, 4.1.3 for the reasons). The dialog is as it was.
-unfoldable pub end : State → Reason → Usage × Notice
-end s reason = (s.usage, record { number = s.count + 1; phase = Terminated reason })
+unfoldable pub end : State → Reason → Usage × Want × Notice
+end s reason = (s.usage, s.want, record { number = s.count + 1; phase = Terminated reason })
 
-abbrev pub over : Usage × Notice → Step
-over ended = Over ended.0 ended.1
+abbrev pub over : Usage × Want × Notice → Step
+over ended = Over ended.0 ended.1 ended.2
 
 -- What it watches has changed (4.2.2). Where that is over for good, so is the subscription.
 unfoldable pub changed : State → ℕ → Bool → Step
@@ -78,5 +78,5 @@ unfoldable pub refused_by : State → Response → Result Usage State
 refused_by s answer = if is_refusal_of s answer then Ok s.usage else Err s
 
 -- A NOTIFY of it stayed unanswered (4.2.2): it is gone without another.
-unfoldable pub lost : State → Usage
-lost s = s.usage
+unfoldable pub lost : State → Usage × Want
+lost s = (s.usage, s.want)

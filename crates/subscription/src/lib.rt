@@ -2,7 +2,7 @@
 //!
 //! It sends nothing, reads no clock and takes no memory: its caller hands in the time, in seconds, and writes the NOTIFYs.
 //! A subscription is a value, [`Sub`], which each cause consumes; the call hands back the one that goes on, or the dialog
-//! of the one that is over. So nothing can be told after the end.
+//! of the one that is over, with what was asked for. So nothing can be told after the end.
 //!
 //! Each call is one equation of `specs/Table`. [`laws::whole_life`] says what holds of all calls in a row: the NOTIFYs are
 //! numbered 1, 2, 3 .., and none follows a terminated one, a refusal or a loss. Begin with [`Sub`], whose drawing shows its

@@ -59,8 +59,8 @@ impl Model for Sub {
 pub enum Step {
     /// The subscription goes on.
     Live(Sub, Notice),
-    /// It is over. Its last NOTIFY is sent in this dialog.
-    Over(Usage, Notice),
+    /// It is over. Its last NOTIFY is sent in this dialog, and tells of what was asked for.
+    Over(Usage, Want, Notice),
 }
 
 // The NOTIFY of a state that goes on, unless that takes the last number.
@@ -70,7 +70,7 @@ fn told(usage: Usage, want: Want, count: u32, due: u64, left: u32) -> Step
     ensures { result ≡ table.told (record { usage = usage; want = want; count = count; due = due }) left }
 {
     if count == want.max_cseq {
-        return Step::Over(usage, Notice::terminated(count, Reason::Deactivated));
+        return Step::Over(usage, want, Notice::terminated(count, Reason::Deactivated));
     }
     let sub = Sub {
         usage,
@@ -102,10 +102,10 @@ impl Sub {
     }
 
     /// The one NOTIFY of a SUBSCRIBE outside a dialog that asks for no time (RFC 6665 section 4.4.3).
-    pub fn fetch(usage: Usage, _want: Want) -> (Usage, Notice)
-        ensures { result ≡ table.fetch usage _want }
+    pub fn fetch(usage: Usage, want: Want) -> (Usage, Want, Notice)
+        ensures { result ≡ table.fetch usage want }
     {
-        (usage, Notice::terminated(1, Reason::Timeout))
+        (usage, want, Notice::terminated(1, Reason::Timeout))
     }
 
     /// A SUBSCRIBE in the dialog with this CSeq number, from `to`, begins the time anew: `granted` seconds from
@@ -134,8 +134,8 @@ impl Sub {
         ensures { result ≡ table.changed self now over }
     {
         if over {
-            let (usage, notice) = self.end(Reason::Noresource);
-            return Step::Over(usage, notice);
+            let (usage, want, notice) = self.end(Reason::Noresource);
+            return Step::Over(usage, want, notice);
         }
         let left = (self.due - now) as u32;
         told(self.usage, self.want, self.count + 1, self.due, left)
@@ -143,11 +143,11 @@ impl Sub {
 
     /// It ends, and a last NOTIFY says why: its time is up, or the subscriber asked for no more of it (RFC 6665
     /// section 4.2.1.4), or the notifier stops (section 4.1.3).
-    pub fn end(self, reason: Reason) -> (Usage, Notice)
+    pub fn end(self, reason: Reason) -> (Usage, Want, Notice)
         ensures { result ≡ table.end self reason }
     {
         let number = self.count + 1;
-        (self.usage, Notice::terminated(number, reason))
+        (self.usage, self.want, Notice::terminated(number, reason))
     }
 
     /// The dialog of a subscription that this response refuses: a 481 to one of its NOTIFYs (RFC 6665 section
@@ -180,13 +180,13 @@ impl Sub {
             && (1..=self.count).contains(&head.cseq)
     }
 
-    /// The dialog of a subscription of which a NOTIFY stayed unanswered: it is gone without another (RFC 6665
-    /// section 4.2.2).
-    pub fn lost(self) -> Usage
+    /// The dialog of a subscription of which a NOTIFY stayed unanswered, and what was asked for: it is gone without
+    /// another (RFC 6665 section 4.2.2).
+    pub fn lost(self) -> (Usage, Want)
         ensures { result ≡ table.lost self }
     {
-        let Sub { usage, .. } = self;
-        usage
+        let Sub { usage, want, .. } = self;
+        (usage, want)
     }
 
     /// The second in which its time is up.

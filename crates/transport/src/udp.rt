@@ -29,6 +29,8 @@ pub struct UdpWire {
     most: u64,
     // whether a receive in time ever failed since the descriptor is no socket any more
     is_lost: bool,
+    // the number of the system's error at the last send that failed
+    send_error: Option<u32>,
 }
 
 /// This address as the system's.
@@ -89,6 +91,7 @@ impl UdpWire {
             row: 0,
             most: 0,
             is_lost: false,
+            send_error: None,
         };
         let second = UdpWire {
             socket: other,
@@ -97,6 +100,7 @@ impl UdpWire {
             row: 0,
             most: 0,
             is_lost: false,
+            send_error: None,
         };
         Ok((first, second))
     }
@@ -113,6 +117,7 @@ impl UdpWire {
             row: 0,
             most: 0,
             is_lost: false,
+            send_error: None,
         })
     }
 
@@ -203,8 +208,16 @@ impl Wire for UdpWire {
     fn send<R: Wait>(&mut self, _rt: &R, to: Addr, octets: &[u8]) -> Result<(), WireFault> {
         match self.socket.send_to(octets, system_addr(to)) {
             Ok(length) if length == octets.len() => Ok(()),
-            Ok(_) | Err(_) => Err(self.fail()),
+            Ok(_) => Err(self.fail()),
+            Err(error) => {
+                self.send_error = error.raw_os_error().map(i32::cast_unsigned);
+                Err(self.fail())
+            }
         }
+    }
+
+    fn send_error(&self) -> Option<u32> {
+        self.send_error
     }
 }
 

@@ -38,4 +38,10 @@ pub trait Wire {
         ensures given { Grows (given self.old) (given self.new) [] }
         ensures taken { Takes (taken self.old) (taken self.new) to octets.now result }
         ensures counted { failures self.new ≡ failures_after result (failures self.old) };
+
+    /// The number of the system's error at the last send that failed, for a log. None where the wire knows none: no contract says
+    /// what a system tells.
+    fn send_error(&self) -> Option<u32> {
+        None
+    }
 }

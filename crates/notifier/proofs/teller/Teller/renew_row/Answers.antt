@@ -1,9 +1,19 @@
-use Rattle.std.proofs.Common.{◌∙◌, map}
-use Rattle.notifier.proofs.Renewal.{if_ok_all, renewed_told}
+use Rattle.std.proofs.Common.{map}
+use Rattle.notifier_model.specs.Rows.{renewed}
+use Rattle.notifier.specs.Told.{IsTold}
+use Rattle.notifier.proofs.Renewal.{if_is, renewal_stays, renewal_goes}
 use Rattle.notifier.proofs.teller.Teller.renew_row.Goals as goal
 
-pub returns : goal.returns
-returns g c =
-    if_ok_all c.turned.result c.turned.ensures.row c.turned.ensures.out c.turned.ensures.gone (λ after stays sends forgets.
-    renewed_told c.args.self.now.place.now (map g.P.Package.seen c.args.self.now.boxes.now.items) c.args.self.now.clock c.args.source c.args.request.now c.args.row
-    c.in_ok-want.want c.in_ok-next.next after (c.in_ok-want.ensures ∙ c.want.ensures) c.in_ok-next.ensures stays sends forgets)
+pub returns-in-Live : goal.returns-in-Live
+returns-in-Live g c =
+    let place = c.args.self.now.place.now in
+    let boxes = map g.P.Package.seen c.args.self.now.boxes.now.items in
+    if_is (IsTold (renewed place boxes c.args.self.now.clock c.args.source c.args.request.now) c.args.row) c.goes_on.result _ c.goes_on.ensures
+    (renewal_stays place boxes c.args.self.now.clock c.args.row c.args.source c.args.request.now c.in_ok-next.next c.in-Live.sub c.in-Live.notice c.in_ok-next.ensures c.in-Live.is)
+
+pub returns-in-Over : goal.returns-in-Over
+returns-in-Over g c =
+    let place = c.args.self.now.place.now in
+    let boxes = map g.P.Package.seen c.args.self.now.boxes.now.items in
+    if_is (IsTold (renewed place boxes c.args.self.now.clock c.args.source c.args.request.now) c.args.row) c.finishes.result _ c.finishes.ensures
+    (renewal_goes place boxes c.args.self.now.clock c.args.row c.args.source c.args.request.now c.in_ok-next.next c.in-Over.usage c.in-Over.want c.in-Over.notice c.in_ok-next.ensures c.in-Over.is)

@@ -1,3 +1,0 @@
-mod Names
-pub mod Homes
-pub mod HomeExamples

@@ -1,0 +1,324 @@
+//! Requests that make a dialog (RFC 3261 section 12.1.1).
+#![tactic(auto, unfolding(notifier_model::specs::Book::new_usage, notifier_model::specs::Book::new_want, notifier_model::specs::Book::first_step, notifier_model::specs::Book::first_boxes, notifier_model::specs::Book::first_told, notifier_model::specs::Book::new_row, notifier_model::specs::Rows::goes, notifier_model::specs::Rows::turned, notifier_model::specs::Requests::event_of))]
+
+ghost use Rattle.std.specs.Prelude.{false, ◌≡◌, ◌≤◌, ◌<◌, ◌^◌, map, if◌then◌else◌, IfOk, OnOk, option_to_list, None};
+ghost use Rattle.subscription.specs.Table as table;
+ghost use Rattle.notifier_model.specs.Book as spec;
+ghost use Rattle.notifier_model.specs.Fields as fields;
+ghost use Rattle.notifier.specs.Incoming.{first_told_of};
+ghost use Rattle.notifier_model.specs.Out.{out_of};
+ghost use Rattle.notifier_model.specs.Requests as requests;
+ghost use Rattle.notifier_model.specs.Rows as rows;
+ghost use Rattle.notifier.specs.Tellers.{boxes_of};
+ghost use Rattle.notifier.specs.Told.{row_after, out_after, want_after};
+
+use crate::boxes::tell_first;
+use crate::in_dialog::tag_or_empty;
+use crate::store::Ledger;
+use crate::sweep::rules::After;
+use crate::teller::Teller;
+use crate::verdict::request::{granted, is_refer};
+use event_headers::EventValue;
+use notifier_model::birth::Birth;
+use notifier_model::event::Out;
+use notifier_model::place::Place;
+use notifier_model::row::Row;
+use notifier_model::uri::user_part;
+use package::{Change, Package};
+use sip_read::{Addr, Request};
+use sip_text::{Field, NoMemory, Text, Values};
+use std::alloc::Global;
+use subscription::{Step, Sub, Usage, Want};
+
+/// What a request makes: of which kind it is, its serial and its local tag.
+#[derive(Drop)]
+pub struct Newborn {
+    pub kind: Birth,
+    pub serial: u32,
+    pub tag: Text,
+}
+
+/// What is told first of what a request makes.
+#[derive(Drop)]
+pub struct First {
+    /// The new row, if one stays.
+    pub row: Option<Row>,
+    /// Its first NOTIFY, if there is one.
+    pub out: Option<Out>,
+}
+
+impl First {
+    /// Nothing is told, and no row stays.
+    fn nothing() -> First
+        ensures { result ≡ record { row = None; out = None } }
+    {
+        First {
+            row: None,
+            out: None,
+        }
+    }
+
+    /// The same of a row that was told.
+    fn new(after: After) -> First
+        ensures { result ≡ record { row = row_after after; out = out_after after } }
+    {
+        match after {
+            After::Stays(row, out) => First {
+                row: Some(row),
+                out,
+            },
+            After::Goes(_, out) => First { row: None, out },
+        }
+    }
+}
+
+fn copy_texts(alloc: Global, texts: &[Text]) -> Result<Values<Text>, NoMemory>
+    ensures { IfOk result (λ copies. copies ≡ texts.now) }
+{
+    let mut copies = Vec::with_capacity(alloc, texts.len())?;
+    for text in texts {
+        copies.push(text.copy(alloc)?)?;
+    }
+    Ok(Values::new(copies))
+}
+
+/// The value of a header, or the empty text.
+pub fn value_or_empty(field: &Field<Text>) -> &str
+    ensures { result.now ≡ fields.or_empty (fields.value_of field.now) }
+{
+    match field {
+        Field::Value(text) => text.as_str(),
+        _ => "",
+    }
+}
+
+/// The dialog that a request makes.
+fn new_usage(alloc: Global, tag: &Text, request: &Request) -> Result<Usage, NoMemory>
+    ensures { IfOk result (λ usage. usage ≡ spec.new_usage tag.now request.now) }
+{
+    let head = &request.head;
+    let call_id = head.call_id.copy(alloc)?;
+    let local_tag = tag.copy(alloc)?;
+    let remote_tag = Text::of(alloc, tag_or_empty(&head.from.tag))?;
+    let local = head.to.text.copy(alloc)?;
+    let remote = head.from.text.copy(alloc)?;
+    let target = Text::of(alloc, value_or_empty(&request.contact))?;
+    let routes = copy_texts(alloc, request.record_routes.as_slice())?;
+    Ok(Usage {
+        call_id,
+        local_tag,
+        remote_tag,
+        local,
+        remote,
+        target,
+        routes,
+        remote_cseq: head.cseq,
+    })
+}
+
+/// The event of a request that fits: a SUBSCRIBE has one, and a REFER makes its own (RFC 3515 section 2.4.6).
+fn event_of(alloc: Global, request: &Request) -> Result<EventValue, NoMemory>
+    requires fits { requests.misfit request.now ≡ None }
+    ensures { IfOk result (λ event. event ≡ requests.event_of request.now) }
+{
+    match &request.event {
+        Field::Value(event) if !is_refer(request) => event.copy(alloc),
+        _ => EventValue::numbered(alloc, "refer", request.head.cseq),
+    }
+}
+
+/// What it watches: a mailbox, or the tag of a transfer.
+fn resource_of(alloc: Global, tag: &Text, request: &Request) -> Result<Text, NoMemory>
+    ensures { IfOk result (λ resource. resource
+        ≡ (if requests.is_refer request.now then tag.now else requests.user_part request.now.uri)) }
+{
+    if is_refer(request) {
+        tag.copy(alloc)
+    } else {
+        Text::of(alloc, user_part(request.uri.as_str()))
+    }
+}
+
+fn new_want(
+    alloc: Global,
+    place: &Place,
+    tag: &Text,
+    source: Addr,
+    request: &Request,
+) -> Result<Want, NoMemory>
+    requires fits { requests.misfit request.now ≡ None }
+    ensures want { IfOk result (λ want. want ≡ spec.new_want place.now tag.now source request.now) }
+    ensures some_number { IfOk result (λ want. 1 ≤ want.max_cseq) }
+{
+    let event = event_of(alloc, request)?;
+    let resource = resource_of(alloc, tag, request)?;
+    Ok(Want {
+        event,
+        resource,
+        to: source,
+        max_cseq: place.limits.max_cseq(),
+    })
+}
+
+impl<P: Package> Teller<'_, P> {
+    /// A subscription that is accepted for the time granted.
+    fn first_accepted(&self, usage: Usage, want: Want, request: &Request) -> Step
+        requires number { 1 ≤ want.max_cseq }
+        requires clock { self.now.clock < 2 ^ 63 }
+        requires asks { requests.asks_nothing self.now.place.now.limits request.now ≡ false }
+        ensures { result
+            ≡ table.accept usage want self.now.clock (requests.granted self.now.place.now.limits request.now) }
+    {
+        Sub::accept(
+            usage,
+            want,
+            self.clock,
+            granted(&self.place.limits, request),
+        )
+    }
+
+    /// How the subscription begins, if there is one.
+    fn first_step(&self, usage: Usage, want: Want, request: &Request, kind: Birth) -> Option<Step>
+        requires number { 1 ≤ want.max_cseq }
+        requires clock { self.now.clock < 2 ^ 63 }
+        requires kind { kind ≡ requests.birth_of self.now.place.now.limits request.now }
+        ensures { result ≡ spec.first_step self.now.place.now.limits self.now.clock usage want request.now kind }
+    {
+        match kind {
+            Birth::Fetch => {
+                let (usage, want, notice) = Sub::fetch(usage, want);
+                Some(Step::Over(usage, want, notice))
+            }
+            Birth::Unwatched => None,
+            Birth::Watch => Some(self.first_accepted(usage, want, request)),
+            Birth::Transfer => Some(self.first_accepted(usage, want, request)),
+        }
+    }
+
+    /// The same of the dialog that a request makes, and of what it asks for.
+    fn begun(
+        &self,
+        alloc: Global,
+        source: Addr,
+        request: &Request,
+        newborn: &Newborn,
+    ) -> Result<Option<Step>, NoMemory>
+        requires clock { self.now.clock < 2 ^ 63 }
+        requires fits { requests.misfit request.now ≡ None }
+        requires kind { newborn.now.kind ≡ requests.birth_of self.now.place.now.limits request.now }
+        ensures { IfOk result (λ next. next ≡ spec.first_step self.now.place.now.limits self.now.clock
+            (spec.new_usage newborn.now.tag request.now)
+            (spec.new_want self.now.place.now newborn.now.tag source request.now) request.now newborn.now.kind) }
+    {
+        let want = new_want(alloc, self.place, &newborn.tag, source, request)?;
+        let usage = new_usage(alloc, &newborn.tag, request)?;
+        Ok(self.first_step(usage, want, request, newborn.kind))
+    }
+
+    /// The new row, if one stays after the first step, and the NOTIFY of that step.
+    fn first_turned(
+        &self,
+        alloc: Global,
+        source: Addr,
+        request: &Request,
+        serial: u32,
+        next: Step,
+    ) -> Result<First, NoMemory>
+        ensures row { IfOk result (λ first. first.row ≡ (rows.turned self.now.place.now (boxes_of P.seen self.now)
+            self.now.clock source (want_after next) (spec.new_row serial request.now) next).row) }
+        ensures out { IfOk result (λ first. option_to_list first.out ≡ map out_of (rows.turned self.now.place.now
+            (boxes_of P.seen self.now) self.now.clock source (want_after next) (spec.new_row serial request.now)
+            next).notifies) }
+    {
+        match next {
+            Step::Live(sub, notice) => {
+                let row = Row {
+                    serial,
+                    sub,
+                    last_cseq: request.head.cseq,
+                    unanswered: Values::new(Vec::new(alloc)),
+                };
+                let after = self.goes_on(alloc, source, row, notice)?;
+                Ok(First::new(after))
+            }
+            Step::Over(usage, want, notice) => {
+                let after = self.finishes(alloc, source, usage, want, notice)?;
+                Ok(First::new(after))
+            }
+        }
+    }
+
+    /// The new row, if one stays, and its first NOTIFY, if there is one.
+    fn first_told(
+        &self,
+        alloc: Global,
+        source: Addr,
+        request: &Request,
+        newborn: &Newborn,
+    ) -> Result<First, NoMemory>
+        requires clock { self.now.clock < 2 ^ 63 }
+        requires fits { requests.misfit request.now ≡ None }
+        requires kind { newborn.now.kind ≡ requests.birth_of self.now.place.now.limits request.now }
+        ensures row { IfOk result (λ first. first.row ≡ (first_told_of self.now.place.now
+            (boxes_of P.seen self.now) self.now.clock source request.now newborn.now).row) }
+        ensures out { IfOk result (λ first. option_to_list first.out ≡ map out_of (first_told_of self.now.place.now
+            (boxes_of P.seen self.now) self.now.clock source request.now newborn.now).notifies) }
+    {
+        let begun = self.begun(alloc, source, request, newborn)?;
+        match begun {
+            None => Ok(First::nothing()),
+            Some(next) => self.first_turned(alloc, source, request, newborn.serial, next),
+        }
+    }
+}
+
+/// A transfer that is watched begins.
+fn begin<P: Package>(
+    alloc: Global,
+    boxes: &mut Vec<P>,
+    tag: &Text,
+    kind: Birth,
+) -> Result<(), NoMemory>
+    ensures { OnOk result (map P.seen boxes.new.items ≡ spec.first_boxes (map P.seen boxes.old.items) tag.now kind) }
+{
+    match kind {
+        Birth::Transfer => tell_first(alloc, boxes, Change::Begin(tag.copy(alloc)?)),
+        Birth::Watch => Ok(()),
+        Birth::Fetch => Ok(()),
+        Birth::Unwatched => Ok(()),
+    }
+}
+
+impl<P: Package> Ledger<P> {
+    /// A transfer that is watched begins. Then the new row, if one stays, and its first NOTIFY, if there is one.
+    pub fn establish(
+        &mut self,
+        alloc: Global,
+        place: &Place,
+        source: Addr,
+        request: &Request,
+        newborn: &Newborn,
+    ) -> Result<First, NoMemory>
+        requires clock { self.old.clock < 2 ^ 63 }
+        requires fits { requests.misfit request.now ≡ None }
+        requires kind { newborn.now.kind ≡ requests.birth_of place.now.limits request.now }
+        ensures boxes { OnOk result (map P.seen self.new.boxes.items
+            ≡ spec.first_boxes (map P.seen self.old.boxes.items) newborn.now.tag newborn.now.kind) }
+        ensures row { IfOk result (λ first. first.row ≡ (first_told_of place.now
+            (spec.first_boxes (map P.seen self.old.boxes.items) newborn.now.tag newborn.now.kind) self.old.clock
+            source request.now newborn.now).row) }
+        ensures out { IfOk result (λ first. option_to_list first.out ≡ map out_of (first_told_of place.now
+            (spec.first_boxes (map P.seen self.old.boxes.items) newborn.now.tag newborn.now.kind) self.old.clock
+            source request.now newborn.now).notifies) }
+        ensures same { OnOk result ((self.new.clock ≡ self.old.clock) × (self.new.next ≡ self.old.next)
+            × (self.new.rows ≡ self.old.rows) × (self.new.ring ≡ self.old.ring)) }
+    {
+        begin(alloc, &mut self.boxes, &newborn.tag, newborn.kind)?;
+        let teller = Teller {
+            place,
+            boxes: &self.boxes,
+            clock: self.clock,
+        };
+        teller.first_told(alloc, source, request, newborn)
+    }
+}

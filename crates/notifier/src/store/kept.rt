@@ -1,0 +1,169 @@
+//! Answers that are kept for retransmissions (RFC 3261 section 17.2.2), newest first.
+#![tactic(auto, unfolding(notifier_model::specs::Answers::kept_answer, notifier_model::specs::Answers::ring_with))]
+
+ghost use Rattle.std.specs.Prelude.{◌≡◌, ℕ, ◌<◌, ◌^◌, ◌-◌, [], take, find, option_map, IfOk, OnOk, Some, true, ◌↔◌};
+ghost use Rattle.circular_buffer.specs.Buffer.{buffer};
+ghost use Rattle.notifier_model.specs.Answers as spec;
+ghost use Rattle.notifier_model.specs.Limits.{Limits as LimitsSeen};
+ghost use Rattle.notifier.specs.Slots as slots;
+ghost use Rattle.notifier.specs.Transactions.{key_of};
+
+use crate::store::transaction::Transaction;
+use circular_buffer::HeapCircularBuffer;
+use notifier_model::row::Kept;
+use sip_text::{NoMemory, Octets};
+use std::alloc::Global;
+use std::collections::BTreeMap;
+use std::marker::Model;
+
+/// The slot after this one.
+fn after(room: usize, slot: usize) -> usize
+    requires { slot < room }
+    ensures { result ≡ slots.after room slot }
+{
+    if slot + 1 == room { 0 } else { slot + 1 }
+}
+
+/// The place of the answer in this slot, where the newest one is in that slot.
+fn place_at(room: usize, newest: usize, slot: usize) -> usize
+    requires within { newest < room }
+    requires fits { room < 2 ^ 63 }
+    ensures { (place : ℕ) → place < room → slot ≡ slots.slot_at room newest place → result ≡ place }
+{
+    if slot <= newest {
+        newest - slot
+    } else {
+        (newest + room).saturating_sub(slot)
+    }
+}
+
+/// The answers that are kept, newest first, each found by its transaction through a map. When there is no room the
+/// oldest goes. The map is ordered, since strangers choose what names a transaction: no choice of theirs makes a look-up long.
+#[derive(Drop)]
+pub struct KeptAnswers {
+    /// Newest first.
+    ring: HeapCircularBuffer<Kept>,
+    /// The slot of the newest answer to each transaction.
+    slots: BTreeMap<Transaction, usize>,
+    /// The slot of the newest answer of all.
+    newest: usize,
+}
+
+impl Model for KeptAnswers {
+    ghost use Rattle.notifier_model.specs.declared.row.Kept.{Kept};
+    ghost use Rattle.circular_buffer.specs.Buffer.{Buffer};
+    ghost use Rattle.notifier.specs.Slots.{IsIndexed};
+
+    ghost Value = { Buffer Kept };
+
+    ghost view = { λ k. k.ring };
+
+    ghost invariant = { λ k. IsIndexed k.ring k.slots k.newest };
+}
+
+/// Whether this transaction has its newest answer in this slot.
+fn leads_to(index: &BTreeMap<Transaction, usize>, transaction: &Transaction, slot: usize) -> bool
+    ensures { result ≡ true ↔ slots.slot_in index.now transaction.now ≡ Some slot }
+{
+    match index.get(transaction) {
+        Some(found) => *found == slot,
+        None => false,
+    }
+}
+
+/// Lets the oldest answer go, if there is no room.
+fn make_room(
+    ring: &mut HeapCircularBuffer<Kept>,
+    index: &mut BTreeMap<Transaction, usize>,
+    newest: usize,
+)
+    requires { slots.IsIndexed ring.old index.old newest }
+    ensures ring { ring.new ≡ buffer (take (ring.old.capacity - 1) ring.old.items) ring.old.capacity }
+    ensures indexed { slots.IsIndexed ring.new index.new newest }
+{
+    if !ring.is_full() {
+        return;
+    }
+    let Some(oldest) = ring.pop_back() else {
+        return;
+    };
+    let transaction = Transaction::of_key(oldest.key);
+    let slot = after(ring.capacity(), newest);
+    if leads_to(index, &transaction, slot) {
+        index.remove(&transaction);
+    }
+}
+
+impl KeptAnswers {
+    /// Keeps nothing, and has room for so many answers.
+    pub fn with_room(alloc: Global, room: usize) -> Result<KeptAnswers, NoMemory>
+        requires { 0 < room }
+        ensures { IfOk result (λ kept. kept ≡ buffer [] room) }
+    {
+        let ring = HeapCircularBuffer::with_capacity(alloc, room)?;
+        Ok(KeptAnswers {
+            ring,
+            slots: BTreeMap::new(alloc),
+            newest: 0,
+        })
+    }
+
+    /// The newest answer to this transaction.
+    fn answer_with(&self, transaction: &Transaction) -> Option<&Kept>
+        ensures { option_map (λ kept. kept.now) result ≡ find (slots.answers transaction.now) self.now.items }
+    {
+        let slot = *self.slots.get(transaction)?;
+        self.ring
+            .get(place_at(self.ring.capacity(), self.newest, slot))
+    }
+
+    /// The kept answer to a request of this transaction, if it has one.
+    pub fn answer_to(&self, transaction: &Option<Transaction>) -> Option<&Octets>
+        ensures { option_map (λ bytes. bytes.now) result
+            ≡ spec.kept_answer self.now.items (option_map key_of transaction.now) }
+    {
+        match transaction {
+            None => None,
+            Some(transaction) => match self.answer_with(transaction) {
+                None => None,
+                Some(kept) => Some(&kept.bytes),
+            },
+        }
+    }
+
+    /// Keeps an answer to a request of this transaction. The oldest goes when there is no room.
+    fn keep_of(
+        &mut self,
+        alloc: Global,
+        transaction: Transaction,
+        bytes: Octets,
+    ) -> Result<(), NoMemory>
+        ensures { OnOk result (self.new
+            ≡ slots.with_newest self.old (record { key = key_of transaction; bytes = bytes })) }
+    {
+        let key = transaction.key(alloc)?;
+        make_room(&mut self.ring, &mut self.slots, self.newest);
+        let slot = after(self.ring.capacity(), self.newest);
+        self.slots.insert(transaction, slot)?;
+        self.newest = slot;
+        self.ring.push_front(Kept { key, bytes });
+        Ok(())
+    }
+
+    /// Keeps an answer to a request of this transaction, if it has one.
+    pub fn keep(
+        &mut self,
+        alloc: Global,
+        transaction: Option<Transaction>,
+        bytes: Octets,
+    ) -> Result<(), NoMemory>
+        ensures { OnOk result ((limits : LimitsSeen) → self.old.capacity ≡ limits.kept
+            → self.new ≡ buffer
+            (spec.ring_with limits self.old.items (option_map key_of transaction) bytes) self.old.capacity) }
+    {
+        match transaction {
+            None => Ok(()),
+            Some(transaction) => self.keep_of(alloc, transaction, bytes),
+        }
+    }
+}

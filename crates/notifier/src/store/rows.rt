@@ -1,0 +1,167 @@
+//! The live subscriptions under keys, with what leads to them: serials, timers, and what they watch.
+
+ghost use Rattle.std.specs.Prelude.{◌≡◌, ◌<◌, ◌==◌, ◌&&◌, ◌++◌, ◌∷◌, [], ◌↔◌, ◌^◌, ℕ, List, length, false, if◌then◌else◌, All, IfOk, IfSome, OnOk, IsTrue, is_some, option_to_list, Some, None};
+ghost use Rattle.std.specs.BTreeMap as tree;
+ghost use Rattle.std.specs.BTreeSet as sorted;
+ghost use Rattle.std.specs.Option.{option_copied};
+ghost use Rattle.std.specs.Ordering.{nat_cmp};
+ghost use Rattle.slab.specs.Slab.{HasRoomFor, Updates};
+ghost use Rattle.notifier.specs.Among.{has, RiseFrom};
+ghost use Rattle.notifier.specs.Stored.{rows_of, row_at, alarm_of, by_time, IsIndexed, IsTimed};
+ghost use Rattle.notifier.specs.Watchers.{is_watched, is_about, NoSetIsEmpty};
+
+use crate::store::timers::{alarm, move_timer, stop_timer, timed_out};
+use crate::store::watchers::Watchers;
+use notifier_model::row::Row;
+use sip_text::NoMemory;
+use slab::Slab;
+use std::alloc::Global;
+use std::collections::{BTreeMap, BTreeSet};
+use subscription::Want;
+
+/// The live subscriptions. Contracts see them as the list of the rows by rising serial.
+#[derive(Drop)]
+pub struct Rows {
+    pub slab: Slab<Row>,
+    /// From a serial to the key of its row.
+    pub order: BTreeMap<u32, usize>,
+    /// The second in which time may end a row, and its serial.
+    pub timers: BTreeSet<(u64, u32)>,
+    pub watchers: Watchers,
+}
+
+impl Rows {
+    /// No rows.
+    pub fn new(alloc: Global) -> Rows
+        ensures rows { rows_of result ≡ [] }
+        ensures indexed { IsIndexed result }
+    {
+        Rows {
+            slab: Slab::new(alloc),
+            order: BTreeMap::new(alloc),
+            timers: BTreeSet::new(alloc),
+            watchers: Watchers::new(alloc),
+        }
+    }
+
+    /// How many rows there are.
+    pub fn len(&self) -> usize
+        requires { IsIndexed self.now }
+        ensures { result ≡ length (rows_of self.now) }
+    {
+        self.order.len()
+    }
+
+    /// The row with this serial.
+    pub fn row(&self, serial: u32) -> Option<&Row>
+        requires { IsIndexed self.now }
+        ensures { option_copied result ≡ row_at self.now serial }
+    {
+        match self.order.get(&serial) {
+            None => None,
+            Some(key) => self.slab.get(*key),
+        }
+    }
+
+    /// A new row, whose serial is above all others.
+    fn push(&mut self, alloc: Global, row: Row) -> Result<(), NoMemory>
+        requires indexed { IsIndexed self.old }
+        requires last { All (λ r. r.serial < row.serial) (rows_of self.old) }
+        ensures rows { OnOk result (rows_of self.new ≡ rows_of self.old ++ row ∷ []) }
+        ensures indexed { OnOk result (IsIndexed self.new) }
+    {
+        let serial = row.serial;
+        let moment = alarm(&row);
+        self.watchers.add(alloc, row.sub.want(), serial)?;
+        let key = self.slab.insert(row)?;
+        self.order.insert(serial, key)?;
+        self.timers.insert((moment, serial))?;
+        Ok(())
+    }
+
+    /// A new row, if there is one. Its serial is above all others.
+    pub fn push_some(&mut self, alloc: Global, row: Option<Row>) -> Result<(), NoMemory>
+        requires indexed { IsIndexed self.old }
+        requires last { IfSome row (λ new. All (λ r. r.serial < new.serial) (rows_of self.old)) }
+        ensures rows { OnOk result (rows_of self.new ≡ rows_of self.old ++ option_to_list row) }
+        ensures indexed { OnOk result (IsIndexed self.new) }
+    {
+        match row {
+            None => Ok(()),
+            Some(row) => self.push(alloc, row),
+        }
+    }
+
+    /// A row that was told stands under its serial again, and its timer moves from this second.
+    pub fn put_back(&mut self, serial: u32, before: u64, row: Row) -> Result<(), NoMemory>
+        requires room { HasRoomFor self.old.slab 1 }
+        requires timer { (d : ℕ) → sorted.contains by_time self.old.timers (d, serial) ≡ (before == d) }
+        ensures slab { OnOk result (Updates self.old.slab self.new.slab self.old.slab.vacant_key (Some row)) }
+        ensures timers { OnOk result ((d s : ℕ) → sorted.contains by_time self.new.timers (d, s)
+            ≡ (if serial == s then alarm_of row == d else sorted.contains by_time self.old.timers (d, s))) }
+        ensures order { OnOk result (self.new.order ≡ self.old.order) }
+        ensures watchers { OnOk result (self.new.watchers ≡ self.old.watchers) }
+    {
+        let after = alarm(&row);
+        self.slab.insert_reserved(row);
+        move_timer(&mut self.timers, serial, before, after)
+    }
+
+    /// Nothing leads any more to this serial, whose row is gone: it asked for this, and its timer stood at this second.
+    pub fn let_go(&mut self, serial: u32, before: u64, want: Want)
+        requires timer { (d : ℕ) → sorted.contains by_time self.old.timers (d, serial) ≡ (before == d) }
+        ensures slab { self.new.slab ≡ self.old.slab }
+        ensures ordered { tree.IsOrdered nat_cmp self.new.order }
+        ensures order { (s : ℕ) → tree.get nat_cmp self.new.order s
+            ≡ (if tree.is_at (nat_cmp serial) s then None else tree.get nat_cmp self.old.order s) }
+        ensures timers { (d s : ℕ) → sorted.contains by_time self.new.timers (d, s)
+            ≡ (if serial == s then false else sorted.contains by_time self.old.timers (d, s)) }
+        ensures watchers { (p q : List ℕ) (s : ℕ) → is_watched self.new.watchers p q s
+            ≡ (if is_about want p q && (serial == s) then false else is_watched self.old.watchers p q s) }
+        ensures none_left { NoSetIsEmpty self.old.watchers → NoSetIsEmpty self.new.watchers }
+    {
+        self.order.remove(&serial);
+        stop_timer(&mut self.timers, serial, before);
+        self.watchers.remove(&want, serial);
+    }
+
+    /// The serials of all rows, rising.
+    pub fn serials(&self, alloc: Global) -> Result<Vec<u32>, NoMemory>
+        requires { IsIndexed self.now }
+        ensures rise { IfOk result (λ v. RiseFrom 0 v.items) }
+        ensures all { IfOk result (λ v. (s : ℕ) → IsTrue (is_some (row_at self.now s)) → IsTrue (has s v.items)) }
+    {
+        let serials = self.order.keys().copied().collect(alloc)?;
+        Ok(serials)
+    }
+
+    /// The serials of the rows that time may have ended by this moment, rising.
+    pub fn timed_out(&self, alloc: Global, clock: u64) -> Result<Vec<u32>, NoMemory>
+        requires indexed { IsIndexed self.now }
+        requires fits { clock < 2 ^ 63 }
+        ensures rise { IfOk result (λ v. RiseFrom 0 v.items) }
+        ensures all { IfOk result (λ v. (s : ℕ) → IsTrue (has s v.items) ↔ IsTimed self.now.timers clock s) }
+    {
+        let set = timed_out(alloc, &self.timers, clock)?;
+        let serials = set.iter().copied().collect(alloc)?;
+        Ok(serials)
+    }
+
+    /// The serials of those who watch a resource of the package with this name, rising.
+    pub fn watchers_of(
+        &self,
+        alloc: Global,
+        name: &str,
+        resource: &str,
+    ) -> Result<Vec<u32>, NoMemory>
+        requires { IsIndexed self.now }
+        ensures rise { IfOk result (λ v. RiseFrom 0 v.items) }
+        ensures all { IfOk result (λ v. (s : ℕ) → has s v.items ≡ is_watched self.now.watchers name.now resource.now s) }
+    {
+        let Some(set) = self.watchers.get(name, resource) else {
+            return Ok(Vec::new(alloc));
+        };
+        let serials = set.iter().copied().collect(alloc)?;
+        Ok(serials)
+    }
+}

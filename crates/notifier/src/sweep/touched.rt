@@ -1,0 +1,83 @@
+//! Which rows a cause may change. All others stay, whatever they are.
+#![tactic(auto)]
+
+ghost use Rattle.std.specs.Prelude.{◌≡◌, ◌<◌, ◌^◌, ◌++◌, ℕ, List, codes, decimal, All, IfOk, Some, option_to_list};
+ghost use Rattle.package.specs.Content.{Seen};
+ghost use Rattle.notifier_model.specs.declared.place.Place.{Place as AnyPlace};
+ghost use Rattle.notifier.specs.Among.{Cover, RiseFrom};
+ghost use Rattle.notifier.specs.Causes.{rule_of, CanTell};
+ghost use Rattle.notifier.specs.Sound.{IsOwn};
+ghost use Rattle.notifier.specs.Stored.{rows_of, Gives, IsIndexed};
+
+use crate::store::rows::Rows;
+use crate::sweep::rule::Cause;
+use sip_read::Response;
+use sip_text::NoMemory;
+use std::alloc::Global;
+
+/// The number of the worker that stands before the first dash of a local tag.
+fn worker_in(front: &str) -> Option<u32>
+    ensures { (worker : ℕ) → worker < 2 ^ 32 → front.now ≡ codes "w" ++ decimal worker → result ≡ Some worker }
+{
+    let digits = front.strip_prefix('w')?;
+    digits.parse().ok()
+}
+
+/// The serial that stands in a local tag of this worker.
+pub fn serial_in(worker: u32, tag: &str) -> Option<u32>
+    ensures { Gives worker tag.now result }
+{
+    let (front, rest) = tag.split_once('-')?;
+    let (serial, _) = rest.split_once('-')?;
+    if worker_in(front)? != worker {
+        return None;
+    }
+    serial.parse().ok()
+}
+
+/// The serial of the row whose NOTIFY a response answers, by its From tag.
+fn answered_serial(worker: u32, response: &Response) -> Option<u32>
+    ensures { (tag : List ℕ) → response.now.head.from.tag ≡ Some tag → Gives worker tag result }
+{
+    match &response.head.from.tag {
+        None => None,
+        Some(tag) => serial_in(worker, tag.as_str()),
+    }
+}
+
+/// A list of a serial, if there is one.
+fn one_serial(alloc: Global, serial: Option<u32>) -> Result<Vec<u32>, NoMemory>
+    ensures items { IfOk result (λ v. v.items ≡ option_to_list serial) }
+{
+    let mut serials = Vec::new(alloc);
+    if let Some(serial) = serial {
+        serials.push(serial)?;
+    }
+    Ok(serials)
+}
+
+/// The serials of the rows that a cause may change, rising.
+pub fn touched(
+    alloc: Global,
+    worker: u32,
+    rows: &Rows,
+    clock: u64,
+    cause: &Cause<'_>,
+) -> Result<Vec<u32>, NoMemory>
+    requires clock { clock < 2 ^ 63 }
+    requires indexed { IsIndexed rows.now }
+    requires live { All (CanTell clock cause.now) (rows_of rows.now) }
+    ensures rise { IfOk result (λ serials. RiseFrom 0 serials.items) }
+    ensures covers { IfOk result (λ serials. (place : AnyPlace) (boxes : List Seen) → place.worker ≡ worker
+        → All (IsOwn place (2 ^ 32)) (rows_of rows.now)
+        → Cover serials.items (rule_of place boxes clock cause.now) (rows_of rows.now)) }
+{
+    match cause {
+        Cause::Response(response) => one_serial(alloc, answered_serial(worker, response)),
+        Cause::Refused(serial, _) => one_serial(alloc, Some(*serial)),
+        Cause::Renewal(serial, _, _) => one_serial(alloc, Some(*serial)),
+        Cause::Change(name, resource, _) => rows.watchers_of(alloc, name, resource),
+        Cause::Time => rows.timed_out(alloc, clock),
+        Cause::Stop => rows.serials(alloc),
+    }
+}
