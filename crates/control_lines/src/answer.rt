@@ -14,7 +14,7 @@ pub enum Answer {
     UnknownMailbox,
     /// The service takes no more.
     Closed,
-    /// There was no memory to read the line or to tell what it asks.
+    /// Out of memory while the line was read or while what it asks was written.
     NoMemory,
     /// The thread that knows what the line asks has not told it in time.
     Busy,

@@ -29,7 +29,7 @@ fn after(room: usize, slot: usize) -> usize
 }
 
 /// The place of the answer in this slot, where the newest one is in that slot.
-fn place_at(room: usize, newest: usize, slot: usize) -> usize
+fn place(room: usize, newest: usize, slot: usize) -> usize
     requires within { newest < room }
     requires fits { room < 2 ^ 63 }
     ensures { (place : ℕ) → place < room → slot ≡ slots.slot_at room newest place → result ≡ place }
@@ -109,12 +109,12 @@ impl KeptAnswers {
     }
 
     /// The newest answer to this token.
-    fn answer_with(&self, token: u64) -> Option<&Kept>
+    fn newest_answer(&self, token: u64) -> Option<&Kept>
         ensures { option_map (λ kept. kept.now) result ≡ find (slots.answers token) self.now.items }
     {
         let slot = *self.slots.get(&token)?;
         self.ring
-            .get(place_at(self.ring.capacity(), self.newest, slot))
+            .get(place(self.ring.capacity(), self.newest, slot))
     }
 
     /// The kept answer to a line with this token, if it has one.
@@ -123,15 +123,15 @@ impl KeptAnswers {
     {
         match token {
             None => None,
-            Some(token) => match self.answer_with(token.number) {
+            Some(token) => match self.newest_answer(token.number) {
                 None => None,
                 Some(kept) => Some(kept.answer),
             },
         }
     }
 
-    /// Keeps an answer to a line with this token, if it has one. The oldest goes when there is no room.
-    fn keep_of(&mut self, token: u64, answer: Answer) -> Result<(), NoMemory>
+    /// Keeps an answer to a line with this token. The oldest goes when there is no room.
+    fn insert(&mut self, token: u64, answer: Answer) -> Result<(), NoMemory>
         ensures kept { OnOk result (self.new ≡ slots.with_newest self.old (record { token = token; answer = answer })) }
         ensures unchanged { OnErr result (self.new ≡ self.old) }
     {
@@ -153,7 +153,7 @@ impl KeptAnswers {
     {
         match token {
             None => Ok(()),
-            Some(token) => self.keep_of(token.number, answer),
+            Some(token) => self.insert(token.number, answer),
         }
     }
 }

@@ -4,7 +4,7 @@ ghost use Rattle.control_lines.specs.Lines.{Asks, is_answer};
 ghost use Rattle.control_lines.specs.Questions.{question_in};
 
 use crate::answer::is_answer;
-use crate::question::{Question, question_in};
+use crate::question::{Question, parse_question};
 use package::{MailChange, Progress};
 use scripts::{Control, ScriptError, one_reading, parse_control};
 use std::alloc::Global;
@@ -24,7 +24,7 @@ pub enum Asked {
     Nothing,
     /// Nothing that it does: the line is none, or a TICK, where a service has its own clock.
     Bad,
-    /// There was no memory to read it.
+    /// Out of memory while it was read.
     NoMemory,
 }
 
@@ -53,7 +53,7 @@ pub fn hear_line(alloc: Global, octets: &[u8]) -> Asked
     if is_answer(octets) {
         return Asked::Nothing;
     }
-    match question_in(alloc, octets) {
+    match parse_question(alloc, octets) {
         Ok(Some(question)) => Asked::Question(question),
         Ok(None) => hear_control(alloc, octets),
         Err(_) => Asked::NoMemory,

@@ -21,7 +21,7 @@ pub enum Question {
 
 /// The line without the LF at its end.
 #[tactic(auto, unfolding(crate::specs::Questions::line_in))]
-fn line_in(octets: &[u8]) -> Option<&[u8]>
+fn bare_line(octets: &[u8]) -> Option<&[u8]>
     ensures { Finds (λ x. x.now) result (spec.line_in octets.now) }
 {
     match cut_at(b'\n', octets) {
@@ -82,7 +82,7 @@ fn named(alloc: Global, name: &[u8], rest: &[u8]) -> Result<Option<Question>, No
 
 /// The question that a line without its LF asks, if it asks one.
 #[tactic(auto, unfolding(crate::specs::Questions::question_of))]
-fn question_of(alloc: Global, line: &[u8]) -> Result<Option<Question>, NoMemory>
+fn whole_question(alloc: Global, line: &[u8]) -> Result<Option<Question>, NoMemory>
     ensures { Gives (λ x. x) result (spec.question_of line.now) }
 {
     if line == b"STATUS".as_slice() {
@@ -102,11 +102,11 @@ fn question_of(alloc: Global, line: &[u8]) -> Result<Option<Question>, NoMemory>
 
 /// The question that these bytes ask, with a LF at the end or without.
 #[tactic(auto, unfolding(crate::specs::Questions::question_in))]
-pub(crate) fn question_in(alloc: Global, octets: &[u8]) -> Result<Option<Question>, NoMemory>
+pub(crate) fn parse_question(alloc: Global, octets: &[u8]) -> Result<Option<Question>, NoMemory>
     ensures { Gives (λ x. x) result (spec.question_in octets.now) }
 {
-    match line_in(octets) {
-        Some(line) => question_of(alloc, line),
+    match bare_line(octets) {
+        Some(line) => whole_question(alloc, line),
         None => Ok(None),
     }
 }

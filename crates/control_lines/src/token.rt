@@ -14,7 +14,7 @@ pub struct Token {
 
 /// The token of eight bytes.
 #[tactic(auto, unfolding(crate::specs::Tokens::number))]
-fn token_with(value: [u8; 8]) -> Token
+fn big_endian(value: [u8; 8]) -> Token
     ensures { result.number ≡ spec.number value }
 {
     Token {
@@ -24,25 +24,25 @@ fn token_with(value: [u8; 8]) -> Token
 
 /// The token of these sixteen hex digits.
 #[tactic(auto, unfolding(crate::specs::Tokens::token_of))]
-fn token_of(digits: &[u8]) -> Option<Token>
+fn hex_token(digits: &[u8]) -> Option<Token>
     ensures { Finds (λ x. x) result (spec.token_of digits.now) }
 {
     match <[u8; 8] as FromHex>::from_hex(digits) {
-        Ok(value) => Some(token_with(value)),
+        Ok(value) => Some(big_endian(value)),
         Err(_) => None,
     }
 }
 
 /// The token that stands before a line, and the line.
 #[tactic(auto, unfolding(crate::specs::Tokens::token_in))]
-fn token_in(octets: &[u8]) -> Option<(Token, &[u8])>
+fn front_token(octets: &[u8]) -> Option<(Token, &[u8])>
     ensures { Finds (λ x. (x.0, x.1.now)) result (spec.token_in octets.now) }
 {
     let [b'@', rest @ ..] = octets else {
         return None;
     };
     let (digits, line) = cut_at(b' ', rest)?;
-    Some((token_of(digits)?, line))
+    Some((hex_token(digits)?, line))
 }
 
 /// The token before a line, if one stands there, and the line.
@@ -50,7 +50,7 @@ pub fn cut_token(octets: &[u8]) -> (Option<Token>, &[u8])
     ensures token { result.0 ≡ spec.token octets.now }
     ensures line { result.1.now ≡ spec.line octets.now }
 {
-    match token_in(octets) {
+    match front_token(octets) {
         Some((token, line)) => (Some(token), line),
         None => (None, octets),
     }

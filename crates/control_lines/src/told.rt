@@ -26,7 +26,7 @@ impl Model for ToldCounts {
 }
 
 /// The place of the mailbox with this name.
-fn place_in(mailboxes: &IndexMap<String, MailCounts>, name: &str) -> Option<usize>
+fn position(mailboxes: &IndexMap<String, MailCounts>, name: &str) -> Option<usize>
     ensures place { result ≡ spec.place name.now (rows_in mailboxes.now.entries) }
     ensures within { IfSome result (λ n. n < length (rows_in mailboxes.now.entries)) }
 {
@@ -44,7 +44,7 @@ fn replace(mailboxes: &mut IndexMap<String, MailCounts>, name: &str, counts: Mai
 }
 
 /// A mailbox was told these counts of one class.
-fn tell_in(mailboxes: &mut IndexMap<String, MailCounts>, change: &MailChange)
+fn note(mailboxes: &mut IndexMap<String, MailCounts>, change: &MailChange)
     ensures { rows_in mailboxes.new.entries ≡ spec.told change.now (rows_in mailboxes.old.entries) }
 {
     let name = change.mailbox();
@@ -92,7 +92,7 @@ impl ToldCounts {
         ensures place { result ≡ spec.place name.now self.now }
         ensures within { IfSome result (λ n. n < length self.now) }
     {
-        place_in(&self.mailboxes, name)
+        position(&self.mailboxes, name)
     }
 
     /// The place behind the mailbox with this name.
@@ -119,6 +119,6 @@ impl ToldCounts {
     pub fn tell(&mut self, change: &MailChange)
         ensures { self.new ≡ spec.told change.now self.old }
     {
-        tell_in(&mut self.mailboxes, change);
+        note(&mut self.mailboxes, change);
     }
 }

@@ -15,11 +15,12 @@ use Rattle.notifier_model.specs.Home.{comes_to, at_the_stop}
 use Rattle.queues.specs.InboxEvents.{events_of, have_ended}
 use Rattle.queues.specs.InboxSeats.{SenderSeat, ReceiverSeat}
 use Rattle.crew.proofs.Folds.{values-append}
-use Rattle.crew.specs.Joined.{Reported, IsHeard, IsJoined}
+use Rattle.crew.specs.Joined.{Reported, IsSeatOf, IsHeard, IsJoined}
 use Rattle.crew.specs.Kept.{emptied}
 use Rattle.crew.specs.Ports.{PortSeats, new_seat, no_seats}
 use Rattle.crew.specs.Started.{Hired}
 use Rattle.crew.proofs.Keeping.{started_port}
+use Rattle.crew.proofs.Zipped.{zip_len, zip_at}
 use Rattle.crew.specs.declared.report.WorkerReport.{WorkerReport}
 use Rattle.life.proofs.Homes.{nowhere_else_law}
 use Rattle.notifier_model.specs.declared.event.Out.{Out}
@@ -88,7 +89,7 @@ seats_map p (h ∷ crew) = ap (λ l. new_seat h.reads.inbox p ∷ l) (seats_map 
 pub every_port : EveryPortLaw
 every_port start n crew dealt ports taker is all =
     let sizes : length ports ≡ n = all.len ∙ is.dealt.len in
-    let len : (p : ℕ) (q : PortSeats) → p < length ports → length (get_or ports p q).seats ≡ length crew = λ p q low. (let port = started_port is ports all p q low in port.len) in record {
+    let len : (p : ℕ) (q : PortSeats) → p < length ports → length (get_or ports p q).seats ≡ length crew = λ p q low. (let port = started_port is ports all p q low in zip_len IsSeatOf crew (get_or ports p q).seats port.seats) in record {
       len = len;
       each = λ w k h inside few.
           let count : (get_or crew w h).reads.ports ≡ n = ap (λ (r : ReceiverSeat). r.ports) ((is.each w h inside).hears) in
@@ -117,7 +118,7 @@ all_come crew ports got reports w h r joined every home low =
     let P : Event → Type 0 = λ e. comes_to n w e ≡ true in
     let hired : Hired = get_or crew w h in
     let report : WorkerReport = get_or reports w r in
-    let told : Reported hired got report = joined.reported w h r low in
+    let told : Reported hired got report = zip_at (λ (x : Hired) (y : WorkerReport). Reported x got y) crew reports joined.reported w h r low in
     let q : PortSeats = no_seats in
     let s : SenderSeat = new_seat hired.reads.inbox 0 in
     let came : (k : ℕ) → k < hired.reads.ports → All P (values (items_of k report.receiver.taken)) = λ k lt.
@@ -126,8 +127,9 @@ all_come crew ports got reports w h r joined every home low =
     let inside : p < length ports = at.1 in
     let seat : SenderSeat = get_or (get_or ports p q).seats w s in
     let is : seat.number ≡ k = at.2 q s in
-    let heard : IsHeard report seat = joined.heard p w q s r inside low in
     let fits : w < length (get_or ports p q).seats = let l = every.len p q inside in omega arith in
+    let all = joined.heard p q inside in
+    let heard : IsHeard report seat = zip_at IsHeard reports (get_or ports p q).seats all w r s (let l = zip_len IsHeard reports (get_or ports p q).seats all in omega arith) in
     subst (λ (j : ℕ). All P (values (items_of j report.receiver.taken))) is
     (all_that_came P seat.sent (items_of seat.number report.receiver.taken) heard.came.0 (home p q inside w s fits)) in
     all_events n w hired.reads.ports hired.start.place.stop report.receiver.taken

@@ -22,7 +22,8 @@ use Rattle.crew.specs.declared.errors.TickError.{TickError}
 use Rattle.crew.specs.declared.errors.TickError.TheVariants as tick
 use Rattle.crew.specs.Kept.{emptied, SameSeats, AllClosed}
 use Rattle.crew.specs.Started.{Hired, IsStarted}
-use Rattle.crew.specs.Joined.{HasEndOf, IsPortOf}
+use Rattle.crew.specs.Joined.{HasEndOf, IsSeatOf, IsPortOf}
+use Rattle.crew.proofs.Zipped.{zipped}
 
 some_keep : (old new : List SenderSeat) → ClosesSome old new → map emptied new ≡ map emptied old
 some_keep [] new none = ap (map emptied) none
@@ -110,15 +111,14 @@ module _ {start : ℕ → Start} {workers n : ℕ} {crew : List Hired} {ports : 
       all.seats p q low_old ∙ ap (λ (x : PortSeats). map emptied x.seats) (is.dealt.each p q low_n) ∙ seats_map p crew in
       let len : length port.seats ≡ length crew = sym (length-map port.seats emptied) ∙ ap length same ∙ length-map crew (λ (h : Hired). new_seat h.reads.inbox p) in record {
         closed = all.closed p q low_old;
-        len = len;
-        each = λ w s h inside.
+        seats = zipped IsSeatOf crew port.seats len (λ w h s inside.
             let there : w < workers = let l = is.len in omega arith in
             let at : emptied (get_or port.seats w s) ≡ new_seat (get_or crew w h).reads.inbox p =
             sym (get_or-map emptied port.seats w s s (omega arith)) ∙ ap (λ l. get_or l w s) same ∙ get_or-map (λ (x : Hired). new_seat x.reads.inbox p) crew w h s inside in
             let count : (get_or crew w h).reads.ports ≡ n = ap (λ (r : ReceiverSeat). r.ports) ((is.each w h there).hears) in record {
               inbox = ap (λ (x : SenderSeat). x.inbox) at;
               number = (let e = ap (λ (x : SenderSeat). x.number) at in omega arith);
-            };
+            });
       }
 
   pub started_end : (now : TakerSeat) → now.outbox ≡ taker.outbox → AllEnded taker.workers now.got → (w : ℕ) (h : Hired) → w < length crew → HasEndOf now (get_or crew w h)

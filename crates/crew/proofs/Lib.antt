@@ -1,4 +1,5 @@
 pub mod Dealing
+pub mod Zipped
 pub mod SeatRows
 pub mod Starting
 mod Closing

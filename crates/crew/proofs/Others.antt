@@ -24,6 +24,7 @@ use Rattle.schedules.proofs.Told.{none_at_all}
 use Rattle.schedules.proofs.Others.{IsStrange, others_strange, others_silent, with_tag, IsAlone, own_alone}
 use Rattle.crew.specs.Laws.{events_handled, its_tag}
 use Rattle.crew.proofs.Joined.{joined_life_law}
+use Rattle.crew.proofs.Zipped.{zip_at}
 
 -- ---- what was got is of the crew's workers
 
@@ -58,7 +59,7 @@ module _ (start : ℕ → Start) (crew : List Hired) (got : List (Item Out)) (re
   posts_as v lt = let is = run.started.each v h lt in ap (λ (p : PosterSeat). p.number) is.tells
 
   told : (v : ℕ) → v < length crew → Reported (hired_at v) got (get_or reports v r)
-  told v lt = run.joined.reported v h r lt
+  told v lt = zip_at (λ (x : Hired) (y : WorkerReport). Reported x got y) crew reports run.joined.reported v h r lt
 
   starts_well : (v : ℕ) → v < length crew → IsStart (hired_at v).start
   starts_well v lt = subst IsStart (sym (begins v lt)) (run.starts.each v lt)

@@ -14,7 +14,7 @@ use Rattle.crew.specs.Worked.{Ends}
 use Rattle.crew.specs.Worked.{IsWorked}
 use Rattle.crew.specs.Ports.{PortSeats}
 use Rattle.crew.specs.Started.{Hired}
-use Rattle.crew.specs.Joined.{HasEndOf, IsPortOf, Reported, Arrived, IsHeard, IsJoined}
+use Rattle.crew.specs.Joined.{HasEndOf, IsSeatOf, IsPortOf, Reported, Arrived, IsHeard, IsJoined}
 use Rattle.crew.specs.Settled.{AreSeatsOf, HaveCome}
 use Rattle.crew.specs.declared.report.WorkerReport.{WorkerReport}
 use Rattle.crew.specs.declared.end.Done.{Done}
@@ -22,6 +22,7 @@ use Rattle.crew.specs.declared.end.End.{End}
 use Rattle.crew.specs.declared.end.End.TheVariants as end
 use Rattle.crew.proofs.Folds.{values_end}
 use Rattle.crew.proofs.Starting.{element}
+use Rattle.crew.proofs.Zipped.{zipped, zip_len, zip_at}
 
 values_back : {T : Type 0} (w : ℕ) (xs : List T) → values (values_by w xs) ≡ xs
 values_back w [] = refl
@@ -129,20 +130,23 @@ rows_are {A} f workers crew got reports n m is size same len told =
 module _ {crew : List Hired} {got : List (Item Out)} {reports : List WorkerReport} (all : Reports crew got reports) where
   pub seats_fit : (port : PortSeats) → IsPortOf crew port → AreSeatsOf reports port.seats
   seats_fit port is = let len = all.len in record {
-    len = is.len ∙ sym len;
+    len = zip_len IsSeatOf crew port.seats is.seats ∙ sym len;
     inboxes = λ k s r low.
         let inside : k < length crew = omega arith in let h : Hired = element crew k inside in
-        (is.each k s h inside).inbox ∙ sym ((all.told k h r inside).inbox);
+        (zip_at IsSeatOf crew port.seats is.seats k h s inside).inbox ∙ sym ((all.told k h r inside).inbox);
   }
 
   pub joined : (ports : List PortSeats) → ((p : ℕ) (q : PortSeats) → p < length ports → IsPortOf crew (get_or ports p q))
       → ((p : ℕ) (q : PortSeats) → p < length ports → HaveCome reports (get_or ports p q).seats (length reports)) → IsJoined crew ports got reports
   joined ports are came = let len = all.len in record {
-    len = len;
-    reported = all.told;
-    heard = λ p w q s r among inside.
+    reported = zipped (λ (h : Hired) (r : WorkerReport). Reported h got r) crew reports len all.told;
+    heard = λ p q among.
+        let seats : List SenderSeat = (get_or ports p q).seats in
+        let are_seats = (are p q among).seats in
+        zipped IsHeard reports seats (zip_len IsSeatOf crew seats are_seats ∙ sym len) (λ w r s low.
+        let inside : w < length crew = omega arith in
         let h : Hired = element crew w inside in
-        heard (get_or crew w h) got (get_or reports w r) (get_or (get_or ports p q).seats w s) (all.told w h r inside) ((are p q among).each w s h inside).number (came p q among w s r (omega arith));
+        heard (get_or crew w h) got (get_or reports w r) (get_or seats w s) (all.told w h r inside) (zip_at IsSeatOf crew seats are_seats w h s inside).number (came p q among w s r low));
   }
 
 pub written_back : {A : Type 0} (n : ℕ) (ws xs : List A) → length ws ≡ n → take n (ws ++ drop (length ws) xs) ≡ ws

@@ -1,13 +1,13 @@
 -- How a crew stands at its start.
-use Rattle.std.proofs.Common.{◌≡◌, ℕ, Bool, zero, suc, ◌<◌, List, [], ◌∷◌, ◌++◌, length, map, get_or, Option, Some, refl, ap, sym, ◌∙◌, subst, arith, below_more, length-append}
+use Rattle.std.proofs.Common.{◌≡◌, ℕ, zero, suc, ◌<◌, List, [], ◌∷◌, ◌++◌, length, map, get_or, Some, refl, ap, sym, ◌∙◌, subst, arith, below_more, length-append}
 use Rattle.std.proofs.lemmas.List.{get_or_append_left}
 use Rattle.std.proofs.Math.Seq.{get_or-append_seam}
 use Rattle.notifier_model.specs.Start.{Start}
-use Rattle.notifier.specs.Standing.{Standing, first_standing}
+use Rattle.notifier.specs.Standing.{first_standing}
 use Rattle.queues.specs.InboxSeats.{ReceiverSeat}
 use Rattle.queues.specs.OutboxSeats.{Outbox, PosterSeat, TakerSeat, new_posters}
-use Rattle.crew.specs.Ready.{IsReady}
-use Rattle.crew.specs.Started.{Hired, IsFit, IsHired}
+use Rattle.crew.specs.Ready.{SeatSeen, IsReady, IsFit}
+use Rattle.crew.specs.Started.{Hired, IsHired}
 
 abbrev pub new_poster : Outbox → ℕ → PosterSeat
 new_poster outbox number = record { outbox = outbox; number = number; posted = [] }
@@ -31,17 +31,17 @@ pub element : {A : Type 0} (xs : List A) (k : ℕ) → k < length xs → A
 element [] k low = absurd (omega arith)
 element (x ∷ xs) k low = x
 
-pub ready_fit : (start begun : Start) (n : ℕ) (p p' : PosterSeat) (stop : Bool) (desk : Option Standing) (r : ReceiverSeat) → p.posted ≡ [] → IsReady start n p begun stop desk r p' → IsFit begun stop desk r p'
-ready_fit start begun n p p' stop desk r none k = record {
+pub ready_fit : (start : Start) (n : ℕ) (p : PosterSeat) (seat : SeatSeen) → p.posted ≡ [] → IsReady start n p seat → IsFit seat
+ready_fit start n p seat none k = record {
   stops = k.stops ∙ ap (λ (s : Start). s.place.stop) (sym k.begins);
   stands = k.stands ∙ ap (λ (s : Start). Some (first_standing s)) (sym k.begins);
   untaken = ap (λ (w : ReceiverSeat). w.taken) k.hears;
   unposted = ap (λ (w : PosterSeat). w.posted) k.tells ∙ none;
 }
 
-pub hired_is : (start begun : Start) (n w : ℕ) (taker : TakerSeat) (p' : PosterSeat) (stop : Bool) (desk : Option Standing) (r : ReceiverSeat) (x : Hired) → x ≡ record { start = begun; reads = r; posts = p' }
-    → taker.outbox.capacity ≡ start.place.limits.outbox → IsReady start n (new_poster taker.outbox w) begun stop desk r p' → IsHired start n taker w x
-hired_is start begun n w taker p' stop desk r x is holds k =
+pub hired_is : (start : Start) (n w : ℕ) (taker : TakerSeat) (seat : SeatSeen) (x : Hired) → x ≡ record { start = seat.start; reads = seat.reads; posts = seat.posts }
+    → taker.outbox.capacity ≡ start.place.limits.outbox → IsReady start n (new_poster taker.outbox w) seat → IsHired start n taker w x
+hired_is start n w taker seat x is holds k =
     let P : Hired → Type 0 = λ y. IsHired start n taker w y in
     subst P (sym is) (record { begins = k.begins; hears = k.hears; tells = k.tells; inbox_holds = k.holds; outbox_holds = holds })
 

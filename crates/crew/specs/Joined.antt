@@ -1,11 +1,12 @@
 -- What the report of a crew tells.
-use Rattle.std.specs.Prelude.{◌≡◌, ◌<◌, ℕ, true, List, length, get_or}
+use Rattle.std.specs.Prelude.{◌≡◌, ◌<◌, ℕ, true, List, length}
+use Rattle.std.specs.List.{All, AllZip}
 use Rattle.queues.specs.declared.items.Item.{Item}
 use Rattle.queues.specs.Items.{items_of, has_end, StartsWith, TookInOrder}
 use Rattle.queues.specs.Values.{values}
 use Rattle.notifier_model.specs.declared.event.Event.{Event}
 use Rattle.notifier_model.specs.declared.event.Out.{Out}
-use Rattle.queues.specs.InboxSeats.{SenderSeat, ReceiverSeat}
+use Rattle.queues.specs.InboxSeats.{SenderSeat}
 use Rattle.queues.specs.OutboxSeats.{TakerSeat}
 use Rattle.crew.specs.Worked.{AllFrom, Ends, handled_of, outs_for}
 use Rattle.crew.specs.Ports.{PortSeats}
@@ -20,16 +21,14 @@ pub record HasEndOf (taker : TakerSeat) (h : Hired) : Type 0 where
   pub mark : has_end (items_of h.posts.number taker.got) ≡ true
 
 -- the seat is one of a port of the worker's inbox
-pub record IsSeatOf (reads : ReceiverSeat) (seat : SenderSeat) : Type 0 where
-  pub inbox : seat.inbox ≡ reads.inbox
-  pub number : seat.number < reads.ports
+pub record IsSeatOf (h : Hired) (seat : SenderSeat) : Type 0 where
+  pub inbox : seat.inbox ≡ h.reads.inbox
+  pub number : seat.number < h.reads.ports
 
--- a closed port of the crew: it has a seat of each worker's inbox
+-- a closed port of the crew: its seats are of the workers' inboxes, one each, in their order
 pub record IsPortOf (crew : List Hired) (port : PortSeats) : Type 0 where
   pub closed : port.still_open ≡ 0
-  pub len : length port.seats ≡ length crew
-  pub each : (w : ℕ) (s : SenderSeat) (h : Hired) → w < length crew
-      → IsSeatOf (get_or crew w h).reads (get_or port.seats w s)
+  pub seats : AllZip IsSeatOf crew port.seats
 
 -- what the report tells of its worker: what it took is of its inbox, how it ended, and that the taker got all outs of the
 -- events that it handled, and no others
@@ -55,10 +54,7 @@ pub record IsHeard (report : WorkerReport) (seat : SenderSeat) : Type 0 where
   pub arrived : Arrived report.end seat.sent (items_of seat.number report.receiver.taken)
   pub came : TookInOrder seat.number report.receiver.taken seat.sent
 
--- a report for each worker, which tells of the worker, and of each port's seat of its inbox
+-- a report for each worker, in their order, which tells of the worker, and of each port's seat of its inbox
 pub record IsJoined (crew : List Hired) (ports : List PortSeats) (got : List (Item Out)) (reports : List WorkerReport) : Type 0 where
-  pub len : length reports ≡ length crew
-  pub reported : (w : ℕ) (h : Hired) (r : WorkerReport) → w < length crew
-      → Reported (get_or crew w h) got (get_or reports w r)
-  pub heard : (p w : ℕ) (q : PortSeats) (s : SenderSeat) (r : WorkerReport) → p < length ports → w < length crew
-      → IsHeard (get_or reports w r) (get_or (get_or ports p q).seats w s)
+  pub reported : AllZip (λ (h : Hired) (r : WorkerReport). Reported h got r) crew reports
+  pub heard : All (λ (q : PortSeats). AllZip IsHeard reports q.seats) ports

@@ -1,7 +1,6 @@
 -- How a crew stands at its start.
-use Rattle.std.specs.Prelude.{◌≡◌, ℕ, ◌<◌, Bool, List, [], length, map, get_or, Option, Some}
+use Rattle.std.specs.Prelude.{◌≡◌, ℕ, ◌<◌, List, [], length, map, get_or}
 use Rattle.notifier_model.specs.Start.{Start}
-use Rattle.notifier.specs.Standing.{Standing, first_standing}
 use Rattle.queues.specs.InboxSeats.{ReceiverSeat, new_receiver}
 use Rattle.queues.specs.OutboxSeats.{PosterSeat, TakerSeat, new_taker}
 use Rattle.crew.specs.Ports.{PortSeats, AreDealt}
@@ -15,13 +14,6 @@ pub record Hired : Type 0 where
 
 abbrev pub hired : Began → Hired
 hired p = record { start = p.token.start; reads = p.inbox.value; posts = p.outbox.value }
-
--- nothing was taken or posted yet, and the desk is new
-pub record IsFit (start : Start) (stop : Bool) (desk : Option Standing) (reads : ReceiverSeat) (posts : PosterSeat) : Type 0 where
-  pub stops : stop ≡ start.place.stop
-  pub stands : desk ≡ Some (first_standing start)
-  pub untaken : reads.taken ≡ []
-  pub unposted : posts.posted ≡ []
 
 -- the worker of this number, of n ports, of which nothing was taken and posted. Its inbox and the outbox hold as many items as
 -- its limits say

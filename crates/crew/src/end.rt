@@ -8,10 +8,10 @@ use queues::outbox::PosterDone;
 pub enum End {
     /// Each port put its end mark, and all events were handled.
     Closed,
-    /// A growth was refused after this many events. All their outs were posted, and no others. The later events were
+    /// An allocation failed after this many events. All their outs were posted, and no others. The later events were
     /// taken and dropped until each port had ended.
     NoMemory(u64),
-    /// All ports went away, and one at least had not put its end mark. It tells whether a growth was refused before.
+    /// All ports went away, and one at least had not put its end mark. It tells whether an allocation failed before.
     Abandoned(bool),
 }
 

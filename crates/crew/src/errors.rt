@@ -14,7 +14,7 @@ pub enum StartError {
     /// Nothing could be sent.
     #[error("no ports")]
     NoPorts,
-    /// A growth was refused.
+    /// An allocation failed.
     #[error("out of memory")]
     NoMemory,
     /// A thread was refused, for whatever cause.

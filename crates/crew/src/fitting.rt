@@ -1,9 +1,8 @@
 //! What a crew is launched with.
 ghost use Rattle.std.specs.Prelude.{◌≡◌, ◌<◌, ◌≤◌, ℕ, [], map, get_or, vec_len, vec_capacity, IfOk};
 ghost use Rattle.queues.specs.OutboxSeats.{new_taker};
-ghost use Rattle.notifier.specs.Held.{seen_by};
 ghost use Rattle.crew.specs.Ports.{AreDealt};
-ghost use Rattle.crew.specs.Ready.{start_of, IsReady};
+ghost use Rattle.crew.specs.Ready.{start_of, seat_seen, IsReady};
 
 use crate::end::Done;
 use crate::launching::{Began, Seat};
@@ -32,7 +31,7 @@ fn open_ports(alloc: Global, count: u32) -> Result<Vec<Port>, NoMemory>
 }
 
 /// This many handles of the gate.
-fn gates_for<G: Drop>(
+fn gates<G: Drop>(
     alloc: Global,
     gate: &Arc<G, Global>,
     count: usize,
@@ -75,8 +74,7 @@ fn seat_crew<P: Package>(
     ensures ready { IfOk result (λ r. (k : ℕ) (s : _) (b : _) → k < vec_len boxes →
         IsReady (start_of P.seen setup.now k (get_or boxes.items k b).items) ports
         (record { outbox = r.2.outbox; number = k; posted = [] })
-        (get_or r.0.items k s).token.start (get_or r.0.items k s).stop
-        (seen_by P.seen (get_or r.0.items k s).desk) (get_or r.0.items k s).receiver (get_or r.0.items k s).poster) }
+        (seat_seen P.seen (get_or r.0.items k s))) }
     ensures dealt { IfOk result (λ r. AreDealt r.1.items (map (λ s. s.receiver.inbox) r.0.items) ports) }
 {
     let count = boxes.len();
@@ -118,12 +116,11 @@ pub(crate) fn fit_out<P: Package, G: Drop>(
     ensures ready { IfOk result (λ f. (k : ℕ) (s : _) (b : _) → k < vec_len boxes →
         IsReady (start_of P.seen setup.now k (get_or boxes.items k b).items) ports
         (record { outbox = f.taker.outbox; number = k; posted = [] })
-        (get_or f.seats.items k s).token.start (get_or f.seats.items k s).stop
-        (seen_by P.seen (get_or f.seats.items k s).desk) (get_or f.seats.items k s).receiver (get_or f.seats.items k s).poster) }
+        (seat_seen P.seen (get_or f.seats.items k s))) }
     ensures dealt { IfOk result (λ f. AreDealt f.ports.items (map (λ s. s.receiver.inbox) f.seats.items) ports) }
 {
     let count = boxes.len();
-    let gates = gates_for(alloc, gate, count)?;
+    let gates = gates(alloc, gate, count)?;
     let (workers, reports) = make_room(alloc, count)?;
     let (seats, ports, taker) = seat_crew(alloc, setup, ports, boxes)?;
     Ok(Fitted {

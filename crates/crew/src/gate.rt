@@ -11,7 +11,7 @@ pub trait Gate: Send + Sync {
         let _ = worker;
     }
 
-    /// The worker with this number met want of memory: from now on it drops what is sent to it, until each port has ended.
+    /// The worker with this number ran out of memory: from now on it drops what is sent to it, until each port has ended.
     fn give_up(&self, worker: u32) {
         let _ = worker;
     }

@@ -4,23 +4,13 @@ ghost use Rattle.notifier.specs.Held.{seen_by};
 ghost use Rattle.notifier.specs.Standing.{Standing};
 ghost use Rattle.crew.specs.Loop.{posts_all, HandlesOne};
 
+use crate::counting::count_up;
 use crate::gate::Gate;
 use notifier::{Desk, DeskError, Event, Out};
 use package::Package;
 use queues::outbox::Poster;
 use std::alloc::Global;
 use std::sync::Wait;
-
-/// The sum of two counts. It waits for good where there is none.
-fn count_up<R: Wait>(rt: &R, count: u64, more: u64) -> u64
-    ensures { result ≡ count + more }
-{
-    if let Some(sum) = count.checked_add(more) {
-        return sum;
-    }
-    for _ in rt.forever() {}
-    unreachable!()
-}
 
 /// Posts these outs of a worker, and tells the gate of each.
 fn post_all<R: Wait, G: Gate>(rt: &R, gate: &G, worker: u32, poster: &mut Poster, outs: Vec<Out>)

@@ -7,7 +7,7 @@
 //!
 //! A worker takes what its ports sent, passes a [`Gate`] before each event, handles the event at its desk and posts the outs,
 //! until each port has ended. It handles the events of its inbox in the order in which it took them, each once, and posts what
-//! the one-thread notifier makes of them (`specs/Worked`). Where a growth is refused it handles nothing more, and takes and
+//! the one-thread notifier makes of them (`specs/Worked`). Where an allocation fails it handles nothing more, and takes and
 //! drops what is still to come; where all ports went away before their end marks it ends as [`End::Abandoned`]. A [`Replay`] is
 //! a desk with the list of the events that it handled, and a [`SharedDesk`] one behind a lock (`specs/Recorded`).
 //!
@@ -17,6 +17,7 @@
 #![tactic(auto)]
 
 mod boxed;
+mod counting;
 mod end;
 mod errors;
 mod fitting;
@@ -35,11 +36,12 @@ mod start;
 mod token;
 mod working;
 
+pub use counting::count_up;
 pub use end::{Done, End};
 pub use errors::{SendError, StartError, TickError};
 pub use gate::{Gate, Open};
-pub use home::{home, key_hash};
 pub use launching::{Began, Seat, launch};
+pub use notifier_model::homes::{home, key_hash};
 pub use port::Port;
 pub use replay::Replay;
 pub use report::{Report, WorkerReport};

@@ -6,8 +6,8 @@ ghost use Rattle.crew.specs.Ports.{no_seats, seated, AllOpen, HaveRoom, TakeSeat
 ghost use Rattle.crew.specs.PortErrors.{GivesBack, TicksFirst};
 
 use crate::errors::{SendError, TickError};
-use home::home;
 use notifier_model::Event;
+use notifier_model::homes::home;
 use queues::inbox::{Gone, Sender, Sent};
 use queues::many_to_one::Left;
 use sip_text::NoMemory;
@@ -23,7 +23,7 @@ pub struct Port {
     sents: Vec<Sent>,
 }
 
-/// By hand, so that all that lets go of one calls this one function, and none proves the ways through each field.
+/// By hand, so that all that drops one calls this one function, and none proves the ways through each field.
 impl Drop for Port {
     fn drop(self) {
         let Port {
@@ -104,7 +104,7 @@ impl Port {
 }
 
 /// Sends an event by the seat at this place. Where the worker is gone it comes back.
-fn send_at<R: Wait>(rt: &R, senders: &mut [Sender], at: usize, event: Event) -> Result<(), Event>
+fn send_to<R: Wait>(rt: &R, senders: &mut [Sender], at: usize, event: Event) -> Result<(), Event>
     requires { at < length senders.old }
     ensures { MatchResult result
         (λ _. SendsAt senders.old at event senders.new)
@@ -125,7 +125,7 @@ fn tick_all<R: Wait>(rt: &R, senders: &mut [Sender], now: u64) -> Result<(), u32
         (λ i. (i < length senders.old) × (senders.new ≡ sent_first i (event.Tick now) senders.old)) }
 {
     for at in 0..senders.len() {
-        if let Err(back) = send_at(rt, senders, at, Event::Tick(now)) {
+        if let Err(back) = send_to(rt, senders, at, Event::Tick(now)) {
             drop(back);
             return Err(at as u32);
         }
@@ -147,7 +147,7 @@ impl Port {
             return Err(SendError::Closed(event));
         }
         let at = home(&event, count as u32);
-        match send_at(rt, self.senders.as_mut_slice(), at as usize, event) {
+        match send_to(rt, self.senders.as_mut_slice(), at as usize, event) {
             Ok(()) => Ok(()),
             Err(back) => Err(SendError::Gone(back)),
         }

@@ -18,7 +18,7 @@ pub struct Replay<P: Package> {
     events: Vec<Event>,
 }
 
-/// By hand, so that all that lets go of one calls this one function, and none proves the ways through each field.
+/// By hand, so that all that drops one calls this one function, and none proves the ways through each field.
 impl<P: Package> Drop for Replay<P> {
     fn drop(self) {
         let Replay {
@@ -98,8 +98,8 @@ impl<P: Package> Replay<P> {
         }
     }
 
-    /// Handles one event as the desk does, and lists it. The desk had come to where it stood by the listed events. After want of
-    /// memory, of the desk or of the list, there are no outs: the replay is spent then, and its list is as it was. A spent
+    /// Handles one event as the desk does, and lists it. The desk had come to where it stood by the listed events. Where memory
+    /// ran out, of the desk or of the list, there are no outs: the replay is spent then, and its list is as it was. A spent
     /// replay answers Spent.
     pub fn handle(&mut self, alloc: Global, event: Event) -> Result<Vec<Out>, DeskError>
         ensures start { self.new.start ≡ self.old.start }

@@ -14,7 +14,7 @@ pub struct WorkerReport {
     pub end: End,
 }
 
-/// By hand, so that all that lets go of one calls this one function, and none proves the ways through each field.
+/// By hand, so that all that drops one calls this one function, and none proves the ways through each field.
 impl Drop for WorkerReport {
     fn drop(self) {
         let WorkerReport {

@@ -5,7 +5,7 @@ ghost use Rattle.crew.specs.Ports.{AreDealt, AllOpen, HaveRoom, TakeSeats};
 ghost use Rattle.queues.specs.InboxSeats.{new_senders, new_receiver};
 ghost use Rattle.notifier.specs.Held.{seen_by};
 ghost use Rattle.notifier.specs.Standing.{first_standing};
-ghost use Rattle.crew.specs.Ready.{start_of, IsReady};
+ghost use Rattle.crew.specs.Ready.{start_of, seat_seen, IsReady};
 
 use crate::launching::Seat;
 use crate::port::{Port, deal_out};
@@ -67,7 +67,7 @@ fn make_seat<P: Package>(
     requires still_open { AllOpen ports.old }
     requires room { HaveRoom ports.old }
     ensures ready { IfOk result (λ s. IsReady (start_of P.seen setup.now worker boxes.items)
-        (length ports.old) poster s.token.start s.stop (seen_by P.seen s.desk) s.receiver s.poster) }
+        (length ports.old) poster (seat_seen P.seen s)) }
     ensures dealt { IfOk result (λ s. TakeSeats ports.old ports.new
         (new_senders s.receiver.inbox (length ports.old)) (length ports.old)) }
 {
@@ -98,8 +98,7 @@ pub(crate) fn make_seats<P: Package>(
     ensures len { IfOk result (λ seats. vec_len seats ≡ vec_len boxes) }
     ensures ready { IfOk result (λ seats. (k : ℕ) (s : _) (b : _) (p : PosterSeat) → k < vec_len boxes →
         IsReady (start_of P.seen setup.now k (get_or boxes.items k b).items) (length ports.old)
-        (get_or posters.items k p) (get_or seats.items k s).token.start (get_or seats.items k s).stop
-        (seen_by P.seen (get_or seats.items k s).desk) (get_or seats.items k s).receiver (get_or seats.items k s).poster) }
+        (get_or posters.items k p) (seat_seen P.seen (get_or seats.items k s))) }
     ensures dealt { IfOk result (λ seats.
         AreDealt ports.new (map (λ s. s.receiver.inbox) seats.items) (length ports.old)) }
 {

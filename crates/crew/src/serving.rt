@@ -19,28 +19,28 @@ use std::sync::Wait;
 pub(crate) enum Stop {
     /// Each port has ended.
     Finished,
-    /// A growth was refused.
+    /// An allocation failed.
     Full,
     /// All ports went away.
     Deserted,
 }
 
-/// How far a worker came.
+/// Where a worker came to a halt.
 #[derive(Clone, Copy)]
-pub(crate) struct Served {
+pub(crate) struct Halt {
     pub(crate) stop: Stop,
     /// How many ports haven't ended.
     pub(crate) left: u32,
 }
 
 /// Handles the events of an inbox in their order.
-pub(crate) fn serve<R: Wait, P: Package, G: Gate>(
+pub(crate) fn handle_all<R: Wait, P: Package, G: Gate>(
     rt: &R,
     alloc: Global,
     gate: &G,
     hand: &mut Hand<P>,
     receiver: &mut Receiver,
-) -> Served
+) -> Halt
     requires taken { receiver.old.taken ≡ [] }
     requires posted { hand.old.poster.posted ≡ [] }
     requires counts { (hand.old.handled ≡ 0) × (hand.old.made ≡ 0) }
@@ -55,13 +55,13 @@ pub(crate) fn serve<R: Wait, P: Package, G: Gate>(
     let mut left = receiver.ports();
     for _ in rt.forever() {
         if left == 0 {
-            return Served {
+            return Halt {
                 stop: Stop::Finished,
                 left,
             };
         }
         let Ok(taken) = receiver.take(rt) else {
-            return Served {
+            return Halt {
                 stop: Stop::Deserted,
                 left,
             };
@@ -70,7 +70,7 @@ pub(crate) fn serve<R: Wait, P: Package, G: Gate>(
             Taken::Ended(_) => left -= 1,
             Taken::Event(event) => {
                 let Ok(()) = hand.handle(rt, alloc, gate, event) else {
-                    return Served {
+                    return Halt {
                         stop: Stop::Full,
                         left,
                     };

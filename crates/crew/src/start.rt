@@ -1,8 +1,7 @@
 //! How a crew is started.
 ghost use Rattle.std.specs.Prelude.{◌≡◌, ◌↔◌, ◌<◌, ◌≤◌, ℕ, true, [], map, get_or, vec_len, vec_capacity, IfOk, Err};
-ghost use Rattle.notifier.specs.Held.{seen_by};
-ghost use Rattle.crew.specs.Ready.{start_of};
-ghost use Rattle.crew.specs.Started.{hired, IsFit, IsStarted};
+ghost use Rattle.crew.specs.Ready.{start_of, seat_seen, IsFit};
+ghost use Rattle.crew.specs.Started.{hired, IsStarted};
 
 use crate::end::Done;
 use crate::errors::StartError;
@@ -27,7 +26,7 @@ pub struct Crew {
     reports: Vec<WorkerReport>,
 }
 
-/// By hand, so that all that lets go of one calls this one function, and none proves the ways through each field.
+/// By hand, so that all that drops one calls this one function, and none proves the ways through each field.
 impl Drop for Crew {
     fn drop(self) {
         let Crew {
@@ -69,8 +68,7 @@ where
     requires empty { workers.items ≡ [] }
     requires gates { vec_len gates ≡ vec_len seats }
     requires ready { (k : ℕ) (s : _) → k < vec_len seats
-        → IsFit (get_or seats.items k s).token.start (get_or seats.items k s).stop
-        (seen_by P.seen (get_or seats.items k s).desk) (get_or seats.items k s).receiver (get_or seats.items k s).poster }
+        → IsFit (seat_seen P.seen (get_or seats.items k s)) }
     ensures all { result.1 ≡ true → vec_len result.0 ≡ vec_len seats }
     ensures launched { (k : ℕ) (h : _) (s : _) → k < vec_len result.0 →
         hired (get_or result.0.items k h).promise ≡ record {

@@ -13,7 +13,7 @@ ghost use Rattle.crew.specs.declared.serving.Stop.TheVariants.{Finished};
 use crate::end::{Done, End};
 use crate::gate::Gate;
 use crate::hand::Hand;
-use crate::serving::{Served, Stop, serve};
+use crate::serving::{Halt, Stop, handle_all};
 use notifier_model::Event;
 use package::Package;
 use queues::inbox::{Receiver, Taken};
@@ -66,15 +66,15 @@ fn shut<R: Wait, P: Package, G: Gate>(rt: &R, alloc: Global, gate: &G, hand: &mu
 }
 
 /// How a worker ends, once all that is to come was taken.
-fn end_of<R: Wait, P: Package, G: Gate>(
+fn ending<R: Wait, P: Package, G: Gate>(
     rt: &R,
     alloc: Global,
     gate: &G,
     hand: &mut Hand<P>,
     receiver: &mut Receiver,
-    served: Served,
+    halt: Halt,
 ) -> End
-    requires { served.left + count_ended receiver.old.ports receiver.old.taken ≡ receiver.old.ports }
+    requires { halt.left + count_ended receiver.old.ports receiver.old.taken ≡ receiver.old.ports }
     ensures inbox { receiver.new.inbox ≡ receiver.old.inbox }
     ensures ports { receiver.new.ports ≡ receiver.old.ports }
     ensures among { AllFrom receiver.old.ports receiver.old.taken → AllFrom receiver.old.ports receiver.new.taken }
@@ -82,16 +82,16 @@ fn end_of<R: Wait, P: Package, G: Gate>(
         × (hand.new.poster.number ≡ hand.old.poster.number) }
     ensures ends { (start : Start) → hand.old.stop ≡ start.place.stop
         → Halted hand.old.poster.number receiver.old.ports start receiver.old.taken
-        (seen_by P.seen hand.old.desk) hand.old.poster.posted hand.old.handled hand.old.made served.stop
+        (seen_by P.seen hand.old.desk) hand.old.poster.posted hand.old.handled hand.old.made halt.stop
         → Halts hand.old.poster.number receiver.old.ports start receiver.new.taken
         hand.new.poster.posted hand.new.handled hand.new.made result }
 {
-    match served.stop {
+    match halt.stop {
         Stop::Finished => shut(rt, alloc, gate, hand),
         Stop::Deserted => End::Abandoned(false),
         Stop::Full => {
             gate.give_up(hand.worker);
-            if drain(rt, receiver, served.left) {
+            if drain(rt, receiver, halt.left) {
                 End::NoMemory(hand.handled)
             } else {
                 End::Abandoned(true)
@@ -114,8 +114,8 @@ pub(crate) fn work<R: Wait, P: Package, G: Gate>(
     ensures { (start : Start) → seen_by P.seen hand.desk ≡ Some (first_standing start) → hand.stop ≡ start.place.stop
         → IsWorked start receiver hand.poster result }
 {
-    let served = serve(rt, alloc, gate, &mut hand, &mut receiver);
-    let end = end_of(rt, alloc, gate, &mut hand, &mut receiver, served);
+    let halt = handle_all(rt, alloc, gate, &mut hand, &mut receiver);
+    let end = ending(rt, alloc, gate, &mut hand, &mut receiver, halt);
     let Hand {
         worker,
         poster,

@@ -43,7 +43,7 @@ event_in (control.Progress p) = Some (event.Progress p)
 event_in (control.Tick n) = Some (event.Tick n)
 event_in control.Close = None
 
--- why a line is not read: it is none, or memory was wanting
+-- why a line is not read: it is none, or memory ran out
 abbrev pub IsNoLine : List ℕ → ScriptError → Type 0
 IsNoLine octets error.BadScript = (c : Control) → ¬ (IsControlLine octets c)
 IsNoLine octets error.NoMemory = Unit {0}

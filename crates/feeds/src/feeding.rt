@@ -6,8 +6,8 @@ ghost use Rattle.feeds.specs.Fed.{Sends, Misses, IsTold, Log, datagrams, IsFed, 
 
 use crate::hearing::{Heard, Language, hear};
 use crew::Port;
-use home::is_for_all;
 use notifier_model::Event;
+use notifier_model::homes::is_for_all;
 use std::alloc::Global;
 use std::sync::Wait;
 use transport::Wire;
@@ -85,7 +85,7 @@ pub fn send_event<R: Wait>(rt: &R, port: &mut Port, happened: Event) -> bool
     ensures seats { SameSeats port.old port.new }
 {
     match happened {
-        // `..`: the event is looked at, and let go of as one
+        // `..`: the event is looked at, and dropped as one
         Event::Tick(now, ..) => port.tick(rt, now).is_ok(),
         other => send_home(rt, port, other),
     }

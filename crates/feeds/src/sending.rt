@@ -1,11 +1,12 @@
 //! What sends out what workers post.
-ghost use Rattle.std.specs.Prelude.{◌≡◌, ◌⊎◌, ◌+◌, ◌∷◌, [], true, false};
+ghost use Rattle.std.specs.Prelude.{◌≡◌, ◌⊎◌, ◌∷◌, [], true, false};
 ghost use Rattle.queues.specs.Ended.{count_ended, AllEnded};
 ghost use Rattle.transport.specs.Devices.{rises};
 ghost use Rattle.transport.specs.Wires.{Grows};
 ghost use Rattle.feeds.specs.Emitted.{Fates, IsEmitted, MayMeet, Writes, counted, is_start, sent_datagrams, count, fails_to_send, fails_to_start};
 
 use crate::writing::write_start;
+use crew::count_up;
 use notifier_model::Out;
 use queues::outbox::{Posted, Taker};
 use std::io::Write;
@@ -77,26 +78,15 @@ pub fn put_out<R: Wait, W: Wire, F: Write>(
     }
 }
 
-/// One more. It waits for good where there is no such number.
-fn count_up<R: Wait>(rt: &R, count: u64) -> u64
-    ensures { result ≡ count + 1 }
-{
-    if let Some(sum) = count.checked_add(1) {
-        return sum;
-    }
-    for _ in rt.forever() {}
-    unreachable!()
-}
-
 impl EmitReport {
     /// One out more.
     fn add<R: Wait>(&mut self, rt: &R, fate: Fate)
         ensures { self.new ≡ counted self.old fate }
     {
         match fate {
-            Fate::Sent => self.sent = count_up(rt, self.sent),
-            Fate::Started => self.starts = count_up(rt, self.starts),
-            Fate::Failed => self.failed = count_up(rt, self.failed),
+            Fate::Sent => self.sent = count_up(rt, self.sent, 1),
+            Fate::Started => self.starts = count_up(rt, self.starts, 1),
+            Fate::Failed => self.failed = count_up(rt, self.failed, 1),
         }
     }
 }

@@ -14,23 +14,25 @@ use Rattle.queues.specs.InboxSeats.{Inbox, SenderSeat, ReceiverSeat}
 use Rattle.queues.specs.OutboxSeats.{TakerSeat, PosterSeat, new_taker}
 use Rattle.crew.specs.Worked.{outs_for}
 use Rattle.crew.specs.Kept.{SameSeats}
-use Rattle.crew.specs.Ports.{PortSeats, new_seat, port_of}
+use Rattle.crew.specs.Ports.{PortSeats, port_of, Closes}
 use Rattle.crew.specs.Ready.{start_of}
 use Rattle.crew.specs.Started.{Hired, IsStarted}
-use Rattle.crew.specs.Joined.{IsPortOf}
+use Rattle.crew.specs.Joined.{IsSeatOf, IsPortOf, Reported, IsHeard}
 use Rattle.crew.specs.One.{all_events}
 use Rattle.crew.specs.declared.report.WorkerReport.{WorkerReport}
 use Rattle.crew.proofs.Starting.{element}
 use Rattle.crew.proofs.Keeping.{started_port}
 use Rattle.crew.proofs.OnePort.{told_of_one}
+use Rattle.crew.proofs.Zipped.{zip_len, zip_at}
 use Rattle.server.specs.declared.work.Work.{Work}
 use Rattle.server.specs.declared.gathering.Gathered.{Gathered}
 use Rattle.server.specs.Page.{events_at}
 use Rattle.server.specs.Runs.{starts_of}
 use Rattle.server.specs.Working.{AreWorks}
-use Rattle.server.specs.Sending.{HasSent}
 use Rattle.server.specs.Gathering.{IsGathered}
 use Rattle.server.specs.Crew.{IsRunning, IsFinished}
+use Rattle.feeds.specs.Fed.{Sends}
+use Rattle.server.proofs.Sent.{HasSent, new_sent, closed_sent}
 use Rattle.server.proofs.Worked.{starts_of-len, starts_of-at, starts_of-numbered}
 
 -- a list of one, without its last
@@ -65,17 +67,6 @@ running {P = P} seen setup boxes held crew ports taker n is started =
       };
     }
 
-new_open : (inboxes : List Inbox) → (port_of inboxes 0).still_open ≡ length (port_of inboxes 0).seats
-new_open inboxes = sym (length-map inboxes (λ (i : Inbox). new_seat i 0))
-
-new_unsent : (inboxes : List Inbox) → HasSent [] (port_of inboxes 0)
-unfolding events_for
-new_unsent inboxes = record {
-  each = λ w s low.
-      let len = length-map inboxes (λ (i : Inbox). new_seat i 0) in
-      ap (λ (x : SenderSeat). values x.sent) (get_or-map (λ (i : Inbox). new_seat i 0) inboxes w s.inbox s (omega arith));
-}
-
 only_closed : (ports : List PortSeats) (port' : PortSeats) → length ports ≡ 1 → port'.still_open ≡ 0
     → (k : ℕ) (p : PortSeats) → k < length ports → (get_or (port' ∷ []) k p).still_open ≡ 0
 only_closed ports port' one closed zero p low = closed
@@ -103,11 +94,17 @@ module _ {starts : List Start} {crew : List Hired} {ports : List PortSeats} {tak
   port_is : (port : PortSeats) → ports ≡ port ∷ [] → port ≡ port_of (map (λ (h : Hired). h.reads.inbox) crew) 0
   port_is port one = sym (ap (λ (l : List PortSeats). get_or l 0 port) one) ∙ is.started.dealt.each 0 port (omega arith)
 
-  pub port_open : (port : PortSeats) → ports ≡ port ∷ [] → port.still_open ≡ length port.seats
-  port_open port one = subst (λ (p : PortSeats). p.still_open ≡ length p.seats) (sym (port_is port one)) (new_open (map (λ (h : Hired). h.reads.inbox) crew))
+  pub port_open : (port : PortSeats) → ports ≡ port ∷ [] → 0 < length crew → 0 < port.still_open
+  port_open port one some =
+      let size = length-map crew (λ (h : Hired). h.reads.inbox) in
+      subst (λ (p : PortSeats). 0 < p.still_open) (sym (port_is port one)) (omega (arith, size, some))
 
-  pub port_unsent : (port : PortSeats) → ports ≡ port ∷ [] → HasSent [] port
-  port_unsent port one = subst (HasSent []) (sym (port_is port one)) (new_unsent (map (λ (h : Hired). h.reads.inbox) crew))
+  -- what it sent until it was closed
+  pub port_sent : (port sent closed : PortSeats) (es : List Event) → ports ≡ port ∷ [] → SameSeats port sent → Sends port es sent → Closes sent closed → HasSent es closed
+  port_sent port sent closed es one same sends closes =
+      let inboxes : List Inbox = map (λ (h : Hired). h.reads.inbox) crew in
+      let P : PortSeats → Type 0 = λ p. SameSeats p sent → Sends p es sent → HasSent es sent in
+      closed_sent es sent closed closes (subst P (sym (port_is port one)) (new_sent inboxes es sent) same sends)
 
   pub is_port : (port port' : PortSeats) → ports ≡ port ∷ [] → port'.still_open ≡ 0 → SameSeats port port' → (p : ℕ) (q : PortSeats) → p < 1 → IsPortOf crew (get_or (port' ∷ []) p q)
   is_port port port' one closed same =
@@ -125,13 +122,13 @@ module _ {starts : List Start} {crew : List Hired} {ports : List PortSeats} {tak
       → AreWorks starts (events_at (length starts) es) works
   works_are port' gathered is_sent es works of_crew sent gathers done =
       let n : ℕ = length starts in
-      let mine = of_crew 0 port' (omega arith) in
+      let mine = (of_crew 0 port' (omega arith)).seats in
       let kept : length gathered.works.items ≡ n = gathers.len ∙ taker_workers ∙ workers_len in record {
         len = done.counted.len ∙ kept;
         each = λ k start work low.
             let in_crew : k < length crew = let l = workers_len in omega arith in
-            let in_reports : k < length done.reports = let l = done.joined.len in omega arith in
-            let in_seats : k < length port'.seats = let l = mine.len in omega arith in
+            let in_reports : k < length done.reports = let l = zip_len (λ (x : Hired) (y : WorkerReport). Reported x gathered.taker.got y) crew done.reports done.joined.reported in omega arith in
+            let in_seats : k < length port'.seats = let l = zip_len IsSeatOf crew port'.seats mine in omega arith in
             let h = element crew k in_crew in
             let r = element done.reports k in_reports in
             let s = element port'.seats k in_seats in
@@ -143,11 +140,11 @@ module _ {starts : List Start} {crew : List Hired} {ports : List PortSeats} {tak
             let counted = done.counted.each k r work (omega arith) in
             let was = (gathers.kept done.whole).each k work (omega arith) in
             let one : hired.reads.ports ≡ 1 = ap (λ (x : ReceiverSeat). x.ports) made.hears in
-            let first : seat.number ≡ 0 = let b = (mine.each k s h in_crew).number in omega arith in
-            let tells = told_of_one hired gathered.taker.got report seat (done.joined.reported k h r in_crew) (done.joined.heard 0 k port' s r (omega arith) in_crew) one first counted.closed in
+            let first : seat.number ≡ 0 = let b = (zip_at IsSeatOf crew port'.seats mine k h s in_crew).number in omega arith in
+            let tells = told_of_one hired gathered.taker.got report seat (zip_at (λ (x : Hired) (y : WorkerReport). Reported x gathered.taker.got y) crew done.reports done.joined.reported k h r in_crew) (zip_at IsHeard done.reports port'.seats (done.joined.heard 0 port' (omega arith)) k r s in_reports) one first counted.closed in
             let starts_so : hired.start ≡ its = hired_at k h start low in
             let number : its.place.worker ≡ k = is.numbered k start low in
-            let size : length port'.seats ≡ n = mine.len ∙ workers_len in
+            let size : length port'.seats ≡ n = zip_len IsSeatOf crew port'.seats mine ∙ workers_len in
             let events : all_events hired seat ≡ events_at n es its =
             ap (λ (l : List Event). l ++ at_the_stop hired.start.place.stop)
             ((sent done.sent).each k s in_seats ∙ ap (λ (m : ℕ). events_for m k es) size ∙ ap (λ (w : ℕ). events_for n w es) (sym number))

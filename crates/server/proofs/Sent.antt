@@ -1,130 +1,48 @@
 -- What one port sent of a script.
-use Rattle.std.proofs.Common.{◌≡◌, ⊎_elim, ℕ, zero, suc, ◌<◌, Bool, true, false, ◌||◌, eq-eqb, List, [], ◌∷◌, ◌++◌, length, map, set, get_or, Some, refl, ap, sym, ◌∙◌, subst, arith}
-use Rattle.std.specs.Prelude.{slice_get, ◌==◌, MatchResult, Result, Ok, Err, is_ok}
-use Rattle.std.proofs.lemmas.List.{get_or-set_other, get_or-set_same, length-set, get_or-map, length-map, append-nil}
-use Rattle.std.proofs.lemmas.List.Elements.{filter-append}
-use Rattle.std.proofs.lemmas.Bool.Decides.{eqb_tells}
-use Rattle.std.proofs.lemmas.Bool.{ne_eqb}
-use Rattle.queues.specs.Values.{values, value_item, end_item}
+use Rattle.std.proofs.Common.{◌≡◌, ℕ, zero, suc, ◌<◌, Bool, true, false, List, [], ◌∷◌, ◌++◌, length, map, get_or, Some, refl, ap, sym, ◌∙◌, subst, arith}
+use Rattle.std.specs.Prelude.{slice_get, MatchBool, MatchResult, Result, Ok, Err, is_ok}
+use Rattle.std.proofs.lemmas.List.{get_or-map, length-map}
+use Rattle.std.proofs.lemmas.Option.{get_or_from_slice_get}
+use Rattle.queues.specs.Values.{values, values_by, end_item}
 use Rattle.notifier_model.specs.declared.event.Event.{Event}
-use Rattle.notifier_model.specs.Home.{home, is_for_all, comes_to, events_for}
-use Rattle.queues.specs.InboxSeats.{SenderSeat, with_sent}
-use Rattle.crew.proofs.Folds.{values_value, values_end}
-use Rattle.crew.specs.Ports.{PortSeats, sent_first, sends_first, SendsTo, Closes}
-use Rattle.server.specs.Sending.{Reaches, HasSent}
+use Rattle.notifier_model.specs.Home.{events_for}
+use Rattle.queues.specs.InboxSeats.{Inbox, SenderSeat, with_sent}
+use Rattle.crew.specs.Kept.{emptied, SameSeats}
+use Rattle.crew.specs.Ports.{PortSeats, new_seat, port_of, Closes}
+use Rattle.crew.proofs.Folds.{values_end}
+use Rattle.feeds.specs.Fed.{with_events, Sends}
 
--- ---- where events go
+-- each worker was sent those of these events that go to it, in order, and no others
+pub record HasSent (es : List Event) (port : PortSeats) : Type 0 where
+  pub each : (w : ℕ) (s : SenderSeat) → w < length port.seats
+      → values (get_or port.seats w s).sent ≡ events_for (length port.seats) w es
 
-for_append : (n w : ℕ) (es fs : List Event) → events_for n w (es ++ fs) ≡ events_for n w es ++ events_for n w fs
-unfolding events_for
-for_append n w es fs = filter-append (comes_to n w) es fs
+-- ---- from a new port on
 
-for_here : (n w : ℕ) (e : Event) → comes_to n w e ≡ true → events_for n w (e ∷ []) ≡ e ∷ []
-unfolding events_for
-for_here n w e here = rw here refl
+values_back : (w : ℕ) (xs : List Event) → values (values_by w xs) ≡ xs
+values_back w [] = refl
+values_back w (x ∷ xs) = ap (λ l. x ∷ l) (values_back w xs)
 
-for_other : (n w : ℕ) (e : Event) → comes_to n w e ≡ false → events_for n w (e ∷ []) ≡ []
-unfolding events_for
-for_other n w e other = rw other refl
+stood : (seats : List SenderSeat) (w : ℕ) (s : SenderSeat) → w < length seats → slice_get seats w ≡ Some (get_or seats w s)
+stood [] w s low = absurd (omega arith)
+stood (t ∷ seats) zero s low = refl
+stood (t ∷ seats) (suc w) s low = stood seats w s (omega arith)
 
-or_left : (a b : Bool) → a ≡ true → (a || b) ≡ true
-or_left true b e = refl
-or_left false b e = absurd cc
-
-or_right : (a b : Bool) → b ≡ true → (a || b) ≡ true
-or_right true b e = refl
-or_right false b e = e
-
-or_none : (a b : Bool) → a ≡ false → b ≡ false → (a || b) ≡ false
-or_none true b no_a no_b = absurd cc
-or_none false b no_a no_b = no_b
-
--- ---- the time comes to all
-
-first_len : (i : ℕ) (e : Event) (seats : List SenderSeat) → length (sent_first i e seats) ≡ length seats
-first_len zero e seats = refl
-first_len (suc i) e [] = refl
-first_len (suc i) e (s ∷ seats) = ap suc (first_len i e seats)
-
-first_at : (i w : ℕ) (e : Event) (seats : List SenderSeat) (s : SenderSeat) → w < i → w < length seats
-    → get_or (sent_first i e seats) w s ≡ with_sent (get_or seats w s) (value_item (get_or seats w s).number e)
-first_at zero w e seats s before low = absurd (omega arith)
-first_at (suc i) w e [] s before low = absurd (omega arith)
-first_at (suc i) zero e (t ∷ seats) s before low = refl
-first_at (suc i) (suc w) e (t ∷ seats) s before low = first_at i w e seats s (omega arith) (omega arith)
-
-pub reaches_all : (old new : PortSeats) (e : Event) → is_for_all e ≡ true → old.still_open ≡ length old.seats → new ≡ sends_first old.still_open e old → Reaches e old new
-reaches_all old new e all whole is =
-    let seats : new.seats ≡ sent_first old.still_open e old.seats = ap (λ (p : PortSeats). p.seats) is in
-    let n : ℕ = length old.seats in record {
-      still_open = ap (λ (p : PortSeats). p.still_open) is;
-      len = ap length seats ∙ first_len old.still_open e old.seats;
+pub new_sent : (inboxes : List Inbox) (es : List Event) (sent : PortSeats) → SameSeats (port_of inboxes 0) sent → Sends (port_of inboxes 0) es sent → HasSent es sent
+new_sent inboxes es sent same sends =
+    let seats : List SenderSeat = map (λ (i : Inbox). new_seat i 0) inboxes in
+    let n : ℕ = length inboxes in
+    let size : length seats ≡ n = length-map inboxes (λ (i : Inbox). new_seat i 0) in
+    let len : length sent.seats ≡ n = sym (length-map sent.seats emptied) ∙ ap length same ∙ length-map seats emptied ∙ size in record {
       each = λ w s low.
-          let seat : SenderSeat = get_or old.seats w s in
-          ap (λ l. values (get_or l w s).sent) seats
-          ∙ ap (λ (x : SenderSeat). values x.sent) (first_at old.still_open w e old.seats s (omega arith) low)
-          ∙ values_value seat.sent seat.number e
-          ∙ ap (λ l. values seat.sent ++ l) (sym (for_here n w e (or_left (is_for_all e) (home e n == w) all)));
+          let inside : w < n = subst (λ m. w < m) len low in
+          let new : SenderSeat = new_seat (get_or inboxes w s.inbox) 0 in
+          let was : get_or seats w s ≡ new = get_or-map (λ (i : Inbox). new_seat i 0) inboxes w s.inbox s inside in
+          let at : slice_get seats w ≡ Some new = stood seats w s (omega arith) ∙ ap Some was in
+          let now : get_or sent.seats w s ≡ with_events new (events_for n w es) =
+          get_or_from_slice_get sent.seats w (with_events new (events_for n w es)) s (sends.each w new inside at) in
+          ap (λ (x : SenderSeat). values x.sent) now ∙ values_back 0 (events_for n w es) ∙ ap (λ m. events_for m w es) (sym len);
     }
-
--- ---- an event comes to its home
-
-stood : (seats : List SenderSeat) (v : ℕ) (s x : SenderSeat) → slice_get seats v ≡ Some x → get_or seats v s ≡ x
-stood [] v s x e = absurd cc
-stood (t ∷ seats) zero s x e = cc
-stood (t ∷ seats) (suc v) s x e = stood seats v s x e
-
-fits : (seats : List SenderSeat) (v : ℕ) (x : SenderSeat) → slice_get seats v ≡ Some x → v < length seats
-fits [] v x e = absurd cc
-fits (t ∷ seats) zero x e = omega arith
-fits (t ∷ seats) (suc v) x e = let k = fits seats v x e in omega arith
-
-home_at : (old new : List SenderSeat) (n v : ℕ) (e : Event) (t : SenderSeat) → is_for_all e ≡ false → v ≡ home e n → slice_get old v ≡ Some t
-    → new ≡ set old v (with_sent t (value_item t.number e)) → (w : ℕ) (s : SenderSeat) → w < length old
-    → values (get_or new w s).sent ≡ values (get_or old w s).sent ++ events_for n w (e ∷ [])
-home_at old new n v e t one is at seats w s low =
-    let u : SenderSeat = with_sent t (value_item t.number e) in
-    ⊎_elim
-    (λ k. let same : w ≡ v = k.1 in
-    let to : get_or new w s ≡ u = ap (λ l. get_or l w s) seats ∙ ap (λ j. get_or (set old v u) j s) same ∙ get_or-set_same old v u s (fits old v t at) in
-    let from : get_or old w s ≡ t = ap (λ j. get_or old j s) same ∙ stood old v s t at in
-    let here : comes_to n w e ≡ true = or_right (is_for_all e) (home e n == w) (eq-eqb (home e n) w (sym is ∙ sym same)) in
-    ap (λ (x : SenderSeat). values x.sent) to
-    ∙ values_value t.sent t.number e
-    ∙ ap (λ (x : SenderSeat). values x.sent ++ e ∷ []) (sym from)
-    ∙ ap (λ l. values (get_or old w s).sent ++ l) (sym (for_here n w e here)))
-    (λ k. let differ = k.1 in
-    let other : comes_to n w e ≡ false = or_none (is_for_all e) (home e n == w) one (ne_eqb (home e n) w (λ same. differ (sym same ∙ sym is))) in
-    ap (λ (x : SenderSeat). values x.sent) (ap (λ l. get_or l w s) seats ∙ get_or-set_other old v w u s differ)
-    ∙ sym (append-nil (values (get_or old w s).sent))
-    ∙ ap (λ l. values (get_or old w s).sent ++ l) (sym (for_other n w e other)))
-    (eqb_tells w v)
-
-pub reaches_home : (old new : PortSeats) (e : Event) → is_for_all e ≡ false → old.still_open ≡ length old.seats → SendsTo old (home e old.still_open) e new → Reaches e old new
-reaches_home old new e one whole sent =
-    let v : ℕ = home e old.still_open in
-    let t : SenderSeat = sent.seat in
-    let u : SenderSeat = with_sent t (value_item t.number e) in
-    let seats : new.seats ≡ set old.seats v u = ap (λ (p : PortSeats). p.seats) sent.stands in record {
-      still_open = ap (λ (p : PortSeats). p.still_open) sent.stands;
-      len = ap length seats ∙ length-set old.seats v u;
-      each = home_at old.seats new.seats (length old.seats) v e t one (ap (home e) whole) sent.stood seats;
-    }
-
--- ---- what is sent so far
-
-pub sent_more : (es : List Event) (e : Event) (old new : PortSeats) → HasSent es old → Reaches e old new → HasSent (es ++ e ∷ []) new
-sent_more es e old new was reaches = record {
-  each = λ w s low.
-      let inside : w < length old.seats = subst (λ n. w < n) reaches.len low in
-      reaches.each w s inside
-      ∙ ap (λ l. l ++ events_for (length old.seats) w (e ∷ [])) (was.each w s inside)
-      ∙ sym (for_append (length old.seats) w es (e ∷ []))
-      ∙ ap (λ n. events_for n w (es ++ e ∷ [])) (sym reaches.len);
-}
-
-pub still_whole : (e : Event) (old new : PortSeats) → old.still_open ≡ length old.seats → Reaches e old new → new.still_open ≡ length new.seats
-still_whole e old new whole reaches = reaches.still_open ∙ whole ∙ sym reaches.len
 
 -- ---- closing
 
@@ -151,6 +69,10 @@ pub closed_sent : (es : List Event) (old new : PortSeats) → Closes old new →
 closed_sent es old new closes was = by_count old.still_open es old new refl closes was
 
 -- ---- what calls answer
+
+pub where_true : {A : Type 0} (B : Type 0) (b : Bool) → MatchBool b A B → b ≡ true → A
+where_true B true told ok = told
+where_true B false told ok = absurd cc
 
 pub where_ok : {X Y A : Type 0} (B : Y → Type 0) (r : Result X Y) → MatchResult r (λ _. A) B → is_ok r ≡ true → A
 where_ok B (Ok x) told ok = told

@@ -14,7 +14,7 @@ use Rattle.notifier_model.specs.Start.{Start, place_of}
 use Rattle.notifier_model.specs.Out.{out_of}
 use Rattle.notifier_model.specs.Run.{made}
 use Rattle.notifier_model.specs.Home.{at_the_stop}
-use Rattle.home.proofs.Homes.{one_law}
+use Rattle.notifier_model.proofs.HomeFacts.{one_law}
 use Rattle.server.specs.declared.work.Work.{Work}
 use Rattle.server.specs.Page.{out_text, worker_lines, events_at, worker_page}
 use Rattle.crew.specs.Ready.{start_of}

@@ -26,7 +26,7 @@ pub record AreKept (got : List (Item Out)) (works : List Work) : Type 0 where
   pub each : (k : ℕ) (work : Work) → k < length works
       → ((get_or works k work).number ≡ k) × ((get_or works k work).outs.items ≡ values (items_of k got))
 
--- the taker has each worker's end mark; and all that it got is kept, unless a growth was refused
+-- the taker has each worker's end mark; and all that it got is kept, unless an allocation failed
 pub record IsGathered (taker : TakerSeat) (gathered : Gathered) : Type 0 where
   pub outbox : gathered.taker.outbox ≡ taker.outbox
   pub ended : AllEnded taker.workers gathered.taker.got

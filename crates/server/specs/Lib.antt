@@ -3,6 +3,5 @@ pub mod Runs
 pub mod Call
 pub mod Hearing
 pub mod Working
-pub mod Sending
 pub mod Gathering
 pub mod Crew

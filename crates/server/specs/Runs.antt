@@ -1,9 +1,11 @@
 -- What a run reads and writes. Readers and writers are seen as the bytes that they have left and hold, where those are known.
-use Rattle.std.specs.Prelude.{◌≡◌, ℕ, ◌<◌, List, length, map, Option, ◌⊎◌, Vec}
+use Rattle.std.specs.Prelude.{◌≡◌, ◌≢◌, ℕ, ◌<◌, true, List, length, map, Option, Result, Err, OnOk, OnErr, ◌⊎◌, Vec}
 use Rattle.std.specs.List.{enumerate_from}
 use Rattle.std.specs.declared.alloc.Global.{Global}
 use Rattle.std.specs.Io.KnownBytes.{Consumes, Appends, IsAtEnd}
 use Rattle.scripts.specs.declared.script.Block.{Block}
+use Rattle.scripts.specs.declared.error.ScriptError.{ScriptError}
+use Rattle.scripts.specs.declared.error.ScriptError.TheVariants.{BadScript, Device}
 use Rattle.transport.specs.Devices.{SourceSeen, SinkSeen, one_more, AppendsFront}
 use Rattle.package.specs.Content.{Seen}
 use Rattle.notifier_model.specs.declared.place.Setup.{Setup}
@@ -22,6 +24,16 @@ pub record ReadsNoScript {R : Type 0} (remaining : R → Option (List ℕ)) (bef
   pub bytes : List ℕ
   pub was_read : Consumes (remaining before.reader) (remaining after.reader) bytes
   pub is_none : (most_bytes < length bytes) ⊎ (IsAtEnd (remaining after.reader) × ((blocks : List Block) → IsShortScript bytes blocks → ⊥))
+
+-- all was read and is a script, and nothing was written: so it is where a thread could not be started
+pub record StartsNoThread {R W : Type 0} (remaining : R → Option (List ℕ)) (source source' : SourceSeen R) (sink sink' : SinkSeen W) : Type 0 where
+  pub bytes : List ℕ
+  pub blocks : List Block
+  pub was_read : Consumes (remaining source.reader) (remaining source'.reader) bytes
+  pub is_all : IsAtEnd (remaining source'.reader)
+  pub is_script : IsShortScript bytes blocks
+  pub no_read_failed : source'.failures ≡ source.failures
+  pub unwritten : sink' ≡ sink
 
 module _ {R W : Type 0} (remaining : R → Option (List ℕ)) (contents : W → Option (List ℕ)) where
   -- all was read, and what was written is its page
@@ -48,18 +60,19 @@ module _ {R W : Type 0} (remaining : R → Option (List ℕ)) (contents : W → 
       ((source'.failures ≡ one_more source.failures) × (sink' ≡ sink))
       ⊎ ((source'.failures ≡ source.failures) × (sink'.failures ≡ one_more sink.failures) × WritesFront starts source source' sink sink')
 
--- all was read and is a script, and nothing was written: so it is where a thread could not be started
-pub record StartsNoThread {R W : Type 0} (remaining : R → Option (List ℕ)) (source source' : SourceSeen R) (sink sink' : SinkSeen W) : Type 0 where
-  pub bytes : List ℕ
-  pub blocks : List Block
-  pub was_read : Consumes (remaining source.reader) (remaining source'.reader) bytes
-  pub is_all : IsAtEnd (remaining source'.reader)
-  pub is_script : IsShortScript bytes blocks
-  pub no_read_failed : source'.failures ≡ source.failures
-  pub unwritten : sink' ≡ sink
+  -- a read or a write failed, or threads were to be started and one could not be
+  abbrev pub IsHindered : Type 0 → List Start → SourceSeen R → SourceSeen R → SinkSeen W → SinkSeen W → Type 0
+  IsHindered threads starts source source' sink sink' =
+      MeetsFault starts source source' sink sink' ⊎ (threads × StartsNoThread remaining source source' sink sink')
 
--- a read or a write failed, or there were several workers and what `StartsNoThread` says
-abbrev pub IsHindered : {R W : Type 0} → (R → Option (List ℕ)) → (W → Option (List ℕ)) → List Start → SourceSeen R → SourceSeen R → SinkSeen W → SinkSeen W → Type 0
-IsHindered remaining contents starts source source' sink sink' =
-    MeetsFault remaining contents starts source source' sink sink'
-    ⊎ ((1 < length starts) × StartsNoThread remaining source source' sink sink')
+  -- how a run of a script from these starts ends, and what it read and wrote. `threads` says when it starts threads
+  pub record Runs (threads : Type 0) (starts : List Start) (result : Result (Unit {0}) ScriptError) (source source' : SourceSeen R) (sink sink' : SinkSeen W) : Type 0 where
+    -- what was written is the page of all that was read
+    pub page : OnOk result (WritesPage starts source source' sink sink')
+    pub flushed : OnOk result (sink'.is_flushed ≡ true)
+    -- only bytes that are no script, or too many, are a bad script
+    pub bad_script : result ≡ Err BadScript → ReadsNoScript remaining source source'
+    pub unwritten : result ≢ Err Device → OnErr result (sink' ≡ sink)
+    -- only a read or a write that failed in this call, or a thread that could not be started, is a device fault
+    pub device : result ≡ Err Device → IsHindered threads starts source source' sink sink'
+    pub no_failure : result ≢ Err Device → (source'.failures ≡ source.failures) × (sink'.failures ≡ sink.failures)

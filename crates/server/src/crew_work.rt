@@ -25,7 +25,7 @@ use std::thread;
 use std::thread::Threads;
 
 /// Why no page is written where a crew isn't started.
-fn refusal_of(error: StartError) -> ScriptError
+fn refusal(error: StartError) -> ScriptError
     ensures { result ≡ cause_of error }
 {
     match error {
@@ -100,6 +100,7 @@ fn run_to_end<H>(
 ) -> Result<Vec<Work>, ScriptError>
 where
     H: Threads + Wait + Copy + Send + 'static,
+    requires some { 0 < length started.0 }
     requires running { (starts : List Start) × IsRunning starts started.0 started.1.items started.2 }
     requires new { AreNew (length started.0) works.items }
     ensures works { IfOk result (λ done. (starts : List Start) → IsRunning starts started.0 started.1.items started.2
@@ -139,7 +140,7 @@ where
 }
 
 /// Has a crew of workers with these boxes handle the events, each where it goes, and the stop where one is planned. A worker
-/// that didn't come to its end is want of memory, and a thread that can't be started a device fault.
+/// that didn't come to its end ran out of memory, and a thread that can't be started is a device fault.
 pub fn work_together<H, P>(
     rt: H,
     alloc: Global,
@@ -159,6 +160,6 @@ where
     let gate = Arc::new(alloc, Open)?;
     match Crew::start_any(rt, alloc, setup, 1, boxes, gate) {
         Ok(started) => run_to_end(rt, started, works, events),
-        Err(error) => Err(refusal_of(error)),
+        Err(error) => Err(refusal(error)),
     }
 }

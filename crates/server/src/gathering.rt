@@ -61,8 +61,8 @@ fn keep(works: &mut [Work], worker: u32, out: Out) -> bool
     work.outs.push(out).is_ok()
 }
 
-/// Takes what the workers post until each has ended, and keeps it. Where the outbox is empty the thread yields. False where a
-/// growth was refused: outs are missing then, and the end marks are taken all the same.
+/// Takes what the workers post until each has ended, and keeps it. Where the outbox is empty the thread yields. False where an
+/// allocation failed: outs are missing then, and the end marks are taken all the same.
 fn gather<H: Wait>(rt: &H, taker: &mut Taker, works: &mut [Work]) -> bool
     requires none { taker.old.got ≡ [] }
     requires new { AreNew taker.old.workers works.old }

@@ -1,8 +1,8 @@
 //! The program, over any reader and writer.
-ghost use Rattle.std.specs.Prelude.{◌≡◌, ◌≢◌, ◌<◌, ◌≤◌, true, ◌⊎◌, OnOk, OnErr, IfErr, Err};
+ghost use Rattle.std.specs.Prelude.{◌≡◌, ◌≢◌, ◌<◌, ◌≤◌, true, length};
 ghost use Rattle.arguments.specs.declared.arguments.Arguments.{Arguments};
 ghost use Rattle.arguments.specs.Wanted.{Gives};
-ghost use Rattle.server.specs.Runs.{WritesPage, ReadsNoScript, MeetsFault, StartsNoThread, IsHindered};
+ghost use Rattle.server.specs.Runs.{WritesPage, ReadsNoScript, IsHindered, Runs};
 ghost use Rattle.server.specs.Call.{starts_for, AsksFor, AsksForNone};
 
 use crate::script::{play_many, play_one};
@@ -33,15 +33,7 @@ where
     requires one { call.now.workers ≡ 1 }
     requires callable { M.IsAlwaysCallable make.now }
     requires gives { Gives P.seen (M.post make.now) }
-    ensures page { OnOk result
-        (WritesPage R.remaining W.contents (starts_for call.now) source.old source.new sink.old sink.new) }
-    ensures flushed { OnOk result (sink.new.is_flushed ≡ true) }
-    ensures bad_script { result ≡ Err ScriptError.BadScript → ReadsNoScript R.remaining source.old source.new }
-    ensures unwritten { result ≢ Err ScriptError.Device → OnErr result (sink.new ≡ sink.old) }
-    ensures device { result ≡ Err ScriptError.Device →
-        MeetsFault R.remaining W.contents (starts_for call.now) source.old source.new sink.old sink.new }
-    ensures no_failure { result ≢ Err ScriptError.Device →
-        (source.new.failures ≡ source.old.failures) × (sink.new.failures ≡ sink.old.failures) }
+    ensures { Runs R.remaining W.contents ⊥ (starts_for call.now) result source.old source.new sink.old sink.new }
 {
     let names = names_for(alloc, call.mailboxes.as_slice(), 1, 0)?;
     let boxes = boxes_with(alloc, names, make)?;
@@ -70,16 +62,7 @@ where
     requires gives { Gives P.seen (M.post make.now) }
     requires some { 0 < call.now.workers }
     requires few { call.now.workers ≤ 256 }
-    ensures page { OnOk result
-        (WritesPage R.remaining W.contents (starts_for call.now) source.old source.new sink.old sink.new) }
-    ensures flushed { OnOk result (sink.new.is_flushed ≡ true) }
-    ensures bad_script { result ≡ Err ScriptError.BadScript → ReadsNoScript R.remaining source.old source.new }
-    ensures unwritten { result ≢ Err ScriptError.Device → OnErr result (sink.new ≡ sink.old) }
-    ensures device { result ≡ Err ScriptError.Device →
-        MeetsFault R.remaining W.contents (starts_for call.now) source.old source.new sink.old sink.new
-        ⊎ StartsNoThread R.remaining source.old source.new sink.old sink.new }
-    ensures no_failure { result ≢ Err ScriptError.Device →
-        (source.new.failures ≡ source.old.failures) × (sink.new.failures ≡ sink.old.failures) }
+    ensures { Runs R.remaining W.contents (Unit {0}) (starts_for call.now) result source.old source.new sink.old sink.new }
 {
     let boxes = boxes_for(rt.alloc(), call.mailboxes.as_slice(), call.workers, make)?;
     play_many(
@@ -108,60 +91,12 @@ where
     requires gives { Gives P.seen (M.post make.now) }
     requires some { 0 < call.now.workers }
     requires few { call.now.workers ≤ 256 }
-    ensures page { OnOk result
-        (WritesPage R.remaining W.contents (starts_for call.now) source.old source.new sink.old sink.new) }
-    ensures flushed { OnOk result (sink.new.is_flushed ≡ true) }
-    ensures bad_script { result ≡ Err ScriptError.BadScript → ReadsNoScript R.remaining source.old source.new }
-    ensures unwritten { result ≢ Err ScriptError.Device → OnErr result (sink.new ≡ sink.old) }
-    ensures device { result ≡ Err ScriptError.Device →
-        IsHindered R.remaining W.contents (starts_for call.now) source.old source.new sink.old sink.new }
-    ensures no_failure { result ≢ Err ScriptError.Device →
-        (source.new.failures ≡ source.old.failures) × (sink.new.failures ≡ sink.old.failures) }
+    ensures { Runs R.remaining W.contents (1 < length (starts_for call.now)) (starts_for call.now) result source.old source.new sink.old sink.new }
 {
     if call.workers == 1 {
         return run_one(rt.alloc(), call, source, sink, make);
     }
     run_many(rt, call, source, sink, make)
-}
-
-/// Reads the arguments, and runs the script where they ask for it.
-fn attempt<H, R: Read, W: Write, P, M>(
-    rt: H,
-    words: &[Text],
-    source: &mut Source<R>,
-    sink: &mut Sink<W>,
-    make: &M,
-) -> Result<(), Status>
-where
-    H: Threads + Wait + AllocGlobal + Copy + Send + 'static,
-    P: Package + 'static,
-    M: Fn(Wanted) -> Result<P, NoMemory>,
-    requires callable { M.IsAlwaysCallable make.now }
-    requires gives { Gives P.seen (M.post make.now) }
-    ensures done { OnOk result (AsksFor words.now (λ starts.
-        WritesPage R.remaining W.contents starts source.old source.new sink.old sink.new)) }
-    ensures flushed { OnOk result (sink.new.is_flushed ≡ true) }
-    ensures done_is { IfErr result (λ status. status ≢ Status.Done) }
-    ensures bad_arguments { result ≡ Err Status.BadArguments → AsksForNone words.now × (source.new ≡ source.old) }
-    ensures bad_script { result ≡ Err Status.BadScript → AsksFor words.now (λ starts.
-        ReadsNoScript R.remaining source.old source.new) }
-    ensures device { result ≡ Err Status.DeviceFault →
-        AsksFor words.now (λ starts. IsHindered R.remaining W.contents starts source.old source.new sink.old sink.new) }
-    ensures unwritten { result ≢ Err Status.DeviceFault → OnErr result (sink.new ≡ sink.old) }
-    ensures no_failure { result ≢ Err Status.DeviceFault →
-        (source.new.failures ≡ source.old.failures) × (sink.new.failures ≡ sink.old.failures) }
-{
-    let call = match parse_arguments(rt.alloc(), words) {
-        Ok(call) => call,
-        Err(ArgumentsError::Bad) => return Err(Status::BadArguments),
-        Err(ArgumentsError::NoMemory) => return Err(Status::OutOfMemory),
-    };
-    match run_script(rt, &call, source, sink, make) {
-        Ok(()) => Ok(()),
-        Err(ScriptError::BadScript) => Err(Status::BadScript),
-        Err(ScriptError::Device) => Err(Status::DeviceFault),
-        Err(ScriptError::NoMemory) => Err(Status::OutOfMemory),
-    }
 }
 
 /// Runs the program: looks at the words behind its name, then runs the script that the reader gives by as many workers
@@ -194,15 +129,23 @@ where
 
     // Only a read or a write that failed is a device fault, or that a thread could not be started for several workers.
     ensures device { result ≡ Status.DeviceFault →
-        AsksFor words.now (λ starts. IsHindered R.remaining W.contents starts source.old source.new sink.old sink.new) }
+        AsksFor words.now (λ starts.
+        IsHindered R.remaining W.contents (1 < length starts) starts source.old source.new sink.old sink.new) }
     ensures no_failure { result ≢ Status.DeviceFault →
         (source.new.failures ≡ source.old.failures) × (sink.new.failures ≡ sink.old.failures) }
 
     // Nothing is written but a page or a front of it.
     ensures unwritten { result ≢ Status.Done → result ≢ Status.DeviceFault → sink.new ≡ sink.old }
 {
-    match attempt(rt, words, source, sink, make) {
+    let call = match parse_arguments(rt.alloc(), words) {
+        Ok(call) => call,
+        Err(ArgumentsError::Bad) => return Status::BadArguments,
+        Err(ArgumentsError::NoMemory) => return Status::OutOfMemory,
+    };
+    match run_script(rt, &call, source, sink, make) {
         Ok(()) => Status::Done,
-        Err(status) => status,
+        Err(ScriptError::BadScript) => Status::BadScript,
+        Err(ScriptError::Device) => Status::DeviceFault,
+        Err(ScriptError::NoMemory) => Status::OutOfMemory,
     }
 }

@@ -1,10 +1,10 @@
 //! Runs a script by one or several workers.
-ghost use Rattle.std.specs.Prelude.{◌≡◌, ◌≢◌, ◌≤◌, ◌<◌, ◌∷◌, ◌⊎◌, ◌++◌, [], true, List, length, vec_len, IfOk, IfErr, OnOk, OnErr, Err};
+ghost use Rattle.std.specs.Prelude.{◌≡◌, ◌≢◌, ◌≤◌, ◌<◌, ◌∷◌, ◌++◌, [], List, length, vec_len, IfOk, IfErr, Err};
 ghost use Rattle.std.specs.List.{flat_map};
 ghost use Rattle.scripts.specs.declared.script.Block.{Block};
 ghost use Rattle.crew.specs.Ready.{start_of};
 ghost use Rattle.server.specs.Page.{most_bytes, IsShortScript, IsPage};
-ghost use Rattle.server.specs.Runs.{starts_of, WritesPage, ReadsNoScript, MeetsFault, StartsNoThread};
+ghost use Rattle.server.specs.Runs.{starts_of, Runs};
 ghost use Rattle.server.specs.Hearing.{IsHeard};
 ghost use Rattle.server.specs.Working.{printed};
 
@@ -36,7 +36,7 @@ fn hear_script(alloc: Global, bytes: &[u8]) -> Result<Hearing, ScriptError>
 }
 
 /// The page with these lines of what can't be read, and then what the workers did.
-fn page_with(alloc: Global, unread: Page, works: &[Work]) -> Result<Page, NoMemory>
+fn whole_page(alloc: Global, unread: Page, works: &[Work]) -> Result<Page, NoMemory>
     ensures { IfOk result (λ page. page ≡ unread ++ flat_map printed works.now) }
 {
     let mut page = unread;
@@ -60,7 +60,7 @@ fn page_by_one<P: Package>(
     let Hearing { events, unread, .. } = hear_script(alloc, bytes)?;
     let work = work_alone(alloc, setup, boxes, events)?;
     let works = [work];
-    let page = page_with(alloc, unread, works.as_slice())?;
+    let page = whole_page(alloc, unread, works.as_slice())?;
     Ok(page)
 }
 
@@ -84,7 +84,7 @@ where
     one_reading();
     let Hearing { events, unread, .. } = hear_script(alloc, bytes)?;
     let works = work_together(rt, alloc, setup, boxes, events)?;
-    let page = page_with(alloc, unread, works.as_slice())?;
+    let page = whole_page(alloc, unread, works.as_slice())?;
     Ok(page)
 }
 
@@ -96,21 +96,8 @@ pub(crate) fn play_one<R: Read, W: Write, P: Package>(
     setup: &Setup,
     boxes: Vec<P>,
 ) -> Result<(), ScriptError>
-    // What was written is the page of all that was read.
-    ensures page { OnOk result (WritesPage R.remaining W.contents
-        (start_of P.seen setup.now 0 boxes.items ∷ []) source.old source.new sink.old sink.new) }
-    ensures flushed { OnOk result (sink.new.is_flushed ≡ true) }
-
-    // Only bytes that are no script, or too many, are a bad script.
-    ensures bad_script { result ≡ Err ScriptError.BadScript → ReadsNoScript R.remaining source.old source.new }
-    ensures unwritten { result ≢ Err ScriptError.Device → OnErr result (sink.new ≡ sink.old) }
-
-    // Only a read or a write that failed in this call is a device fault.
-    ensures device { result ≡ Err ScriptError.Device →
-        MeetsFault R.remaining W.contents (start_of P.seen setup.now 0 boxes.items ∷ [])
-        source.old source.new sink.old sink.new }
-    ensures no_failure { result ≢ Err ScriptError.Device →
-        (source.new.failures ≡ source.old.failures) × (sink.new.failures ≡ sink.old.failures) }
+    // It starts no thread.
+    ensures { Runs R.remaining W.contents ⊥ (start_of P.seen setup.now 0 boxes.items ∷ []) result source.old source.new sink.old sink.new }
 {
     let bytes = read_script(alloc, source)?;
     let page = page_by_one(alloc, bytes.as_slice(), setup, boxes)?;
@@ -131,23 +118,8 @@ where
     P: Package + 'static,
     requires some { 0 < vec_len boxes }
     requires few { vec_len boxes ≤ 256 }
-
-    // What was written is the page of all that was read.
-    ensures page { OnOk result (WritesPage R.remaining W.contents
-        (starts_of P.seen setup.now boxes.items) source.old source.new sink.old sink.new) }
-    ensures flushed { OnOk result (sink.new.is_flushed ≡ true) }
-
-    // Only bytes that are no script, or too many, are a bad script.
-    ensures bad_script { result ≡ Err ScriptError.BadScript → ReadsNoScript R.remaining source.old source.new }
-    ensures unwritten { result ≢ Err ScriptError.Device → OnErr result (sink.new ≡ sink.old) }
-
-    // Only a read or a write that failed in this call is a device fault, or that a thread could not be started for a script.
-    ensures device { result ≡ Err ScriptError.Device →
-        MeetsFault R.remaining W.contents (starts_of P.seen setup.now boxes.items)
-        source.old source.new sink.old sink.new
-        ⊎ StartsNoThread R.remaining source.old source.new sink.old sink.new }
-    ensures no_failure { result ≢ Err ScriptError.Device →
-        (source.new.failures ≡ source.old.failures) × (sink.new.failures ≡ sink.old.failures) }
+    // It starts threads.
+    ensures { Runs R.remaining W.contents (Unit {0}) (starts_of P.seen setup.now boxes.items) result source.old source.new sink.old sink.new }
 {
     let bytes = read_script(alloc, source)?;
     let page = page_by_crew(rt, alloc, bytes.as_slice(), setup, boxes)?;
@@ -168,21 +140,8 @@ pub fn script_one<R: Read, W: Write>(
     setup: &Setup,
     boxes: Vec<Box<dyn Package>>,
 ) -> Result<(), ScriptError>
-    // What was written is the page of all that was read.
-    ensures page { OnOk result (WritesPage R.remaining W.contents
-        (start_of (λ b. seen b) setup.now 0 boxes.items ∷ []) source.old source.new sink.old sink.new) }
-    ensures flushed { OnOk result (sink.new.is_flushed ≡ true) }
-
-    // Only bytes that are no script, or too many, are a bad script.
-    ensures bad_script { result ≡ Err ScriptError.BadScript → ReadsNoScript R.remaining source.old source.new }
-    ensures unwritten { result ≢ Err ScriptError.Device → OnErr result (sink.new ≡ sink.old) }
-
-    // Only a read or a write that failed in this call is a device fault.
-    ensures device { result ≡ Err ScriptError.Device →
-        MeetsFault R.remaining W.contents (start_of (λ b. seen b) setup.now 0 boxes.items ∷ [])
-        source.old source.new sink.old sink.new }
-    ensures no_failure { result ≢ Err ScriptError.Device →
-        (source.new.failures ≡ source.old.failures) × (sink.new.failures ≡ sink.old.failures) }
+    // It starts no thread.
+    ensures { Runs R.remaining W.contents ⊥ (start_of (λ b. seen b) setup.now 0 boxes.items ∷ []) result source.old source.new sink.old sink.new }
 {
     play_one(alloc, source, sink, setup, boxes)
 }
@@ -205,23 +164,8 @@ where
     H: Threads + Wait + Copy + Send + 'static,
     requires some { 0 < vec_len boxes }
     requires few { vec_len boxes ≤ 256 }
-
-    // What was written is the page of all that was read.
-    ensures page { OnOk result (WritesPage R.remaining W.contents
-        (starts_of (λ b. seen b) setup.now boxes.items) source.old source.new sink.old sink.new) }
-    ensures flushed { OnOk result (sink.new.is_flushed ≡ true) }
-
-    // Only bytes that are no script, or too many, are a bad script.
-    ensures bad_script { result ≡ Err ScriptError.BadScript → ReadsNoScript R.remaining source.old source.new }
-    ensures unwritten { result ≢ Err ScriptError.Device → OnErr result (sink.new ≡ sink.old) }
-
-    // Only a read or a write that failed in this call is a device fault, or that a thread could not be started for a script.
-    ensures device { result ≡ Err ScriptError.Device →
-        MeetsFault R.remaining W.contents (starts_of (λ b. seen b) setup.now boxes.items)
-        source.old source.new sink.old sink.new
-        ⊎ StartsNoThread R.remaining source.old source.new sink.old sink.new }
-    ensures no_failure { result ≢ Err ScriptError.Device →
-        (source.new.failures ≡ source.old.failures) × (sink.new.failures ≡ sink.old.failures) }
+    // It starts threads.
+    ensures { Runs R.remaining W.contents (Unit {0}) (starts_of (λ b. seen b) setup.now boxes.items) result source.old source.new sink.old sink.new }
 {
     play_many(rt, alloc, source, sink, setup, boxes)
 }

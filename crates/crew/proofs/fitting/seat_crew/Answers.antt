@@ -1,7 +1,6 @@
 use Rattle.std.proofs.Common.{◌≡◌, ◌<◌, ℕ, length, get_or, arith, ap, ◌∙◌, subst}
 use Rattle.queues.specs.OutboxSeats.{PosterSeat}
-use Rattle.notifier.specs.Held.{seen_by}
-use Rattle.crew.specs.Ready.{start_of, IsReady}
+use Rattle.crew.specs.Ready.{start_of, seat_seen, IsReady}
 use Rattle.crew.proofs.Starting.{new_poster, new_posters-length, new_posters-at}
 use Rattle.crew.proofs.fitting.seat_crew.Goals as goal
 
@@ -15,5 +14,5 @@ returns-clause-ready g c k s b low =
     let count : length c.as_mut_slice.result.now ≡ c.args.ports = ap length c.as_mut_slice.ensures.value ∙ c.in_ok-dealt.ensures.len in
     let posts : get_or c.in_ok-posters.posters.items k p ≡ p = ap (λ l. get_or l k p) c.in_ok-posters.ensures.new.0 ∙ new_posters-at outbox c.len-count.result k p low' in
     let seat = get_or c.in_ok-seats.seats.items k s in
-    let P : ℕ × PosterSeat → Type 0 = λ y. IsReady (start_of g.P.Package.seen c.args.setup.now k (get_or c.args.boxes.items k b).items) y.0 y.1 seat.token.start seat.stop (seen_by g.P.Package.seen seat.desk) seat.receiver seat.poster in
+    let P : ℕ × PosterSeat → Type 0 = λ y. IsReady (start_of g.P.Package.seen c.args.setup.now k (get_or c.args.boxes.items k b).items) y.0 y.1 (seat_seen g.P.Package.seen seat) in
     subst P (λ j. (count j, posts j)) (c.in_ok-seats.ensures.ready k s b p low)

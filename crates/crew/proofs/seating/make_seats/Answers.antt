@@ -2,10 +2,9 @@ use Rattle.std.proofs.Common.{◌≡◌, ◌++◌, ◌∷◌, [], ℕ, ◌≤◌
 use Rattle.std.proofs.lemmas.List.{map-append}
 use Rattle.queues.specs.InboxSeats.{Inbox, new_senders}
 use Rattle.queues.specs.OutboxSeats.{PosterSeat}
-use Rattle.notifier.specs.Held.{seen_by}
 use Rattle.crew.specs.declared.launching.Seat.{Seat}
 use Rattle.crew.specs.Ports.{AreDealt, TakeSeats}
-use Rattle.crew.specs.Ready.{start_of, IsReady}
+use Rattle.crew.specs.Ready.{start_of, seat_seen, IsReady}
 use Rattle.crew.proofs.Dealing.{head_is, left_is}
 use Rattle.crew.proofs.SeatRows.{each_more, dealt_more}
 use Rattle.crew.proofs.seating.make_seats.Goals as goal
@@ -16,11 +15,11 @@ loop-held-preserved g c =
     let done : ℕ = vec_len c.loop-held.seats in let seat = c.in_ok-make_seat.field-0 in let made = c.in_ok-make_seat.ensures in
     let ports : ℕ = length c.args.ports.now in let same : length c.loop-held.ports ≡ ports = c.loop-held.auto.ports in
     let S : Type 0 = Seat g.row.P.Denot in let B : Type 0 = Vec g.row.P.Denot Global in
-    let R : ℕ → S → Type 0 = λ k s. (b : B) (p : PosterSeat) → IsReady (start_of g.P.Package.seen c.args.setup.now k (get_or c.args.boxes.items k b).items) ports (get_or c.args.posters.items k p) s.token.start s.stop (seen_by g.P.Package.seen s.desk) s.receiver s.poster in
+    let R : ℕ → S → Type 0 = λ k s. (b : B) (p : PosterSeat) → IsReady (start_of g.P.Package.seen c.args.setup.now k (get_or c.args.boxes.items k b).items) ports (get_or c.args.posters.items k p) (seat_seen g.P.Package.seen s) in
     let box_is : (b : B) → c.in-Some.held ≡ get_or c.args.boxes.items done b = head_is _ _ _ _ _ _ _ was.held step.0 step.1 in
     let poster_is : (p : PosterSeat) → c.in-Some-next.poster ≡ get_or c.args.posters.items done p = head_is _ _ _ _ _ _ _ was.posters told.0 told.1 in
     let here : R done seat = λ b p.
-    let Q : ℕ × B × PosterSeat × ℕ → Type 0 = λ y. IsReady (start_of g.P.Package.seen c.args.setup.now y.0 y.1.items) y.3 y.2 seat.token.start seat.stop (seen_by g.P.Package.seen seat.desk) seat.receiver seat.poster in
+    let Q : ℕ × B × PosterSeat × ℕ → Type 0 = λ y. IsReady (start_of g.P.Package.seen c.args.setup.now y.0 y.1.items) y.3 y.2 (seat_seen g.P.Package.seen seat) in
     subst Q (λ j. (was.worker j, box_is b j, poster_is p j, same j)) made.ready in
     let T : ℕ → Type 0 = λ m. TakeSeats c.loop-held.ports c.make_seat.new.ports (new_senders seat.receiver.inbox m) m in
     let inboxes : List S → List Inbox = map (λ (s : S). s.receiver.inbox) in

@@ -1,9 +1,8 @@
 use Rattle.std.proofs.Common.{◌≡◌, ℕ, ◌+◌, ◌<◌, ◌≤◌, length, map, get_or, vec_items, vec_len, vec_capacity}
 use Rattle.std.specs.Vec.Iter.{into_iter_items, into_iter_len}
 use Rattle.queues.specs.OutboxSeats.{PosterSeat}
-use Rattle.notifier.specs.Held.{seen_by}
 use Rattle.crew.specs.Ports.{AreDealt}
-use Rattle.crew.specs.Ready.{start_of, IsReady}
+use Rattle.crew.specs.Ready.{start_of, seat_seen, IsReady}
 use Rattle.crew.proofs.seating.make_seats.Given as goal
 
 abbrev pub invariant-loop-held : goal.invariant-loop-held
@@ -16,6 +15,6 @@ invariant-loop-held g l = let done = vec_len l.seats in record {
   worker : l.worker ≡ done;
   ready : (k : ℕ) (s : _) (b : _) (p : PosterSeat) → k < done
       → IsReady (start_of g.P.Package.seen l.fn.setup k (get_or l.fn.boxes.items k b).items) (length l.fn.ports) (get_or l.fn.posters.items k p)
-      (get_or (vec_items l.seats) k s).token.start (get_or (vec_items l.seats) k s).stop (seen_by g.P.Package.seen (get_or (vec_items l.seats) k s).desk) (get_or (vec_items l.seats) k s).receiver (get_or (vec_items l.seats) k s).poster;
+      (seat_seen g.P.Package.seen (get_or (vec_items l.seats) k s));
   dealt : AreDealt l.ports (map (λ s. s.receiver.inbox) (vec_items l.seats)) (length l.fn.ports);
 }

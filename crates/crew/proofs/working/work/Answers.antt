@@ -5,8 +5,8 @@ use Rattle.crew.proofs.working.work.Goals as goal
 
 pub returns : goal.returns
 returns g c start is planned =
-    let s = c.serve-served.ensures in let e = c.end_of-end.ensures in let hand = c.serve-served.new.hand in
-    worked start c.args.receiver c.serve-served.new.receiver c.end_of-end.new.receiver c.args.hand.poster hand.poster c.end_of-end.new.hand.poster c.finish-poster.result _ _ _
+    let s = c.handle_all-halt.ensures in let e = c.ending-end.ensures in let hand = c.handle_all-halt.new.hand in
+    worked start c.args.receiver c.handle_all-halt.new.receiver c.ending-end.new.receiver c.args.hand.poster hand.poster c.ending-end.new.hand.poster c.finish-poster.result _ _ _
     s.same s.among e.inbox e.ports e.among e.same
-    (e.ends start (s.stop ∙ planned) (halted_at _ _ _ _ hand.handled hand.made start c.serve-served.new.receiver.taken (seen_by g.P.Package.seen hand.desk) hand.poster.posted c.serve-served.result.stop s.same.number s.same.ports (s.halted start is)))
+    (e.ends start (s.stop ∙ planned) (halted_at _ _ _ _ hand.handled hand.made start c.handle_all-halt.new.receiver.taken (seen_by g.P.Package.seen hand.desk) hand.poster.posted c.handle_all-halt.result.stop s.same.number s.same.ports (s.halted start is)))
     c.finish-poster.ensures

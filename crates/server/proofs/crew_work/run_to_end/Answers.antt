@@ -4,7 +4,7 @@ use Rattle.crew.specs.Joined.{IsPortOf}
 use Rattle.server.specs.Gathering.{AreNew}
 use Rattle.server.specs.Crew.{IsFinished}
 use Rattle.crew.proofs.Counted.{if_ok}
-use Rattle.server.proofs.Finished.{popped, ports_len, taker_new, taker_workers, port_open, port_unsent, is_port, works_are}
+use Rattle.server.proofs.Finished.{popped, ports_len, taker_new, taker_workers, port_open, port_sent, is_port, works_are}
 use Rattle.server.proofs.crew_work.run_to_end.Goals as goal
 
 pub spawn_with-requires-clause-runs : goal.spawn_with-requires-clause-runs
@@ -19,7 +19,7 @@ pub send_script-is_sent-requires : goal.send_script-is_sent-requires
 send_script-is_sent-requires g c =
     let is = c.requires.running.1 in
     let p = popped c.args.started.1.items c.pop.new.self.items c.in-Some.port (ports_len is) c.in-Some.ensures.items in
-    port_open is c.in-Some.port p.1
+    record { still_open = port_open is c.in-Some.port p.1 c.requires.some }
 
 pub finish-requires-clause-ports : goal.finish-requires-clause-ports
 finish-requires-clause-ports g c =
@@ -40,7 +40,7 @@ returns-in-Ok-clause-works g c =
     let only : c.push_reserved.new.self.items ≡ sent.new.port ∷ [] = c.push_reserved.ensures.items ∙ ap (λ (l : List PortSeats). l ++ sent.new.port ∷ []) p.0 in
     works_are is sent.new.port gathered sent.result c.args.events.items works.items
     (is_port is c.in-Some.port sent.new.port p.1 sent.ensures.closed sent.ensures.seats)
-    (λ ok. sent.ensures.sent ok (port_unsent is c.in-Some.port p.1))
+    (λ ok. let all = sent.ensures.sent ok in port_sent is c.in-Some.port all.0 sent.new.port c.args.events.items p.1 all.1 all.2 all.3)
     (rw c.of.ensures at (rw c.in-Ok.ensures.ok at c.join-gathered.ensures))
     (subst (λ (l : List PortSeats). IsFinished c.args.started.0 l gathered sent.result works.items) only done))
     c.finish.ensures.works

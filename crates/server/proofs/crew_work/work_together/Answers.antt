@@ -13,6 +13,13 @@ run_to_end-requires-clause-running g c κs within =
     let held = element boxes.items 0 (subst (λ (n : ℕ). 0 < n) size (some_there (vec_len boxes) (λ none. let e = c.in-Ok.ensures.no_workers.1 none in absurd cc))) in
     (starts_of g.P.Package.seen c.args.setup.now boxes.items, running g.P.Package.seen c.args.setup.now boxes.items held _ _ _ _ size (c.in-Ok.ensures.started held))
 
+pub run_to_end-requires-clause-some : goal.run_to_end-requires-clause-some
+run_to_end-requires-clause-some g c κs within =
+    let boxes = c.args.boxes in let size = boxes.ok.0 in
+    let some = some_there (vec_len boxes) (λ none. let e = c.in-Ok.ensures.no_workers.1 none in absurd cc) in
+    let held = element boxes.items 0 (subst (λ (n : ℕ). 0 < n) size some) in
+    subst (λ (n : ℕ). 0 < n) (sym (c.in-Ok.ensures.started held).len) some
+
 pub run_to_end-requires-clause-new : goal.run_to_end-requires-clause-new
 run_to_end-requires-clause-new g c κs within =
     let boxes = c.args.boxes in let size = boxes.ok.0 in

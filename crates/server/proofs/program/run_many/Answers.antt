@@ -1,6 +1,6 @@
-use Rattle.std.proofs.Common.{◌⊎◌, List, OnOk, map, subst, arith}
+use Rattle.std.proofs.Common.{List, map, subst, arith}
 use Rattle.notifier_model.specs.Start.{Start}
-use Rattle.server.specs.Runs.{WritesPage, MeetsFault, StartsNoThread}
+use Rattle.server.specs.Runs.{Runs}
 use Rattle.server.proofs.Started.{starts_are}
 use Rattle.arguments.proofs.Dealt.{boxes-len}
 use Rattle.server.proofs.program.run_many.Goals as goal
@@ -15,14 +15,7 @@ play_many-requires-clause-few g c κs within =
     let size = boxes-len (λ boxes. map g.P.Package.seen boxes.items) c.in_ok-boxes.boxes.items c.args.call.now.workers _ c.in_ok-boxes.ensures in
     let len = c.in_ok-boxes.boxes.ok.0 in let few = c.requires.few in omega arith
 
-pub returns-clause-page : goal.returns-clause-page
-returns-clause-page g c =
-    let P : List Start → Type 0 = λ starts. OnOk c.play_many.result (WritesPage g.R.Read.remaining g.W.Write.contents starts c.args.source.now c.play_many.new.source c.args.sink.now c.play_many.new.sink) in
-    subst P (starts_are (λ boxes. map g.P.Package.seen boxes.items) c.in_ok-boxes.boxes.items c.setup_at.result c.args.call.now c.setup_at.ensures (rw c.as_slice.ensures at c.in_ok-boxes.ensures)) c.play_many.ensures.page
-
-pub returns-clause-device : goal.returns-clause-device
-returns-clause-device g c = λ failed.
-    let P : List Start → Type 0 = λ starts.
-    MeetsFault g.R.Read.remaining g.W.Write.contents starts c.args.source.now c.play_many.new.source c.args.sink.now c.play_many.new.sink
-    ⊎ StartsNoThread g.R.Read.remaining c.args.source.now c.play_many.new.source c.args.sink.now c.play_many.new.sink in
-    subst P (starts_are (λ boxes. map g.P.Package.seen boxes.items) c.in_ok-boxes.boxes.items c.setup_at.result c.args.call.now c.setup_at.ensures (rw c.as_slice.ensures at c.in_ok-boxes.ensures)) (c.play_many.ensures.device failed)
+pub returns : goal.returns
+returns g c =
+    let P : List Start → Type 0 = λ starts. Runs g.R.Read.remaining g.W.Write.contents (Unit {0}) starts c.play_many.result c.args.source.now c.play_many.new.source c.args.sink.now c.play_many.new.sink in
+    subst P (starts_are (λ boxes. map g.P.Package.seen boxes.items) c.in_ok-boxes.boxes.items c.setup_at.result c.args.call.now c.setup_at.ensures (rw c.as_slice.ensures at c.in_ok-boxes.ensures)) c.play_many.ensures

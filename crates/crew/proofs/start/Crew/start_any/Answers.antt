@@ -17,7 +17,7 @@ pub launch_all-workers-requires-clause-ready : goal.launch_all-workers-requires-
 launch_all-workers-requires-clause-ready g c κs within k s low =
     let low' : k < vec_len c.args.boxes = let e = c.in-Ok.ensures.len.0 in omega arith in
     let b = element c.args.boxes.items k (let e = c.args.boxes.ok.0 in omega arith) in
-    ready_fit _ _ _ _ _ _ _ _ refl (c.in-Ok.ensures.ready k s b low')
+    ready_fit _ _ _ _ refl (c.in-Ok.ensures.ready k s b low')
 
 pub returns-clause-started : goal.returns-clause-started
 returns-clause-started g c b =
@@ -40,7 +40,7 @@ returns-clause-started g c b =
           let fits : w < length ws.items = omega arith in
           let at = element ws.items w fits in
           let s = element fitted.seats.items w (let e = fitted.seats.ok.0 in let e' = fit.len.0 in omega arith) in
-          hired_is _ _ _ w fitted.taker _ _ _ _ (get_or (map f ws.items) w h)
+          hired_is _ _ w fitted.taker _ (get_or (map f ws.items) w h)
           (get_or-map f ws.items w at h fits ∙ launched.launched w at s (let e = ws.ok.0 in omega arith))
           fit.holds (fit.ready w s b low);
       dealt = subst D (sym inboxes) fit.dealt;

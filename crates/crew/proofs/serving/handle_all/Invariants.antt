@@ -1,7 +1,7 @@
 use Rattle.std.proofs.Common.{◌≡◌}
 use Rattle.notifier.specs.Held.{seen_by}
 use Rattle.crew.proofs.Loops.{Running}
-use Rattle.crew.proofs.serving.serve.Given as goal
+use Rattle.crew.proofs.serving.handle_all.Given as goal
 
 abbrev pub invariant-loop : goal.invariant-loop
 invariant-loop g l = record {

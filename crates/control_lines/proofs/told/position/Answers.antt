@@ -1,7 +1,7 @@
 use Rattle.std.proofs.Common.{◌<◌, ◌∙◌, length, IfSome, sym, subst, ℕ}
 use Rattle.control_lines.specs.Told.{rows_in}
 use Rattle.control_lines.proofs.Rows.{place_rows, rows_len}
-use Rattle.control_lines.proofs.told.place_in.Goals as goal
+use Rattle.control_lines.proofs.told.position.Goals as goal
 
 pub returns-clause-place : goal.returns-clause-place
 returns-clause-place c = c.get_index_of.ensures.index ∙ place_rows c.args.name.now c.args.mailboxes.now.entries

@@ -3,7 +3,7 @@ use Rattle.circular_buffer.specs.Buffer.{Buffer, buffer}
 use Rattle.control_lines.specs.declared.kept.Kept.{Kept}
 use Rattle.control_lines.specs.Slots.{after, with_newest}
 use Rattle.control_lines.proofs.Slots.{indexed_more, kept_less, has_room}
-use Rattle.control_lines.proofs.kept.KeptAnswers.keep_of.Goals as goal
+use Rattle.control_lines.proofs.kept.KeptAnswers.insert.Goals as goal
 
 pub invariant_of-self-2 : goal.invariant_of-self-2
 invariant_of-self-2 c =

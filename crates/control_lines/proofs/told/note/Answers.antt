@@ -1,7 +1,7 @@
 use Rattle.std.proofs.Common.{◌≡◌, None, Some, rules, sym, ap, ◌∙◌}
 use Rattle.indexmap.specs.IndexMap.{get_by_text}
 use Rattle.control_lines.proofs.Rows.{told_none, told_some}
-use Rattle.control_lines.proofs.told.tell_in.Goals as goal
+use Rattle.control_lines.proofs.told.note.Goals as goal
 
 pub returns-in_default : goal.returns-in_default
 returns-in_default c =

@@ -3,7 +3,7 @@ use Rattle.circular_buffer.specs.Buffer.{Buffer}
 use Rattle.control_lines.specs.declared.kept.Kept.{Kept}
 use Rattle.control_lines.specs.Slots.{answers, slot_at, slot_in}
 use Rattle.control_lines.proofs.Slots.{no_answer, its_answer}
-use Rattle.control_lines.proofs.kept.KeptAnswers.answer_with.Goals as goal
+use Rattle.control_lines.proofs.kept.KeptAnswers.newest_answer.Goals as goal
 
 pub returns-in_err-slot : goal.returns-in_err-slot
 returns-in_err-slot c =
@@ -21,5 +21,5 @@ returns c =
     let newest = c.self.inside.newest in
     let some : slot_in c.self.inside.slots t ≡ Some slot = sym c.in_ok-slot.ensures.value in
     let room : ring.capacity ≡ c.capacity.result = sym c.capacity.ensures.capacity in
-    let lands : (p : ℕ) → p < ring.capacity → slot ≡ slot_at ring.capacity newest p → c.place_at.result ≡ p = subst (λ (n : ℕ). (p : ℕ) → p < n → slot ≡ slot_at n newest p → c.place_at.result ≡ p) (sym room) c.place_at.ensures in
-    c.get-2.ensures ∙ its_answer ring c.self.inside.slots newest t slot c.place_at.result c.self.invariant some lands ∙ ap (λ (r : Buffer Kept). find (answers t) r.items) c.self.view_is
+    let lands : (p : ℕ) → p < ring.capacity → slot ≡ slot_at ring.capacity newest p → c.place.result ≡ p = subst (λ (n : ℕ). (p : ℕ) → p < n → slot ≡ slot_at n newest p → c.place.result ≡ p) (sym room) c.place.ensures in
+    c.get-2.ensures ∙ its_answer ring c.self.inside.slots newest t slot c.place.result c.self.invariant some lands ∙ ap (λ (r : Buffer Kept). find (answers t) r.items) c.self.view_is

@@ -1,7 +1,7 @@
 use Rattle.std.proofs.Common.{◌-◌, refl, ◌∙◌, arith}
 use Rattle.notifier.specs.Held.{seen_by}
 use Rattle.crew.proofs.Loops.{took_as, running_first, running_event, running_end, finished, deserted, full, from_same, among_event, left_event}
-use Rattle.crew.proofs.serving.serve.Goals as goal
+use Rattle.crew.proofs.serving.handle_all.Goals as goal
 
 pub loop-init : goal.loop-init
 loop-init g c = record {

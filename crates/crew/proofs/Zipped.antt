@@ -1,0 +1,24 @@
+-- Two lists with a relation between the elements at each place.
+use Rattle.std.proofs.Common.{◌≡◌, ◌<◌, ℕ, zero, suc, List, [], ◌∷◌, length, get_or, refl, ap, arith}
+use Rattle.std.specs.List.{AllZip}
+
+pub zipped : {A B : Type 0} (R : A → B → Type 0) (xs : List A) (ys : List B) → length ys ≡ length xs
+    → ((k : ℕ) (x : A) (y : B) → k < length xs → R (get_or xs k x) (get_or ys k y)) → AllZip R xs ys
+zipped R [] [] len each = tt
+zipped R [] (y ∷ ys) len each = absurd (omega arith)
+zipped R (x ∷ xs) [] len each = absurd (omega arith)
+zipped R (x ∷ xs) (y ∷ ys) len each = (each 0 x y (omega arith), zipped R xs ys (omega arith) (λ k a b low. each (suc k) a b (omega arith)))
+
+pub zip_len : {A B : Type 0} (R : A → B → Type 0) (xs : List A) (ys : List B) → AllZip R xs ys → length ys ≡ length xs
+zip_len R [] [] all = refl
+zip_len R [] (y ∷ ys) all = absurd all
+zip_len R (x ∷ xs) [] all = absurd all
+zip_len R (x ∷ xs) (y ∷ ys) all = ap suc (zip_len R xs ys all.1)
+
+pub zip_at : {A B : Type 0} (R : A → B → Type 0) (xs : List A) (ys : List B) → AllZip R xs ys
+    → (k : ℕ) (x : A) (y : B) → k < length xs → R (get_or xs k x) (get_or ys k y)
+zip_at R [] [] all k a b low = absurd (omega arith)
+zip_at R [] (y ∷ ys) all k a b low = absurd all
+zip_at R (x ∷ xs) [] all k a b low = absurd all
+zip_at R (x ∷ xs) (y ∷ ys) all zero a b low = all.0
+zip_at R (x ∷ xs) (y ∷ ys) all (suc k) a b low = zip_at R xs ys all.1 k a b (omega arith)
