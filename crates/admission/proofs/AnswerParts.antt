@@ -8,7 +8,7 @@ use Rattle.sip_write.specs.declared.status.Status.TheVariants as status
 use Rattle.sip_write.specs.Answer.{status_line, via_lines, dialog_lines, answer_lines, answer_text}
 use Rattle.sip_write.specs.Lines.{joined, line_end, header}
 use Rattle.sip_write.proofs.Joins.{joined-append}
-use Rattle.admission.specs.Challenge.{forbidden, forbidden_text, challenge_text}
+use Rattle.admission.specs.Challenge.{forbidden, forbidden_text, challenge_text, unavailable_text}
 
 -- the lines between the first and the last ones
 abbrev pub inner : Addr → Request → List ℕ → List (List ℕ)
@@ -46,21 +46,39 @@ forbidden_parts source r tag =
     ∙ joined-append (inner source r tag) (header (codes "Content-Length") (codes "0") ∷ [] ∷ [])
     ∙ ap (λ (x : List ℕ). joined (inner source r tag) ++ x) end_lines)
 
+one_line : (line : List ℕ) → joined (line ∷ []) ≡ line ++ line_end
+unfolding joined
+one_line line = ap (λ (x : List ℕ). line ++ x) (append-nil line_end)
+
+-- a first line, the lines that are shared, further lines, and the last ones
+further_parts : (source : Addr) (r : Request) (tag : List ℕ) (line : List ℕ) (more : List (List ℕ))
+    → joined (line ∷ (via_lines source r.head.top r.head.vias ++ (dialog_lines (forbidden source r tag) ++ (more ++ header (codes "Content-Length") (codes "0") ∷ [] ∷ []))))
+    ≡ (((line ++ line_end) ++ joined (inner source r tag)) ++ joined more) ++ last
+further_parts source r tag line more =
+    let end : List (List ℕ) = header (codes "Content-Length") (codes "0") ∷ [] ∷ [] in
+    first_line (via_lines source r.head.top r.head.vias ++ (dialog_lines (forbidden source r tag) ++ (more ++ end))) line
+    ∙ ap (λ (x : List ℕ). (line ++ line_end) ++ x) (
+    ap joined (sym (append_assoc (via_lines source r.head.top r.head.vias) (dialog_lines (forbidden source r tag)) (more ++ end)))
+    ∙ joined-append (inner source r tag) (more ++ end)
+    ∙ ap (λ (x : List ℕ). joined (inner source r tag) ++ x) (joined-append more end ∙ ap (λ (x : List ℕ). joined more ++ x) end_lines))
+    ∙ regroup (line ++ line_end) (joined (inner source r tag)) (joined more) last where
+      regroup : (a b c d : List ℕ) → a ++ (b ++ (c ++ d)) ≡ ((a ++ b) ++ c) ++ d
+      regroup a b c d = simp append_assoc refl
+
 pub challenge_parts : (source : Addr) (r : Request) (tag : List ℕ) (challenges : List (List ℕ))
     → challenge_text source r tag challenges
     ≡ ((codes "SIP/2.0 401 Unauthorized\r\n" ++ joined (inner source r tag)) ++ joined (map (header (codes "WWW-Authenticate")) challenges)) ++ last
 unfolding challenge_text
 challenge_parts source r tag challenges =
-    let www : List (List ℕ) = map (header (codes "WWW-Authenticate")) challenges in
-    let end : List (List ℕ) = header (codes "Content-Length") (codes "0") ∷ [] ∷ [] in
-    first_line (via_lines source r.head.top r.head.vias ++ (dialog_lines (forbidden source r tag) ++ (www ++ end))) (codes "SIP/2.0 401 Unauthorized")
-    ∙ ap (λ (x : List ℕ). codes "SIP/2.0 401 Unauthorized\r\n" ++ x) (
-    ap joined (sym (append_assoc (via_lines source r.head.top r.head.vias) (dialog_lines (forbidden source r tag)) (www ++ end)))
-    ∙ joined-append (inner source r tag) (www ++ end)
-    ∙ ap (λ (x : List ℕ). joined (inner source r tag) ++ x) (joined-append www end ∙ ap (λ (x : List ℕ). joined www ++ x) end_lines))
-    ∙ regroup (codes "SIP/2.0 401 Unauthorized\r\n") (joined (inner source r tag)) (joined www) last where
-      regroup : (a b c d : List ℕ) → a ++ (b ++ (c ++ d)) ≡ ((a ++ b) ++ c) ++ d
-      regroup a b c d = simp append_assoc refl
+    further_parts source r tag (codes "SIP/2.0 401 Unauthorized") (map (header (codes "WWW-Authenticate")) challenges)
+
+pub unavailable_parts : (source : Addr) (r : Request) (tag : List ℕ)
+    → unavailable_text source r tag
+    ≡ ((codes "SIP/2.0 503 Service Unavailable\r\n" ++ joined (inner source r tag)) ++ (header (codes "Retry-After") (codes "60") ++ line_end)) ++ last
+unfolding unavailable_text
+unavailable_parts source r tag =
+    further_parts source r tag (codes "SIP/2.0 503 Service Unavailable") (header (codes "Retry-After") (codes "60") ∷ [])
+    ∙ ap (λ (x : List ℕ). ((codes "SIP/2.0 503 Service Unavailable\r\n" ++ joined (inner source r tag)) ++ x) ++ last) (one_line (header (codes "Retry-After") (codes "60")))
 
 -- what is left of a text without its ends
 pub between : (text front mid back : List ℕ) → text ≡ front ++ (mid ++ back) → take (length text - (length front + length back)) (drop (length front) text) ≡ mid
@@ -79,10 +97,6 @@ long_enough text front mid back e =
 pub no_lines : (xs : List ℕ) → xs ≡ xs ++ joined []
 unfolding joined
 no_lines xs = sym (append-nil xs)
-
-one_line : (line : List ℕ) → joined (line ∷ []) ≡ line ++ line_end
-unfolding joined
-one_line line = ap (λ (x : List ℕ). line ++ x) (append-nil line_end)
 
 map_more : (f : List ℕ → List ℕ) (xs : List (List ℕ)) (x : List ℕ) → map f (xs ++ x ∷ []) ≡ map f xs ++ f x ∷ []
 map_more f [] x = refl

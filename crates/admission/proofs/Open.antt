@@ -6,7 +6,7 @@ use Rattle.admission.specs.declared.judging.Admission.{Admission}
 use Rattle.admission.specs.declared.judging.Arrival.{Arrival}
 use Rattle.admission.specs.declared.judging.Verdict.{Verdict}
 use Rattle.admission.specs.declared.judging.Verdict.TheVariants as verdict
-use Rattle.admission.specs.Verdicts.{IsOpen, has_none, is_one_of, hears, is_counted, counting, lets_one, lets, with_rates, behind, IsFree, Judges, IsAllowed, after}
+use Rattle.admission.specs.Verdicts.{IsOpen, has_none, is_one_of, hears, is_counted, counting, lets_one, lets, with_rates, behind, newcomer, is_most, one_more, IsFree, Judges, IsAllowed, after}
 
 module _ (a : Admission) (is : IsOpen a) where
   pub open_hears : (ip : List ℕ) → hears a ip ≡ true
@@ -21,8 +21,11 @@ module _ (a : Admission) (is : IsOpen a) where
   pub open_asks : (x : Arrival) → IsFree a x
   open_asks x k r asked = let none = is.anyone in let some = asked.0 in absurd cc
 
+  pub open_seats : (x : Arrival) → one_more a x ≡ None
+  open_seats x = ap (λ (most : Option ℕ). if is_most most x.live then newcomer x.reading else None) is.unlimited
+
   pub open_allows : (x : Arrival) → IsAllowed a x
-  open_allows x = (record { near = open_hears x.source.ip; seldom = open_lets x }, open_asks x)
+  open_allows x = (record { near = open_hears x.source.ip; seldom = open_lets x }, open_asks x, open_seats x)
 
   pub open_stays : (x : Arrival) → after a x ≡ a
   open_stays x =
@@ -35,3 +38,4 @@ module _ (a : Admission) (is : IsOpen a) where
   open_allowed x verdict.Limited j = let seldom = open_lets x in let not = j.1 in absurd cc
   open_allowed x (verdict.Challenge c octets) j = let none = is.anyone in let some = j.1.asked.0 in absurd cc
   open_allowed x (verdict.Forbidden octets) j = let none = is.anyone in let some = j.1.asked.0 in absurd cc
+  open_allowed x (verdict.Crowded octets) j = let none = open_seats x in let some = j.2.1 in absurd cc

@@ -1,5 +1,5 @@
 -- What comes of a datagram.
-use Rattle.std.specs.Prelude.{◌≡◌, ℕ, ◌/◌, Bool, true, false, ◌||◌, ◌==◌, length, is_none, if◌then◌else◌, List, [], Option, Some, None, bytes_eq, codes}
+use Rattle.std.specs.Prelude.{◌≡◌, ℕ, ◌/◌, Bool, true, false, ◌||◌, ◌&&◌, ◌==◌, nat_le, length, is_none, if◌then◌else◌, List, [], Option, Some, None, bytes_eq, codes}
 use Rattle.std.specs.List.{list_any}
 use Rattle.sip_read.specs.declared.message.Request.{Request}
 use Rattle.admission.specs.declared.table.Rates.{Rates}
@@ -14,15 +14,17 @@ use Rattle.admission.specs.declared.judging.Reading.TheVariants as reading
 use Rattle.admission.specs.declared.judging.Verdict.{Verdict}
 use Rattle.admission.specs.declared.judging.Verdict.TheVariants as verdict
 use Rattle.admission.specs.declared.network.Network.{Network}
-use Rattle.admission.specs.Challenge.{forbidden_text}
+use Rattle.admission.specs.Challenge.{forbidden_text, unavailable_text}
+use Rattle.admission.specs.declared.judging.TheConstants.{CROWD_TAG}
 use Rattle.admission.specs.Inquiries.{Inquiry, IsFound, IsAdmitted, IsForbidden, challenge}
 use Rattle.admission.specs.Networks.{number, contains}
 
--- it asks nothing: of no network, of no bucket and of nobody's password
+-- it asks nothing: of no network, of no bucket and of nobody's password, and no source may have too many subscriptions
 pub record IsOpen (a : Admission) : Type 0 where
   pub anywhere : a.networks.items ≡ []
   pub any_rate : a.rates ≡ None
   pub anyone : a.authentication ≡ None
+  pub unlimited : a.per_source ≡ None
 
 -- ---- where it comes from
 
@@ -102,8 +104,38 @@ pub record IsRefused (a : Admission) (x : Arrival) (octets : List ℕ) : Type 0 
   pub forbidden : IsForbidden authentication (inquiry x request)
   pub says : octets ≡ forbidden_text x.source request authentication.tag
 
+-- ---- how many subscriptions its source has
+
+-- the request that asks for a new one, if it is one: a SUBSCRIBE or a REFER outside a dialog
+abbrev pub newcomer : Reading → Option Request
+newcomer (reading.Request r) = if is_asked r.now && is_none r.now.head.to.tag then Some r.now else None
+newcomer reading.Response = None
+newcomer reading.Unread = None
+
+abbrev pub is_most : Option ℕ → ℕ → Bool
+is_most None live = false
+is_most (Some most) live = nat_le most live
+
+-- a source with so many may have no more
+abbrev pub is_full : Admission → ℕ → Bool
+is_full a live = is_most a.per_source live
+
+-- its source may have no more, and it asks for one more
+abbrev pub one_more : Admission → Arrival → Option Request
+one_more a x = if is_full a x.live then newcomer x.reading else None
+
+-- these octets say so
+abbrev pub IsCrowded : Admission → Arrival → List ℕ → Type 0
+IsCrowded a x octets = (r : Request) × (one_more a x ≡ Some r) × (octets ≡ unavailable_text x.source r CROWD_TAG.now)
+
+abbrev pub IsSeated : Admission → Arrival → Verdict → Type 0
+IsSeated a x verdict.Allowed = one_more a x ≡ None
+IsSeated a x (verdict.Crowded octets) = IsCrowded a x octets
+IsSeated a x other = ⊥
+
 abbrev pub IsConcluded : Admission → Arrival → Verdict → Type 0
-IsConcluded a x verdict.Allowed = IsFree a x
+IsConcluded a x verdict.Allowed = IsFree a x × (one_more a x ≡ None)
+IsConcluded a x (verdict.Crowded octets) = IsFree a x × IsCrowded a x octets
 IsConcluded a x (verdict.Challenge c octets) = IsChallenged a x c octets
 IsConcluded a x (verdict.Forbidden octets) = IsRefused a x octets
 IsConcluded a x verdict.Foreign = ⊥
@@ -120,13 +152,14 @@ pub record IsHeard (a : Admission) (x : Arrival) : Type 0 where
 abbrev pub Judges : Admission → Arrival → Verdict → Type 0
 Judges a x verdict.Foreign = hears a x.source.ip ≡ false
 Judges a x verdict.Limited = (hears a x.source.ip ≡ true) × (lets a x ≡ false)
-Judges a x verdict.Allowed = IsHeard a x × IsFree a x
+Judges a x verdict.Allowed = IsHeard a x × IsFree a x × (one_more a x ≡ None)
+Judges a x (verdict.Crowded octets) = IsHeard a x × IsFree a x × IsCrowded a x octets
 Judges a x (verdict.Challenge c octets) = IsHeard a x × IsChallenged a x c octets
 Judges a x (verdict.Forbidden octets) = IsHeard a x × IsRefused a x octets
 
 -- it is to be heard
 abbrev pub IsAllowed : Admission → Arrival → Type 0
-IsAllowed a x = IsHeard a x × IsFree a x
+IsAllowed a x = IsHeard a x × IsFree a x × (one_more a x ≡ None)
 
 -- a token is taken only of a source that is heard
 abbrev pub after : Admission → Arrival → Admission

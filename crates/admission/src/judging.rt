@@ -3,8 +3,9 @@ ghost use Rattle.std.specs.Prelude.{◌≡◌, ◌⊎◌, option_map, IfOk, OnOk
 ghost use Rattle.admission.specs.declared.judging.Arrival.{Arrival as ArrivalSeen};
 ghost use Rattle.admission.specs.declared.judging.Verdict.TheVariants as verdict;
 ghost use Rattle.admission.specs.Verdicts as spec;
-ghost use Rattle.admission.specs.Verdicts.{Judges, IsFree, behind};
+ghost use Rattle.admission.specs.Verdicts.{Judges, IsFree, IsSeated, behind};
 
+use crate::answer::Reply;
 use crate::authentication::{Authentication, Cause, Conclusion, Inquiry};
 use crate::network::{Network, number};
 use crate::table::Rates;
@@ -32,6 +33,8 @@ pub struct Arrival<'a> {
     pub source: Addr,
     /// When it came, in milliseconds.
     pub moment: u64,
+    /// How many live subscriptions its source has.
+    pub live: usize,
 }
 
 /// What comes of a datagram.
@@ -47,7 +50,12 @@ pub enum Verdict {
     Challenge(Cause, Octets),
     /// It isn't heard, and this 403 goes to its source: a known user asks for another's mailbox.
     Forbidden(Octets),
+    /// It isn't heard, and this 503 goes to its source: it asks for a new subscription, and has as many as it may.
+    Crowded(Octets),
 }
+
+/// The tag that a To without one gets in a 503: the same for the same request (RFC 3261 section 8.2.7).
+pub const CROWD_TAG: &str = "crowded";
 
 /// Who is heard.
 #[derive(Drop)]
@@ -58,6 +66,8 @@ pub struct Admission {
     pub rates: Option<Rates>,
     /// Who may subscribe and refer: anyone, where there is none.
     pub authentication: Option<Authentication>,
+    /// How many live subscriptions each source may have: as many as it likes, where there is none.
+    pub per_source: Option<u32>,
 }
 
 /// Whether the address is of one of these networks.
@@ -95,6 +105,18 @@ fn asked(reading: Reading<'_>) -> Option<&Request>
     }
 }
 
+/// The request that asks for a new subscription, if the datagram is one: a SUBSCRIBE or a REFER outside a dialog.
+fn newcomer(reading: Reading<'_>) -> Option<&Request>
+    ensures { option_map (λ r. r.now) result ≡ spec.newcomer reading.entry }
+{
+    match reading {
+        Reading::Request(request) if is_asked(request) && request.head.to.tag.is_none() => {
+            Some(request)
+        }
+        _ => None,
+    }
+}
+
 impl Admission {
     /// One that hears everything: from anywhere, as much as comes, whoever asks.
     pub fn open(alloc: Global) -> Admission
@@ -107,6 +129,7 @@ impl Admission {
             networks: Vec::new(alloc),
             rates: None,
             authentication: None,
+            per_source: None,
         }
     }
 
@@ -132,15 +155,45 @@ impl Admission {
         }
     }
 
+    /// Whether a source with so many live subscriptions may have no more.
+    fn is_full(&self, live: usize) -> bool
+        ensures { result ≡ spec.is_full self.now live }
+    {
+        match self.per_source {
+            Some(most) => live >= most as usize,
+            None => false,
+        }
+    }
+
+    /// What comes of a datagram of whoever may ask.
+    fn seat(&self, alloc: Global, arrival: Arrival<'_>) -> Result<Verdict, NoMemory>
+        ensures seated { IfOk result (IsSeated self.now arrival.entry) }
+        ensures wanting { OnErr result (self.now.per_source ≡ None → ⊥) }
+    {
+        if !self.is_full(arrival.live) {
+            return Ok(Verdict::Allowed);
+        }
+        let Some(request) = newcomer(arrival.reading) else {
+            return Ok(Verdict::Allowed);
+        };
+        let source = arrival.source;
+        let reply = Reply {
+            request,
+            source,
+            tag: CROWD_TAG,
+        };
+        Ok(Verdict::Crowded(reply.unavailable(alloc)?))
+    }
+
     /// What comes of a datagram of a source that is heard and has a token.
     fn conclude(&self, alloc: Global, arrival: Arrival<'_>) -> Result<Verdict, NoMemory>
         ensures concluded { IfOk result (spec.IsConcluded self.now arrival.entry) }
-        ensures free { IfOk result (λ v. IsFree self.now arrival.entry → v ≡ verdict.Allowed) }
-        ensures wanting { OnErr result (self.now.authentication ≡ None → ⊥) }
+        ensures free { IfOk result (λ v. IsFree self.now arrival.entry → IsSeated self.now arrival.entry verdict.Allowed → v ≡ verdict.Allowed) }
+        ensures wanting { OnErr result (self.now.authentication ≡ None → self.now.per_source ≡ None → ⊥) }
     {
         let (Some(authentication), Some(request)) = (&self.authentication, asked(arrival.reading))
         else {
-            return Ok(Verdict::Allowed);
+            return self.seat(alloc, arrival);
         };
         let inquiry = Inquiry {
             request,
@@ -149,7 +202,7 @@ impl Admission {
             now: arrival.moment / 1000,
         };
         match authentication.conclude(alloc, inquiry)? {
-            Conclusion::Admitted => Ok(Verdict::Allowed),
+            Conclusion::Admitted => self.seat(alloc, arrival),
             Conclusion::Challenge(cause, octets) => Ok(Verdict::Challenge(cause, octets)),
             Conclusion::Forbidden(octets) => Ok(Verdict::Forbidden(octets)),
         }

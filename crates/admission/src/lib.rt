@@ -1,12 +1,14 @@
 //! Who is heard: of each SIP datagram, whether it may reach a worker. A machine of its own: it asks no clock, opens no socket, starts no thread
 //! and draws nothing at random. What came, from where and when is handed in.
 //!
-//! [`Admission::judge`] asks three things in this order, each only where the service was told to:
+//! [`Admission::judge`] asks four things in this order, each only where the service was told to:
 //!
 //! 1. Is the source's address within one of the [`Network`]s? Else [`Verdict::Foreign`].
 //! 2. Has the source a token left ([`Rates`])? Else [`Verdict::Limited`]. Requests outside a dialog take one, and what can't be read.
 //! 3. Does a SUBSCRIBE or a REFER, in a dialog too, answer a challenge (RFC 3261 section 22, [`digest`])? Else [`Verdict::Challenge`], with the
 //!    bytes of a 401. May the user have the mailbox that it names? Else [`Verdict::Forbidden`], with those of a 403.
+//! 4. Does a SUBSCRIBE or a REFER outside a dialog ask for one more subscription of a source that has as many as it may? Then
+//!    [`Verdict::Crowded`], with the bytes of a 503. How many a source has is handed in.
 //!
 //! [`Rates`] holds a bucket for each source that was heard lately, in a table of bounded size. A source without a bucket has a full one, so a
 //! full bucket tells no more than none: where the table is full, the bucket of the source that was heard the longest ago goes, once it is full
@@ -30,7 +32,7 @@ mod table;
 
 pub use authentication::{Authentication, Cause};
 pub use bucket::{Bucket, Rate};
-pub use judging::{Admission, Arrival, Reading, Verdict};
+pub use judging::{Admission, Arrival, CROWD_TAG, Reading, Verdict};
 pub use network::Network;
 pub use sip_text::NoMemory;
 pub use table::Rates;

@@ -103,12 +103,14 @@ flag_again (flag.Number bound.Linger) = refl
 flag_again (flag.Number bound.MaxDatagram) = refl
 flag_again (flag.Number bound.ReceiveBuffer) = refl
 flag_again (flag.Number bound.NonceTime) = refl
+flag_again (flag.Number bound.PerSource) = refl
 flag_again flag.MailboxFile = refl
 flag_again flag.StateFile = refl
 flag_again flag.PasswordFile = refl
 flag_again flag.Watch = refl
 flag_again flag.Rate = refl
 flag_again flag.Allow = refl
+flag_again flag.ControlAllow = refl
 flag_again flag.Seed = refl
 
 -- a word that is no option is none of these texts
@@ -160,12 +162,14 @@ no_equals (flag.Number bound.Linger) = refl
 no_equals (flag.Number bound.MaxDatagram) = refl
 no_equals (flag.Number bound.ReceiveBuffer) = refl
 no_equals (flag.Number bound.NonceTime) = refl
+no_equals (flag.Number bound.PerSource) = refl
 no_equals flag.MailboxFile = refl
 no_equals flag.StateFile = refl
 no_equals flag.PasswordFile = refl
 no_equals flag.Watch = refl
 no_equals flag.Rate = refl
 no_equals flag.Allow = refl
+no_equals flag.ControlAllow = refl
 no_equals flag.Seed = refl
 
 pair_is : (f g : Flag) (v w : List ℕ) → ◌≡◌ {A = Option (Flag × List ℕ)} (Some (f, v)) (Some (g, w)) → (f ≡ g) × (v ≡ w)

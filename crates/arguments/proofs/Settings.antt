@@ -68,6 +68,7 @@ most_is_small bound.Linger = omega arith
 most_is_small bound.MaxDatagram = omega arith
 most_is_small bound.ReceiveBuffer = omega arith
 most_is_small bound.NonceTime = omega arith
+most_is_small bound.PerSource = omega arith
 
 between_again : (least most n : ℕ) → least ≤ n → n ≤ most → most ≤ 4294967295 → between least most (decimal n) ≡ Some n
 unfolding between
@@ -206,6 +207,9 @@ valued_takes flag.Rate words value s are e =
 valued_takes flag.Allow words value s are e =
     let p = bind_some (network value) (λ n. Some (setting.Allow n)) s (or_bad_ok flag.Allow (network value >>= λ n. Some (setting.Allow n)) s e) in
     subst (IsSetting words) (some_is (setting.Allow p.0) s p.2) (value, are, p.1)
+valued_takes flag.ControlAllow words value s are e =
+    let p = bind_some (network value) (λ n. Some (setting.ControlAllow n)) s (or_bad_ok flag.ControlAllow (network value >>= λ n. Some (setting.ControlAllow n)) s e) in
+    subst (IsSetting words) (some_is (setting.ControlAllow p.0) s p.2) (value, are, p.1)
 valued_takes flag.Seed words value s are e =
     let p = bind_some (seed_of value) (λ x. Some (setting.Seed x)) s (or_bad_ok flag.Seed (seed_of value >>= λ x. Some (setting.Seed x)) s e) in
     subst (IsSetting words) (some_is (setting.Seed p.0) s p.2) (value, are, seed_takes value p.0 p.1)
@@ -224,6 +228,7 @@ valued_wrong flag.PasswordFile value e k = absurd cc
 valued_wrong flag.Watch value e k = or_bad_err flag.Watch (watch_of value >>= λ w. Some (setting.Watch w.0 w.1)) e k
 valued_wrong flag.Rate value e k = or_bad_err flag.Rate (rate_of value >>= λ r. Some (setting.Rate r)) e k
 valued_wrong flag.Allow value e k = or_bad_err flag.Allow (network value >>= λ n. Some (setting.Allow n)) e k
+valued_wrong flag.ControlAllow value e k = or_bad_err flag.ControlAllow (network value >>= λ n. Some (setting.ControlAllow n)) e k
 valued_wrong flag.Seed value e k = or_bad_err flag.Seed (seed_of value >>= λ x. Some (setting.Seed x)) e k
 
 abbrev by_name : List ℕ → Result Setting OptionsError
@@ -280,12 +285,14 @@ flag_begins (flag.Number bound.Linger) = refl
 flag_begins (flag.Number bound.MaxDatagram) = refl
 flag_begins (flag.Number bound.ReceiveBuffer) = refl
 flag_begins (flag.Number bound.NonceTime) = refl
+flag_begins (flag.Number bound.PerSource) = refl
 flag_begins flag.MailboxFile = refl
 flag_begins flag.StateFile = refl
 flag_begins flag.PasswordFile = refl
 flag_begins flag.Watch = refl
 flag_begins flag.Rate = refl
 flag_begins flag.Allow = refl
+flag_begins flag.ControlAllow = refl
 flag_begins flag.Seed = refl
 
 joined_begins : (f : Flag) (value : List ℕ) → begins 45 (joined (flag_text f) value) ≡ true
@@ -364,6 +371,10 @@ networks_again : (text : List ℕ) (n : Network) → network text ≡ Some n →
 unfolding valued
 networks_again text n e = rw e refl
 
+control_networks_again : (text : List ℕ) (n : Network) → network text ≡ Some n → valued flag.ControlAllow text ≡ Ok (setting.ControlAllow n)
+unfolding valued
+control_networks_again text n e = rw e refl
+
 seeds_again : (digits seed : List ℕ) → decode_sized digits 32 ≡ Ok seed → valued flag.Seed digits ≡ Ok (setting.Seed seed)
 unfolding valued
 seeds_again digits seed e = rw (seed_again digits seed e) refl
@@ -402,6 +413,7 @@ setting_again (setting.Watch user mailbox) front rest h =
     options_again flag.Watch (watched_text user mailbox) front rest h.2 ∙ ap (λ r. then_more r (settings_from None rest)) (watches_again user mailbox h.0 h.1)
 setting_again (setting.Rate rate) front rest h = options_again flag.Rate (rate_text rate) front rest h.2 ∙ ap (λ r. then_more r (settings_from None rest)) (rates_again rate h.0 h.1)
 setting_again (setting.Allow n) front rest h = options_again flag.Allow h.0 front rest h.1 ∙ ap (λ r. then_more r (settings_from None rest)) (networks_again h.0 n h.2)
+setting_again (setting.ControlAllow n) front rest h = options_again flag.ControlAllow h.0 front rest h.1 ∙ ap (λ r. then_more r (settings_from None rest)) (control_networks_again h.0 n h.2)
 setting_again (setting.Seed seed) front rest h = options_again flag.Seed h.0 front rest h.1 ∙ ap (λ r. then_more r (settings_from None rest)) (seeds_again h.0 seed h.2)
 setting_again (setting.Switch x) front rest h =
     ap (λ (l : List (List ℕ)). settings_from None (l ++ rest)) h ∙ alone_again (switch_text x) rest (switch_is_no_flag x).0 ∙ ap (λ r. then_more r (settings_from None rest)) (switches_again x)

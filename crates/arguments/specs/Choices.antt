@@ -18,7 +18,7 @@ use Rattle.arguments.specs.declared.choices.Choices.{Choices}
 abbrev pub loopback : ℕ → Addr
 loopback port = record { ip = 127 ∷ 0 ∷ 0 ∷ 1 ∷ []; port = port }
 
--- no count of workers stands for one a processor, and no time of nonces for the program's own
+-- no count of workers stands for one a processor, no time of nonces for the program's own, and no count a source for any
 abbrev pub default_numbers : Numbers
 default_numbers = record {
   workers = None;
@@ -37,6 +37,7 @@ default_numbers = record {
   max_datagram = 8192;
   receive_buffer = 4194304;
   nonce_time = None;
+  per_source = None;
 }
 
 -- what is done where nothing is set
@@ -72,6 +73,7 @@ with_number bound.Linger n numbers = record numbers { linger = n }
 with_number bound.MaxDatagram n numbers = record numbers { max_datagram = n }
 with_number bound.ReceiveBuffer n numbers = record numbers { receive_buffer = n }
 with_number bound.NonceTime n numbers = record numbers { nonce_time = Some n }
+with_number bound.PerSource n numbers = record numbers { per_source = Some n }
 
 abbrev pub with_address : Place → Addr → Choices → Choices
 with_address place.Listen addr choices = record choices { listen = addr }
@@ -95,6 +97,7 @@ after choices (setting.PasswordFile path) = choices
 after choices (setting.Watch user mailbox) = choices
 after choices (setting.Rate rate) = record choices { rate = Some rate }
 after choices (setting.Allow network) = choices
+after choices (setting.ControlAllow network) = choices
 after choices (setting.Seed seed) = record choices { seed = Some seed }
 after choices (setting.Switch switch) = with_switch switch choices
 after choices (setting.Mailbox name) = choices
@@ -112,6 +115,7 @@ with_state path (setting.PasswordFile file) = path
 with_state path (setting.Watch user mailbox) = path
 with_state path (setting.Rate rate) = path
 with_state path (setting.Allow network) = path
+with_state path (setting.ControlAllow network) = path
 with_state path (setting.Seed seed) = path
 with_state path (setting.Switch switch) = path
 with_state path (setting.Mailbox name) = path
@@ -129,6 +133,7 @@ with_passwords path (setting.PasswordFile file) = Some file
 with_passwords path (setting.Watch user mailbox) = path
 with_passwords path (setting.Rate rate) = path
 with_passwords path (setting.Allow network) = path
+with_passwords path (setting.ControlAllow network) = path
 with_passwords path (setting.Seed seed) = path
 with_passwords path (setting.Switch switch) = path
 with_passwords path (setting.Mailbox name) = path
@@ -146,6 +151,7 @@ with_watched pairs (setting.PasswordFile path) = pairs
 with_watched pairs (setting.Watch user mailbox) = pairs ++ (user, mailbox) ∷ []
 with_watched pairs (setting.Rate rate) = pairs
 with_watched pairs (setting.Allow network) = pairs
+with_watched pairs (setting.ControlAllow network) = pairs
 with_watched pairs (setting.Seed seed) = pairs
 with_watched pairs (setting.Switch switch) = pairs
 with_watched pairs (setting.Mailbox name) = pairs
@@ -163,6 +169,7 @@ with_network networks (setting.PasswordFile path) = networks
 with_network networks (setting.Watch user mailbox) = networks
 with_network networks (setting.Rate rate) = networks
 with_network networks (setting.Allow network) = networks ++ network ∷ []
+with_network networks (setting.ControlAllow network) = networks
 with_network networks (setting.Seed seed) = networks
 with_network networks (setting.Switch switch) = networks
 with_network networks (setting.Mailbox name) = networks
@@ -170,3 +177,22 @@ with_network networks (setting.Mailbox name) = networks
 -- the networks that are let in, in order
 abbrev pub networks_of : List Setting → List Network
 networks_of settings = fold with_network [] settings
+
+-- the networks whose control lines are heard, with what this setting adds
+abbrev pub with_control_network : List Network → Setting → List Network
+with_control_network networks (setting.Address place addr) = networks
+with_control_network networks (setting.Number bound n) = networks
+with_control_network networks (setting.MailboxFile path) = networks
+with_control_network networks (setting.StateFile path) = networks
+with_control_network networks (setting.PasswordFile path) = networks
+with_control_network networks (setting.Watch user mailbox) = networks
+with_control_network networks (setting.Rate rate) = networks
+with_control_network networks (setting.Allow network) = networks
+with_control_network networks (setting.ControlAllow network) = networks ++ network ∷ []
+with_control_network networks (setting.Seed seed) = networks
+with_control_network networks (setting.Switch switch) = networks
+with_control_network networks (setting.Mailbox name) = networks
+
+-- those networks, in order
+abbrev pub control_networks_of : List Setting → List Network
+control_networks_of settings = fold with_control_network [] settings

@@ -31,6 +31,7 @@ bound_text bound.Linger = codes "--linger"
 bound_text bound.MaxDatagram = codes "--max-datagram"
 bound_text bound.ReceiveBuffer = codes "--receive-buffer"
 bound_text bound.NonceTime = codes "--nonce-time"
+bound_text bound.PerSource = codes "--per-source"
 
 abbrev pub flag_text : Flag → List ℕ
 flag_text (flag.Address place) = place_text place
@@ -41,6 +42,7 @@ flag_text flag.PasswordFile = codes "--passwords"
 flag_text flag.Watch = codes "--watch"
 flag_text flag.Rate = codes "--rate"
 flag_text flag.Allow = codes "--allow"
+flag_text flag.ControlAllow = codes "--control-allow"
 flag_text flag.Seed = codes "--seed"
 
 -- the options without a value
@@ -77,3 +79,4 @@ most bound.Linger = 32
 most bound.MaxDatagram = 65507
 most bound.ReceiveBuffer = 1073741824
 most bound.NonceTime = 86400
+most bound.PerSource = 65536

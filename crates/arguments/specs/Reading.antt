@@ -36,7 +36,7 @@ abbrev pub times : List Bound
 times = bound.MinTime ∷ bound.MaxTime ∷ bound.DefaultTime ∷ bound.ReferTime ∷ bound.Linger ∷ bound.NonceTime ∷ []
 
 abbrev pub counts : List Bound
-counts = bound.Workers ∷ bound.MaxCseq ∷ bound.Table ∷ bound.Serials ∷ bound.Kept ∷ bound.Inbox ∷ bound.Outbox ∷ bound.Repeats ∷ []
+counts = bound.Workers ∷ bound.MaxCseq ∷ bound.Table ∷ bound.Serials ∷ bound.Kept ∷ bound.Inbox ∷ bound.Outbox ∷ bound.Repeats ∷ bound.PerSource ∷ []
 
 abbrev pub sizes : List Bound
 sizes = bound.MaxDatagram ∷ bound.ReceiveBuffer ∷ []
@@ -70,7 +70,7 @@ number_flag None = None
 -- the options whose value is neither an address nor a number
 abbrev pub specials : List Flag
 specials =
-    flag.MailboxFile ∷ flag.StateFile ∷ flag.PasswordFile ∷ flag.Watch ∷ flag.Rate ∷ flag.Allow ∷ flag.Seed ∷ []
+    flag.MailboxFile ∷ flag.StateFile ∷ flag.PasswordFile ∷ flag.Watch ∷ flag.Rate ∷ flag.Allow ∷ flag.ControlAllow ∷ flag.Seed ∷ []
 
 unfoldable pub special_of : List ℕ → Option Flag
 special_of word = find_text flag_text specials word
@@ -156,6 +156,7 @@ valued flag.PasswordFile value = Ok (setting.PasswordFile value)
 valued flag.Watch value = or_bad flag.Watch (watch_of value >>= λ w. Some (setting.Watch w.0 w.1))
 valued flag.Rate value = or_bad flag.Rate (rate_of value >>= λ r. Some (setting.Rate r))
 valued flag.Allow value = or_bad flag.Allow (network value >>= λ n. Some (setting.Allow n))
+valued flag.ControlAllow value = or_bad flag.ControlAllow (network value >>= λ n. Some (setting.ControlAllow n))
 valued flag.Seed value = or_bad flag.Seed (seed_of value >>= λ s. Some (setting.Seed s))
 
 -- a word that is no option

@@ -3,12 +3,12 @@
 --   words    = *setting
 --   setting  = ("--listen" / "--contact" / "--control") address
 --            / ("--workers" / "--min-time" / "--max-time" / "--default-time" / "--refer-time" / "--linger" / "--max-cseq" / "--table"
---              / "--serials" / "--kept" / "--inbox" / "--outbox" / "--repeats" / "--max-datagram" / "--receive-buffer" / "--nonce-time")
---              number
+--              / "--serials" / "--kept" / "--inbox" / "--outbox" / "--repeats" / "--max-datagram" / "--receive-buffer" / "--nonce-time"
+--              / "--per-source") number
 --            / ("--mailboxes" / "--state" / "--passwords") path
 --            / "--watch" user ":" mailbox         ; no `:` in the user
 --            / "--rate" number "/" number         ; so many datagrams a second, and so many at once, each from 1 to 65536
---            / "--allow" network
+--            / ("--allow" / "--control-allow") network
 --            / "--seed" digits                    ; 64 hex digits of either case
 --            / "--keep-subscriptions" / "--no-refer" / "--until-input-ends" / "--old-digest"
 --            / mailbox                            ; no space, control character, `@` or `:`, and no `-` in front
@@ -83,6 +83,8 @@ IsSetting words (setting.Rate rate) =
     IsRateNumber rate.per_second × IsRateNumber rate.burst × AreOption words (codes "--rate") (rate_text rate)
 IsSetting words (setting.Allow n) =
     (text : List ℕ) × AreOption words (codes "--allow") text × (network text ≡ Some n)
+IsSetting words (setting.ControlAllow n) =
+    (text : List ℕ) × AreOption words (codes "--control-allow") text × (network text ≡ Some n)
 IsSetting words (setting.Seed seed) =
     (digits : List ℕ) × AreOption words (codes "--seed") digits × (decode_sized digits 32 ≡ Ok seed)
 IsSetting words (setting.Switch switch) = words ≡ switch_text switch ∷ []

@@ -34,6 +34,8 @@ pub struct Numbers {
     pub receive_buffer: u32,
     /// For how long a nonce is good. None: as the program likes.
     pub nonce_time: Option<u32>,
+    /// How many live subscriptions one source address may have. None: as many as it likes.
+    pub per_source: Option<u32>,
 }
 
 /// What the service does, but for its mailboxes and who is heard.
@@ -94,6 +96,7 @@ impl Numbers {
             max_datagram: 8192,
             receive_buffer: 4194304,
             nonce_time: None,
+            per_source: None,
         }
     }
 
@@ -117,6 +120,7 @@ impl Numbers {
             Bound::MaxDatagram => self.max_datagram = number,
             Bound::ReceiveBuffer => self.receive_buffer = number,
             Bound::NonceTime => self.nonce_time = Some(number),
+            Bound::PerSource => self.per_source = Some(number),
         }
     }
 }
@@ -177,6 +181,7 @@ impl Choices {
             | Setting::PasswordFile(_)
             | Setting::Watch(..)
             | Setting::Allow(..)
+            | Setting::ControlAllow(..)
             | Setting::Mailbox(_) => {}
         }
     }

@@ -38,6 +38,7 @@ pub enum Bound {
     MaxDatagram,
     ReceiveBuffer,
     NonceTime,
+    PerSource,
 }
 
 /// An option that has a value.
@@ -57,6 +58,8 @@ pub enum Flag {
     Rate,
     /// `--allow`: a network from which SIP is heard.
     Allow,
+    /// `--control-allow`: a network from which control lines are heard.
+    ControlAllow,
     /// `--seed`: from which the words of local tags are drawn.
     Seed,
 }
@@ -96,6 +99,7 @@ impl Bound {
             Bound::MaxDatagram => "--max-datagram",
             Bound::ReceiveBuffer => "--receive-buffer",
             Bound::NonceTime => "--nonce-time",
+            Bound::PerSource => "--per-source",
         }
     }
 
@@ -119,7 +123,8 @@ impl Bound {
             Bound::Workers => 256,
             Bound::MinTime => 3600,
             Bound::MaxCseq => 2147483647,
-            Bound::Table | Bound::Inbox | Bound::Outbox | Bound::Repeats => 65536,
+            Bound::Table | Bound::Inbox | Bound::Outbox | Bound::Repeats | Bound::PerSource =>
+                65536,
             Bound::Kept => 4096,
             Bound::Linger => 32,
             Bound::MaxDatagram => 65507,
@@ -144,6 +149,7 @@ impl Flag {
             Flag::Watch => "--watch",
             Flag::Rate => "--rate",
             Flag::Allow => "--allow",
+            Flag::ControlAllow => "--control-allow",
             Flag::Seed => "--seed",
         }
     }
@@ -164,7 +170,7 @@ impl Display for Flag {
             }
             Flag::Watch => write!(f, "{text} <user:mailbox>"),
             Flag::Rate => write!(f, "{text} <a second>/<at once>, each 1 to 65536"),
-            Flag::Allow => write!(f, "{text} <a.b.c.d/bits>"),
+            Flag::Allow | Flag::ControlAllow => write!(f, "{text} <a.b.c.d/bits>"),
             Flag::Seed => write!(f, "{text} <64 hex digits>"),
         }
     }
@@ -228,6 +234,8 @@ fn count_of(word: &str) -> Option<Bound>
         Some(Bound::Outbox)
     } else if word == "--repeats" {
         Some(Bound::Repeats)
+    } else if word == "--per-source" {
+        Some(Bound::PerSource)
     } else {
         None
     }
@@ -285,6 +293,8 @@ fn special_of(word: &str) -> Option<Flag>
         Some(Flag::Rate)
     } else if word == "--allow" {
         Some(Flag::Allow)
+    } else if word == "--control-allow" {
+        Some(Flag::ControlAllow)
     } else if word == "--seed" {
         Some(Flag::Seed)
     } else {

@@ -1,7 +1,8 @@
-//! Who is heard by the settings of a service: networks that are let in, and mailboxes that users may watch beside their own.
+//! Who is heard by the settings of a service: networks that are let in, with SIP or with control lines, and mailboxes that users may
+//! watch beside their own.
 ghost use Rattle.std.specs.Prelude.{◌≡◌, IfOk, OnOk};
 ghost use Rattle.arguments.specs.Choices as spec;
-ghost use Rattle.arguments.specs.Choices.{with_network, with_watched, with_passwords};
+ghost use Rattle.arguments.specs.Choices.{with_network, with_control_network, with_watched, with_passwords};
 
 use crate::setting::Setting;
 use admission::Network;
@@ -25,6 +26,27 @@ pub fn networks_of(alloc: Global, settings: &[Setting]) -> Result<Vec<Network>, 
     let mut networks = Vec::new(alloc);
     for setting in settings {
         add_network(&mut networks, setting)?;
+    }
+    Ok(networks)
+}
+
+/// Adds the network whose control lines a setting lets in, if it names one.
+fn add_control_network(heard: &mut Vec<Network>, setting: &Setting) -> Result<(), NoMemory>
+    ensures { OnOk result (heard.new.items ≡ with_control_network heard.old.items setting.now) }
+{
+    if let Setting::ControlAllow(network) = setting {
+        heard.push(*network)?;
+    }
+    Ok(())
+}
+
+/// The networks whose control lines are heard, in order. Its error is want of memory.
+pub fn control_networks_of(alloc: Global, settings: &[Setting]) -> Result<Vec<Network>, NoMemory>
+    ensures { IfOk result (λ networks. networks.items ≡ spec.control_networks_of settings.now) }
+{
+    let mut networks = Vec::new(alloc);
+    for setting in settings {
+        add_control_network(&mut networks, setting)?;
     }
     Ok(networks)
 }

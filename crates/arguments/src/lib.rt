@@ -31,7 +31,7 @@ pub use arguments::{Arguments, ArgumentsError, parse_arguments};
 pub use choices::{Choices, Numbers};
 pub use error::OptionsError;
 pub use flag::{Bound, Flag, Place};
-pub use heard::{networks_of, passwords_of, watched_of};
+pub use heard::{control_networks_of, networks_of, passwords_of, watched_of};
 pub use mailbox_file::{is_blank, mailboxes_in};
 pub use setting::{Setting, parse_settings};
 pub use setup::{boxes_for, boxes_with, names_for, setup_at};

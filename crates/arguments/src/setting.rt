@@ -36,6 +36,8 @@ pub enum Setting {
     Rate(Rate),
     /// `--allow` with a network that is let in.
     Allow(Network),
+    /// `--control-allow` with a network whose control lines are heard.
+    ControlAllow(Network),
     /// `--seed` with 32 bytes.
     Seed([u8; 32]),
     /// An option without a value.
@@ -133,6 +135,10 @@ fn valued(alloc: Global, flag: Flag, value: &str) -> Result<Setting, OptionsErro
         Flag::Allow => {
             let network = Network::of(value.as_bytes());
             network.map(|network| Setting::Allow(network))
+        }
+        Flag::ControlAllow => {
+            let network = Network::of(value.as_bytes());
+            network.map(|network| Setting::ControlAllow(network))
         }
         Flag::Seed => seed_of(value).map(Setting::Seed),
     };

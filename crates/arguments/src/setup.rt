@@ -4,7 +4,7 @@ ghost use Rattle.arguments.specs.Setup as spec;
 ghost use Rattle.arguments.specs.Wanted.{Gives};
 
 use crate::wanted::Wanted;
-use home::key_hash;
+use notifier_model::homes::key_hash;
 use notifier_model::{Limits, Setup};
 use package::Package;
 use sip_read::Addr;

@@ -18,11 +18,11 @@ use Rattle.arguments.specs.Setup.{names_for}
 use Rattle.arguments.specs.Told.{boxes_told, all_told}
 use Rattle.arguments.proofs.ToldBoxes.{told-len}
 use Rattle.service.specs.declared.running.Outcome.{Outcome}
-use Rattle.service.specs.Running.{Runs}
+use Rattle.service.specs.Running.{Opening, Runs}
 use Rattle.commands.proofs.UdpStarted.{started_as}
 use Rattle.commands.specs.declared.plan.Plan.{Plan}
 use Rattle.commands.specs.Plans.{IsCount, setup_of}
-use Rattle.commands.specs.Serving.{start_at, Ran}
+use Rattle.commands.specs.Serving.{start_at, opening_of, Ran}
 
 pub count_is : (asked : Option ℕ) (n : ℕ) → IsCount asked n → IsWithin 1 256 n
 count_is None n is = is
@@ -34,9 +34,9 @@ if_both (Ok x) p q f = f x p q
 if_both (Err e) p q f = p
 
 -- the same under other names of the starts and their number
-runs_as : {start start' : ℕ → Start} {workers workers' repeats : ℕ} {mailboxes : List (List ℕ)} {admission : Admission} {wire wire' : WireSeen} {writer writer' : WriterSeen} {o : Outcome}
-    → workers ≡ workers' → ((w : ℕ) → w < workers' → start w ≡ start' w) → Runs start workers repeats mailboxes admission wire wire' writer writer' o
-    → Runs start' workers' repeats mailboxes admission wire wire' writer writer' o
+runs_as : {start start' : ℕ → Start} {workers workers' repeats : ℕ} {opened : Opening} {admission : Admission} {wire wire' : WireSeen} {writer writer' : WriterSeen} {o : Outcome}
+    → workers ≡ workers' → ((w : ℕ) → w < workers' → start w ≡ start' w) → Runs start workers repeats opened admission wire wire' writer writer' o
+    → Runs start' workers' repeats opened admission wire wire' writer writer' o
 runs_as {start' = start'} {workers' = workers'} same each r = record {
   crew = r.crew;
   sip = r.sip;
@@ -76,17 +76,17 @@ module _ {P : Type 0} (seen : P → Seen) (setup : Setup) (boxes : List (Vec P G
       ∙ ap (λ (b : List Seen). let s : Start = record { place = place_of (setup_of plan local) w; boxes = b } in s) (boxes_at w held low)
 
   -- the service that was asked for
-  pub ran_is : {W : Type 0} (contents : W → Option (List ℕ)) (n : ℕ) {repeats : ℕ} {mailboxes : List (List ℕ)} {admission : Admission} {before after : SinkSeen W} {o : Outcome}
-      → n ≡ length boxes → 0 < plan.workers → repeats ≡ plan.choices.numbers.repeats → mailboxes ≡ plan.mailboxes.items → admission ≡ plan.admission
-      → ((held : Vec P Global) → Ran contents (λ w. start_of seen setup w (get_or boxes w held).items) n repeats mailboxes admission before after o)
-      → Ran contents (start_at plan local) plan.workers plan.choices.numbers.repeats plan.mailboxes.items plan.admission before after o
-  ran_is contents n {mailboxes = mailboxes} {admission = admission} {before = before} {after = after} {o = o} size some room are allowed ran =
+  pub ran_is : {W : Type 0} (contents : W → Option (List ℕ)) (n : ℕ) {repeats : ℕ} {opened : Opening} {admission : Admission} {before after : SinkSeen W} {o : Outcome}
+      → n ≡ length boxes → 0 < plan.workers → repeats ≡ plan.choices.numbers.repeats → opened ≡ opening_of plan → admission ≡ plan.admission
+      → ((held : Vec P Global) → Ran contents (λ w. start_of seen setup w (get_or boxes w held).items) n repeats opened admission before after o)
+      → Ran contents (start_at plan local) plan.workers plan.choices.numbers.repeats (opening_of plan) plan.admission before after o
+  ran_is contents n {opened = opened} {admission = admission} {before = before} {after = after} {o = o} size some room are allowed ran =
       let len = workers_are in
       let held : Vec P Global = element boxes 0 (omega (arith, len, some)) in
       let its = ran held in
-      let N : ℕ → Type 0 = λ k. Ran contents (start_at plan local) plan.workers k mailboxes admission before after o in
-      let Q : List (List ℕ) → Type 0 = λ names. Ran contents (start_at plan local) plan.workers plan.choices.numbers.repeats names admission before after o in
-      let A : Admission → Type 0 = λ a. Ran contents (start_at plan local) plan.workers plan.choices.numbers.repeats plan.mailboxes.items a before after o in
+      let N : ℕ → Type 0 = λ k. Ran contents (start_at plan local) plan.workers k opened admission before after o in
+      let Q : Opening → Type 0 = λ p. Ran contents (start_at plan local) plan.workers plan.choices.numbers.repeats p admission before after o in
+      let A : Admission → Type 0 = λ a. Ran contents (start_at plan local) plan.workers plan.choices.numbers.repeats (opening_of plan) a before after o in
       subst A allowed (subst Q are (subst N room (record {
         wire = its.wire;
         wire' = its.wire';

@@ -79,8 +79,10 @@ abbrev pub rates_of : Option Rate → Option Rates
 rates_of None = None
 rates_of (Some rate) = Some (empty rate 16384)
 
--- the networks that are let in, how much each source may send, and who may subscribe and refer
+-- the networks that are let in, how much each source may send, who may subscribe and refer, and how many live subscriptions each
+-- source may have
 pub record IsAdmission (settings : List Setting) (a : Admission) : Type 0 where
   pub networks : a.networks.items ≡ networks_of settings
   pub rates : a.rates ≡ rates_of (choices_of settings).rate
   pub authentication : Asks (passwords_of settings) (choices_of settings) (watched_of settings) a.authentication
+  pub per_source : a.per_source ≡ (choices_of settings).numbers.per_source

@@ -10,7 +10,8 @@ use Rattle.arguments.specs.declared.choices.Numbers.{Numbers}
 use Rattle.arguments.specs.declared.setting.Setting.{Setting}
 use Rattle.admission.specs.declared.judging.Admission.{Admission}
 use Rattle.arguments.specs.declared.setting.Setting.TheVariants as setting
-use Rattle.arguments.specs.Choices.{choices_of, state_of, networks_of}
+use Rattle.admission.specs.declared.network.Network.{Network}
+use Rattle.arguments.specs.Choices.{choices_of, state_of, control_networks_of}
 use Rattle.commands.specs.State.{IsState}
 use Rattle.commands.specs.Heard.{IsAdmission}
 use Rattle.arguments.specs.Settings.{IsMailbox, AreSettings}
@@ -29,6 +30,7 @@ Names (setting.PasswordFile path) names = names ≡ []
 Names (setting.Watch user mailbox) names = names ≡ []
 Names (setting.Rate rate) names = names ≡ []
 Names (setting.Allow network) names = names ≡ []
+Names (setting.ControlAllow network) names = names ≡ []
 Names (setting.Seed seed) names = names ≡ []
 Names (setting.Switch switch) names = names ≡ []
 Names (setting.Mailbox name) names = names ≡ name ∷ []
@@ -100,11 +102,18 @@ pub record AreHeard (words : List (List ℕ)) (admission : Admission) : Type 0 w
   pub are_settings : AreSettings words settings
   pub is_admission : IsAdmission settings admission
 
+-- the words name these networks, whose control lines are heard
+pub record AreOperators (words : List (List ℕ)) (networks : List Network) : Type 0 where
+  pub settings : List Setting
+  pub are_settings : AreSettings words settings
+  pub are_networks : networks ≡ control_networks_of settings
+
 -- the words ask for this
 pub record IsPlan (words : List (List ℕ)) (plan : Plan) : Type 0 where
   pub read : AreRead words plan.choices plan.mailboxes.items
   pub changes : AreChanges words plan.changes.items
   pub heard : AreHeard words plan.admission
+  pub operators : AreOperators words plan.operators.items
   pub reached : IsReached plan.choices
   pub some : plan.mailboxes.items ≢ []
   pub limits : plan.limits ≡ limits_of plan.choices.numbers

@@ -13,7 +13,7 @@ use Rattle.commands.specs.UdpServing.{writer_seen}
 use Rattle.service.specs.declared.running.Outcome.{Outcome}
 use Rattle.service.specs.declared.running.Work.{Work}
 use Rattle.service.specs.Listening.{IsDeaf}
-use Rattle.service.specs.Running.{Runs, AreFaults, is_faulty}
+use Rattle.service.specs.Running.{Opening, Runs, AreFaults, is_faulty, opening}
 use Rattle.admission.specs.declared.judging.Admission.{Admission}
 use Rattle.arguments.specs.declared.choices.Choices.{Choices}
 use Rattle.transport.specs.Ears.{no_misses}
@@ -45,10 +45,14 @@ pub record AreOpen (choices : Choices) (s : Sockets) : Type 0 where
   pub sip_misses : misses s.sip ≡ no_misses
   pub line_misses : misses s.lines ≡ no_misses
 
+-- lines are taken for these mailboxes, of which these changes were told before, from these networks
+abbrev pub opening_of : Plan → Opening
+opening_of plan = record { mailboxes = plan.mailboxes.items; changes = plan.changes.items; networks = plan.operators.items }
+
 -- what the plan asks for, over the sockets that were chosen
 pub record IsWork (plan : Plan) (work : Work) : Type 0 where
   pub setup : work.setup ≡ setup_of plan work.sip.coming.local
-  pub mailboxes : work.desk.mailboxes.items ≡ plan.mailboxes.items
+  pub opened : opening work.desk ≡ opening_of plan
   pub sip : IsAt plan.choices.listen work.sip.coming.local
   pub lines : IsAt plan.choices.control work.desk.coming.local
   pub replies : work.desk.going.local ≡ work.desk.coming.local
@@ -66,10 +70,10 @@ new_sink writer = record { writer = writer; failures = 0; is_flushed = false }
 
 module _ {W : Type 0} (contents : W → Option (List ℕ)) where
   -- a crew ran as a service to its end, over some wire
-  pub record Ran (start : ℕ → Start) (workers repeats : ℕ) (mailboxes : List (List ℕ)) (admission : Admission) (before after : SinkSeen W) (outcome : Outcome) : Type 0 where
+  pub record Ran (start : ℕ → Start) (workers repeats : ℕ) (opened : Opening) (admission : Admission) (before after : SinkSeen W) (outcome : Outcome) : Type 0 where
     pub wire : WireSeen
     pub wire' : WireSeen
-    pub runs : Runs start workers repeats mailboxes admission wire wire' (writer_seen contents before) (writer_seen contents after) outcome
+    pub runs : Runs start workers repeats opened admission wire wire' (writer_seen contents before) (writer_seen contents after) outcome
 
   -- the words ask for a service, which ran to its end, and tells each fault of its sockets and of the clock
   pub record Serves (words : List (List ℕ)) (before after : SinkSeen W) (outcome : Outcome) : Type 0 where
@@ -77,7 +81,7 @@ module _ {W : Type 0} (contents : W → Option (List ℕ)) where
     pub is_plan : IsPlan words plan
     pub local : Addr
     pub is_at : IsAt plan.choices.listen local
-    pub ran : Ran (start_at plan local) plan.workers plan.choices.numbers.repeats plan.mailboxes.items plan.admission before after outcome
+    pub ran : Ran (start_at plan local) plan.workers plan.choices.numbers.repeats (opening_of plan) plan.admission before after outcome
     pub faults : AreFaults no_misses no_misses outcome
 
 -- the words ask for a service, which ran to its end, and all went well: neither of its two sockets was deaf, no read of the clock
@@ -92,7 +96,7 @@ pub record EndsWell (words : List (List ℕ)) : Type 0 where
   pub wire' : WireSeen
   pub writer : WriterSeen
   pub writer' : WriterSeen
-  pub runs : Runs (start_at plan local) plan.workers plan.choices.numbers.repeats plan.mailboxes.items plan.admission wire wire' writer writer' outcome
+  pub runs : Runs (start_at plan local) plan.workers plan.choices.numbers.repeats (opening_of plan) plan.admission wire wire' writer writer' outcome
   pub sip_hears : IsDeaf (misses outcome.sip_desk.coming) → ⊥
   pub lines_hear : IsDeaf (misses outcome.desk.coming) → ⊥
   pub clock_failures : outcome.stopwatch.failures ≡ 0

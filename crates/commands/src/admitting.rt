@@ -153,5 +153,6 @@ where
         networks,
         rates,
         authentication,
+        per_source: choices.numbers.per_source,
     })
 }

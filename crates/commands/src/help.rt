@@ -9,7 +9,7 @@ const VERSION: &str = "notifyd 1.0";
 
 pub(crate) const HELP: &str = "\
 usage: notifyd serve [options] [<mailbox>...]      (also --option=value)
-       notifyd tell [--control <a.b.c.d:port>] <line>
+       notifyd tell [--json] [--control <a.b.c.d:port>] <line>
 
   --listen <a.b.c.d:port>    where SIP datagrams come in (127.0.0.1:5060)
   --contact <a.b.c.d:port>   where phones reach the service (as --listen)
@@ -23,7 +23,10 @@ usage: notifyd serve [options] [<mailbox>...]      (also --option=value)
   --nonce-time <seconds>     how long an answer to a challenge is good (300)
   --old-digest               answers without qop are taken too
   --allow <a.b.c.d/bits>     SIP is heard from here alone (repeatable)
+  --control-allow <a.b.c.d/bits>  control lines are heard from here and from
+                             this machine alone (repeatable)
   --rate <a second>/<at once>     what is heard of each source address (all)
+  --per-source <1 to 65536>  live subscriptions of a source address (any number)
   --seed <64 hex digits>     for local tags (the system's randomness)
   --keep-subscriptions       no farewell at the end
   --no-refer                 no package refer: a REFER is answered 489
@@ -44,7 +47,8 @@ usage: notifyd serve [options] [<mailbox>...]      (also --option=value)
   --max-datagram <octets>    the longest SIP datagram that is read (8192)
   --receive-buffer <octets>  room asked for datagrams that wait (4194304)
 
-Lines for tell: MAIL, PROGRESS, STATUS, CLOSE; see notifyd(8).";
+Lines for tell: MAIL, PROGRESS, STATUS, SHOW, DUMP, WATCHERS, CLOSE; see
+notifyd(8).";
 
 /// The text that a word asks for.
 fn text_of(word: &str) -> Option<&'static str>

@@ -22,6 +22,7 @@ mod mailboxes;
 mod passwords;
 pub mod plan;
 pub mod program;
+mod prompt;
 mod sockets;
 mod state;
 pub mod udp;

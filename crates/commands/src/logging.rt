@@ -11,7 +11,7 @@ fn is_loopback(addr: Addr) -> bool {
     addr.ip[0] == 127
 }
 
-/// Says where the service is, and warns of a control address that other machines may reach.
+/// Says where the service is.
 pub(crate) fn say_hello<R: Eprint + AllocGlobal>(
     rt: &R,
     sip: Addr,
@@ -19,17 +19,26 @@ pub(crate) fn say_hello<R: Eprint + AllocGlobal>(
     workers: u32,
     mailboxes: usize,
 ) -> Result<(), NoMemory> {
-    let is_local = is_loopback(control);
     let sip = sip.text(rt.alloc())?;
     let control = control.text(rt.alloc())?;
     let _ = eprintln!(rt;
         "notifyd: listening at {sip}, control at {control}, {workers} workers, {mailboxes} mailboxes"
     );
-    if !is_local {
-        let _ = eprintln!(rt;
-            "notifyd: warning: other machines may reach the control address {control}"
-        );
+    Ok(())
+}
+
+/// Warns of a control address that other machines may reach, where their lines are heard.
+pub(crate) fn warn_of_control<R: Eprint + AllocGlobal>(
+    rt: &R,
+    control: Addr,
+) -> Result<(), NoMemory> {
+    if is_loopback(control) {
+        return Ok(());
     }
+    let control = control.text(rt.alloc())?;
+    let _ = eprintln!(rt;
+        "notifyd: warning: other machines may reach the control address {control}"
+    );
     Ok(())
 }
 

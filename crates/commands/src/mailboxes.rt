@@ -109,6 +109,7 @@ fn names_of<R: Files + AllocGlobal>(rt: &R, setting: &Setting) -> Result<Vec<Tex
         | Setting::Watch(..)
         | Setting::Rate(_)
         | Setting::Allow(..)
+        | Setting::ControlAllow(..)
         | Setting::Seed(_)
         | Setting::Switch(_) => { Ok(Vec::new(rt.alloc())) }
     }

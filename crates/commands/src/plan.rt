@@ -10,8 +10,8 @@ use crate::admitting::{admission_of, secret};
 use crate::error::ServeError;
 use crate::mailboxes::mailboxes_of;
 use crate::state::changes_of;
-use admission::Admission;
-use arguments::{Choices, Numbers, parse_settings};
+use admission::{Admission, Network};
+use arguments::{Choices, Numbers, control_networks_of, parse_settings};
 use notifier_model::{Limits, Setup};
 use package::Change;
 use sip_text::{Addr, Text};
@@ -32,6 +32,8 @@ pub struct Plan {
     pub changes: Vec<Change>,
     /// Whose datagrams of SIP are heard.
     pub admission: Admission,
+    /// The networks whose control lines are heard, beside this machine's: all are, where there is none.
+    pub operators: Vec<Network>,
 }
 
 /// The limits that the numbers ask for. Their times may not go together.
@@ -100,6 +102,7 @@ struct Read {
     mailboxes: Vec<Text>,
     changes: Vec<Change>,
     admission: Admission,
+    operators: Vec<Network>,
 }
 
 /// What the words ask for, and what stands in the files that they name.
@@ -110,17 +113,20 @@ where
     ensures read { IfOk result (λ r. spec.AreRead words.now r.choices r.mailboxes.items) }
     ensures changes { IfOk result (λ r. spec.AreChanges words.now r.changes.items) }
     ensures heard { IfOk result (λ r. spec.AreHeard words.now r.admission) }
+    ensures operators { IfOk result (λ r. spec.AreOperators words.now r.operators.items) }
     ensures refused { IfErr result (IsRefusal words.now) }
 {
     let settings = parse_settings(rt.alloc(), words)?;
     let mailboxes = mailboxes_of(rt, settings.as_slice())?;
     let changes = changes_of(rt, settings.as_slice())?;
     let admission = admission_of(rt, settings.as_slice())?;
+    let operators = control_networks_of(rt.alloc(), settings.as_slice())?;
     Ok(Read {
         choices: Choices::of(settings.as_slice()),
         mailboxes,
         changes,
         admission,
+        operators,
     })
 }
 
@@ -137,6 +143,7 @@ where
         mailboxes,
         changes,
         admission,
+        operators,
     } = read_words(rt, words)?;
     if !is_reached(&choices) {
         return Err(ServeError::NoContact);
@@ -152,6 +159,7 @@ where
         mailboxes,
         changes,
         admission,
+        operators,
     })
 }
 

@@ -4,7 +4,7 @@ ghost use Rattle.crew.specs.Ready.{start_of};
 ghost use Rattle.arguments.specs.Told as call;
 ghost use Rattle.arguments.specs.Wanted.{Gives};
 ghost use Rattle.transport.specs.Sockets.{misses};
-ghost use Rattle.service.specs.Running.{AreFaults, is_faulty};
+ghost use Rattle.service.specs.Running.{AreFaults, is_faulty, opening};
 ghost use Rattle.commands.specs.UdpEnds as ends;
 ghost use Rattle.commands.specs.UdpEnds.{Tells};
 ghost use Rattle.commands.specs.Refused.{AskForText, IsOther, IsRefusal, IsStatus, status_of};
@@ -14,8 +14,9 @@ ghost use Rattle.commands.specs.Serving.{AreOpen, EndsWell, IsWork, Ran, Serves,
 use crate::error::ServeError;
 use crate::help::{HELP, text_for};
 use crate::input::Watch;
-use crate::logging::{say_goodbye, say_hello, say_spent_worker};
+use crate::logging::{say_goodbye, say_hello, say_spent_worker, warn_of_control};
 use crate::plan::{Plan, plan_of, setup_of};
+use crate::prompt::{Patience, Prompt};
 use crate::sockets::{Sockets, open};
 use crate::udp::all_closed;
 use crate::udp_printing::worker_lines;
@@ -23,7 +24,7 @@ use arguments::{Status, Wanted, all_told};
 use package::Package;
 use scripts::write_page;
 use service::{ControlPort, Exit, Outcome, Shared, SipDesk, Work, run_crew};
-use sip_text::{NoMemory, Text};
+use sip_text::{Addr, NoMemory, Text};
 use std::alloc::Global;
 use std::io;
 use std::io::Write;
@@ -43,16 +44,17 @@ pub struct Served<F> {
     pub shared: Arc<Shared, Global>,
 }
 
-/// What the threads of a service share, which begins now: twice.
+/// What the threads of a service share, which begins now and hears SIP datagrams at this address: twice.
 fn begin<R: Clock + AllocGlobal>(
     rt: &R,
+    place: Addr,
 ) -> Result<(Arc<Shared, Global>, Arc<Shared, Global>), ServeError>
     ensures { IfErr result IsOther }
 {
     let Ok(now) = Instant::now(rt) else {
         return Err(ServeError::System);
     };
-    let shared = Arc::new(rt.alloc(), Shared::new(rt.alloc(), now)?)?;
+    let shared = Arc::new(rt.alloc(), Shared::new(rt.alloc(), now, place)?)?;
     let theirs = Arc::try_clone(&shared)?;
     Ok((shared, theirs))
 }
@@ -68,6 +70,9 @@ fn open_for<R: Wait + Net + Eprint + AllocGlobal>(
     let sockets = open(rt, &plan.choices)?;
     let (sip, control) = (sockets.sip.local(), sockets.lines.local());
     say_hello(rt, sip, control, plan.workers, plan.mailboxes.len())?;
+    if plan.operators.is_empty() {
+        warn_of_control(rt, control)?;
+    }
     Ok(sockets)
 }
 
@@ -95,7 +100,6 @@ where
     ensures opened { IfOk result (λ f. AreOpen plan.now.choices f.sockets) }
     ensures refused { IfErr result IsOther }
 {
-    let (shared, theirs) = begin(rt)?;
     let boxes = all_told(
         rt.alloc(),
         plan.mailboxes.as_slice(),
@@ -105,6 +109,7 @@ where
         make,
     )?;
     let sockets = open_for(rt, plan)?;
+    let (shared, theirs) = begin(rt, sockets.sip.local())?;
     Ok(Fitted {
         boxes,
         shared,
@@ -132,6 +137,8 @@ fn work_of(plan: Plan, sockets: Sockets, shared: Arc<Shared, Global>) -> (Work, 
         coming: lines,
         going: replies,
         mailboxes: plan.mailboxes,
+        changes: plan.changes,
+        networks: plan.operators,
     };
     let sip = SipDesk {
         coming: sip,
@@ -159,7 +166,7 @@ fn run<R, F, P>(
     exit: Exit<UdpWire, F>,
 ) -> Result<Served<F>, ServeError>
 where
-    R: Threads + Wait + Clock + Eprint + AllocGlobal + Copy + Send + 'static,
+    R: Threads + Wait + Clock + Files + Eprint + AllocGlobal + Copy + Send + 'static,
     F: Write + Drop,
     P: Package + 'static,
     requires few_workers { vec_len boxes ≤ 256 }
@@ -168,7 +175,7 @@ where
     ensures refused { IfErr result IsOther }
     ensures ran { IfOk result (λ s. (b : _)
         → Ran F.contents (λ w. start_of P.seen work.setup w (get_or boxes.items w b).items) (vec_len boxes)
-        work.repeats work.desk.mailboxes.items work.sip.admission exit.sink s.sink s.outcome) }
+        work.repeats (opening work.desk) work.sip.admission exit.sink s.sink s.outcome) }
     ensures faults { IfOk result (λ s. AreFaults (misses work.sip.coming) (misses work.desk.coming) s.outcome) }
 {
     let mut exit = exit;
@@ -282,7 +289,10 @@ where
     ensures well { OnOk result (EndsWell words.now) }
     ensures refused { IfErr result (IsRefusal words.now) }
 {
-    let mut served = serve_words(rt, words, io::writer(&rt), make)?;
+    let patience = Patience::new(rt.alloc())?;
+    let writer = Prompt::new(io::writer(&rt), &patience)?;
+    let mut served = serve_words(rt, words, writer, make)?;
+    patience.wait();
     close_off(&rt, &mut served)
 }
 

@@ -102,6 +102,7 @@ fn add_path(alloc: Global, path: &mut Option<Text>, setting: &Setting) -> Result
         | Setting::Watch(..)
         | Setting::Rate(_)
         | Setting::Allow(..)
+        | Setting::ControlAllow(..)
         | Setting::Seed(_)
         | Setting::Switch(_)
         | Setting::Mailbox(_) => {}

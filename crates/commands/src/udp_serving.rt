@@ -5,9 +5,9 @@ ghost use Rattle.crew.specs.Ports.{PortSeats};
 ghost use Rattle.commands.specs.UdpServing.{Serves};
 ghost use Rattle.commands.specs.UdpRunning.{IsNew, AreErrands, outcome_of};
 
-use crate::udp_listening::{Listener, NoThread, start_listening};
+use crate::udp_listening::{Listener, NoThread, start_control, start_feed};
 use crew::{Crew, Port, Report};
-use feeds::{EmitReport, FeedReport, Language, MOST_CONTROL_LINES, emit};
+use feeds::{EmitReport, FeedReport, emit};
 use queues::outbox::Taker;
 use std::alloc::Global;
 use std::io::Write;
@@ -146,19 +146,12 @@ where
         count,
     } = ears;
     let control_addr = control.local();
-    let Ok(control) = start_listening(
-        rt,
-        alloc,
-        control,
-        second,
-        Language::Control,
-        MOST_CONTROL_LINES,
-    ) else {
+    let Ok(control) = start_control(rt, alloc, control, second) else {
         drop(first);
         wind_up(&rt, alloc, running);
         return Err(NoThread);
     };
-    let Ok(sip) = start_listening(rt, alloc, sip, first, Language::Sip, count) else {
+    let Ok(sip) = start_feed(rt, alloc, sip, first, count) else {
         let mut running = running;
         let _ = running.outgoing.send(&rt, control_addr, b"CLOSE");
         // First the port that it closed goes: while an end of it is kept the workers wait for the one that went away unclosed.

@@ -35,6 +35,7 @@ free a x (Some verdict.Foreign) b is m = absurd cc
 free a x (Some verdict.Limited) b is m = absurd cc
 free a x (Some (verdict.Challenge c octets)) b is m = absurd cc
 free a x (Some (verdict.Forbidden octets)) b is m = absurd cc
+free a x (Some (verdict.Crowded octets)) b is m = absurd cc
 
 same_source : (peer source : Addr) (r : Request) (m : Message) → event.Request source r ≡ event_of peer m → peer ≡ source
 same_source peer source r (message.Request q) e = cc

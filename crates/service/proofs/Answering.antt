@@ -1,5 +1,5 @@
 -- One answer to a control line.
-use Rattle.std.proofs.Common.{◌≡◌, ℕ, true, List, refl, ⊎_elim}
+use Rattle.std.proofs.Common.{◌≡◌, ℕ, true, List, refl, subst, IfSome, ⊎_elim}
 use Rattle.std.specs.Prelude.{Option, Some, None, String, string_bytes}
 use Rattle.std.specs.declared.alloc.Global.{Global}
 use Rattle.control_lines.specs.declared.answer.Answer.TheVariants as answer
@@ -9,7 +9,7 @@ use Rattle.transport.specs.declared.datagram.Datagram.{Datagram}
 use Rattle.feeds.proofs.Telling.{grows_none}
 use Rattle.service.specs.declared.lines.Done.{Done}
 use Rattle.service.specs.declared.lines.Done.TheVariants as did
-use Rattle.service.specs.Taken.{DeskSeen, IsReply, Offers, IsAnswered, gets_answer, report_or_none}
+use Rattle.service.specs.Taken.{DeskSeen, IsReply, Offers, IsAnswered, gets_answer, report_or_none, page_or_busy}
 
 pub answered_by : (desk : DeskSeen) (d : Done) (to : Addr) (octets : List ℕ) (old new : Option (List Datagram)) (failures failures' : ℕ)
     → gets_answer d ≡ true → IsReply desk d octets → Offers to octets old new failures failures' → IsAnswered desk d to old new failures failures'
@@ -22,6 +22,26 @@ pub either_report : (P : List ℕ → Type 0) (text : Option (String Global)) �
 either_report P None some none = none
 either_report P (Some t) some none = some t refl
 
--- an answer itself gets none
+-- a page of rows, or that it was not told in time
+pub either_page : (P : List ℕ → Type 0) (text : Option (String Global)) → ((t : String Global) → text ≡ Some t → P (string_bytes t))
+    → P (answer_text answer.Busy) → P (page_or_busy text)
+either_page P None some none = none
+either_page P (Some t) some none = some t refl
+
+at_some : {X : Type 0} (B : X → Type 0) (o : Option X) (x : X) → o ≡ Some x → IfSome o B → B x
+at_some {X = X} B o x is h = let P : Option X → Type 0 = λ y. IfSome y B in subst P is h
+
+-- what is known of a page is known of the inquiry that was made
+pub page_of : {A : Type 0} (I : A → Type 0) (W : A → List ℕ → Type 0) (inquiry : Option A) (text : Option (String Global)) → IfSome inquiry I
+    → IfSome text (λ t. (q : A) × (inquiry ≡ Some q) × W q (string_bytes t)) → (t : String Global) → text ≡ Some t → (q : A) × I q × W q (string_bytes t)
+page_of {A = A} I W inquiry text made told t is =
+    let Told : String Global → Type 0 = λ s. ((q : A) × (inquiry ≡ Some q) × W q (string_bytes s)) in
+    let found : Told t = at_some Told text t is told in
+    (found.0, at_some I inquiry found.0 found.1 made, found.2)
+
+-- an answer itself gets none, nor does a line from elsewhere
+pub foreign_by : (desk : DeskSeen) (to : Addr) (taken : Option (List Datagram)) (failures : ℕ) → IsAnswered desk did.Foreign to taken taken failures failures
+foreign_by desk to taken failures = (None, tt, (grows_none taken, refl))
+
 pub unanswered_by : (desk : DeskSeen) (to : Addr) (taken : Option (List Datagram)) (failures : ℕ) → IsAnswered desk did.Unanswered to taken taken failures failures
 unanswered_by desk to taken failures = (None, tt, (grows_none taken, refl))

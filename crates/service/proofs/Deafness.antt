@@ -29,8 +29,10 @@ pub no_fault_after : (d : Done) (end : FeedEnd) → end_after d ≡ Some end →
 no_fault_after (did.Answered a) end e = absurd cc
 no_fault_after (did.Repeated a) end e = absurd cc
 no_fault_after did.Unanswered end e = absurd cc
+no_fault_after did.Foreign end e = absurd cc
 no_fault_after did.Counters end e = absurd cc
 no_fault_after (did.Shown n) end e = absurd cc
 no_fault_after (did.Dumped n) end e = absurd cc
+no_fault_after (did.Watched m n) end e = absurd cc
 no_fault_after did.Closing end e = ap is_fault (sym (end_is ends.Done end e))
 no_fault_after did.Gone end e = ap is_fault (sym (end_is ends.Gone end e))

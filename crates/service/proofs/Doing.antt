@@ -22,9 +22,11 @@ changed_sent m rows old new (did.Answered answer.NoMemory) has is = is
 changed_sent m rows old new (did.Answered answer.Busy) has is = is
 changed_sent m rows old new (did.Repeated a) has is = is
 changed_sent m rows old new did.Unanswered has is = is
+changed_sent m rows old new did.Foreign has is = is
 changed_sent m rows old new did.Counters has is = is
 changed_sent m rows old new (did.Shown n) has is = is
 changed_sent m rows old new (did.Dumped n) has is = is
+changed_sent m rows old new (did.Watched k n) has is = is
 changed_sent m rows old new did.Closing has is = is
 changed_sent m rows old new did.Gone has is = (has, refl, is)
 
@@ -38,9 +40,11 @@ module _ (octets : List ℕ) (rows rows' : List Row) (old new : PortSeats) where
   done_changed m (did.Answered answer.Busy) asks is = absurd is
   done_changed m (did.Repeated a) asks is = is
   done_changed m did.Unanswered asks is = absurd is
+  done_changed m did.Foreign asks is = absurd is
   done_changed m did.Counters asks is = absurd is
   done_changed m (did.Shown n) asks is = absurd is
   done_changed m (did.Dumped n) asks is = absurd is
+  done_changed m (did.Watched k n) asks is = absurd is
   done_changed m did.Closing asks is = absurd is
   done_changed m did.Gone asks is = (happened.Mail m, inl (m, asks, is.0, refl), is.1, is.2)
 
@@ -54,9 +58,11 @@ module _ (octets : List ℕ) (rows : List Row) (old new : PortSeats) where
   done_progress p (did.Answered answer.Busy) asks is = absurd is
   done_progress p (did.Repeated a) asks is = is
   done_progress p did.Unanswered asks is = absurd is
+  done_progress p did.Foreign asks is = absurd is
   done_progress p did.Counters asks is = absurd is
   done_progress p (did.Shown n) asks is = absurd is
   done_progress p (did.Dumped n) asks is = absurd is
+  done_progress p (did.Watched k n) asks is = absurd is
   done_progress p did.Closing asks is = absurd is
   done_progress p did.Gone asks is = (happened.Progress p, inr (p, asks, refl), refl, is)
 
@@ -66,12 +72,14 @@ module _ (octets : List ℕ) (rows : List Row) (old new : PortSeats) where
   done_found q (did.Answered answer.UnknownMailbox) asks is = (inr (q, asks, is), (refl, refl))
   done_found q (did.Answered answer.Closed) asks is = is
   done_found q (did.Answered answer.NoMemory) asks is = absurd is
-  done_found q (did.Answered answer.Busy) asks is = (q, asks, is, (refl, refl))
+  done_found q (did.Answered answer.Busy) asks is = absurd is
   done_found q (did.Repeated a) asks is = is
   done_found q did.Unanswered asks is = absurd is
+  done_found q did.Foreign asks is = absurd is
   done_found q did.Counters asks is = (subst (λ (x : Question). Asks octets (asked.Question x)) is asks, (refl, refl))
   done_found q (did.Shown n) asks is = (is.0, subst (λ (x : Question). Asks octets (asked.Question x)) is.1 asks, is.2, (refl, refl))
   done_found q (did.Dumped n) asks is = (q, asks, is, (refl, refl))
+  done_found q (did.Watched k n) asks is = (q, asks, is, (refl, refl))
   done_found q did.Closing asks is = absurd is
   done_found q did.Gone asks is = absurd is
 

@@ -85,6 +85,7 @@ module _ (d : Datagram) (h : Heard) (moment : ℕ) (old new : Option (List Datag
   one_refused (Some verdict.Limited) is = (false, is.0, is.1)
   one_refused (Some (verdict.Challenge cause octets)) is = ⊎_elim (λ a. (false, a.0, a.1)) (λ a. (true, a.0, a.1)) is
   one_refused (Some (verdict.Forbidden octets)) is = ⊎_elim (λ a. (false, a.0, a.1)) (λ a. (true, a.0, a.1)) is
+  one_refused (Some (verdict.Crowded octets)) is = ⊎_elim (λ a. (false, a.0, a.1)) (λ a. (true, a.0, a.1)) is
 
 -- ---- one of them
 

@@ -3,13 +3,16 @@ pub mod Answering
 pub mod Closed
 pub mod Acts
 pub mod Repeats
+pub mod Rowing
 pub mod Ran
 pub mod Faults
 pub mod Deafness
 pub mod Ticking
 pub mod Receiving
+pub mod Paging
 pub mod Judging
 pub mod Hearing
 pub mod Admitting
 pub mod Taking
+pub mod Foreign
 pub mod Refusing

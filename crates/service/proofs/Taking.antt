@@ -1,5 +1,5 @@
 -- The control lines that were taken so far.
-use Rattle.std.proofs.Common.{◌≡◌, inl, inr, ⊎_elim, Bool, true, false, ◌&&◌, ℕ, ◌+◌, suc, List, [], ◌∷◌, ◌++◌, length, Option, Some, None, refl, ap, sym, ◌∙◌, subst, arith, length-append}
+use Rattle.std.proofs.Common.{◌≡◌, inl, inr, ◌⊎◌, ⊎_elim, Bool, true, false, ◌&&◌, ℕ, ◌+◌, suc, List, [], ◌∷◌, ◌++◌, length, Option, Some, None, refl, ap, sym, ◌∙◌, subst, arith, length-append}
 use Rattle.std.specs.List.{filter, AllByRecursion}
 use Rattle.std.proofs.lemmas.List.{append-nil, map-append}
 use Rattle.std.proofs.lemmas.List.Elements.{filter-append, filter_map-append}
@@ -19,7 +19,7 @@ use Rattle.service.specs.declared.lines.Done.TheVariants as did
 use Rattle.control_lines.specs.Kept.{kept_answer}
 use Rattle.control_lines.specs.Tokens.{token, line}
 use Rattle.control_lines.specs.Told.{Row}
-use Rattle.service.specs.Taken.{DeskSeen, Line, IsLine, IsMeant, Means, IsDone, IsAgain, IsNews, IsTaken, Stays, told_by, kept_with, desk_after, desk_then, AreLines, end_after, MayReply, Replies, gets_answer, has_none, failures_then, datagrams_of, events, replies, reply_to, is_none, unanswered, AllGoOn, EndsWith, AreTaken, AreAnswered}
+use Rattle.service.specs.Taken.{DeskSeen, Line, is_near, IsForeign, IsLine, IsMeant, Means, IsDone, IsAgain, IsNews, IsPassed, IsTaken, Stays, told_by, kept_with, desk_after, desk_then, AreLines, end_after, MayReply, Replies, gets_answer, has_none, failures_then, datagrams_of, events, replies, reply_to, is_none, unanswered, AllGoOn, EndsWith, AreTaken, AreAnswered}
 
 pub all_more : (P : Line → Type 0) (log more : List Line) → AllByRecursion P log → AllByRecursion P more → AllByRecursion P (log ++ more)
 all_more P [] more a b = b
@@ -129,7 +129,7 @@ module _ {desk at : DeskSeen} {old now : PortSeats} {given given' taken taken' :
     (was : Taking desk at old now given given' taken taken' failures failures')
     (next : PortSeats) (after after' : Option (List Datagram)) (more : ℕ) (d : Datagram) (reply : Option (List ℕ)) (gave : Grows given' after (d ∷ [])) where
   book_more : (e : Option Event) (x : Done) (k : Bool) (at' : DeskSeen) → at' ≡ desk_after (record { came = d; event = e; done = x; is_kept = k; reply = reply }) at
-      → IsMeant at d.octets e x → MayReply at' x reply → Replies (gets_answer x) d.peer reply taken' after' failures' more
+      → IsForeign at d.peer e x ⊎ ((is_near at d.peer ≡ true) × IsMeant at d.octets e x) → MayReply at' x reply → Replies (gets_answer x) d.peer reply taken' after' failures' more
       → Book desk given after taken after' failures more (was.log ++ record { came = d; event = e; done = x; is_kept = k; reply = reply } ∷ [])
   book_more e x k at' knows meant may replied =
       let l : Line = record { came = d; event = e; done = x; is_kept = k; reply = reply } in
@@ -160,75 +160,92 @@ module _ {desk at : DeskSeen} {old now : PortSeats} {given given' taken taken' :
       subst Q (sym same) (subst P (sym (events_more was.log (l ∷ []) ∙ append-nil (events was.log))) was.sends)
 
   module _ (at' : DeskSeen) where
-    with_event : (x : Done) (e : Event) (k : Bool) (rows' : List Row) → end_after x ≡ None → kept_answer at.kept.items (token d.octets) ≡ None
+    with_event : is_near at d.peer ≡ true → (x : Done) (e : Event) (k : Bool) (rows' : List Row) → end_after x ≡ None → kept_answer at.kept.items (token d.octets) ≡ None
         → Means at.rows (line d.octets) (Some e) x → MayReply at' x reply → Replies (gets_answer x) d.peer reply taken' after' failures' more
-        → at' ≡ record { workers = at.workers; rows = rows'; kept = kept_with k (token d.octets) x at.kept } → rows' ≡ told_by e at.rows
+        → at' ≡ record { workers = at.workers; networks = at.networks; rows = rows'; kept = kept_with k (token d.octets) x at.kept } → rows' ≡ told_by e at.rows
         → Sends now (e ∷ []) next → Taking desk at' old next given after taken after' failures more
-    with_event x e k rows' on new meant may replied knows rows sent =
+    with_event near x e k rows' on new meant may replied knows rows sent =
         let l : Line = record { came = d; event = Some e; done = x; is_kept = k; reply = reply } in
-        let K : List Row → DeskSeen = λ rs. record { workers = at.workers; rows = rs; kept = kept_with k (token d.octets) x at.kept } in record {
+        let K : List Row → DeskSeen = λ rs. record { workers = at.workers; networks = at.networks; rows = rs; kept = kept_with k (token d.octets) x at.kept } in record {
           log = was.log ++ l ∷ [];
-          book = book_more (Some e) x k at' (knows ∙ ap K rows) (inr (new, meant)) may replied;
+          book = book_more (Some e) x k at' (knows ∙ ap K rows) (inr (near, inr (new, meant))) may replied;
           on = all_more (λ (y : Line). end_after y.done ≡ None) was.log (l ∷ []) was.on (on, tt);
           sends = sends_event e x k sent;
           knows = knows_more (Some e) x k at' (knows ∙ ap K rows);
         }
 
-    without : (x : Done) (k : Bool) (rows' : List Row) → end_after x ≡ None → kept_answer at.kept.items (token d.octets) ≡ None
+    without : is_near at d.peer ≡ true → (x : Done) (k : Bool) (rows' : List Row) → end_after x ≡ None → kept_answer at.kept.items (token d.octets) ≡ None
         → Means at.rows (line d.octets) None x → MayReply at' x reply → Replies (gets_answer x) d.peer reply taken' after' failures' more
-        → at' ≡ record { workers = at.workers; rows = rows'; kept = kept_with k (token d.octets) x at.kept } → Stays at.rows rows' now next
+        → at' ≡ record { workers = at.workers; networks = at.networks; rows = rows'; kept = kept_with k (token d.octets) x at.kept } → Stays at.rows rows' now next
         → Taking desk at' old next given after taken after' failures more
-    without x k rows' on new meant may replied knows stays =
+    without near x k rows' on new meant may replied knows stays =
         let l : Line = record { came = d; event = None; done = x; is_kept = k; reply = reply } in
-        let K : List Row → DeskSeen = λ rs. record { workers = at.workers; rows = rs; kept = kept_with k (token d.octets) x at.kept } in record {
+        let K : List Row → DeskSeen = λ rs. record { workers = at.workers; networks = at.networks; rows = rs; kept = kept_with k (token d.octets) x at.kept } in record {
           log = was.log ++ l ∷ [];
-          book = book_more None x k at' (knows ∙ ap K stays.0) (inr (new, meant)) may replied;
+          book = book_more None x k at' (knows ∙ ap K stays.0) (inr (near, inr (new, meant))) may replied;
           on = all_more (λ (y : Line). end_after y.done ≡ None) was.log (l ∷ []) was.on (on, tt);
           sends = sends_same x k stays.1;
           knows = knows_more None x k at' (knows ∙ ap K stays.0);
         }
 
-    again : (x : Done) → IsAgain d.octets at at' now next x → end_after x ≡ None → MayReply at' x reply → Replies (gets_answer x) d.peer reply taken' after' failures' more
+    passed : (x : Done) → IsPassed d.peer at at' now next x → end_after x ≡ None → MayReply at' x reply → Replies (gets_answer x) d.peer reply taken' after' failures' more
         → Taking desk at' old next given after taken after' failures more
-    again x is on may replied =
+    passed x is on may replied =
         let l : Line = record { came = d; event = None; done = x; is_kept = false; reply = reply } in record {
           log = was.log ++ l ∷ [];
-          book = book_more None x false at' is.3 (inl (is.0, refl, is.1, is.2)) may replied;
+          book = book_more None x false at' is.2 (inl (is.0, refl, is.1)) may replied;
+          on = all_more (λ (y : Line). end_after y.done ≡ None) was.log (l ∷ []) was.on (on, tt);
+          sends = sends_same x false is.3;
+          knows = knows_more None x false at' is.2;
+        }
+
+    again : is_near at d.peer ≡ true → (x : Done) → IsAgain d.octets at at' now next x → end_after x ≡ None → MayReply at' x reply → Replies (gets_answer x) d.peer reply taken' after' failures' more
+        → Taking desk at' old next given after taken after' failures more
+    again near x is on may replied =
+        let l : Line = record { came = d; event = None; done = x; is_kept = false; reply = reply } in record {
+          log = was.log ++ l ∷ [];
+          book = book_more None x false at' is.3 (inr (near, inl (is.0, refl, is.1, is.2))) may replied;
           on = all_more (λ (y : Line). end_after y.done ≡ None) was.log (l ∷ []) was.on (on, tt);
           sends = sends_same x false is.4;
           knows = knows_more None x false at' is.3;
         }
 
-    news : (x : Done) → kept_answer at.kept.items (token d.octets) ≡ None → (k : Bool) (rows' : List Row)
-        → at' ≡ record { workers = at.workers; rows = rows'; kept = kept_with k (token d.octets) x at.kept }
+    news : is_near at d.peer ≡ true → (x : Done) → kept_answer at.kept.items (token d.octets) ≡ None → (k : Bool) (rows' : List Row)
+        → at' ≡ record { workers = at.workers; networks = at.networks; rows = rows'; kept = kept_with k (token d.octets) x at.kept }
         → IsDone (line d.octets) at.rows rows' now next x → MayReply at' x reply → Replies (gets_answer x) d.peer reply taken' after' failures' more
         → end_after x ≡ None → Taking desk at' old next given after taken after' failures more
-    news (did.Answered answer.Done) new k rows' knows is may replied on = with_event (did.Answered answer.Done) is.0 k rows' refl new (is.0, refl, is.1) may replied knows is.2 is.3
-    news (did.Answered answer.BadLine) new k rows' knows is may replied on = without (did.Answered answer.BadLine) k rows' refl new (refl, is.0) may replied knows is.1
-    news (did.Answered answer.UnknownMailbox) new k rows' knows is may replied on = without (did.Answered answer.UnknownMailbox) k rows' refl new (refl, is.0) may replied knows is.1
-    news (did.Answered answer.Closed) new k rows' knows is may replied on = absurd is
-    news (did.Answered answer.NoMemory) new k rows' knows is may replied on = without (did.Answered answer.NoMemory) k rows' refl new refl may replied knows is
-    news (did.Answered answer.Busy) new k rows' knows is may replied on = without (did.Answered answer.Busy) k rows' refl new (refl, is.0, is.1, is.2) may replied knows is.3
-    news (did.Repeated a) new k rows' knows is may replied on = absurd is
-    news did.Unanswered new k rows' knows is may replied on = without did.Unanswered k rows' refl new (refl, is.0) may replied knows is.1
-    news did.Counters new k rows' knows is may replied on = without did.Counters k rows' refl new (refl, is.0) may replied knows is.1
-    news (did.Shown n) new k rows' knows is may replied on = without (did.Shown n) k rows' refl new (refl, is.0, is.1, is.2) may replied knows is.3
-    news (did.Dumped n) new k rows' knows is may replied on = without (did.Dumped n) k rows' refl new (refl, is.0, is.1, is.2) may replied knows is.3
-    news did.Closing new k rows' knows is may replied on = absurd cc
-    news did.Gone new k rows' knows is may replied on = absurd cc
+    news near (did.Answered answer.Done) new k rows' knows is may replied on = with_event near (did.Answered answer.Done) is.0 k rows' refl new (is.0, refl, is.1) may replied knows is.2 is.3
+    news near (did.Answered answer.BadLine) new k rows' knows is may replied on = without near (did.Answered answer.BadLine) k rows' refl new (refl, is.0) may replied knows is.1
+    news near (did.Answered answer.UnknownMailbox) new k rows' knows is may replied on = without near (did.Answered answer.UnknownMailbox) k rows' refl new (refl, is.0) may replied knows is.1
+    news near (did.Answered answer.Closed) new k rows' knows is may replied on = absurd is
+    news near (did.Answered answer.NoMemory) new k rows' knows is may replied on = without near (did.Answered answer.NoMemory) k rows' refl new refl may replied knows is
+    news near (did.Answered answer.Busy) new k rows' knows is may replied on = absurd is
+    news near (did.Repeated a) new k rows' knows is may replied on = absurd is
+    news near did.Unanswered new k rows' knows is may replied on = without near did.Unanswered k rows' refl new (refl, is.0) may replied knows is.1
+    news near did.Foreign new k rows' knows is may replied on = absurd is
+    news near did.Counters new k rows' knows is may replied on = without near did.Counters k rows' refl new (refl, is.0) may replied knows is.1
+    news near (did.Shown n) new k rows' knows is may replied on = without near (did.Shown n) k rows' refl new (refl, is.0, is.1, is.2) may replied knows is.3
+    news near (did.Dumped n) new k rows' knows is may replied on = without near (did.Dumped n) k rows' refl new (refl, is.0, is.1, is.2) may replied knows is.3
+    news near (did.Watched m n) new k rows' knows is may replied on = without near (did.Watched m n) k rows' refl new (refl, is.0, is.1, is.2) may replied knows is.3
+    news near did.Closing new k rows' knows is may replied on = absurd cc
+    news near did.Gone new k rows' knows is may replied on = absurd cc
 
-    pub taking_more : (x : Done) → IsTaken d.octets at at' now next x → MayReply at' x reply → Replies (gets_answer x) d.peer reply taken' after' failures' more
+    pub taking_more : (x : Done) → IsTaken d.peer d.octets at at' now next x → MayReply at' x reply → Replies (gets_answer x) d.peer reply taken' after' failures' more
         → end_after x ≡ None → Taking desk at' old next given after taken after' failures more
-    taking_more x is may replied on = ⊎_elim (λ h. again x h on may replied) (λ h. news x h.0 h.1 h.2 h.3 h.4 may replied on) is
+    taking_more x is may replied on =
+        ⊎_elim (λ p. passed x p on may replied)
+        (λ (h : (is_near at d.peer ≡ true) × (IsAgain d.octets at at' now next x ⊎ IsNews d.octets at at' now next x)).
+        ⊎_elim (λ a. again h.0 x a on may replied) (λ n. news h.0 x n.0 n.1 n.2 n.3 n.4 may replied on) h.1)
+        is
 
-  taken_close : (k : Bool) (rows' : List Row) (at' : DeskSeen) → at' ≡ record { workers = at.workers; rows = rows'; kept = kept_with k (token d.octets) did.Closing at.kept }
+  taken_close : is_near at d.peer ≡ true → (k : Bool) (rows' : List Row) (at' : DeskSeen) → at' ≡ record { workers = at.workers; networks = at.networks; rows = rows'; kept = kept_with k (token d.octets) did.Closing at.kept }
       → kept_answer at.kept.items (token d.octets) ≡ None → IsDone (line d.octets) at.rows rows' now next did.Closing
       → MayReply at' did.Closing reply → Replies true d.peer reply taken' after' failures' more
       → (log : List Line) × Grows given after (datagrams_of log) × AreTaken desk log old next ends.Done × AreAnswered log taken after' failures more
-  taken_close k rows' at' knows new is may replied =
+  taken_close near k rows' at' knows new is may replied =
       let l : Line = record { came = d; event = None; done = did.Closing; is_kept = k; reply = reply } in
-      let K : List Row → DeskSeen = λ rs. record { workers = at.workers; rows = rs; kept = kept_with k (token d.octets) did.Closing at.kept } in
-      let book = book_more None did.Closing k at' (knows ∙ ap K is.1.0) (inr (new, (refl, is.0))) may replied in
+      let K : List Row → DeskSeen = λ rs. record { workers = at.workers; networks = at.networks; rows = rs; kept = kept_with k (token d.octets) did.Closing at.kept } in
+      let book = book_more None did.Closing k at' (knows ∙ ap K is.1.0) (inr (near, inr (new, (refl, is.0)))) may replied in
       let last : EndsWith did.Closing (was.log ++ l ∷ []) = record { before = was.log; last = l; whole = refl; on = was.on; is = refl } in (
         was.log ++ l ∷ [],
         book.came_are,
@@ -236,14 +253,14 @@ module _ {desk at : DeskSeen} {old now : PortSeats} {given given' taken taken' :
         book.answered,
       )
 
-  taken_gone : (k : Bool) (rows' : List Row) (at' : DeskSeen) → at' ≡ record { workers = at.workers; rows = rows'; kept = kept_with k (token d.octets) did.Gone at.kept }
+  taken_gone : is_near at d.peer ≡ true → (k : Bool) (rows' : List Row) (at' : DeskSeen) → at' ≡ record { workers = at.workers; networks = at.networks; rows = rows'; kept = kept_with k (token d.octets) did.Gone at.kept }
       → kept_answer at.kept.items (token d.octets) ≡ None → IsDone (line d.octets) at.rows rows' now next did.Gone
       → MayReply at' did.Gone reply → Replies true d.peer reply taken' after' failures' more
       → (log : List Line) × Grows given after (datagrams_of log) × AreTaken desk log old next ends.Gone × AreAnswered log taken after' failures more
-  taken_gone k rows' at' knows new is may replied =
+  taken_gone near k rows' at' knows new is may replied =
       let l : Line = record { came = d; event = Some is.0; done = did.Gone; is_kept = k; reply = reply } in
-      let K : List Row → DeskSeen = λ rs. record { workers = at.workers; rows = rs; kept = kept_with k (token d.octets) did.Gone at.kept } in
-      let book = book_more (Some is.0) did.Gone k at' (knows ∙ ap K is.2) (inr (new, (is.0, refl, is.1))) may replied in (
+      let K : List Row → DeskSeen = λ rs. record { workers = at.workers; networks = at.networks; rows = rs; kept = kept_with k (token d.octets) did.Gone at.kept } in
+      let book = book_more (Some is.0) did.Gone k at' (knows ∙ ap K is.2) (inr (near, inr (new, (is.0, refl, is.1)))) may replied in (
         was.log ++ l ∷ [],
         book.came_are,
         record {
@@ -254,29 +271,34 @@ module _ {desk at : DeskSeen} {old now : PortSeats} {given given' taken taken' :
         book.answered,
       )
 
-  last_news : (x : Done) (end : FeedEnd) (k : Bool) (rows' : List Row) (at' : DeskSeen)
-      → at' ≡ record { workers = at.workers; rows = rows'; kept = kept_with k (token d.octets) x at.kept } → end_after x ≡ Some end → kept_answer at.kept.items (token d.octets) ≡ None
+  last_news : is_near at d.peer ≡ true → (x : Done) (end : FeedEnd) (k : Bool) (rows' : List Row) (at' : DeskSeen)
+      → at' ≡ record { workers = at.workers; networks = at.networks; rows = rows'; kept = kept_with k (token d.octets) x at.kept } → end_after x ≡ Some end → kept_answer at.kept.items (token d.octets) ≡ None
       → IsDone (line d.octets) at.rows rows' now next x → MayReply at' x reply → Replies (gets_answer x) d.peer reply taken' after' failures' more
       → (log : List Line) × Grows given after (datagrams_of log) × AreTaken desk log old next end × AreAnswered log taken after' failures more
-  last_news (did.Answered a) end k rows' at' knows e new is may replied = absurd cc
-  last_news (did.Repeated a) end k rows' at' knows e new is may replied = absurd cc
-  last_news did.Unanswered end k rows' at' knows e new is may replied = absurd cc
-  last_news did.Counters end k rows' at' knows e new is may replied = absurd cc
-  last_news (did.Shown n) end k rows' at' knows e new is may replied = absurd cc
-  last_news (did.Dumped n) end k rows' at' knows e new is may replied = absurd cc
-  last_news did.Closing end k rows' at' knows e new is may replied =
+  last_news near (did.Answered a) end k rows' at' knows e new is may replied = absurd cc
+  last_news near (did.Repeated a) end k rows' at' knows e new is may replied = absurd cc
+  last_news near did.Unanswered end k rows' at' knows e new is may replied = absurd cc
+  last_news near did.Foreign end k rows' at' knows e new is may replied = absurd cc
+  last_news near did.Counters end k rows' at' knows e new is may replied = absurd cc
+  last_news near (did.Shown n) end k rows' at' knows e new is may replied = absurd cc
+  last_news near (did.Dumped n) end k rows' at' knows e new is may replied = absurd cc
+  last_news near (did.Watched m n) end k rows' at' knows e new is may replied = absurd cc
+  last_news near did.Closing end k rows' at' knows e new is may replied =
       let P : FeedEnd → Type 0 = λ z. (log : List Line) × Grows given after (datagrams_of log) × AreTaken desk log old next z × AreAnswered log taken after' failures more in
-      subst P (end_is ends.Done end e) (taken_close k rows' at' knows new is may replied)
-  last_news did.Gone end k rows' at' knows e new is may replied =
+      subst P (end_is ends.Done end e) (taken_close near k rows' at' knows new is may replied)
+  last_news near did.Gone end k rows' at' knows e new is may replied =
       let P : FeedEnd → Type 0 = λ z. (log : List Line) × Grows given after (datagrams_of log) × AreTaken desk log old next z × AreAnswered log taken after' failures more in
-      subst P (end_is ends.Gone end e) (taken_gone k rows' at' knows new is may replied)
+      subst P (end_is ends.Gone end e) (taken_gone near k rows' at' knows new is may replied)
 
   -- a line after which no more are taken
-  pub taken_last : (x : Done) (end : FeedEnd) (at' : DeskSeen) → end_after x ≡ Some end → IsTaken d.octets at at' now next x → MayReply at' x reply
+  pub taken_last : (x : Done) (end : FeedEnd) (at' : DeskSeen) → end_after x ≡ Some end → IsTaken d.peer d.octets at at' now next x → MayReply at' x reply
       → Replies (gets_answer x) d.peer reply taken' after' failures' more
       → (log : List Line) × Grows given after (datagrams_of log) × AreTaken desk log old next end × AreAnswered log taken after' failures more
   taken_last x end at' e is may replied =
-      ⊎_elim (λ h. absurd (let z = ap end_after h.1 in cc)) (λ h. last_news x end h.1 h.2 at' h.3 e h.0 h.4 may replied) is
+      ⊎_elim (λ p. absurd (let z = ap end_after p.1 in cc))
+      (λ (h : (is_near at d.peer ≡ true) × (IsAgain d.octets at at' now next x ⊎ IsNews d.octets at at' now next x)).
+      ⊎_elim (λ a. absurd (let z = ap end_after a.1 in cc)) (λ n. last_news h.0 x end n.1 n.2 at' n.3 e n.0 n.4 may replied) h.1)
+      is
 
 module _ {desk at : DeskSeen} {old now : PortSeats} {given given' taken taken' : Option (List Datagram)} {failures failures' : ℕ}
     (was : Taking desk at old now given given' taken taken' failures failures') where

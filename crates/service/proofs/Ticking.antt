@@ -1,60 +1,63 @@
--- The ticks that a port has sent so far.
+-- What a port has sent of the time and of transfers that fail so far.
 use Rattle.std.proofs.Common.{◌≡◌, ℕ, ◌<◌, List, [], ◌∷◌, ◌++◌, refl, sym, subst}
-use Rattle.std.proofs.lemmas.List.{map-append}
 use Rattle.notifier_model.specs.declared.event.Event.{Event}
 use Rattle.notifier_model.specs.declared.event.Event.TheVariants as event
+use Rattle.package.specs.Values.{Progress}
 use Rattle.crew.specs.Ports.{PortSeats}
 use Rattle.feeds.specs.declared.feeding.FeedEnd.TheVariants.{Gone}
 use Rattle.feeds.specs.Fed.{Sends, Misses}
 use Rattle.feeds.proofs.SendingHome.{sends_none, sends_more}
-use Rattle.service.specs.Ticks.{rises_from, ticks, AreTold}
+use Rattle.service.specs.Ticks.{MayTell, second_after, AreNotices, AreTold}
 
-abbrev pub last_of : ℕ → List ℕ → ℕ
-last_of now [] = now
-last_of now (time ∷ times) = last_of time times
+abbrev pub second_then : ℕ → List Event → ℕ
+second_then now [] = now
+second_then now (e ∷ events) = second_then (second_after now e) events
 
-rises_more : (now : ℕ) (times : List ℕ) (time : ℕ) → rises_from now times → last_of now times < time → rises_from now (times ++ time ∷ [])
-rises_more now [] time rises low = (low, tt)
-rises_more now (t ∷ times) time rises low = (rises.0, rises_more t times time rises.1 low)
+notices_more : (now : ℕ) (events : List Event) (e : Event) → AreNotices now events → MayTell (second_then now events) e → AreNotices now (events ++ e ∷ [])
+notices_more now [] e are may = (may, tt)
+notices_more now (x ∷ events) e are may = (are.0, notices_more (second_after now x) events e are.1 may)
 
-last_more : (now : ℕ) (times : List ℕ) (time : ℕ) → last_of now (times ++ time ∷ []) ≡ time
-last_more now [] time = refl
-last_more now (t ∷ times) time = last_more t times time
+second_more : (now : ℕ) (events : List Event) (e : Event) → second_then now (events ++ e ∷ []) ≡ second_after (second_then now events) e
+second_more now [] e = refl
+second_more now (x ∷ events) e = second_more (second_after now x) events e
 
-ticks_more : (times : List ℕ) (time : ℕ) → ticks (times ++ time ∷ []) ≡ ticks times ++ event.Tick time ∷ []
-ticks_more times time = map-append (λ t. event.Tick t) times (time ∷ [])
-
--- the port has sent ticks up to this second
+-- the port has sent notices up to this second
 pub record Ticking (old now : PortSeats) (second : ℕ) : Type 0 where
-  pub times : List ℕ
-  pub rises : rises_from 0 times
-  pub last : last_of 0 times ≡ second
-  pub sends : Sends old (ticks times) now
+  pub events : List Event
+  pub are : AreNotices 0 events
+  pub last : second_then 0 events ≡ second
+  pub sends : Sends old events now
 
 pub ticking_none : (p : PortSeats) → Ticking p p 0
-ticking_none p = record { times = []; rises = tt; last = refl; sends = sends_none p }
+ticking_none p = record { events = []; are = tt; last = refl; sends = sends_none p }
 
 module _ {old now : PortSeats} {second : ℕ} (was : Ticking old now second) where
-  later : (time : ℕ) → second < time → rises_from 0 (was.times ++ time ∷ [])
-  later time low =
-      let P : ℕ → Type 0 = λ n. n < time in rises_more 0 was.times time was.rises (subst P (sym was.last) low)
+  later : (e : Event) → MayTell second e → AreNotices 0 (was.events ++ e ∷ [])
+  later e may = let P : ℕ → Type 0 = λ n. MayTell n e in notices_more 0 was.events e was.are (subst P (sym was.last) may)
 
-  pub ticking_more : (next : PortSeats) (time : ℕ) → second < time → Sends now (event.Tick time ∷ []) next → Ticking old next time
-  ticking_more next time low sent =
-      let P : List Event → Type 0 = λ es. Sends old es next in record {
-        times = was.times ++ time ∷ [];
-        rises = later time low;
-        last = last_more 0 was.times time;
-        sends = subst P (sym (ticks_more was.times time)) (sends_more old now next (ticks was.times) (event.Tick time ∷ []) was.sends sent);
+  more : (next : PortSeats) (e : Event) (then : ℕ) → MayTell second e → second_after second e ≡ then → Sends now (e ∷ []) next → Ticking old next then
+  more next e then may is sent =
+      let Q : ℕ → Type 0 = λ n. second_then 0 (was.events ++ e ∷ []) ≡ second_after n e in
+      let R : ℕ → Type 0 = λ n. second_then 0 (was.events ++ e ∷ []) ≡ n in record {
+        events = was.events ++ e ∷ [];
+        are = later e may;
+        last = subst R is (subst Q was.last (second_more 0 was.events e));
+        sends = sends_more old now next was.events (e ∷ []) was.sends sent;
       }
 
-  pub told_all : (times : List ℕ) × rises_from 0 times × Sends old (ticks times) now
-  told_all = (was.times, was.rises, was.sends)
+  pub ticking_more : (next : PortSeats) (time : ℕ) → second < time → Sends now (event.Tick time ∷ []) next → Ticking old next time
+  ticking_more next time low sent = more next (event.Tick time) time low refl sent
 
-  pub told_gone : (next : PortSeats) (time : ℕ) → second < time → Misses now (event.Tick time) next
-      → (times : List ℕ) × rises_from 0 times × AreTold times old next Gone
-  told_gone next time low missing = (
-    was.times ++ time ∷ [],
-    later time low,
-    record { before = was.times; last = time; mid = now; whole = refl; sent = was.sends; missed = missing },
+  -- a transfer fails
+  pub ticking_failed : (next : PortSeats) (p : Progress) → p.code ≡ 500 → Sends now (event.Progress p ∷ []) next → Ticking old next second
+  ticking_failed next p is sent = more next (event.Progress p) second is refl sent
+
+  pub told_all : (events : List Event) × AreNotices 0 events × Sends old events now
+  told_all = (was.events, was.are, was.sends)
+
+  pub told_gone : (next : PortSeats) (e : Event) → MayTell second e → Misses now e next → (events : List Event) × AreNotices 0 events × AreTold events old next Gone
+  told_gone next e may missing = (
+    was.events ++ e ∷ [],
+    later e may,
+    record { before = was.events; last = e; mid = now; whole = refl; sent = was.sends; missed = missing },
   )

@@ -92,6 +92,7 @@ allows verdict.Foreign = false
 allows verdict.Limited = false
 allows (verdict.Challenge cause octets) = false
 allows (verdict.Forbidden octets) = false
+allows (verdict.Crowded octets) = false
 
 abbrev pub is_allowed : Option Verdict → Bool
 is_allowed None = false
@@ -123,8 +124,9 @@ refusal verdict.Foreign = None
 refusal verdict.Limited = None
 refusal (verdict.Challenge cause octets) = Some octets
 refusal (verdict.Forbidden octets) = Some octets
+refusal (verdict.Crowded octets) = Some octets
 
--- the 401 or the 403 that the verdict is
+-- the 401, the 403 or the 503 that the verdict is
 abbrev pub refusal_in : Option Verdict → Option (List ℕ)
 refusal_in None = None
 refusal_in (Some v) = refusal v

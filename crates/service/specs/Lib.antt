@@ -1,11 +1,12 @@
 pub mod Ticks
 pub mod Listening
+pub mod Noted
+pub mod Sending
+pub mod Watched
 pub mod Told
 pub mod Served
 pub mod Admitted
 pub mod Taken
-pub mod Noted
-pub mod Sending
 pub mod Handing
 pub mod Running
 pub mod Refused

@@ -4,10 +4,15 @@
 --   a control line -> port 1 -+-> workers ->-+
 --   a tick         -> port 2 -+              +-> START <tag> <refer_to>, by the writer
 --
+-- Where the writer fails at a START line its transfer fails too, by port 2.
+--
 -- Answers to NOTIFYs go as notes to the thread that sends, too, which sends a NOTIFY again until its answer was noted.
 use Rattle.std.specs.Prelude.{◌≡◌, ◌||◌, max, ℕ, Bool, true, false, List, [], ◌∷◌}
 use Rattle.admission.specs.declared.judging.Admission.{Admission}
+use Rattle.admission.specs.declared.network.Network.{Network}
+use Rattle.package.specs.declared.change.Change.{Change}
 use Rattle.queues.specs.declared.items.Item.{Item}
+use Rattle.notifier_model.specs.declared.event.Event.{Event}
 use Rattle.notifier_model.specs.declared.event.Out.{Out}
 use Rattle.notifier_model.specs.Start.{Start}
 use Rattle.queues.specs.OutboxSeats.{TakerSeat}
@@ -28,16 +33,16 @@ use Rattle.service.specs.declared.feeding.Fed.{Fed}
 use Rattle.service.specs.declared.feeding.Task.{Task}
 use Rattle.service.specs.declared.feeding.Task.TheVariants as task
 use Rattle.circular_buffer.specs.Buffer.{buffer}
-use Rattle.control_lines.specs.Told.{AreUntold}
 use Rattle.service.specs.declared.datagrams.SipDesk.{SipDesk}
 use Rattle.service.specs.declared.lines.ControlDesk.{ControlDesk}
+use Rattle.service.specs.declared.lines.ControlPort.{ControlPort}
 use Rattle.service.specs.declared.lines.TheConstants.{KEPT}
 use Rattle.service.specs.declared.running.Outcome.{Outcome}
 use Rattle.service.specs.Sending.{Act, IsSentOut}
 use Rattle.service.specs.Admitted.{Case, AreHeard}
 use Rattle.service.specs.Listening.{IsDeafAsTold, is_fault}
-use Rattle.service.specs.Taken.{DeskSeen, Line, AreTaken, seen}
-use Rattle.service.specs.Ticks.{rises_from, AreTold}
+use Rattle.service.specs.Taken.{DeskSeen, Line, AreFirst, AreTaken, seen}
+use Rattle.service.specs.Ticks.{AreNotices, AreTold}
 
 -- ---- what a thread sends through its port until it ends
 
@@ -45,20 +50,32 @@ use Rattle.service.specs.Ticks.{rises_from, AreTold}
 abbrev pub SendsDatagrams : Admission → FeedEnd → PortSeats → PortSeats → Type 0
 SendsDatagrams a end old new = (cases : List Case) × (b : Admission) × AreHeard a cases b old new end
 
--- a desk that takes lines for the mailboxes with these names, and so many workers, and was told nothing yet
-pub record IsFresh (mailboxes : List (List ℕ)) (workers : ℕ) (desk : DeskSeen) : Type 0 where
-  pub untold : AreUntold mailboxes desk.rows
+-- what a service begins to take lines with: the names of its mailboxes, what was told of them before, and the networks whose lines are
+-- heard
+pub record Opening : Type 0 where
+  pub mailboxes : List (List ℕ)
+  pub changes : List Change
+  pub networks : List Network
+
+abbrev pub opening : {W : Type 0} → ControlPort W → Opening
+opening p = record { mailboxes = p.mailboxes.items; changes = p.changes.items; networks = p.networks.items }
+
+-- a desk that takes lines so, with so many workers, and took none yet
+pub record IsFresh (o : Opening) (workers : ℕ) (desk : DeskSeen) : Type 0 where
+  pub first : AreFirst o.mailboxes o.changes desk.rows
   pub unkept : desk.kept ≡ buffer [] KEPT
   pub workers_are : desk.workers ≡ max 1 workers
+  pub networks_are : desk.networks ≡ o.networks
 
 abbrev pub SendsLinesOf : DeskSeen → FeedEnd → PortSeats → PortSeats → Type 0
 SendsLinesOf desk end old new = (log : List Line) × AreTaken desk log old new end
 
-abbrev pub SendsLines : List (List ℕ) → ℕ → FeedEnd → PortSeats → PortSeats → Type 0
-SendsLines mailboxes workers end old new = (desk : DeskSeen) × IsFresh mailboxes workers desk × SendsLinesOf desk end old new
+abbrev pub SendsLines : Opening → ℕ → FeedEnd → PortSeats → PortSeats → Type 0
+SendsLines o workers end old new = (desk : DeskSeen) × IsFresh o workers desk × SendsLinesOf desk end old new
 
+-- ticks, and that transfers fail whose START lines were not written
 abbrev pub SendsTicks : FeedEnd → PortSeats → PortSeats → Type 0
-SendsTicks end old new = (times : List ℕ) × rises_from 0 times × AreTold times old new end
+SendsTicks end old new = (events : List Event) × AreNotices 0 events × AreTold events old new end
 
 abbrev pub SendsFor : Task → FeedEnd → PortSeats → PortSeats → Type 0
 SendsFor (task.Datagrams desk) end old new = SendsDatagrams desk.admission end old new
@@ -109,7 +126,7 @@ pub record AreFaults (phones operators : Misses) (o : Outcome) : Type 0 where
 -- workers with these starts handled, as their reports tell, what the three ports sent until all were closed, the first of them what those
 -- SIP datagrams say that this admission allows; and each of their
 -- outs was sent, written or failed, in order, and NOTIFYs again as their transactions ask for it, of which so many may be open
-pub record Runs (start : ℕ → Start) (workers repeats : ℕ) (mailboxes : List (List ℕ)) (admission : Admission) (wire wire' : WireSeen) (writer writer' : WriterSeen) (outcome : Outcome) : Type 0 where
+pub record Runs (start : ℕ → Start) (workers repeats : ℕ) (opened : Opening) (admission : Admission) (wire wire' : WireSeen) (writer writer' : WriterSeen) (outcome : Outcome) : Type 0 where
   -- as it was started
   pub crew : List Hired
   pub sip : PortSeats
@@ -122,7 +139,7 @@ pub record Runs (start : ℕ → Start) (workers repeats : ℕ) (mailboxes : Lis
   pub lines_closed : PortSeats
   pub time_closed : PortSeats
   pub sends_datagrams : ThenCloses (SendsDatagrams admission outcome.sip) sip sip_closed
-  pub sends_lines : ThenCloses (SendsLines mailboxes workers outcome.lines) lines lines_closed
+  pub sends_lines : ThenCloses (SendsLines opened workers outcome.lines) lines lines_closed
   pub sends_ticks : ThenCloses (SendsTicks outcome.time) time time_closed
   -- what the workers did with it, and which of their outs were got
   pub got : List (Item Out)

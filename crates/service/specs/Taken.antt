@@ -1,11 +1,16 @@
 -- What a service does with control lines, and what it answers.
-use Rattle.std.specs.Prelude.{◌≡◌, ◌≤◌, ◌+◌, ◌&&◌, not, ℕ, Bool, true, false, List, [], ◌∷◌, ◌++◌, length, map, ◌⊎◌, Option, Some, None, String, string_bytes, if◌then◌else◌}
+use Rattle.std.specs.Prelude.{◌≡◌, ◌≤◌, ◌+◌, ◌&&◌, ◌||◌, not, ℕ, Bool, true, false, List, [], ◌∷◌, ◌++◌, length, map, ◌⊎◌, Option, Some, None, String, string_bytes, if◌then◌else◌}
 use Rattle.std.specs.Int.NonZero.{non_zero_u32_get}
-use Rattle.std.specs.List.{filter, filter_map, AllByRecursion}
+use Rattle.std.specs.List.{filter, filter_map, fold, AllByRecursion}
 use Rattle.std.specs.Option.{option_map_or}
 use Rattle.std.specs.declared.alloc.Global.{Global}
 use Rattle.circular_buffer.specs.Buffer.{Buffer}
 use Rattle.sip_text.specs.declared.address.Addr.{Addr}
+use Rattle.admission.specs.declared.network.Network.{Network}
+use Rattle.admission.specs.Networks.{contains}
+use Rattle.admission.specs.Verdicts.{has_none as names_none, is_one_of}
+use Rattle.package.specs.declared.change.Change.{Change}
+use Rattle.package.specs.declared.change.Change.TheVariants as change
 use Rattle.package.specs.Values.{MailChange, Progress}
 use Rattle.notifier_model.specs.declared.event.Event.{Event}
 use Rattle.notifier_model.specs.declared.event.Event.TheVariants as happened
@@ -26,21 +31,52 @@ use Rattle.control_lines.specs.declared.token.Token.{Token}
 use Rattle.control_lines.specs.Kept.{kept_answer, with_answer}
 use Rattle.control_lines.specs.Lines.{Asks, is_answer, answer_text}
 use Rattle.control_lines.specs.Tokens.{token, line}
-use Rattle.control_lines.specs.Told.{Row, place, told}
-use Rattle.service.specs.Told.{IsReport, IsShown, dumped}
+use Rattle.control_lines.specs.Told.{Row, place, told, AreUntold}
+use Rattle.watchers.specs.declared.inquiry.Inquiry.{Inquiry}
+use Rattle.service.specs.Told.{IsReport, IsShown, IsInquiry, IsWatched, dumped}
 use Rattle.service.specs.declared.lines.Done.{Done}
 use Rattle.service.specs.declared.lines.Done.TheVariants as did
 use Rattle.service.specs.declared.lines.ControlDesk.{ControlDesk}
 
--- what a desk knows: how many workers the service has, what its mailboxes were last told, and the answers to the last lines with a
--- token
+-- what a desk knows: how many workers the service has, the networks whose lines are heard, what its mailboxes were last told, and the
+-- answers to the last lines with a token
 pub record DeskSeen : Type 0 where
   pub workers : ℕ
+  pub networks : List Network
   pub rows : List Row
   pub kept : Buffer Kept
 
 abbrev pub seen : {W : Type 0} → ControlDesk W → DeskSeen
-seen d = record { workers = non_zero_u32_get d.workers; rows = d.told; kept = d.kept }
+seen d = record { workers = non_zero_u32_get d.workers; networks = d.networks.items; rows = d.told; kept = d.kept }
+
+-- ---- whose lines are heard
+
+-- this machine: 127.0.0.0/8 (RFC 1122 section 3.2.1.3)
+abbrev pub loopback : Network
+loopback = record { ip = 127 ∷ 0 ∷ 0 ∷ 0 ∷ []; length = 8 }
+
+-- lines of this machine are heard always, and those from elsewhere where they come from one of the networks, or none is named
+abbrev pub is_heard : List Network → List ℕ → Bool
+is_heard networks ip = names_none networks || (contains loopback ip || is_one_of networks ip)
+
+abbrev pub is_near : DeskSeen → Addr → Bool
+is_near desk source = is_heard desk.networks source.ip
+
+-- ---- what the mailboxes were told before any line came
+
+-- what is told of them by this change, if it tells of one
+abbrev pub told_of : Change → List Row → List Row
+told_of (change.Mail m) rows = told m rows
+told_of other rows = rows
+
+-- these changes, in order
+abbrev pub told_each : List Row → List Change → List Row
+told_each rows changes = fold (λ (told_so_far : List Row) c. told_of c told_so_far) rows changes
+
+-- the mailboxes with these names were told of these changes, in order, and of nothing else
+abbrev pub AreFirst : List (List ℕ) → List Change → List Row → Type 0
+AreFirst names changes rows =
+    (untold : List Row) × AreUntold names untold × (rows ≡ told_each untold changes)
 
 -- ---- what a line means, behind its token, to a service that was told so of its mailboxes
 
@@ -59,7 +95,8 @@ NamesNone rows question.Status = ⊥
 NamesNone rows (question.Show name) = place name rows ≡ None
 NamesNone rows (question.Dump None) = ⊥
 NamesNone rows (question.Dump (Some name)) = place name rows ≡ None
-NamesNone rows (question.Watchers mailbox from) = ⊥
+NamesNone rows (question.Watchers None from) = ⊥
+NamesNone rows (question.Watchers (Some name) from) = place name rows ≡ None
 
 -- it tells or asks of a mailbox that the service doesn't have
 abbrev pub IsUnknown : List Row → List ℕ → Type 0
@@ -75,16 +112,18 @@ BeginsAt rows n (question.Dump None) = n ≡ 0
 BeginsAt rows n (question.Dump (Some name)) = (before : ℕ) × (place name rows ≡ Some before) × (n ≡ before + 1)
 BeginsAt rows n (question.Watchers mailbox from) = ⊥
 
-abbrev pub AsksForWatchers : Question → Type 0
-AsksForWatchers q = (mailbox : Option (List ℕ)) × (from : ℕ) × (q ≡ question.Watchers mailbox from)
+-- the question asks for those that watch the mailbox at this place, or any, from this place in the list of rows on
+abbrev pub AsksForWatchers : List Row → Option ℕ → ℕ → Question → Type 0
+AsksForWatchers rows None from q = q ≡ question.Watchers None from
+AsksForWatchers rows (Some n) from q = (name : List ℕ) × (q ≡ question.Watchers (Some name) from) × (place name rows ≡ Some n)
 
 -- the question asks for this
 abbrev pub IsFound : List Row → Question → Done → Type 0
 IsFound rows q (did.Answered answer.UnknownMailbox) = NamesNone rows q
-IsFound rows q (did.Answered answer.Busy) = AsksForWatchers q
 IsFound rows q did.Counters = q ≡ question.Status
 IsFound rows q (did.Shown n) = (name : List ℕ) × (q ≡ question.Show name) × (place name rows ≡ Some n)
 IsFound rows q (did.Dumped n) = BeginsAt rows n q
+IsFound rows q (did.Watched m n) = AsksForWatchers rows m n q
 IsFound rows q other = ⊥
 
 -- ---- what is done with it
@@ -120,15 +159,17 @@ IsDone octets rows rows' old new (did.Answered answer.BadLine) = Asks octets ask
 IsDone octets rows rows' old new (did.Answered answer.UnknownMailbox) = IsUnknown rows octets × Stays rows rows' old new
 IsDone octets rows rows' old new (did.Answered answer.Closed) = ⊥
 IsDone octets rows rows' old new (did.Answered answer.NoMemory) = Stays rows rows' old new
-IsDone octets rows rows' old new (did.Answered answer.Busy) =
-    (q : Question) × Asks octets (asked.Question q) × AsksForWatchers q × Stays rows rows' old new
+IsDone octets rows rows' old new (did.Answered answer.Busy) = ⊥
 IsDone octets rows rows' old new (did.Repeated a) = ⊥
 IsDone octets rows rows' old new did.Unanswered = Asks octets asked.Nothing × Stays rows rows' old new
+IsDone octets rows rows' old new did.Foreign = ⊥
 IsDone octets rows rows' old new did.Counters = Asks octets (asked.Question question.Status) × Stays rows rows' old new
 IsDone octets rows rows' old new (did.Shown n) =
     (name : List ℕ) × Asks octets (asked.Question (question.Show name)) × (place name rows ≡ Some n) × Stays rows rows' old new
 IsDone octets rows rows' old new (did.Dumped n) =
     (q : Question) × Asks octets (asked.Question q) × BeginsAt rows n q × Stays rows rows' old new
+IsDone octets rows rows' old new (did.Watched m n) =
+    (q : Question) × Asks octets (asked.Question q) × AsksForWatchers rows m n q × Stays rows rows' old new
 IsDone octets rows rows' old new did.Closing = Asks octets asked.Close × Stays rows rows' old new
 IsDone octets rows rows' old new did.Gone = (e : Event) × Tells rows octets e × (rows' ≡ told_by e rows) × Misses old e new
 
@@ -148,11 +189,17 @@ abbrev pub IsNews : List ℕ → DeskSeen → DeskSeen → PortSeats → PortSea
 IsNews octets desk desk' old new d =
     (kept_answer desk.kept.items (token octets) ≡ None)
     × (is_kept : Bool) × (rows' : List Row)
-    × (desk' ≡ record { workers = desk.workers; rows = rows'; kept = kept_with is_kept (token octets) d desk.kept })
+    × (desk' ≡ record { workers = desk.workers; networks = desk.networks; rows = rows'; kept = kept_with is_kept (token octets) d desk.kept })
     × IsDone (line octets) desk.rows rows' old new d
 
-abbrev pub IsTaken : List ℕ → DeskSeen → DeskSeen → PortSeats → PortSeats → Done → Type 0
-IsTaken octets desk desk' old new d = IsAgain octets desk desk' old new d ⊎ IsNews octets desk desk' old new d
+-- it came from elsewhere than lines are heard from, and nothing was done with it
+abbrev pub IsPassed : Addr → DeskSeen → DeskSeen → PortSeats → PortSeats → Done → Type 0
+IsPassed source desk desk' old new d = (is_near desk source ≡ false) × (d ≡ did.Foreign) × (desk' ≡ desk) × (new ≡ old)
+
+abbrev pub IsTaken : Addr → List ℕ → DeskSeen → DeskSeen → PortSeats → PortSeats → Done → Type 0
+IsTaken source octets desk desk' old new d =
+    IsPassed source desk desk' old new d
+    ⊎ ((is_near desk source ≡ true) × (IsAgain octets desk desk' old new d ⊎ IsNews octets desk desk' old new d))
 
 -- how the taking of lines ends after this, if it does
 abbrev pub end_after : Done → Option FeedEnd
@@ -166,13 +213,20 @@ end_after other = None
 abbrev pub report_or_none : Option (String Global) → List ℕ
 report_or_none text = option_map_or string_bytes text (answer_text answer.NoMemory)
 
+-- a page of rows, or that it was not told in time
+abbrev pub page_or_busy : Option (String Global) → List ℕ
+page_or_busy text = option_map_or string_bytes text (answer_text answer.Busy)
+
 abbrev pub IsReply : DeskSeen → Done → List ℕ → Type 0
 IsReply desk (did.Answered a) octets = octets ≡ answer_text a
 IsReply desk (did.Repeated a) octets = octets ≡ answer_text a
 IsReply desk did.Unanswered octets = ⊥
+IsReply desk did.Foreign octets = ⊥
 IsReply desk did.Counters octets = IsReport octets ⊎ (octets ≡ answer_text answer.NoMemory)
 IsReply desk (did.Shown n) octets = IsShown desk.rows desk.workers n octets ⊎ (octets ≡ answer_text answer.NoMemory)
 IsReply desk (did.Dumped n) octets = (octets ≡ dumped desk.rows n) ⊎ (octets ≡ answer_text answer.NoMemory)
+IsReply desk (did.Watched m n) octets =
+    ((q : Inquiry) × IsInquiry desk.rows m n q × IsWatched q octets) ⊎ (octets ≡ answer_text answer.Busy)
 IsReply desk did.Closing octets = octets ≡ answer_text answer.Done
 IsReply desk did.Gone octets = octets ≡ answer_text answer.Closed
 
@@ -181,9 +235,10 @@ abbrev pub MayReply : DeskSeen → Done → Option (List ℕ) → Type 0
 MayReply desk d None = Unit {0}
 MayReply desk d (Some octets) = IsReply desk d octets
 
--- an answer itself gets none
+-- an answer itself gets none, nor does a line from elsewhere
 abbrev pub gets_answer : Done → Bool
 gets_answer did.Unanswered = false
+gets_answer did.Foreign = false
 gets_answer other = true
 
 -- a count of failures, after one more or none
@@ -223,15 +278,21 @@ Means rows octets event (did.Answered answer.BadLine) = (event ≡ None) × Asks
 Means rows octets event (did.Answered answer.UnknownMailbox) = (event ≡ None) × IsUnknown rows octets
 Means rows octets event (did.Answered answer.Closed) = ⊥
 Means rows octets event (did.Answered answer.NoMemory) = event ≡ None
-Means rows octets event (did.Answered answer.Busy) = (event ≡ None) × (q : Question) × Asks octets (asked.Question q) × AsksForWatchers q
+Means rows octets event (did.Answered answer.Busy) = ⊥
 Means rows octets event (did.Repeated a) = ⊥
 Means rows octets event did.Unanswered = (event ≡ None) × Asks octets asked.Nothing
+Means rows octets event did.Foreign = ⊥
 Means rows octets event did.Counters = (event ≡ None) × Asks octets (asked.Question question.Status)
 Means rows octets event (did.Shown n) =
     (event ≡ None) × (name : List ℕ) × Asks octets (asked.Question (question.Show name)) × (place name rows ≡ Some n)
 Means rows octets event (did.Dumped n) = (event ≡ None) × (q : Question) × Asks octets (asked.Question q) × BeginsAt rows n q
+Means rows octets event (did.Watched m n) = (event ≡ None) × (q : Question) × Asks octets (asked.Question q) × AsksForWatchers rows m n q
 Means rows octets event did.Closing = (event ≡ None) × Asks octets asked.Close
 Means rows octets event did.Gone = (e : Event) × (event ≡ Some e) × Tells rows octets e
+
+-- it came from elsewhere than lines are heard from, and tells nothing
+abbrev pub IsForeign : DeskSeen → Addr → Option Event → Done → Type 0
+IsForeign desk source event d = (is_near desk source ≡ false) × (event ≡ None) × (d ≡ did.Foreign)
 
 -- its token was answered so before, or it has none or one that was not, and means what was done
 abbrev pub IsMeant : DeskSeen → List ℕ → Option Event → Done → Type 0
@@ -248,6 +309,7 @@ rows_after (Some e) rows = told_by e rows
 abbrev pub desk_after : Line → DeskSeen → DeskSeen
 desk_after l desk = record {
   workers = desk.workers;
+  networks = desk.networks;
   rows = rows_after l.event desk.rows;
   kept = kept_with l.is_kept (token l.came.octets) l.done desk.kept;
 }
@@ -257,9 +319,9 @@ abbrev pub desk_then : List Line → DeskSeen → DeskSeen
 desk_then [] desk = desk
 desk_then (l ∷ log) desk = desk_then log (desk_after l desk)
 
--- it means what was done by a desk that knows this, and is answered by what that knows then
+-- to a desk that knows this it is foreign, or it is heard and means what was done; and it is answered by what the desk knows then
 pub record IsLine (desk : DeskSeen) (l : Line) : Type 0 where
-  pub meant : IsMeant desk l.came.octets l.event l.done
+  pub meant : IsForeign desk l.came.peer l.event l.done ⊎ ((is_near desk l.came.peer ≡ true) × IsMeant desk l.came.octets l.event l.done)
   pub answered : MayReply (desk_after l desk) l.done l.reply
 
 -- each of these lines is done and answered by what the lines before it told
@@ -352,19 +414,31 @@ has_octets (octet ∷ octets) = true
 abbrev pub is_due : List ℕ → Bool
 is_due octets = has_octets octets && not (is_answer octets)
 
-abbrev pub is_line : Datagram → Bool
-is_line d = is_due d.octets
+-- and come from where lines are heard
+abbrev pub is_line : List Network → Datagram → Bool
+is_line networks d = is_heard networks d.peer.ip && is_due d.octets
 
 -- it was answered `closed`, or the wire failed at it
 abbrev pub IsRefused : Line → Type 0
 IsRefused l = (l.done ≡ did.Answered answer.Closed) × ((l.reply ≡ Some (answer_text answer.Closed)) ⊎ (l.reply ≡ None))
 
--- what came until all was sent out, or until nothing could come any more: each that isn't empty and no answer itself was answered
--- `closed`, or the other wire failed at it, and nothing else was sent
-pub record AreRefused (given given' taken taken' : Option (List Datagram)) (failures failures' : ℕ) : Type 0 where
+-- what came until all was sent out, or until nothing could come any more: each from where lines are heard that isn't empty and no answer
+-- itself was answered `closed`, or the other wire failed at it, and nothing else was sent
+pub record AreRefused (networks : List Network) (given given' taken taken' : Option (List Datagram)) (failures failures' : ℕ) : Type 0 where
   pub came : List Datagram
   pub gave : Grows given given' came
   pub log : List Line
-  pub lines : datagrams_of log ≡ filter is_line came
+  pub lines : datagrams_of log ≡ filter (is_line networks) came
   pub each : AllByRecursion IsRefused log
   pub answered : AreAnswered log taken taken' failures failures'
+
+-- ---- what that says of lines from elsewhere
+
+-- a line from elsewhere than lines are heard from tells nothing, and gets no answer
+abbrev pub IsSilent : List Network → Line → Type 0
+IsSilent networks l = is_heard networks l.came.peer.ip ≡ false → (l.event ≡ None) × (l.reply ≡ None)
+
+abbrev pub EachForeignIsSilent : Type 0
+EachForeignIsSilent =
+    (desk : DeskSeen) (log : List Line) (old new : PortSeats) (end : FeedEnd)
+    → AreTaken desk log old new end → AllByRecursion (IsSilent desk.networks) log

@@ -1,5 +1,5 @@
--- The time, as it is told to the workers.
-use Rattle.std.specs.Prelude.{◌≡◌, ◌<◌, ℕ, List, [], ◌∷◌, ◌++◌, map}
+-- The time, and which transfers fail since nobody was told to start them, as the workers are told.
+use Rattle.std.specs.Prelude.{◌≡◌, ◌<◌, ℕ, List, [], ◌∷◌, ◌++◌}
 use Rattle.notifier_model.specs.declared.event.Event.{Event}
 use Rattle.notifier_model.specs.declared.event.Event.TheVariants as event
 use Rattle.crew.specs.Ports.{PortSeats}
@@ -12,25 +12,36 @@ use Rattle.service.specs.declared.clock.Stopwatch.{Stopwatch}
 abbrev pub new_stopwatch : Stopwatch
 new_stopwatch = record { failures = 0 }
 
--- each time is later than those before it, and than this one
-abbrev pub rises_from : ℕ → List ℕ → Type 0
-rises_from now [] = Unit {0}
-rises_from now (time ∷ times) = (now < time) × rises_from time times
+-- what may be told after this second: a later one, or that a transfer fails (RFC 3261 section 21.5.1)
+abbrev pub MayTell : ℕ → Event → Type 0
+MayTell now (event.Request source r) = ⊥
+MayTell now (event.Reply r) = ⊥
+MayTell now (event.Mail m) = ⊥
+MayTell now (event.Progress p) = p.code ≡ 500
+MayTell now (event.Tick time) = now < time
+MayTell now event.Shut = ⊥
 
-abbrev pub ticks : List ℕ → List Event
-ticks times = map (λ time. event.Tick time) times
+-- the second after it
+abbrev pub second_after : ℕ → Event → ℕ
+second_after now (event.Tick time) = time
+second_after now other = now
 
--- the last tick was missed, and those before it were sent
-pub record MissesTick (times : List ℕ) (old new : PortSeats) : Type 0 where
-  pub before : List ℕ
-  pub last : ℕ
+-- each of these may be told after this second and those before it
+abbrev pub AreNotices : ℕ → List Event → Type 0
+AreNotices now [] = Unit {0}
+AreNotices now (e ∷ events) = MayTell now e × AreNotices (second_after now e) events
+
+-- the last one was missed, and those before it were sent
+pub record MissesLast (events : List Event) (old new : PortSeats) : Type 0 where
+  pub before : List Event
+  pub last : Event
   pub mid : PortSeats
-  pub whole : times ≡ before ++ last ∷ []
-  pub sent : Sends old (ticks before) mid
-  pub missed : Misses mid (event.Tick last) new
+  pub whole : events ≡ before ++ last ∷ []
+  pub sent : Sends old before mid
+  pub missed : Misses mid last new
 
--- the port has sent a tick for each of these times, in order, and nothing else; where a worker is gone it missed the last
-abbrev pub AreTold : List ℕ → PortSeats → PortSeats → FeedEnd → Type 0
-AreTold times old new Done = Sends old (ticks times) new
-AreTold times old new Fault = Sends old (ticks times) new
-AreTold times old new Gone = MissesTick times old new
+-- the port has sent these, in order, and nothing else; where a worker is gone it missed the last
+abbrev pub AreTold : List Event → PortSeats → PortSeats → FeedEnd → Type 0
+AreTold events old new Done = Sends old events new
+AreTold events old new Fault = Sends old events new
+AreTold events old new Gone = MissesLast events old new

@@ -1,8 +1,10 @@
 -- What a question is told: lines behind an `ok`.
-use Rattle.std.specs.Prelude.{◌≡◌, ◌%◌, ℕ, List, ◌++◌, codes, slice_get, Some}
+use Rattle.std.specs.Prelude.{◌≡◌, ◌%◌, ℕ, List, ◌++◌, codes, slice_get, Option, Some, None}
 use Rattle.notifier_model.specs.Home.{key_hash}
 use Rattle.scripts.specs.Script.{lf}
 use Rattle.control_lines.specs.Told.{Row}
+use Rattle.watchers.specs.declared.inquiry.Inquiry.{Inquiry}
+use Rattle.service.specs.Watched.{IsPage}
 use Rattle.control_lines.specs.Pages.{show_text, dump_text}
 
 abbrev pub report : List ℕ → List ℕ
@@ -24,3 +26,12 @@ IsShown told workers place octets =
 -- what the mailboxes from this place on were last told, as far as a page goes
 abbrev pub dumped : List Row → ℕ → List ℕ
 dumped told from = report (dump_text told from)
+
+-- it asks for those that watch the mailbox at this place, or any, from this place in the list of rows on
+abbrev pub IsInquiry : List Row → Option ℕ → ℕ → Inquiry → Type 0
+IsInquiry told None from q = (q.mailbox ≡ None) × (q.place ≡ from)
+IsInquiry told (Some place) from q = (row : Row) × (slice_get told place ≡ Some row) × (q.mailbox ≡ Some row.0) × (q.place ≡ from)
+
+-- a page of some rows that are asked for
+abbrev pub IsWatched : Inquiry → List ℕ → Type 0
+IsWatched q octets = (page : List ℕ) × IsPage q page × (octets ≡ report page)

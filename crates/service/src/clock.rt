@@ -1,9 +1,10 @@
 //! The time, sent on.
-ghost use Rattle.std.specs.Prelude.{◌≡◌, ◌<◌, ℕ, List, is_none};
+ghost use Rattle.std.specs.Prelude.{◌≡◌, ◌<◌, List, is_none};
 ghost use Rattle.crew.specs.Kept.{SameSeats};
 ghost use Rattle.feeds.specs.Fed.{failures_at};
 ghost use Rattle.service.specs.Taken.{failures_then};
-ghost use Rattle.service.specs.Ticks.{rises_from, AreTold, new_stopwatch};
+ghost use Rattle.notifier_model.specs.declared.event.Event.{Event};
+ghost use Rattle.service.specs.Ticks.{AreNotices, AreTold, new_stopwatch};
 
 use crate::shared::{COMPLAINTS, Shared};
 use crew::Port;
@@ -11,11 +12,11 @@ use feeds::{FeedEnd, send_event};
 use notifier_model::Event;
 use std::rt::Clock;
 use std::sync::Wait;
-use std::thread;
 use std::time::Duration;
+use std::{io, thread};
 
 /// How long the clock sleeps at most before it looks whether the service closes, in milliseconds.
-const NAP: u64 = 50;
+const NAP: u64 = 100;
 
 /// How many seconds pass between two looks at what goes wrong.
 const MINUTE: u64 = 60;
@@ -55,6 +56,8 @@ struct Complaints {
     looked: u64,
     /// How often each had happened until then.
     told: [u64; COMPLAINTS],
+    /// How much had not been sent until then.
+    unsent: u64,
 }
 
 impl Complaints {
@@ -63,6 +66,7 @@ impl Complaints {
         Complaints {
             looked: 0,
             told: [0; COMPLAINTS],
+            unsent: 0,
         }
     }
 
@@ -79,11 +83,30 @@ impl Complaints {
             }
             *told = count;
         }
+        self.tell_unsent(rt, shared);
+    }
+
+    /// Says how much was not sent since the last look, and the system's words at the last send that failed.
+    fn tell_unsent<R: Eprint>(&mut self, rt: &R, shared: &Shared) {
+        let count = shared.unsent();
+        let more = count.saturating_sub(self.unsent);
+        self.unsent = count;
+        if more == 0 {
+            return;
+        }
+        let what = "datagrams or lines could not be sent";
+        let Some(number) = shared.send_error() else {
+            let _ = eprintln!(rt; "notifyd: {more} {what}");
+            return;
+        };
+        let cause = io::Error::from_raw_os_error(number.cast_signed());
+        let _ = eprintln!(rt; "notifyd: {more} {what}, the last since: {cause}");
     }
 }
 
-/// Sends a tick each second of the monotonic clock, with the seconds since the service began, until it closes, the clock
-/// fails or a worker is gone. Once a minute it says on standard error what was refused, dropped or not sent in it.
+/// Sends a tick each second of the monotonic clock, with the seconds since the service began, and fails the transfers whose START lines
+/// were not written, until the service closes, the clock fails or a worker is gone. Once a minute it says on standard error what was
+/// refused, dropped or not sent in it.
 /// The port isn't closed.
 pub fn tell_time<R: Wait + Clock + Eprint>(
     rt: &R,
@@ -92,18 +115,24 @@ pub fn tell_time<R: Wait + Clock + Eprint>(
     shared: &Shared,
 ) -> FeedEnd
     requires still_open { 0 < port.old.still_open }
-    // Ticks are sent to all workers, each later than the one before, and nothing else.
-    ensures ticks { (times : List ℕ) × rises_from 0 times × AreTold times port.old port.new result }
+    // Ticks are sent to all workers, each later than the one before, and to its worker that a transfer fails, and nothing else.
+    ensures ticks { (events : List Event) × AreNotices 0 events × AreTold events port.old port.new result }
     ensures failures { stopwatch.new.failures ≡ failures_at result stopwatch.old.failures }
     ensures seats { SameSeats port.old port.new }
 {
     let mut complaints = Complaints::new();
     let mut second = 0;
     for _ in rt.forever() {
-        thread::sleep(rt, Duration::from_millis(NAP));
         if shared.is_closing() {
             return FeedEnd::Done;
         }
+        if let Some(failed) = shared.lost_starts.take(rt) {
+            if !send_event(rt, port, Event::Progress(failed)) {
+                return FeedEnd::Gone;
+            }
+            continue;
+        }
+        thread::sleep(rt, Duration::from_millis(NAP));
         let Some(now) = stopwatch.seconds(rt, shared) else {
             return FeedEnd::Fault;
         };

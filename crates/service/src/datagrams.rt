@@ -86,6 +86,7 @@ fn count_verdict(shared: &Shared, verdict: &Verdict) {
         Verdict::Limited => shared.count(Counter::Limited),
         Verdict::Challenge(cause, _) => count_challenge(shared, *cause),
         Verdict::Forbidden(_) => shared.count(Counter::Forbidden),
+        Verdict::Crowded(_) => shared.count(Counter::Crowded),
     }
 }
 
@@ -101,7 +102,9 @@ fn refusal(verdict: Verdict) -> Option<Octets>
     ensures { result ≡ spec.refusal verdict }
 {
     match verdict {
-        Verdict::Challenge(_, octets) | Verdict::Forbidden(octets) => Some(octets),
+        Verdict::Challenge(_, octets) | Verdict::Forbidden(octets) | Verdict::Crowded(octets) => {
+            Some(octets)
+        }
         Verdict::Allowed | Verdict::Foreign | Verdict::Limited => None,
     }
 }
@@ -119,7 +122,7 @@ fn send_refusal<R: Wait + Eprint, W: Wire>(
     ensures given { Grows (W.given wire.old) (W.given wire.new) [] }
 {
     if wire.send(rt, to, octets).is_err() {
-        shared.count(Counter::Failed);
+        shared.count_unsent(wire.send_error());
     }
     if shared.logs_requests() {
         log_answer(rt, to, octets);
@@ -193,6 +196,16 @@ impl<W: Ear> SipDesk<W> {
         is_short
     }
 
+    /// How many live subscriptions the source of a request outside a dialog has, where it may have so many only. 0 of anything else: nobody
+    /// asks.
+    fn live_from<R: Wait>(&self, rt: &R, shared: &Shared, heard: &Heard, source: Addr) -> usize {
+        match (self.admission.per_source, heard) {
+            (Some(_), Heard::Event(Event::Request(_, request))) if request.head.to.tag.is_none() =>
+                { shared.live_from(rt, watchers::source(source)) }
+            _ => 0,
+        }
+    }
+
     /// Whether the datagram is heard. Any other is counted by its verdict. A refusal goes to its source.
     fn admits<R: Wait + Eprint>(
         &mut self,
@@ -228,7 +241,7 @@ impl<W: Ear> SipDesk<W> {
     }
 
     /// Sends what SIP datagrams say whose sources are heard, until the service closes, the wire is deaf or a worker is gone. Who isn't
-    /// heard for a reason that may be told gets a refusal (RFC 3261 sections 21.4.2 and 21.4.4). What can't be read, or is too long, is
+    /// heard for a reason that may be told gets a refusal (RFC 3261 sections 21.4.2, 21.4.4 and 21.5.4). What can't be read, or is too long, is
     /// counted and dropped. Of an answer to a NOTIFY a note is put first, for the thread that sends NOTIFYs again. The port isn't closed.
     pub fn hear_datagrams<R: Wait + Clock + Eprint>(
         &mut self,
@@ -277,6 +290,7 @@ impl<W: Ear> SipDesk<W> {
                 reading: reading(&said.heard),
                 source,
                 moment,
+                live: self.live_from(rt, shared, &said.heard, source),
             };
             if !self.admits(rt, alloc, shared, arrival) {
                 continue;

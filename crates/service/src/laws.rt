@@ -2,6 +2,7 @@
 
 ghost use Rattle.service.specs.Admitted.{EachIsVouched, OpenHearsAll};
 ghost use Rattle.service.specs.Sending.{EachRepeatIsOfANotify};
+ghost use Rattle.service.specs.Taken.{EachForeignIsSilent};
 
 /// What is sent again is the datagram of a NOTIFY that was put before, half a second before at least and less than 32 seconds before
 /// (RFC 3261 section 17.1.2.2), and no answer that ends it was noted since.
@@ -18,4 +19,9 @@ pub fn each_is_vouched()
 /// Where it asks nothing, all datagrams that are not too long are sent on, and none is refused.
 pub fn open_hears_all()
     ensures { OpenHearsAll }
+{}
+
+/// Where networks are named, a control line from none of them, nor from this machine, tells nothing and gets no answer.
+pub fn each_foreign_is_silent()
+    ensures { EachForeignIsSilent }
 {}

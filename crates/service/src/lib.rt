@@ -24,13 +24,17 @@
 
 mod clock;
 mod datagrams;
+mod drops;
 mod error;
 mod feeding;
 pub mod laws;
 mod lines;
 mod listening;
+mod lost_starts;
 mod notes;
+mod operators;
 mod outs;
+mod post;
 mod reports;
 mod request_log;
 mod running;
@@ -38,6 +42,7 @@ mod sending;
 mod shared;
 mod statuses;
 mod waking;
+mod window;
 
 pub use clock::Stopwatch;
 pub use datagrams::SipDesk;

@@ -2,26 +2,27 @@
 ghost use Rattle.std.specs.Prelude.{◌≡◌, ◌<◌, List, [], Some, IfOk, max};
 ghost use Rattle.std.specs.Int.NonZero.{non_zero_u32_get};
 ghost use Rattle.circular_buffer.specs.Buffer.{buffer};
-ghost use Rattle.transport.specs.Wires.{Grows};
+ghost use Rattle.transport.specs.Wires.{Grows, datagram};
 ghost use Rattle.crew.specs.Kept.{SameSeats};
 ghost use Rattle.control_lines.specs.Lines.{answer_text};
 ghost use Rattle.control_lines.specs.declared.question.Question.TheVariants as questions;
-ghost use Rattle.control_lines.specs.Told.{AreUntold};
 ghost use Rattle.service.specs.declared.lines.Done.TheVariants as did;
 ghost use Rattle.service.specs.Taken as spec;
-ghost use Rattle.service.specs.Taken.{Line, IsSent, IsChanged, IsDone, IsFound, IsTaken, Offers, IsAnswered, datagrams_of, AreTaken, AreAnswered, AreRefused, seen};
+ghost use Rattle.service.specs.Taken.{Line, IsSent, IsChanged, IsDone, IsFound, IsTaken, Offers, IsAnswered, AreFirst, datagrams_of, AreTaken, AreAnswered, AreRefused, seen};
 ghost use Rattle.service.specs.Listening.{IsDeafAsTold, is_fault};
 
 use crate::listening::{FaultLog, receive};
-use crate::reports::{counters, dumped, shown};
+use crate::operators::{is_heard, tell_each};
+use crate::reports::{counters, dumped, inquiry, shown, watched};
 use crate::shared::{Counter, Shared};
+use admission::Network;
 use control_lines::{
     Answer, Asked, KeptAnswers, Question, Token, ToldCounts, cut_token, hear_line, is_answer,
 };
 use crew::Port;
 use feeds::{FeedEnd, send_event};
 use notifier_model::Event;
-use package::MailChange;
+use package::{Change, MailChange};
 use sip_text::{Addr, NoMemory, Text};
 use std::alloc::Global;
 use std::num::NonZeroU32;
@@ -44,12 +45,16 @@ pub enum Done {
     Repeated(Answer),
     /// It is an answer itself, and gets none.
     Unanswered,
+    /// It came from elsewhere than lines are heard from: it isn't read, and gets no answer.
+    Foreign,
     /// The counters were asked for.
     Counters,
     /// What the mailbox at this place was last told was asked for.
     Shown(usize),
     /// What the mailboxes from this place on were last told was asked for.
     Dumped(usize),
+    /// Who watches the mailbox at this place, or any, was asked for, from this place in the list of rows on.
+    Watched(Option<usize>, u64),
     /// The service is to close.
     Closing,
     /// A worker is gone.
@@ -66,9 +71,11 @@ fn end_after(done: Done) -> Option<FeedEnd>
         Done::Answered(_)
         | Done::Repeated(_)
         | Done::Unanswered
+        | Done::Foreign
         | Done::Counters
         | Done::Shown(_)
-        | Done::Dumped(_) => None,
+        | Done::Dumped(_)
+        | Done::Watched(_, _) => None,
     }
 }
 
@@ -119,6 +126,20 @@ fn find_dumped(told: &ToldCounts, mailbox: &Text) -> Done
     }
 }
 
+/// What WATCHERS asks for.
+#[tactic(auto, using(crate::proofs::Paging::found_any, crate::proofs::Paging::found_one, crate::proofs::Paging::found_none))]
+fn find_watched(told: &ToldCounts, mailbox: &Option<Text>, from: u64) -> Done
+    ensures { IsFound told.now (questions.Watchers mailbox.now from) result }
+{
+    let Some(mailbox) = mailbox else {
+        return Done::Watched(None, from);
+    };
+    match told.place(mailbox.as_str()) {
+        Some(place) => Done::Watched(Some(place), from),
+        None => Done::Answered(Answer::UnknownMailbox),
+    }
+}
+
 /// What a question asks for.
 fn find(told: &ToldCounts, question: &Question) -> Done
     ensures { IsFound told.now question.now result }
@@ -128,7 +149,7 @@ fn find(told: &ToldCounts, question: &Question) -> Done
         Question::Show(mailbox) => find_shown(told, mailbox),
         Question::Dump(None) => Done::Dumped(0),
         Question::Dump(Some(mailbox)) => find_dumped(told, mailbox),
-        Question::Watchers(..) => Done::Answered(Answer::Busy),
+        Question::Watchers(mailbox, from) => find_watched(told, mailbox, *from),
     }
 }
 
@@ -173,9 +194,11 @@ fn keep(kept: &mut KeptAnswers, token: Option<Token>, done: Done) -> bool
         Done::Answered(answer) => keep_answer(kept, token, answer),
         Done::Repeated(_)
         | Done::Unanswered
+        | Done::Foreign
         | Done::Counters
         | Done::Shown(_)
         | Done::Dumped(_)
+        | Done::Watched(_, _)
         | Done::Closing
         | Done::Gone => false,
     }
@@ -189,7 +212,7 @@ fn reply<R: Wait, W: Wire>(rt: &R, wire: &mut W, shared: &Shared, to: Addr, octe
 {
     match wire.send(rt, to, octets) {
         Ok(()) => {}
-        Err(_) => shared.count(Counter::Failed),
+        Err(_) => shared.count_unsent(wire.send_error()),
     }
 }
 
@@ -200,12 +223,16 @@ fn is_due(octets: &[u8]) -> bool
     !octets.is_empty() && !is_answer(octets)
 }
 
-/// Where control lines come in and answers go, and the mailboxes of the service.
+/// Where control lines come in and answers go, whose lines are heard, and what is known of the mailboxes of the service.
 #[derive(Drop)]
 pub struct ControlPort<W> {
     pub coming: W,
     pub going: W,
     pub mailboxes: Vec<Text>,
+    /// What was told of the mailboxes before.
+    pub changes: Vec<Change>,
+    /// The networks whose lines are heard, beside this machine's: all are, where there is none.
+    pub networks: Vec<Network>,
 }
 
 /// What takes control lines: the two ends of a socket, what the mailboxes of the service were last told, and the answers to the last
@@ -216,28 +243,34 @@ pub struct ControlDesk<W> {
     pub going: W,
     pub told: ToldCounts,
     pub kept: KeptAnswers,
+    /// The networks whose lines are heard, beside this machine's: all are, where there is none.
+    pub networks: Vec<Network>,
     /// How many workers the service has.
     pub workers: NonZeroU32,
 }
 
 impl<W: Drop> ControlDesk<W> {
-    /// One at this port, of a service with so many workers. It was told nothing yet.
+    /// One at this port, of a service with so many workers. It took no line yet.
     pub(crate) fn at(
         alloc: Global,
         port: ControlPort<W>,
         workers: u32,
     ) -> Result<ControlDesk<W>, NoMemory>
         ensures coming { IfOk result (λ d. d.coming ≡ port.coming) }
-        ensures untold { IfOk result (λ d. AreUntold port.mailboxes.items d.told) }
+        ensures first { IfOk result (λ d. AreFirst port.mailboxes.items port.changes.items d.told) }
         ensures unkept { IfOk result (λ d. d.kept ≡ buffer [] KEPT) }
         ensures workers { IfOk result (λ d. non_zero_u32_get d.workers ≡ max 1 workers) }
+        ensures networks { IfOk result (λ d. d.networks ≡ port.networks) }
     {
         let ControlPort {
             coming,
             going,
             mailboxes,
+            changes,
+            networks,
         } = port;
-        let told = ToldCounts::new(alloc, mailboxes.as_slice())?;
+        let mut told = ToldCounts::new(alloc, mailboxes.as_slice())?;
+        tell_each(&mut told, changes.as_slice());
         let kept = KeptAnswers::with_room(alloc, KEPT)?;
         let Some(workers) = NonZeroU32::new(workers.max(1)) else {
             unreachable!()
@@ -247,12 +280,20 @@ impl<W: Drop> ControlDesk<W> {
             going,
             told,
             kept,
+            networks,
             workers,
         })
     }
 }
 
 impl<W: Wire> ControlDesk<W> {
+    /// Whether lines from this address are heard.
+    fn hears(&self, source: Addr) -> bool
+        ensures { result ≡ spec.is_near (seen self.now) source }
+    {
+        is_heard(&self.networks, source.ip)
+    }
+
     /// Sends this answer.
     fn say<R: Wait>(&mut self, rt: &R, shared: &Shared, to: Addr, answer: Answer)
         ensures offered { Offers to (answer_text answer)
@@ -280,6 +321,21 @@ impl<W: Wire> ControlDesk<W> {
         }
     }
 
+    /// Sends a page of rows, or that it was not told in time.
+    fn say_page<R: Wait>(&mut self, rt: &R, shared: &Shared, to: Addr, text: Option<String>)
+        ensures offered { Offers to (spec.page_or_busy text)
+            (W.taken self.old.going) (W.taken self.new.going)
+            (W.failures self.old.going) (W.failures self.new.going) }
+        ensures given { Grows (W.given self.old.going) (W.given self.new.going) [] }
+        ensures coming { self.new.coming ≡ self.old.coming }
+        ensures seen { seen self.new ≡ seen self.old }
+    {
+        match text {
+            Some(text) => reply(rt, &mut self.going, shared, to, text.as_bytes()),
+            None => self.say(rt, shared, to, Answer::Busy),
+        }
+    }
+
     /// Answers what was done. At CLOSE the service closes first.
     fn answer<R: Wait + Clock>(
         &mut self,
@@ -301,6 +357,7 @@ impl<W: Wire> ControlDesk<W> {
             Done::Answered(answer) => self.say(rt, shared, to, answer),
             Done::Repeated(answer) => self.say(rt, shared, to, answer),
             Done::Unanswered => {}
+            Done::Foreign => shared.count(Counter::ForeignLine),
             Done::Counters => self.say_report(rt, shared, to, counters(rt, alloc, shared)),
             Done::Shown(place) => {
                 let text = shown(alloc, &self.told, self.workers, place);
@@ -310,6 +367,10 @@ impl<W: Wire> ControlDesk<W> {
                 let text = dumped(alloc, &self.told, from);
                 self.say_report(rt, shared, to, text);
             }
+            Done::Watched(place, from) => {
+                let text = watched(rt, alloc, shared, inquiry(alloc, &self.told, place, from));
+                self.say_page(rt, shared, to, text);
+            }
             Done::Closing => {
                 shared.close();
                 self.say(rt, shared, to, Answer::Done);
@@ -318,14 +379,24 @@ impl<W: Wire> ControlDesk<W> {
         }
     }
 
-    /// Does what a control line asks, unless it came before with the same token.
-    fn take<R: Wait>(&mut self, rt: &R, alloc: Global, port: &mut Port, octets: &[u8]) -> Done
+    /// Does what a control line asks, unless it came before with the same token, or its source isn't heard.
+    fn take<R: Wait>(
+        &mut self,
+        rt: &R,
+        alloc: Global,
+        port: &mut Port,
+        source: Addr,
+        octets: &[u8],
+    ) -> Done
         requires still_open { 0 < port.old.still_open }
-        ensures done { IsTaken octets.now (seen self.old) (seen self.new) port.old port.new result }
+        ensures done { IsTaken source octets.now (seen self.old) (seen self.new) port.old port.new result }
         ensures coming { self.new.coming ≡ self.old.coming }
         ensures going { self.new.going ≡ self.old.going }
         ensures seats { SameSeats port.old port.new }
     {
+        if !self.hears(source) {
+            return Done::Foreign;
+        }
         let (token, line) = cut_token(octets);
         if let Some(answer) = self.kept.answer_to(token) {
             return Done::Repeated(answer);
@@ -337,7 +408,7 @@ impl<W: Wire> ControlDesk<W> {
 }
 
 impl<W: Ear> ControlDesk<W> {
-    /// Takes control lines and answers each to its sender, until one is CLOSE, the service closes for another cause, the wire
+    /// Takes control lines of those who are heard and answers each to its sender, until one is CLOSE, the service closes for another cause, the wire
     /// is deaf or a worker is gone. The port isn't closed.
     pub fn take_lines<R: Wait + Clock + Eprint>(
         &mut self,
@@ -370,7 +441,7 @@ impl<W: Ear> ControlDesk<W> {
             let Some((length, source)) = came else {
                 continue;
             };
-            let done = self.take(rt, alloc, port, &octets[..length]);
+            let done = self.take(rt, alloc, port, source, &octets[..length]);
             self.answer(rt, alloc, shared, source, done);
             if let Some(end) = end_after(done) {
                 return end;
@@ -379,10 +450,17 @@ impl<W: Ear> ControlDesk<W> {
         unreachable!()
     }
 
-    /// Answers `closed` to whoever asks, until all was sent out or the wire is deaf: true then. An empty datagram is not answered, nor
-    /// is an answer.
+    /// Whether a datagram that comes while the service closes gets an answer: its source is heard, and it is some bytes and no answer.
+    fn owes(&self, source: Addr, octets: &[u8]) -> bool
+        ensures { result ≡ spec.is_line self.now.networks.items (datagram source octets.now) }
+    {
+        self.hears(source) && is_due(octets)
+    }
+
+    /// Answers `closed` to whoever is heard and asks, until all was sent out or the wire is deaf: true then. An empty datagram is not
+    /// answered, nor is an answer.
     pub fn refuse_lines<R: Wait + Clock + Eprint>(&mut self, rt: &R, shared: &Shared) -> bool
-        ensures refused { AreRefused (W.given self.old.coming) (W.given self.new.coming)
+        ensures refused { AreRefused self.old.networks.items (W.given self.old.coming) (W.given self.new.coming)
             (W.taken self.old.going) (W.taken self.new.going)
             (W.failures self.old.going) (W.failures self.new.going) }
         ensures coming { Grows (W.taken self.old.coming) (W.taken self.new.coming) [] }
@@ -402,7 +480,7 @@ impl<W: Ear> ControlDesk<W> {
             let Some((length, source)) = came else {
                 continue;
             };
-            if is_due(&octets[..length]) {
+            if self.owes(source, &octets[..length]) {
                 self.say(rt, shared, source, Answer::Closed);
             }
         }

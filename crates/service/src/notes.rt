@@ -2,7 +2,7 @@
 ghost use Rattle.std.specs.Prelude.{◌≡◌, IfOk, option_copied};
 ghost use Rattle.service.specs.Noted as spec;
 
-use crossbeam_queue::ArrayQueue;
+use crate::post::{Parcel, Post};
 use feeds::Heard;
 use notifier_model::Event;
 use sip_read::{Head, Response};
@@ -54,27 +54,29 @@ pub(crate) fn note_in(alloc: Global, heard: &Heard) -> Result<Option<Note>, NoMe
 /// The notes that wait for the thread that sends.
 #[derive(Drop)]
 pub(crate) struct Notes {
-    queue: ArrayQueue<Note, Global>,
+    post: Post,
 }
 
 impl Notes {
     /// No notes.
     pub(crate) fn new(alloc: Global) -> Result<Notes, NoMemory> {
-        let queue = ArrayQueue::new(alloc, NOTES)?;
-        Ok(Notes { queue })
+        let post = Post::new(alloc, NOTES)?;
+        Ok(Notes { post })
     }
 
     /// Puts the note of what was heard, if that is an answer to a NOTIFY. Where there is no room or no memory it is dropped: its
     /// NOTIFY is sent once more then.
     pub(crate) fn put<R: Wait>(&self, rt: &R, alloc: Global, heard: &Heard) {
         if let Ok(Some(note)) = note_in(alloc, heard) {
-            let refused = self.queue.push(rt, note);
-            drop(refused);
+            self.post.put(rt, Parcel::Note(note));
         }
     }
 
     /// Takes the next note, if one waits.
     pub(crate) fn take<R: Wait>(&self, rt: &R) -> Option<Note> {
-        self.queue.pop(rt)
+        match self.post.take(rt) {
+            Some(Parcel::Note(note)) => Some(note),
+            _ => None,
+        }
     }
 }

@@ -7,6 +7,7 @@ ghost use Rattle.feeds.specs.declared.sending.EmitReport.{EmitReport};
 ghost use Rattle.feeds.specs.Emitted as spec;
 ghost use Rattle.transactions.specs.Machine.{empty};
 ghost use Rattle.service.specs.Sending.{Act, IsSentOut, fates};
+ghost use Rattle.service.specs.Watched.{AreRowed};
 
 use crate::request_log::log_answer;
 use crate::sending::{Waiting, Watch};
@@ -16,19 +17,19 @@ use feeds::{Fate, put_out};
 use notifier_model::Out;
 use queues::outbox::{Posted, Taker};
 use std::io::Write;
-use std::rt::Clock;
+use std::rt::{Clock, Files};
 use std::sync::Wait;
 use std::thread;
 use std::time::Duration;
 use transport::{Sink, Wire};
 
-/// How often nothing may be posted before the thread sleeps.
-const TURNS: u32 = 32;
-
-/// How many milliseconds it sleeps then at most, unless a worker wakes it.
+/// How many milliseconds the thread sleeps at most where nothing is posted, unless a worker wakes it: answers come meanwhile.
 const NAP: u64 = 20;
 
-/// How many where NOTIFYs are due again that may not leave yet.
+/// The same where no answer is waited for.
+const QUIET_NAP: u64 = 100;
+
+/// The same where NOTIFYs are due again that may not leave yet.
 const PACED_NAP: u64 = 1;
 
 /// What an out counts as.
@@ -43,8 +44,12 @@ fn counter_for(out: &Out, fate: Fate) -> Counter {
     }
 }
 
-/// Counts what became of an out.
-fn count(shared: &Shared, out: &Out, fate: Fate) {
+/// Counts what became of an out. A transfer whose START line was not written is to fail.
+fn count<R: Wait>(rt: &R, shared: &Shared, out: &Out, fate: Fate) {
+    if let (Out::Start { tag, .. }, Fate::Failed) = (out, fate) {
+        shared.count(Counter::StartDropped);
+        shared.lost_starts.put(rt, tag);
+    }
     if let Out::Notify {
         number,
         terminated,
@@ -57,6 +62,16 @@ fn count(shared: &Shared, out: &Out, fate: Fate) {
         shared.count_status(bytes.as_slice());
     }
     shared.count(counter_for(out, fate));
+}
+
+/// Notes why an out was not sent, where the system says so.
+fn note_error<W: Wire>(shared: &Shared, wire: &W, out: &Out, fate: Fate) {
+    match (out, fate) {
+        (Out::Answer { .. } | Out::Notify { .. }, Fate::Failed) => {
+            shared.note_send_error(wire.send_error());
+        }
+        _ => {}
+    }
 }
 
 /// Says to whom an answer goes, where the operator wants to know of each.
@@ -78,11 +93,6 @@ fn next_posted<R: Wait>(rt: &R, taker: &mut Taker, left: u32) -> Option<Posted>
         return None;
     }
     taker.take(rt)
-}
-
-/// How many turns there were in a row in which nothing was done, after one more in which something was or not yet.
-fn idle_turns(idle: u32, was_due: bool) -> u32 {
-    if was_due { 0 } else { idle }
 }
 
 /// What outs leave by: datagrams by the wire, START lines by the writer.
@@ -108,19 +118,20 @@ impl Outgoing {
     /// How many milliseconds the thread may sleep at this moment.
     fn nap(&self, now: u64) -> u64 {
         match self.waiting.transactions.next_moment() {
-            Some(moment) if moment <= now => PACED_NAP,
-            _ => NAP,
+            Some(moment) => moment.saturating_sub(now).clamp(PACED_NAP, NAP),
+            None if self.waiting.is_off() => NAP,
+            None => QUIET_NAP,
         }
     }
 
-    /// Waits where nothing was posted and nothing was due so many times in a row: until a worker posts, but not for long.
-    fn rest<R: Wait + Clock>(&self, rt: &R, now: u64, idle: u32) {
-        if idle < TURNS {
+    /// Waits where nothing was posted: until a worker posts, but not for long, where nothing was done for some turns.
+    fn rest<R: Wait + Clock>(&self, rt: &R, watch: &Watch) {
+        if watch.is_awake() {
             thread::yield_now();
             return;
         }
         self.parker
-            .park_timeout(rt, Duration::from_millis(self.nap(now)));
+            .park_timeout(rt, Duration::from_millis(self.nap(watch.now())));
     }
 }
 
@@ -128,7 +139,7 @@ impl Outgoing {
 /// and a line for each transfer that starts. What fails is counted, and the rest goes on. Between them it takes notes of answers, and
 /// sends a NOTIFY again whose time has come; where all workers have ended it waits a while for the answers to the last ones. No
 /// worker's end mark was taken yet, and no NOTIFY waits.
-pub(crate) fn send_outs<R: Wait + Clock + Eprint, W: Wire, F: Write>(
+pub(crate) fn send_outs<R: Wait + Clock + Files + Eprint, W: Wire, F: Write>(
     rt: &R,
     exit: &mut Exit<W, F>,
     outgoing: &mut Outgoing,
@@ -137,7 +148,8 @@ pub(crate) fn send_outs<R: Wait + Clock + Eprint, W: Wire, F: Write>(
     requires workers { outgoing.old.workers ≡ outgoing.old.taker.workers }
     requires none { outgoing.old.taker.got ≡ [] }
     // Each out that was taken is sent, written or failed, in order, and nothing else is sent or written but NOTIFYs again, as
-    // their transactions ask for it. Where the writer never failed, what it took is flushed.
+    // their transactions ask for it. Where the writer never failed, what it took is flushed. The rows of live subscriptions are what
+    // was sent and noted makes of them.
     ensures sent { (limit : ℕ) → outgoing.old.waiting.transactions ≡ empty limit
         → (acts : List Act) × (report : EmitReport)
         × IsSentOut limit outgoing.old.taker.workers acts outgoing.old.taker.got outgoing.new.taker.got
@@ -146,13 +158,13 @@ pub(crate) fn send_outs<R: Wait + Clock + Eprint, W: Wire, F: Write>(
         (record { contents = F.contents exit.old.sink.writer; failures = exit.old.sink.failures })
         (record { contents = F.contents exit.new.sink.writer; failures = exit.new.sink.failures }) report
         × (spec.count spec.fails_to_start (fates acts) ≡ 0
-        → (exit.new.sink ≡ exit.old.sink) ⊎ (exit.new.sink.is_flushed ≡ true)) }
+        → (exit.new.sink ≡ exit.old.sink) ⊎ (exit.new.sink.is_flushed ≡ true))
+        × AreRowed (empty limit) acts outgoing.old.waiting.watchers.rows outgoing.new.waiting.watchers.rows }
     ensures given { Grows (W.given exit.old.wire) (W.given exit.new.wire) [] }
     ensures outbox { outgoing.new.taker.outbox ≡ outgoing.old.taker.outbox }
     ensures ended { AllEnded outgoing.old.taker.workers outgoing.new.taker.got }
 {
     let mut left = outgoing.workers;
-    let mut idle = 0u32;
     let mut watch = Watch::new(outgoing.linger);
     for _ in rt.forever() {
         watch.look(rt, shared);
@@ -160,27 +172,25 @@ pub(crate) fn send_outs<R: Wait + Clock + Eprint, W: Wire, F: Write>(
             shared.count_lost(outgoing.waiting.len());
             return;
         }
-        let was_due = outgoing
+        let has_more = outgoing
             .waiting
             .tend(rt, &mut exit.wire, &mut watch, shared);
-        idle = idle_turns(idle, was_due);
         match next_posted(rt, &mut outgoing.taker, left) {
             Some(Posted::Ended(_)) => {
                 shared.count(Counter::WorkerEnded);
                 left -= 1;
             }
             Some(Posted::Out(_, out)) => {
-                idle = 0;
                 let fate = put_out(rt, &mut exit.wire, &mut exit.sink, &out);
-                count(shared, &out, fate);
+                note_error(shared, &exit.wire, &out, fate);
+                count(rt, shared, &out, fate);
                 log(rt, shared, &out);
-                outgoing.waiting.keep(watch.now(), out, shared);
+                outgoing.waiting.keep(rt, watch.now(), out, shared);
                 watch.count_out();
             }
             None => {
-                watch.pause();
-                outgoing.rest(rt, watch.now(), idle);
-                idle = idle.saturating_add(1);
+                watch.pause(has_more);
+                outgoing.rest(rt, &watch);
             }
         }
     }

@@ -1,16 +1,18 @@
 //! What a question is told.
-ghost use Rattle.std.specs.Prelude.{◌≡◌, ◌%◌, IfOk, IfSome, string_bytes};
+ghost use Rattle.std.specs.Prelude.{◌≡◌, ◌%◌, IfOk, IfSome, Some, string_bytes};
 ghost use Rattle.std.specs.Int.NonZero.{non_zero_u32_get};
 ghost use Rattle.service.specs.Told as spec;
-ghost use Rattle.service.specs.Told.{IsReport, IsShown};
+ghost use Rattle.service.specs.Told.{IsReport, IsShown, IsInquiry, IsWatched};
 
 use crate::shared::Shared;
 use control_lines::{ToldCounts, dump_page, show_page};
-use home::key_hash;
-use sip_text::NoMemory;
+use notifier_model::homes::key_hash;
+use sip_text::{NoMemory, Text};
 use std::alloc::Global;
 use std::num::NonZeroU32;
 use std::rt::Clock;
+use std::sync::Wait;
+use watchers::Inquiry;
 
 /// These lines behind an `ok`.
 fn report(alloc: Global, lines: &str) -> Result<String, NoMemory>
@@ -64,4 +66,45 @@ pub(crate) fn dumped(alloc: Global, told: &ToldCounts, from: usize) -> Option<St
         return None;
     };
     report(alloc, lines.as_str()).ok()
+}
+
+/// Who watches the mailbox at this place, or any, from this place in the list of rows on. None where there is no memory to ask.
+#[tactic(auto, using(crate::proofs::Paging::asks_any, crate::proofs::Paging::asks_one))]
+pub(crate) fn inquiry(
+    alloc: Global,
+    told: &ToldCounts,
+    place: Option<usize>,
+    from: u64,
+) -> Option<Inquiry>
+    ensures { IfSome result (λ q. IsInquiry told.now place from q) }
+{
+    let Some(place) = place else {
+        return Some(Inquiry {
+            mailbox: None,
+            place: from,
+        });
+    };
+    let (mailbox, _) = told.get(place)?;
+    let Ok(mailbox) = Text::of(alloc, mailbox) else {
+        return None;
+    };
+    Some(Inquiry {
+        mailbox: Some(mailbox),
+        place: from,
+    })
+}
+
+/// The page that is asked for, behind an `ok`. None where it isn't told in time.
+#[tactic(auto, using(crate::proofs::Paging::is_watched))]
+pub(crate) fn watched<R: Wait + Clock>(
+    rt: &R,
+    alloc: Global,
+    shared: &Shared,
+    inquiry: Option<Inquiry>,
+) -> Option<String>
+    ensures { IfSome result (λ text. (q : _) × (inquiry ≡ Some q) × IsWatched q (string_bytes text)) }
+{
+    let inquiry = inquiry?;
+    let page = shared.window.ask(rt, alloc, &inquiry)?;
+    report(alloc, page.as_str()).ok()
 }

@@ -13,7 +13,8 @@ ghost use Rattle.service.specs.declared.datagrams.SipDesk.{SipDesk};
 ghost use Rattle.service.specs.declared.lines.ControlDesk.{ControlDesk};
 ghost use Rattle.transport.specs.Sockets.{misses};
 ghost use Rattle.transport.specs.declared.udp.UdpWire.{UdpWire};
-ghost use Rattle.service.specs.Running.{Runs, Leaves, AreFaults, IsFresh, is_faulty};
+ghost use Rattle.transactions.specs.Machine.{empty};
+ghost use Rattle.service.specs.Running.{Opening, Runs, Leaves, AreFaults, IsFresh, is_faulty, opening};
 ghost use Rattle.service.specs.Taken.{seen};
 
 use crate::clock::Stopwatch;
@@ -30,13 +31,15 @@ use feeds::FeedEnd;
 use notifier_model::Setup;
 use package::Package;
 use queues::outbox::Taker;
+use sip_text::NoMemory;
 use std::alloc::Global;
 use std::io::Write;
-use std::rt::Clock;
+use std::rt::{Clock, Files};
 use std::sync::{Arc, Wait};
 use std::thread::Threads;
 use transactions::Transactions;
 use transport::{UdpWire, Wire};
+use watchers::Watchers;
 
 /// What a service works with beside its packages.
 #[derive(Drop)]
@@ -201,7 +204,7 @@ fn start_feeders<R: Threads + Wait + Clock + Eprint + Copy + Send + 'static>(
 }
 
 /// Closes a service of which only these threads were started, and waits for their end and that of its crew.
-fn wind_up<R: Threads + Wait + Clock + Eprint, W: Wire, F: Write>(
+fn wind_up<R: Threads + Wait + Clock + Files + Eprint, W: Wire, F: Write>(
     rt: &R,
     alloc: Global,
     running: Running,
@@ -263,7 +266,7 @@ fn stopwatch_of(task: Task) -> Stopwatch
 }
 
 /// Sends out what the workers post until the ports have ended, and joins all threads. There is room for the ports.
-fn serve_to_end<R: Threads + Wait + Clock + Eprint, W: Wire, F: Write>(
+fn serve_to_end<R: Threads + Wait + Clock + Files + Eprint, W: Wire, F: Write>(
     rt: &R,
     running: Running,
     mut ports: Vec<Port>,
@@ -277,8 +280,8 @@ fn serve_to_end<R: Threads + Wait + Clock + Eprint, W: Wire, F: Write>(
         → AreFaults (misses phones.coming) (misses desk.coming) result }
     ensures runs { (start : ℕ → Start) (lent : List PortSeats) (phones : SipDesk UdpWire) (desk : ControlDesk UdpWire) (repeats : ℕ)
         → IsNew start lent running → NoneWaits repeats running → AreLent lent feeders → AreErrands phones desk feeders
-        → (mailboxes : List (List ℕ)) → IsFresh mailboxes running.outgoing.workers (seen desk)
-        → Runs start running.outgoing.workers repeats mailboxes phones.admission
+        → (opened : Opening) → IsFresh opened running.outgoing.workers (seen desk)
+        → Runs start running.outgoing.workers repeats opened phones.admission
         (record { taken = W.taken exit.old.wire; failures = W.failures exit.old.wire })
         (record { taken = W.taken exit.new.wire; failures = W.failures exit.new.wire })
         (record { contents = F.contents exit.old.sink.writer; failures = exit.old.sink.failures })
@@ -323,14 +326,14 @@ fn serve<R, W, F>(
     exit: &mut Exit<W, F>,
 ) -> Result<Outcome, RunError>
 where
-    R: Threads + Wait + Clock + Eprint + Copy + Send + 'static,
+    R: Threads + Wait + Clock + Files + Eprint + Copy + Send + 'static,
     W: Wire,
     F: Write,
     requires some { 0 < running.outgoing.workers }
     requires new { (start : ℕ → Start) × IsNew start ports.items running }
     ensures served { IfOk result (λ o. (start : ℕ → Start) (repeats : ℕ) → IsNew start ports.items running
-        → NoneWaits repeats running → (mailboxes : List (List ℕ)) → IsFresh mailboxes running.outgoing.workers (seen ears.desk)
-        → Runs start running.outgoing.workers repeats mailboxes ears.sip.admission
+        → NoneWaits repeats running → (opened : Opening) → IsFresh opened running.outgoing.workers (seen ears.desk)
+        → Runs start running.outgoing.workers repeats opened ears.sip.admission
         (record { taken = W.taken exit.old.wire; failures = W.failures exit.old.wire })
         (record { taken = W.taken exit.new.wire; failures = W.failures exit.new.wire })
         (record { contents = F.contents exit.old.sink.writer; failures = exit.old.sink.failures })
@@ -374,6 +377,127 @@ where
     Ok(started)
 }
 
+/// What a service sends with, before its crew is there.
+#[derive(Drop)]
+pub(crate) struct Sending {
+    pub(crate) waiting: Waiting,
+    /// For how many milliseconds at most the answers to the last NOTIFYs are waited for.
+    pub(crate) linger: u64,
+    pub(crate) shared: Arc<Shared, Global>,
+}
+
+/// What a service begins with, before its crew is there.
+#[derive(Drop)]
+pub(crate) struct Ready {
+    pub(crate) setup: Setup,
+    pub(crate) ears: Ears,
+    pub(crate) sending: Sending,
+}
+
+/// No NOTIFY waits, and so many may. There is room for so many rows. It is told how many each source has, where it may have so many only.
+fn new_waiting(
+    alloc: Global,
+    repeats: u32,
+    rows: u32,
+    per_source: Option<u32>,
+) -> Result<Waiting, NoMemory>
+    ensures { IfOk result (λ w. w.transactions ≡ empty repeats) }
+{
+    let transactions = Transactions::new(alloc, repeats)?;
+    let rows = Watchers::new(alloc, rows)?;
+    Ok(Waiting::new(transactions, rows, repeats, per_source))
+}
+
+/// What it listens with, of a service with so many workers. It took no line yet.
+fn new_ears(
+    alloc: Global,
+    workers: u32,
+    sip: SipDesk<UdpWire>,
+    desk: ControlPort<UdpWire>,
+) -> Result<Ears, NoMemory>
+    ensures sip { IfOk result (λ e. e.sip ≡ sip) }
+    ensures coming { IfOk result (λ e. e.desk.coming ≡ desk.coming) }
+    ensures fresh { IfOk result (λ e. IsFresh (opening desk) workers (seen e.desk)) }
+{
+    let desk = ControlDesk::at(alloc, desk, workers)?;
+    Ok(Ears { sip, desk })
+}
+
+/// Makes what a service with so many workers begins with.
+fn make_ready(alloc: Global, workers: u32, work: Work) -> Result<Ready, NoMemory>
+    ensures setup { IfOk result (λ r. r.setup ≡ work.setup) }
+    ensures sip { IfOk result (λ r. r.ears.sip ≡ work.sip) }
+    ensures coming { IfOk result (λ r. r.ears.desk.coming ≡ work.desk.coming) }
+    ensures fresh { IfOk result (λ r. IsFresh (opening work.desk) workers (seen r.ears.desk)) }
+    ensures none { IfOk result (λ r. r.sending.waiting.transactions ≡ empty work.repeats) }
+{
+    let rows = work.setup.limits.table().saturating_mul(workers);
+    let per_source = work.sip.admission.per_source;
+    let waiting = new_waiting(alloc, work.repeats, rows, per_source)?;
+    let Work {
+        setup,
+        sip,
+        desk,
+        shared,
+        repeats: _,
+        linger,
+    } = work;
+    let ears = new_ears(alloc, workers, sip, desk)?;
+    shared.set_workers(workers);
+    let linger = u64::from(linger) * 1000;
+    let sending = Sending {
+        waiting,
+        linger,
+        shared,
+    };
+    Ok(Ready {
+        setup,
+        ears,
+        sending,
+    })
+}
+
+/// Starts a crew with these packages and three ports, whose outs are sent so.
+fn start_running<R, P>(
+    rt: R,
+    alloc: Global,
+    setup: &Setup,
+    boxes: Vec<Vec<P>>,
+    sending: Sending,
+) -> Result<(Running, Vec<Port>), RunError>
+where
+    R: Threads + Wait + Copy + Send + 'static,
+    P: Package + 'static,
+    requires few_workers { vec_len boxes ≤ 256 }
+    ensures started { IfOk result (λ r. (b : _)
+        → IsNew (λ w. start_of P.seen setup.now w (get_or boxes.items w b).items) r.1.items r.0) }
+    ensures workers { IfOk result (λ r. r.0.outgoing.workers ≡ vec_len boxes) }
+    ensures some { IfOk result (λ _. 0 < vec_len boxes) }
+    ensures waiting { IfOk result (λ r. r.0.outgoing.waiting ≡ sending.waiting) }
+{
+    let workers = boxes.len() as u32;
+    let (parker, waker) = Waker::pair(alloc, &sending.shared)?;
+    let (crew, ports, taker) = start_crew(rt, alloc, setup, boxes, waker)?;
+    let Sending {
+        waiting,
+        linger,
+        shared,
+    } = sending;
+    let outgoing = Outgoing {
+        taker,
+        workers,
+        waiting,
+        linger,
+        parker,
+    };
+    let running = Running {
+        crew,
+        outgoing,
+        shared,
+    };
+    Ok((running, ports))
+}
+
 /// Runs a crew with these packages as a service: a thread for each of three ports feeds it, with what SIP datagrams say, with
 /// what control lines tell, and with the time, while this one sends out what the workers post; then all are joined. Of the SIP datagrams
 /// only those are sent on that the admission of `work` allows.
@@ -385,14 +509,14 @@ pub fn run_crew<R, P, W, F>(
     exit: &mut Exit<W, F>,
 ) -> Result<Outcome, RunError>
 where
-    R: Threads + Wait + Clock + Eprint + Copy + Send + 'static,
+    R: Threads + Wait + Clock + Files + Eprint + Copy + Send + 'static,
     P: Package + 'static,
     W: Wire,
     F: Write,
     requires few_workers { vec_len boxes ≤ 256 }
     ensures runs { IfOk result (λ o. (b : _)
         → Runs (λ w. start_of P.seen work.setup w (get_or boxes.items w b).items) (vec_len boxes) work.repeats
-        work.desk.mailboxes.items work.sip.admission
+        (opening work.desk) work.sip.admission
         (record { taken = W.taken exit.old.wire; failures = W.failures exit.old.wire })
         (record { taken = W.taken exit.new.wire; failures = W.failures exit.new.wire })
         (record { contents = F.contents exit.old.sink.writer; failures = exit.old.sink.failures })
@@ -410,30 +534,11 @@ where
         (record { contents = F.contents exit.new.sink.writer; failures = exit.new.sink.failures }))) }
 {
     let workers = boxes.len() as u32;
-    let Work {
+    let Ready {
         setup,
-        sip,
-        desk,
-        shared,
-        repeats,
-        linger,
-    } = work;
-    let transactions = Transactions::new(alloc, repeats)?;
-    let desk = ControlDesk::at(alloc, desk, workers)?;
-    shared.set_workers(workers);
-    let (parker, waker) = Waker::pair(alloc, &shared)?;
-    let (crew, ports, taker) = start_crew(rt, alloc, &setup, boxes, waker)?;
-    let outgoing = Outgoing {
-        taker,
-        workers,
-        waiting: Waiting::new(transactions, repeats),
-        linger: u64::from(linger) * 1000,
-        parker,
-    };
-    let running = Running {
-        crew,
-        outgoing,
-        shared,
-    };
-    serve(rt, alloc, running, ports, Ears { sip, desk }, exit)
+        ears,
+        sending,
+    } = make_ready(alloc, workers, work)?;
+    let (running, ports) = start_running(rt, alloc, &setup, boxes, sending)?;
+    serve(rt, alloc, running, ports, ears, exit)
 }

@@ -1,5 +1,6 @@
 //! The NOTIFYs that nobody has answered yet, sent again (RFC 3261 section 17.1.2).
 ghost use Rattle.std.specs.Prelude.{◌≡◌, ◌<◌, ◌^◌, List, [], map, true};
+ghost use Rattle.service.specs.Watched.{IsSeen, AreRowed, noted_rows};
 ghost use Rattle.transport.specs.Wires.{Grows};
 ghost use Rattle.transactions.specs.Runs.{state_after};
 ghost use Rattle.service.specs.Sending.{Act, Does, fates, kept_after, sent_again};
@@ -7,12 +8,14 @@ ghost use Rattle.service.specs.Taken.{failures_then};
 ghost use Rattle.service.specs.Noted.{answer_of};
 ghost use Rattle.service.specs.declared.notes.Note.{Note};
 
+use crate::notes::Note;
 use crate::shared::{Counter, LAST_MOMENT, Shared};
 use notifier_model::{NotifyOut, Out};
-use std::rt::Clock;
+use std::rt::{Clock, Files};
 use std::sync::Wait;
 use transactions::{Open, Transactions};
 use transport::Wire;
+use watchers::Watchers;
 
 /// How many notes are taken between two looks at what is due and what was posted.
 const NOTES_AT_ONCE: u32 = 16;
@@ -27,8 +30,14 @@ const PACE: u32 = 8;
 /// How many outs that follow one another are sent between two looks at the clock, the notes and what is due.
 const OUTS_AT_ONCE: u32 = 16;
 
+/// How often nothing may be posted before the thread looks at all of that again, and sleeps.
+const TURNS: u32 = 8;
+
 /// How many milliseconds pass between two lines on NOTIFYs that were given up.
 const MINUTE: u64 = 60_000;
+
+/// How many milliseconds pass between two looks at what the system dropped.
+const SECOND: u64 = 1000;
 
 /// The time of the thread that sends.
 #[derive(Drop)]
@@ -39,6 +48,8 @@ pub(crate) struct Watch {
     repeats: u32,
     /// How many outs followed one another since that look.
     outs: u32,
+    /// How many turns there were in a row in which nothing was done.
+    idle: u32,
     /// For how many milliseconds at most the answers to the last NOTIFYs are waited for, and until when.
     linger: u64,
     until: Option<u64>,
@@ -51,6 +62,7 @@ impl Watch {
             moment: 0,
             repeats: PACE,
             outs: 0,
+            idle: 0,
             linger,
             until: None,
         }
@@ -66,26 +78,47 @@ impl Watch {
     /// Counts an out that was sent.
     pub(crate) fn count_out(&mut self) {
         self.outs = self.outs.saturating_add(1);
+        self.idle = 0;
     }
 
-    /// Nothing was posted, so the next turn looks again.
-    pub(crate) fn pause(&mut self) {
+    /// Nothing was posted in this turn. Where more is to be done all the same, the next turn goes on with it.
+    pub(crate) fn pause(&mut self, has_more: bool) {
         self.outs = 0;
+        self.idle = if has_more {
+            0
+        } else {
+            self.idle.saturating_add(1)
+        };
     }
 
-    /// Whether outs follow one another, and few since the last look: so a change to many phones costs few looks.
-    pub(crate) fn is_busy(&self) -> bool {
+    /// Whether something was done a moment ago: so more may be posted soon, and the thread doesn't sleep.
+    pub(crate) fn is_awake(&self) -> bool {
+        self.idle < TURNS
+    }
+
+    /// Whether outs follow one another, and few since the last look at the clock: so a change to many phones costs few looks.
+    fn is_sending(&self) -> bool {
         0 < self.outs && self.outs < OUTS_AT_ONCE
     }
 
-    /// Looks at the clock, unless outs follow one another. Where the clock can't be read no answer is waited for.
-    pub(crate) fn look<R: Clock>(&mut self, rt: &R, shared: &Shared) {
-        if self.is_busy() {
+    /// Whether only what is posted counts in this turn: outs follow one another, or the next one may be posted soon. So neither a
+    /// change to many phones nor a short wait costs much.
+    pub(crate) fn is_busy(&self) -> bool {
+        self.is_sending() || (0 < self.idle && self.is_awake())
+    }
+
+    /// Looks at the clock, unless outs follow one another: an out that comes behind a wait is of a moment of its own. Where the clock
+    /// can't be read no answer is waited for.
+    pub(crate) fn look<R: Clock + Files>(&mut self, rt: &R, shared: &Shared) {
+        if self.is_sending() {
             return;
         }
         self.outs = 0;
         match shared.moment(rt) {
             Some(moment) if moment > self.moment => {
+                if self.moment == 0 || self.moment / SECOND < moment / SECOND {
+                    shared.look_at_drops(rt);
+                }
                 self.moment = moment;
                 self.repeats = PACE;
             }
@@ -153,29 +186,40 @@ fn send_again<R: Wait, W: Wire>(rt: &R, wire: &mut W, due: &Open, shared: &Share
             false
         }
         Err(_) => {
-            shared.count(Counter::Failed);
+            shared.count_unsent(wire.send_error());
             true
         }
     }
 }
 
-/// The NOTIFYs that wait for their answers.
+/// The NOTIFYs that wait for their answers, and the subscriptions of which they tell.
 #[derive(Drop)]
 pub(crate) struct Waiting {
     pub(crate) transactions: Transactions,
+    pub(crate) watchers: Watchers,
     /// Whether each NOTIFY is sent once, by the operator's word.
     is_off: bool,
+    /// Whether it is told how many subscriptions a source has.
+    counts_sources: bool,
     given_up: GivenUp,
 }
 
 impl Waiting {
-    /// None, with room for so many. Where there is room for none each NOTIFY is sent once.
-    pub(crate) fn new(transactions: Transactions, room: u32) -> Waiting
+    /// None, with room for so many. Where there is room for none each NOTIFY is sent once. Where each source may have so many subscriptions
+    /// only, it is told how many it has.
+    pub(crate) fn new(
+        transactions: Transactions,
+        watchers: Watchers,
+        room: u32,
+        per_source: Option<u32>,
+    ) -> Waiting
         ensures { result.transactions ≡ transactions }
     {
         Waiting {
             transactions,
+            watchers,
             is_off: room == 0,
+            counts_sources: per_source.is_some(),
             given_up: GivenUp {
                 count: 0,
                 told: None,
@@ -188,11 +232,87 @@ impl Waiting {
         self.transactions.len()
     }
 
+    /// Whose subscription begins or ends with this out, if one does.
+    fn changed_source(&self, out: &Out) -> Option<u32> {
+        match out {
+            Out::Notify {
+                tag,
+                number,
+                terminated,
+                ..
+            } if self.counts_sources && (*number == 1 || *terminated) => {
+                self.watchers.source(tag.as_str())
+            }
+            _ => None,
+        }
+    }
+
+    /// Whose subscription is gone by this note, if one is.
+    fn gone_source(&self, note: &Note) -> Option<u32> {
+        if self.counts_sources && note.status == GONE {
+            self.watchers.source(note.tag.as_str())
+        } else {
+            None
+        }
+    }
+
+    /// Tells how many subscriptions a source has, for those who ask for one more.
+    fn tell_source<R: Wait>(&self, rt: &R, shared: &Shared, source: Option<u32>) {
+        let Some(source) = source else {
+            return;
+        };
+        if self.counts_sources {
+            shared.set_live_from(rt, source, self.watchers.rows_from(source));
+        }
+    }
+
+    /// Whether each NOTIFY is sent once, by the operator's word.
+    pub(crate) fn is_off(&self) -> bool {
+        self.is_off
+    }
+
+    /// Notes in its row what an out tells of its subscription.
+    #[tactic(auto, using(crate::proofs::Rowing::seen_last, crate::proofs::Rowing::seen_renewed, crate::proofs::Rowing::seen_refused))]
+    fn watch(&mut self, now: u64, out: &Out)
+        requires in_range { now < 2 ^ 63 }
+        ensures seen { IsSeen now out.now self.old.watchers.rows self.new.watchers.rows }
+        ensures transactions { self.new.transactions ≡ self.old.transactions }
+    {
+        let Out::Notify {
+            tag,
+            number,
+            terminated,
+            to,
+            bytes,
+        } = out
+        else {
+            return;
+        };
+        if *terminated {
+            self.watchers.end(tag.as_str());
+            return;
+        }
+        match self
+            .watchers
+            .renew(now, tag.as_str(), *number, *to, bytes.as_slice())
+        {
+            Ok(()) => {}
+            // It stays without a row.
+            Err(_) => {}
+        }
+    }
+
     /// Keeps a NOTIFY that was sent at this moment, or at which the wire failed. Any other out is dropped.
-    pub(crate) fn keep(&mut self, now: u64, out: Out, shared: &Shared)
+    pub(crate) fn keep<R: Wait>(&mut self, rt: &R, now: u64, out: Out, shared: &Shared)
         requires in_range { now < 2 ^ 63 }
         ensures kept { self.new.transactions ≡ kept_after now out self.old.transactions }
+        ensures seen { IsSeen now out self.old.watchers.rows self.new.watchers.rows }
     {
+        let ended = self.changed_source(&out);
+        self.watch(now, &out);
+        let begun = self.changed_source(&out);
+        self.tell_source(rt, shared, ended.or(begun));
+        shared.set_live(self.watchers.len());
         let Some(
             NotifyOut {
                 tag,
@@ -210,21 +330,27 @@ impl Waiting {
         }
     }
 
-    /// Takes notes of answers, a few at a time, and counts those that say that a subscription is gone.
-    fn take_notes<R: Wait>(&mut self, rt: &R, shared: &Shared)
+    /// Takes notes of answers, a few at a time, and counts those that say that a subscription is gone. True where more may wait.
+    fn take_notes<R: Wait>(&mut self, rt: &R, shared: &Shared) -> bool
         ensures noted { (taken : List Note)
-            × (self.new.transactions ≡ state_after (map answer_of taken) self.old.transactions) }
+            × (self.new.transactions ≡ state_after (map answer_of taken) self.old.transactions)
+            × (self.new.watchers.rows ≡ noted_rows taken self.old.watchers.rows) }
     {
         for _ in 0..NOTES_AT_ONCE {
             let Some(note) = shared.notes.take(rt) else {
-                return;
+                return false;
             };
             if note.status == GONE {
                 shared.count(Counter::Gone);
             }
+            let gone = self.gone_source(&note);
             self.transactions
                 .answer(note.tag.as_str(), note.number, note.status);
+            self.watchers
+                .answer(note.tag.as_str(), note.number, note.status);
+            self.tell_source(rt, shared, gone);
         }
+        true
     }
 
     /// Sends the NOTIFY again that is due at this moment, or gives it up. False where none is due.
@@ -239,7 +365,8 @@ impl Waiting {
         ensures does { (acts : List Act) × (fates acts ≡ [])
             × Does acts self.old.transactions self.new.transactions
             (record { taken = W.taken wire.old; failures = W.failures wire.old })
-            (record { taken = W.taken wire.new; failures = W.failures wire.new }) }
+            (record { taken = W.taken wire.new; failures = W.failures wire.new })
+            × AreRowed self.old.transactions acts self.old.watchers.rows self.new.watchers.rows }
         ensures given { Grows (W.given wire.old) (W.given wire.new) [] }
     {
         let Some(due) = self.transactions.due(now) else {
@@ -248,7 +375,11 @@ impl Waiting {
         if due.is_over(now) {
             shared.count(Counter::GivenUp);
             self.given_up.add(rt, now, due);
+            let tag = due.tag.as_str();
+            let source = self.watchers.source(tag);
+            self.watchers.end(tag);
             self.transactions.turn(now);
+            self.tell_source(rt, shared, source);
             return true;
         }
         send_again(rt, wire, due, shared);
@@ -256,8 +387,8 @@ impl Waiting {
         true
     }
 
-    /// Takes notes of answers, and then sends a NOTIFY again that is due, or gives it up: false where none is due, or no more may be
-    /// sent again in this moment. Nothing of that while outs follow one another.
+    /// Takes notes of answers, and, once none waits, sends a NOTIFY again that is due, or gives it up. Nothing of that while only what is
+    /// posted counts. True where more may be done at once: notes wait, or another NOTIFY may be due and sent again in this moment.
     pub(crate) fn tend<R: Wait + Eprint, W: Wire>(
         &mut self,
         rt: &R,
@@ -268,13 +399,18 @@ impl Waiting {
         ensures does { (acts : List Act) × (fates acts ≡ [])
             × Does acts self.old.transactions self.new.transactions
             (record { taken = W.taken wire.old; failures = W.failures wire.old })
-            (record { taken = W.taken wire.new; failures = W.failures wire.new }) }
+            (record { taken = W.taken wire.new; failures = W.failures wire.new })
+            × AreRowed self.old.transactions acts self.old.watchers.rows self.new.watchers.rows }
         ensures given { Grows (W.given wire.old) (W.given wire.new) [] }
     {
         if watch.is_busy() {
             return false;
         }
-        self.take_notes(rt, shared);
+        if self.take_notes(rt, shared) {
+            return true;
+        }
+        shared.set_live(self.watchers.len());
+        shared.window.answer(rt, watch.now(), &self.watchers);
         if watch.repeats == 0 {
             return false;
         }

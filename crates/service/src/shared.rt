@@ -1,17 +1,28 @@
 //! What the threads of a service share: how far it is, what they counted, and the notes of answers to NOTIFYs.
 ghost use Rattle.std.specs.Prelude.{◌<◌, ◌^◌, IfSome};
 
+use crate::drops::kernel_drops;
+use crate::lost_starts::LostStarts;
 use crate::notes::Notes;
 use crate::statuses::Statuses;
+use crate::window::Window;
 use sip_read::ReadError;
-use sip_text::NoMemory;
+use sip_text::{Addr, NoMemory};
 use std::alloc::Global;
-use std::rt::Clock;
+use std::rt::{Clock, Files};
 use std::sync::atomic::{AtomicBool, AtomicU32, AtomicU64, Ordering};
+use std::sync::{Mutex, Wait};
 use std::time::Instant;
+use watchers::Counts;
 
 /// The last moment, in milliseconds: no service is up for so long.
 pub(crate) const LAST_MOMENT: u64 = (1 << 63) - 1;
+
+/// No count is so high.
+const UNKNOWN: u64 = u64::MAX;
+
+/// No error of the system has this number.
+const NO_ERROR: u32 = 0;
 
 /// No worker has this number.
 const NOBODY: u32 = u32::MAX;
@@ -20,10 +31,20 @@ const NOBODY: u32 = u32::MAX;
 #[derive(Drop)]
 pub struct Shared {
     began: Instant,
+    alloc: Global,
+    /// Where SIP datagrams come in.
+    place: Addr,
+    /// What the system dropped there, or UNKNOWN.
+    kernel_drops: AtomicU64,
     is_closing: AtomicBool,
     is_finished: AtomicBool,
     logs_requests: AtomicBool,
     pub(crate) notes: Notes,
+    pub(crate) lost_starts: LostStarts,
+    pub(crate) window: Window,
+    /// How many live subscriptions each source has, as the thread that sends told it last.
+    sources: Mutex<Counts>,
+    live: AtomicU64,
     datagrams: AtomicU64,
     unread: [AtomicU64; 7],
     events: AtomicU64,
@@ -52,6 +73,11 @@ pub struct Shared {
     workers_ended: AtomicU64,
     // the number of the first worker that ran out of memory, or NOBODY
     spent_worker: AtomicU32,
+    control_foreign: AtomicU64,
+    starts_dropped: AtomicU64,
+    per_source: AtomicU64,
+    // the number of the system's error at the last send that failed, or NO_ERROR
+    send_error: AtomicU32,
 }
 
 /// The causes for which a datagram couldn't be read, by the number of the error, from 1.
@@ -111,6 +137,12 @@ pub enum Counter {
     ControlLine,
     /// A worker has ended.
     WorkerEnded,
+    /// Of the control lines one from elsewhere than lines are heard from.
+    ForeignLine,
+    /// A START line was not written, and its transfer fails.
+    StartDropped,
+    /// A request was refused since its source has as many live subscriptions as it may.
+    Crowded,
 }
 
 /// No datagram that couldn't be read, of any cause.
@@ -148,15 +180,25 @@ fn add_word(alloc: Global, text: &mut String, counted: &AtomicU64) -> Result<(),
 }
 
 impl Shared {
-    /// Of a service that begins now. An error where memory is wanting.
-    pub fn new(alloc: Global, began: Instant) -> Result<Shared, NoMemory> {
+    /// Of a service that begins now, and hears SIP datagrams at this address. An error where memory is wanting.
+    pub fn new(alloc: Global, began: Instant, place: Addr) -> Result<Shared, NoMemory> {
         let notes = Notes::new(alloc)?;
+        let lost_starts = LostStarts::new(alloc)?;
+        let window = Window::new(alloc)?;
+        let sources = Mutex::new(Counts::new(alloc, 0)?);
         Ok(Shared {
             began,
+            alloc,
+            place,
+            kernel_drops: AtomicU64::new(UNKNOWN),
             is_closing: AtomicBool::new(false),
             is_finished: AtomicBool::new(false),
             logs_requests: AtomicBool::new(false),
             notes,
+            lost_starts,
+            window,
+            sources,
+            live: AtomicU64::new(0),
             datagrams: AtomicU64::new(0),
             unread: no_causes(),
             events: AtomicU64::new(0),
@@ -184,6 +226,10 @@ impl Shared {
             workers: AtomicU64::new(0),
             workers_ended: AtomicU64::new(0),
             spent_worker: AtomicU32::new(NOBODY),
+            control_foreign: AtomicU64::new(0),
+            starts_dropped: AtomicU64::new(0),
+            per_source: AtomicU64::new(0),
+            send_error: AtomicU32::new(NO_ERROR),
         })
     }
 
@@ -278,8 +324,37 @@ impl Shared {
             Counter::Forbidden => &self.forbidden,
             Counter::ControlLine => &self.control_lines,
             Counter::WorkerEnded => &self.workers_ended,
+            Counter::ForeignLine => &self.control_foreign,
+            Counter::StartDropped => &self.starts_dropped,
+            Counter::Crowded => &self.per_source,
         };
         counted.fetch_add(1, Ordering::SeqCst);
+    }
+
+    /// The system told this number at a send that failed, if it told one.
+    pub(crate) fn note_send_error(&self, number: Option<u32>) {
+        if let Some(number) = number {
+            self.send_error.store(number, Ordering::SeqCst);
+        }
+    }
+
+    /// Counts what was not sent, at which the system told this number, if it told one.
+    pub(crate) fn count_unsent(&self, number: Option<u32>) {
+        self.count(Counter::Failed);
+        self.note_send_error(number);
+    }
+
+    /// How much was not sent or written.
+    pub(crate) fn unsent(&self) -> u64 {
+        self.failed.load(Ordering::SeqCst)
+    }
+
+    /// The number of the system's error at the last send that failed. None where it told none yet.
+    pub(crate) fn send_error(&self) -> Option<u32> {
+        match self.send_error.load(Ordering::SeqCst) {
+            NO_ERROR => None,
+            number => Some(number),
+        }
     }
 
     /// Counts an answer to a request by its status code.
@@ -292,10 +367,19 @@ impl Shared {
         self.workers.store(u64::from(count), Ordering::SeqCst);
     }
 
-    /// How many subscriptions live: those that began, without those whose last NOTIFY was made.
-    fn live(&self) -> u64 {
-        let begun = self.begun.load(Ordering::SeqCst);
-        begun.saturating_sub(self.over.load(Ordering::SeqCst))
+    /// So many subscriptions live: each has a row.
+    pub(crate) fn set_live(&self, count: usize) {
+        self.live.store(count as u64, Ordering::SeqCst);
+    }
+
+    /// How many live subscriptions this source has, as the thread that sends told it last.
+    pub(crate) fn live_from<R: Wait>(&self, rt: &R, source: u32) -> usize {
+        self.sources.lock(rt).get(source)
+    }
+
+    /// This source has so many live subscriptions now. Where there is no memory for it, it has as many as before.
+    pub(crate) fn set_live_from<R: Wait>(&self, rt: &R, source: u32, count: usize) {
+        let _ = self.sources.lock(rt).set(source, count);
     }
 
     /// Counts a datagram that couldn't be read for this reason.
@@ -316,7 +400,7 @@ impl Shared {
         }
     }
 
-    /// What an operator hears of once a minute, and how often each has happened.
+    /// What an operator hears of once a minute, and how often each has happened. What could not be sent is told apart.
     pub(crate) fn complaints(&self) -> [(&'static str, u64); COMPLAINTS] {
         let told = |counted: &AtomicU64| counted.load(Ordering::SeqCst);
         [
@@ -330,9 +414,12 @@ impl Shared {
                 "datagrams were longer than --max-datagram",
                 told(&self.too_long),
             ),
-            ("datagrams or lines could not be sent", told(&self.failed)),
             ("requests were answered 401", told(&self.challenged)),
             ("requests were answered 403", told(&self.forbidden)),
+            (
+                "requests were more than --per-source",
+                told(&self.per_source),
+            ),
             ("requests were answered 400", self.statuses.sent("400")),
             ("requests were answered 404", self.statuses.sent("404")),
             ("requests were answered 405", self.statuses.sent("405")),
@@ -392,6 +479,9 @@ impl Shared {
             ("control_lines", &self.control_lines),
             ("workers", &self.workers),
             ("workers_ended", &self.workers_ended),
+            ("control_foreign", &self.control_foreign),
+            ("starts_dropped", &self.starts_dropped),
+            ("per_source", &self.per_source),
         ];
         for (name, counted) in named {
             add_line(alloc, text, name, counted)?;
@@ -419,17 +509,32 @@ impl Shared {
         Ok(())
     }
 
+    /// Looks at what the system dropped before it could be heard. Where it doesn't tell that the last look counts.
+    pub(crate) fn look_at_drops<R: Files>(&self, rt: &R) {
+        if let Some(count) = kernel_drops(rt, self.alloc, self.place) {
+            self.kernel_drops.store(count, Ordering::SeqCst);
+        }
+    }
+
+    /// Appends what the system dropped until the last look, where it told that.
+    fn add_drops(&self, alloc: Global, text: &mut String) -> Result<(), NoMemory> {
+        if self.kernel_drops.load(Ordering::SeqCst) == UNKNOWN {
+            return Ok(());
+        }
+        add_line(alloc, text, "kernel_drops", &self.kernel_drops)
+    }
+
     /// The counters, each on a line of its own, behind the seconds that the service is up. The datagrams that couldn't be
-    /// read are counted by the number of the error, from 1, on one line, and by cause, the answers by status code.
+    /// read are counted by the number of the error, from 1, on one line, and by cause, the answers by status code. What the system
+    /// dropped at the socket of SIP stands there where it tells that.
     pub fn lines(&self, alloc: Global, seconds: u64) -> Result<String, NoMemory> {
         let mut text = format!(in alloc; "up {seconds}\n")?;
         self.add_named(alloc, &mut text)?;
         self.add_unread(alloc, &mut text)?;
-        let live = self.live();
-        let line = format!(in alloc; "live {live}\n")?;
-        text.push_str(line.as_str())?;
+        add_line(alloc, &mut text, "live", &self.live)?;
         self.statuses.add_lines(alloc, &mut text)?;
         self.add_causes(alloc, &mut text)?;
+        self.add_drops(alloc, &mut text)?;
         Ok(text)
     }
 }

@@ -169,8 +169,8 @@ module _ (old : Book) (place : ℕ) (t u : Open) (h : IsBook old) (there : at ol
         early = λ x e. that_one (λ (y : Open). y.first < 2 ^ 63) u x e (subst (λ (m : ℕ). m < 2 ^ 63) (sym another.first) (h.early place t there));
         names = subst (IsRinged (name_seat new)) (sym names) (ringed_same (name_seat old) (name_seat new) old.names h.names (seats name_ring name_kept));
         tags = subst (IsRinged (tag_seat new)) (sym tags) (ringed_same (tag_seat old) (tag_seat new) old.tags h.tags (seats tag_ring tag_kept));
-        many_names = ap (λ (r : Rings). length r.older.items) names;
-        many_tags = ap (λ (r : Rings). length r.older.items) tags;
+        many_names = ap (λ (r : Rings). length r.links.items) names;
+        many_tags = ap (λ (r : Rings). length r.links.items) tags;
       })
     where
       updates : Updates old.slab new.slab place (Some u)

@@ -1,5 +1,5 @@
 -- Nodes lie in their rings by their ranks, also after one came or went.
-use Rattle.std.proofs.Common.{◌≡◌, ◌≢◌, ◌∙◌, sym, ap, refl, subst, inl, inr, ◌⊎◌, ℕ, ◌<◌, Option, Some, None, length, arith}
+use Rattle.std.proofs.Common.{◌≡◌, ◌≢◌, ◌∙◌, sym, ap, refl, subst, inl, inr, ◌⊎◌, ℕ, ◌<◌, Option, Some, None, arith}
 use Rattle.std.proofs.lemmas.Bool.Decides.{nat_tests}
 use Rattle.transactions.specs.declared.rings.Rings.{Rings}
 use Rattle.transactions.specs.Rings.{nodes, next_older, next_newer, IsAlone, IsJoined, IsParted, Seat, IsFollowed, IsPreceded, IsRinged}
@@ -22,7 +22,6 @@ ring_is e = ap (λ (x : Seat). x.ring) e
 -- ---- what comes, and what goes
 
 pub record Ready (rings : Rings) (head node : ℕ) : Type 0 where
-  pub many : length rings.newer.items ≡ nodes rings
   pub inside : head < nodes rings
   pub newest : next_older rings head < nodes rings
   pub apart : node ≢ head
@@ -33,7 +32,6 @@ module _ (seat : ℕ → Option Seat) (rings : Rings) (h : IsRinged seat rings) 
   ready head node e vacant =
       let top = h.followed head (record { ring = head; rank = 0 }) e in
       record {
-        many = h.many;
         inside = h.within head _ e;
         newest = h.within (next_older rings head) top.next top.sits;
         apart = λ is. no_seat vacant (ap seat is ∙ e);
@@ -173,10 +171,9 @@ module _ (seat after : ℕ → Option Seat) (old new : Rings) (head node : ℕ) 
 
   pub ringed_join : IsRinged after new
   ringed_join = record {
-    many = j.many_newer ∙ h.many ∙ sym j.many_older;
     within = λ n u e. elim (cases n node) [
-      | inl is ↦ (let count = j.many_older in omega (arith, count, is, inside))
-      | inr ne ↦ (let count = j.many_older in let low = h.within n u (before n u ne e) in omega (arith, count, low))
+      | inl is ↦ (let count = j.many in omega (arith, count, is, inside))
+      | inr ne ↦ (let count = j.many in let low = h.within n u (before n u ne e) in omega (arith, count, low))
     ];
     one = λ n m u v e k ring rank. elim (cases n node) [
       | inl is ↦ elim (cases m node) [ inl it ↦ is ∙ sym it | inr ne ↦ highest m v (before m v ne k) (rank_is (one_seat c.comes (ap after (sym is) ∙ e)) ∙ rank) ]
@@ -286,8 +283,7 @@ module _ (seat after : ℕ → Option Seat) (old new : Rings) (node : ℕ) (s : 
 
   pub ringed_part : IsRinged after new
   ringed_part = record {
-    many = p.many_newer ∙ h.many ∙ sym p.many_older;
-    within = λ n u e. (let count = p.many_older in let low = h.within n u (was n u e) in omega (arith, count, low));
+    within = λ n u e. (let count = p.many in let low = h.within n u (was n u e) in omega (arith, count, low));
     one = λ n m u v e k. h.one n m u v (was n u e) (was m v k);
     followed = followed_part;
     preceded = preceded_part;
@@ -298,7 +294,6 @@ module _ (seat after : ℕ → Option Seat) (old new : Rings) (node : ℕ) (s : 
 module _ (seat after : ℕ → Option Seat) (rings : Rings) (h : IsRinged seat rings) (same : (n : ℕ) → after n ≡ seat n) where
   pub ringed_same : IsRinged after rings
   ringed_same = record {
-    many = h.many;
     within = λ n s e. h.within n s (sym (same n) ∙ e);
     one = λ n m s u e k. h.one n m s u (sym (same n) ∙ e) (sym (same m) ∙ k);
     followed = λ n s e. (let o = h.followed n s (sym (same n) ∙ e) in record {
@@ -321,8 +316,7 @@ module _ (seat after : ℕ → Option Seat) (rings : Rings) (h : IsRinged seat r
 
 pub ringed_alone : (seat : ℕ → Option Seat) (rings : Rings) (count : ℕ) → IsAlone count rings → ((n : ℕ) (s : Seat) → seat n ≡ Some s → (n < count) × (n ≡ s.ring) × (s.rank ≡ 0)) → IsRinged seat rings
 ringed_alone seat rings count a heads = record {
-  many = a.many_newer ∙ sym a.many_older;
-  within = λ n s e. (let low = (heads n s e).0 in let count = a.many_older in omega (arith, low, count));
+  within = λ n s e. (let low = (heads n s e).0 in let count = a.many in omega (arith, low, count));
   one = λ n m s u e k ring rank. (heads n s e).1 ∙ ring ∙ sym (heads m u k).1;
   followed = λ n s e. (let it = heads n s e in let is = a.older n it.0 in record {
     next = s;

@@ -42,5 +42,6 @@ mod transactions;
 mod unkept;
 
 pub use open::{Open, Phase};
+pub use sip_text::NoMemory;
 pub use transactions::Transactions;
 pub use unkept::Unkept;

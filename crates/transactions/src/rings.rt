@@ -1,30 +1,40 @@
 //! Rings of nodes, linked both ways: a node comes and goes in as many steps, however many the others are.
 
-ghost use Rattle.std.specs.Prelude.{◌≡◌, ◌≢◌, ◌<◌, ℕ, IfOk, length, slice_index_or};
-ghost use Rattle.transactions.specs.Rings.{nodes, next_older, next_newer, IsAlone, IsJoined, IsParted};
+ghost use Rattle.std.specs.Prelude.{◌≡◌, ◌≢◌, ◌<◌, ℕ, IfOk, length};
+ghost use Rattle.transactions.specs.Rings.{nodes, link, next_older, next_newer, IsAlone, IsJoined, IsParted};
 
 use sip_text::NoMemory;
 use std::alloc::Global;
 
+/// What stands beside a node in its ring.
+#[derive(Clone, Copy, Debug)]
+pub struct Link {
+    /// The node that came before it; the newest, at a head.
+    pub older: usize,
+    /// The node that came after it; the oldest, at a head.
+    pub newer: usize,
+}
+
 /// Nodes in rings. Each ring has a head, and leads from it over its newest node to its oldest one and back to the head.
 #[derive(Drop)]
 pub struct Rings {
-    /// The node that came before each one; the newest, at a head.
-    pub older: Vec<usize>,
-    /// The node that came after each one; the oldest, at a head.
-    pub newer: Vec<usize>,
+    /// What stands beside each node. Both lie together, so that a step touches one place in memory.
+    pub links: Vec<Link>,
 }
 
-/// Each node's own number.
-fn own_numbers(alloc: Global, count: usize) -> Result<Vec<usize>, NoMemory>
+/// So many nodes, each beside itself.
+fn own_links(alloc: Global, count: usize) -> Result<Vec<Link>, NoMemory>
     ensures count { IfOk result (λ v. length v.items ≡ count) }
-    ensures own { IfOk result (λ v. (n : ℕ) → n < count → slice_index_or v.items n 0 ≡ n) }
+    ensures own { IfOk result (λ v. (n : ℕ) → n < count → link v.items n ≡ record { older = n; newer = n }) }
 {
-    let mut numbers = Vec::with_capacity(alloc, count)?;
+    let mut links = Vec::with_capacity(alloc, count)?;
     for node in 0..count {
-        numbers.push(node)?;
+        links.push(Link {
+            older: node,
+            newer: node,
+        })?;
     }
-    Ok(numbers)
+    Ok(links)
 }
 
 impl Rings {
@@ -32,9 +42,8 @@ impl Rings {
     pub fn new(alloc: Global, count: usize) -> Result<Rings, NoMemory>
         ensures { IfOk result (IsAlone count) }
     {
-        let older = own_numbers(alloc, count)?;
-        let newer = own_numbers(alloc, count)?;
-        Ok(Rings { older, newer })
+        let links = own_links(alloc, count)?;
+        Ok(Rings { links })
     }
 
     /// The node that came before this one; the newest, at a head.
@@ -42,12 +51,11 @@ impl Rings {
         requires { node < nodes self.now }
         ensures { result ≡ next_older self.now node }
     {
-        self.older[node]
+        self.links[node].older
     }
 
     /// The node comes into the ring of the head, as its newest.
     pub fn join(&mut self, head: usize, node: usize)
-        requires many { length self.old.newer.items ≡ nodes self.old }
         requires head { head < nodes self.old }
         requires node { node < nodes self.old }
         requires newest { next_older self.old head < nodes self.old }
@@ -55,24 +63,27 @@ impl Rings {
         requires comes { node ≢ next_older self.old head }
         ensures { IsJoined self.old self.new head node }
     {
-        let second = self.older[head];
-        self.older[node] = second;
-        self.older[head] = node;
-        self.newer[second] = node;
-        self.newer[node] = head;
+        let second = self.links[head].older;
+        self.links[node] = Link {
+            older: second,
+            newer: head,
+        };
+        self.links[head].older = node;
+        self.links[second].newer = node;
     }
 
     /// The node goes out of its ring.
     pub fn part(&mut self, node: usize)
-        requires many { length self.old.newer.items ≡ nodes self.old }
         requires node { node < nodes self.old }
         requires older { next_older self.old node < nodes self.old }
         requires newer { next_newer self.old node < nodes self.old }
         ensures { IsParted self.old self.new node }
     {
-        let before = self.older[node];
-        let after = self.newer[node];
-        self.older[after] = before;
-        self.newer[before] = after;
+        let Link {
+            older: before,
+            newer: after,
+        } = self.links[node];
+        self.links[after].older = before;
+        self.links[before].newer = after;
     }
 }

@@ -25,7 +25,7 @@ returns-clause-served g c =
       is_at = work.sip;
       ran =
           ran_is g.P.Package.seen c.work_of-work.result.0.setup boxes.items plan local work.setup c.in_ok-boxes.ensures.boxes
-          g.F.Write.contents _ boxes.ok.0 (omega (arith, few.0)) work.repeats work.mailboxes work.admission ran;
+          g.F.Write.contents _ boxes.ok.0 (omega (arith, few.0)) work.repeats work.opened work.admission ran;
       faults = faults_new work.sip_misses work.line_misses faults;
     })
 

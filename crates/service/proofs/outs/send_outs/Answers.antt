@@ -4,6 +4,7 @@ use Rattle.feeds.specs.Emitted.{counted}
 use Rattle.feeds.proofs.Emitting.{running_first, running_end, running_done, took_as}
 use Rattle.service.specs.Sending.{Put}
 use Rattle.service.proofs.Acts.{does_none, does_more, does_put, running_on, running_as, running_put, without_after, sent_out, flushed_on, flushed_put}
+use Rattle.service.proofs.Rowing.{rowed_put, rowed_more, rowed_from}
 use Rattle.service.proofs.outs.send_outs.Goals as goal
 
 pub loop-init : goal.loop-init
@@ -14,18 +15,25 @@ loop-init g c = record {
   running = running_first c.args.outgoing.now.taker c.args.outgoing.now.workers _ _ _ c.requires.workers (ended_none _ _ c.requires.none);
   does = does_none c.args.outgoing.now.waiting.transactions _;
   flushed = λ none. inl refl;
+  rowed = refl;
 }
 
 pub returns-then-is_over-clause-sent : goal.returns-then-is_over-clause-sent
 returns-then-is_over-clause-sent g c = λ limit none.
-    let at = c.loop.invariant in (at.acts, at.report, sent_out at.running at.does none, at.flushed)
+    let at = c.loop.invariant in (
+      at.acts,
+      at.report,
+      sent_out at.running at.does none,
+      at.flushed,
+      rowed_from limit c.args.outgoing.now.waiting.transactions at.acts c.args.outgoing.now.waiting.watchers.rows c.loop.outgoing.waiting.watchers.rows at.rowed none,
+    )
 
 pub returns-then-is_over-clause-ended : goal.returns-then-is_over-clause-ended
 returns-then-is_over-clause-ended g c = running_done c.loop.invariant.running (c.is_over.ensures.ended c.if-is_over.true)
 
 pub loop-preserved-in-Some-Ended : goal.loop-preserved-in-Some-Ended
 loop-preserved-in-Some-Ended g c =
-    let was = c.loop.invariant in let at = c.in-Some-Ended in let tended = c.tend-was_due.ensures in let more = tended.does in
+    let was = c.loop.invariant in let at = c.in-Some-Ended in let tended = c.tend-has_more.ensures in let more = tended.does in
     let some = at.ensures.some in record {
       acts = was.acts ++ more.0;
       report = was.report;
@@ -34,11 +42,12 @@ loop-preserved-in-Some-Ended g c =
           (took_as _ _ _ _ at.field-0-is at.ensures.next) (omega (arith, some));
       does = does_more was.does more.2;
       flushed = flushed_on (λ s. s.is_flushed) _ _ was.acts was.flushed more.0 more.1;
+      rowed = rowed_more was.acts more.0 _ _ _ _ _ was.does.open_now was.rowed more.3;
     }
 
 pub loop-preserved-in-Some-Out : goal.loop-preserved-in-Some-Out
 loop-preserved-in-Some-Out g c =
-    let was = c.loop.invariant in let at = c.in-Some-Out in let tended = c.tend-was_due.ensures in let more = tended.does in
+    let was = c.loop.invariant in let at = c.in-Some-Out in let tended = c.tend-has_more.ensures in let more = tended.does in
     let put = c.put_out-fate.ensures in let fate = c.put_out-fate.result in let now = c.now.result in record {
       acts = (was.acts ++ more.0) ++ Put now at.out fate ∷ [];
       report = counted was.report fate;
@@ -50,15 +59,18 @@ loop-preserved-in-Some-Out g c =
       does = does_more (does_more was.does more.2) (does_put now at.out fate _ _ _ _ put.taken put.wire_failures c.keep.ensures.kept);
       flushed = flushed_put (λ s. s.is_flushed) _ _ (was.acts ++ more.0) (flushed_on (λ s. s.is_flushed) _ _ was.acts was.flushed more.0 more.1)
           c.put_out-fate.new.sink now at.out fate put.fate put.flushed put.stays;
+      rowed = rowed_more (was.acts ++ more.0) (Put now at.out fate ∷ []) _ _ _ _ _ (does_more was.does more.2).open_now
+          (rowed_more was.acts more.0 _ _ _ _ _ was.does.open_now was.rowed more.3) (rowed_put now at.out fate _ _ c.keep.ensures.seen);
     }
 
 pub loop-preserved : goal.loop-preserved
 loop-preserved g c =
-    let was = c.loop.invariant in let tended = c.tend-was_due.ensures in let more = tended.does in record {
+    let was = c.loop.invariant in let tended = c.tend-has_more.ensures in let more = tended.does in record {
       acts = was.acts ++ more.0;
       report = was.report;
       without = was.without;
       running = running_on was.acts (running_as was.acts was.running c.next_posted.new.taker c.in-None-next_posted.ensures.none) more.0 _ more.1 tended.given;
       does = does_more was.does more.2;
       flushed = flushed_on (λ s. s.is_flushed) _ _ was.acts was.flushed more.0 more.1;
+      rowed = rowed_more was.acts more.0 _ _ _ _ _ was.does.open_now was.rowed more.3;
     }

@@ -3,6 +3,7 @@ use Rattle.feeds.specs.declared.sending.EmitReport.{EmitReport}
 use Rattle.feeds.specs.Emitted.{WireSeen, count, fails_to_start}
 use Rattle.feeds.proofs.Emitting.{Running}
 use Rattle.service.specs.Sending.{Act, fates, Does}
+use Rattle.service.specs.Watched.{AreRowed}
 use Rattle.service.proofs.outs.send_outs.Given as goal
 
 abbrev pub invariant-loop : goal.invariant-loop
@@ -18,5 +19,6 @@ invariant-loop g l = record {
   does : Does acts l.fn.outgoing.waiting.transactions l.outgoing.waiting.transactions
       (record { taken = g.W.Wire.taken l.fn.exit.wire; failures = g.W.Wire.failures l.fn.exit.wire })
       (record { taken = g.W.Wire.taken l.exit.wire; failures = g.W.Wire.failures l.exit.wire });
+  rowed : AreRowed l.fn.outgoing.waiting.transactions acts l.fn.outgoing.waiting.watchers.rows l.outgoing.waiting.watchers.rows;
   flushed : count fails_to_start (fates acts) ≡ 0 → (l.exit.sink ≡ l.fn.exit.sink) ⊎ (l.exit.sink.is_flushed ≡ true);
 }

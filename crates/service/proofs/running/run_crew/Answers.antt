@@ -1,30 +1,38 @@
-use Rattle.std.proofs.Common.{inr, get_or, ◌∙◌, arith}
+use Rattle.std.proofs.Common.{◌≡◌, ℕ, inr, get_or, sym, ap, ◌∙◌, arith}
+use Rattle.notifier_model.specs.Start.{Start}
 use Rattle.crew.specs.Ready.{start_of}
 use Rattle.crew.proofs.Starting.{element}
-use Rattle.service.proofs.Ran.{on_ok, on_err, no_other, started_with, runs_with, leaves_with}
+use Rattle.service.specs.Running.{opening}
+use Rattle.service.proofs.Ran.{on_ok, on_err, no_other, runs_with, runs_as, leaves_with, leaves_as, fresh_with}
 use Rattle.service.proofs.running.run_crew.Goals as goal
 
 pub serve-requires-clause-some : goal.serve-requires-clause-some
 serve-requires-clause-some g c κs within =
-    let some = c.in_ok-crew.ensures.some in let size = c.len-workers.ensures in omega arith
+    let some = c.in_ok-running.ensures.some in let size = c.in_ok-running.ensures.workers in omega arith
 
 pub serve-requires-clause-new : goal.serve-requires-clause-new
 serve-requires-clause-new g c κs within =
-    let some = c.in_ok-crew.ensures.some in let size = c.args.boxes.ok.0 in let held = element c.args.boxes.items 0 (omega arith) in (
-      λ w. start_of g.P.Package.seen c.args.work.setup w (get_or c.args.boxes.items w held).items,
-      started_with c.len-workers.ensures (c.in_ok-crew.ensures.started held),
+    let some = c.in_ok-running.ensures.some in let size = c.args.boxes.ok.0 in let held = element c.args.boxes.items 0 (omega arith) in (
+      λ w. start_of g.P.Package.seen c.in_ok-setup.field-0.setup w (get_or c.args.boxes.items w held).items,
+      c.in_ok-running.ensures.started held,
     )
 
 pub returns-clause-runs : goal.returns-clause-runs
 returns-clause-runs g c =
+    let made = c.in_ok-setup.ensures in let run = c.in_ok-running.ensures in
     on_ok c.serve.result c.serve.ensures.served
-    (λ o runs held. runs_with c.len-workers.ensures (runs _ c.args.work.repeats (started_with c.len-workers.ensures (c.in_ok-crew.ensures.started held)) (c.new-2.ensures ∙ c.in_ok-transactions.ensures)
-    c.args.work.desk.mailboxes.items (record { untold = c.in_ok-desk.ensures.untold; unkept = c.in_ok-desk.ensures.unkept; workers_are = c.in_ok-desk.ensures.workers })))
+    (λ o runs held.
+    runs_as (ap (λ setup. λ (w : ℕ). start_of g.P.Package.seen setup w (get_or c.args.boxes.items w held).items) made.setup) (ap (λ sip. sip.admission) made.sip)
+    (runs_with run.workers (runs _ c.args.work.repeats (run.started held) (ap (λ waiting. waiting.transactions) run.waiting ∙ made.none)
+    (opening c.args.work.desk) (fresh_with (c.len-workers.ensures ∙ sym run.workers) made.fresh))))
 
 pub returns-clause-no_memory : goal.returns-clause-no_memory
 returns-clause-no_memory g c = λ e. no_other c.serve.result _ _ c.serve.ensures.refused e (λ same. cc)
 
 pub returns-clause-no_thread : goal.returns-clause-no_thread
 returns-clause-no_thread g c =
+    let made = c.in_ok-setup.ensures in let run = c.in_ok-running.ensures in
     on_err c.serve.result c.serve.ensures.left
-    (λ left. inr (λ held. leaves_with c.len-workers.ensures (left _ c.args.work.repeats (started_with c.len-workers.ensures (c.in_ok-crew.ensures.started held)) (c.new-2.ensures ∙ c.in_ok-transactions.ensures))))
+    (λ left. inr (λ held.
+    leaves_as (ap (λ setup. λ (w : ℕ). start_of g.P.Package.seen setup w (get_or c.args.boxes.items w held).items) made.setup)
+    (leaves_with run.workers (left _ c.args.work.repeats (run.started held) (ap (λ waiting. waiting.transactions) run.waiting ∙ made.none)))))

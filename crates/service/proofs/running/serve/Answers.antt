@@ -19,7 +19,7 @@ wind_up-requires g c = (c.requires.new.0, c.args.ports.items, c.requires.new.1)
 
 pub returns-in-Ok-clause-served : goal.returns-in-Ok-clause-served
 returns-in-Ok-clause-served g c =
-    λ start repeats is none mailboxes fresh. c.serve_to_end.ensures.runs start c.args.ports.items c.args.ears.sip c.args.ears.desk repeats is none c.in-Ok.ensures.ports c.in-Ok.ensures.errands mailboxes fresh
+    λ start repeats is none opened fresh. c.serve_to_end.ensures.runs start c.args.ports.items c.args.ears.sip c.args.ears.desk repeats is none c.in-Ok.ensures.ports c.in-Ok.ensures.errands opened fresh
 
 pub returns-in-Ok-clause-faults : goal.returns-in-Ok-clause-faults
 returns-in-Ok-clause-faults g c = c.serve_to_end.ensures.faults c.args.ears.sip c.args.ears.desk c.in-Ok.ensures.errands

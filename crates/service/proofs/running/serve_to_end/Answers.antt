@@ -47,15 +47,15 @@ returns-clause-faults g c = λ phones desk errands. record {
 }
 
 pub returns-clause-runs : goal.returns-clause-runs
-returns-clause-runs g c = λ start lent phones desk repeats is none lent_are errands mailboxes fresh.
+returns-clause-runs g c = λ start lent phones desk repeats is none lent_are errands opened fresh.
     let sip = c.join-sip in let lines = c.join-lines in let time = c.join-time in
     let room = c.requires.room in let size = c.args.ports.ok.0 in
     let one = c.push_reserved.new.self in let two = c.push_reserved-2.new.self in let three = c.push_reserved-3.new.self in
     let all = pushed_three c.args.ports.items one.items two.items three.items sip.result.port lines.result.port time.result.port (omega arith) c.push_reserved.ensures.items c.push_reserved-2.ensures.items c.push_reserved-3.ensures.items in
     let P : List PortSeats → Type 0 = λ l. IsNew start l c.args.running in
     let sent = c.send_outs.ensures.sent repeats none in
-    runs_are (subst P lent_are is) mailboxes phones.admission _ _ _ _ _ sip.result.port lines.result.port time.result.port three.items c.send_outs.new.outgoing.taker.got repeats sent.0 sent.1
+    runs_are (subst P lent_are is) opened phones.admission _ _ _ _ _ sip.result.port lines.result.port time.result.port three.items c.send_outs.new.outgoing.taker.got repeats sent.0 sent.1
     (sent_datagrams errands sip.result.end _ sip.result.port sip.ensures.sends)
-    (sent_lines errands lines.result.end _ lines.result.port mailboxes c.args.running.outgoing.workers fresh lines.ensures.sends)
+    (sent_lines errands lines.result.end _ lines.result.port opened c.args.running.outgoing.workers fresh lines.ensures.sends)
     (sent_ticks errands time.result.end _ time.result.port time.ensures.sends)
     all c.join-report.ensures sent.2

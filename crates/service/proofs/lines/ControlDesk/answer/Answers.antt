@@ -4,8 +4,8 @@ use Rattle.control_lines.specs.declared.answer.Answer.TheVariants as answer
 use Rattle.control_lines.specs.Lines.{answer_text}
 use Rattle.service.specs.declared.lines.Done.TheVariants as did
 use Rattle.service.specs.Taken.{IsReply, seen}
-use Rattle.service.specs.Told.{IsReport, IsShown, dumped}
-use Rattle.service.proofs.Answering.{answered_by, unanswered_by, either_report}
+use Rattle.service.specs.Told.{IsReport, IsShown, IsInquiry, IsWatched, dumped}
+use Rattle.service.proofs.Answering.{answered_by, foreign_by, unanswered_by, either_report, either_page, page_of}
 use Rattle.service.proofs.lines.ControlDesk.answer.Goals as goal
 
 pub returns-in-Answered-clause-answered : goal.returns-in-Answered-clause-answered
@@ -21,6 +21,10 @@ returns-in-Repeated-clause-answered g c =
 pub returns-in-Unanswered-clause-answered : goal.returns-in-Unanswered-clause-answered
 returns-in-Unanswered-clause-answered g c =
     rw c.in-Unanswered.is (unanswered_by (seen c.args.self.now) c.args.to (g.W.Wire.taken c.args.self.now.going) (g.W.Wire.failures c.args.self.now.going))
+
+pub returns-in-Foreign-clause-answered : goal.returns-in-Foreign-clause-answered
+returns-in-Foreign-clause-answered g c =
+    rw c.in-Foreign.is (foreign_by (seen c.args.self.now) c.args.to (g.W.Wire.taken c.args.self.now.going) (g.W.Wire.failures c.args.self.now.going))
 
 pub returns-in-Counters-clause-answered : goal.returns-in-Counters-clause-answered
 returns-in-Counters-clause-answered g c =
@@ -54,3 +58,12 @@ returns-in-Closing-clause-answered g c =
 pub returns-in-Gone-clause-answered : goal.returns-in-Gone-clause-answered
 returns-in-Gone-clause-answered g c =
     rw c.in-Gone.is (answered_by (seen c.args.self.now) did.Gone c.args.to (answer_text answer.Closed) _ _ _ _ refl refl c.say-in-Gone.ensures.offered)
+
+pub returns-in-Watched-clause-answered : goal.returns-in-Watched-clause-answered
+returns-in-Watched-clause-answered g c =
+    let desk = seen c.args.self.now in
+    let m = c.in-Watched.place in let n = c.in-Watched.from in
+    rw c.in-Watched.is (answered_by desk (did.Watched m n) c.args.to _ _ _ _ _ refl
+    (either_page (IsReply desk (did.Watched m n)) c.watched-text.result
+    (λ t is. inl (page_of (IsInquiry desk.rows m n) IsWatched c.inquiry.result c.watched-text.result c.inquiry.ensures c.watched-text.ensures t is)) (inr refl))
+    c.say_page.ensures.offered)

@@ -1,4 +1,5 @@
-use Rattle.std.proofs.Common.{◌∙◌, ◌∷◌, [], refl, sym, take, false, true}
+use Rattle.std.proofs.Common.{◌≡◌, ◌∙◌, ◌∷◌, [], refl, sym, subst, take, false, true}
+use Rattle.service.specs.Taken.{DeskSeen, is_line}
 use Rattle.transport.specs.Wires.{Grows, datagram}
 use Rattle.feeds.proofs.Telling.{grows_none, grows_same}
 use Rattle.service.proofs.Deafness.{deaf_same, deaf_after}
@@ -12,7 +13,7 @@ loop-init g c = record {
   coming = grows_none (g.W.Wire.taken c.args.self.now.coming);
   deaf = deaf_same (g.W.Ear.misses c.args.self.now.coming);
   going = grows_none (g.W.Wire.given c.args.self.now.going);
-  refusing = refusing_none (g.W.Wire.given c.args.self.now.coming) (g.W.Wire.taken c.args.self.now.going) (g.W.Wire.failures c.args.self.now.going);
+  refusing = refusing_none c.args.self.now.networks.items (g.W.Wire.given c.args.self.now.coming) (g.W.Wire.taken c.args.self.now.going) (g.W.Wire.failures c.args.self.now.going);
 }
 
 pub returns-then-is_finished-clause-refused : goal.returns-then-is_finished-clause-refused
@@ -31,8 +32,8 @@ loop-preserved-in_default-came g c =
       refusing = refusing_silent at.refusing (g.W.Wire.given c.receive.new.wire) (gave_none _ _ _ _ c.in-Ok.ensures.given c.in_default-came.is);
     }
 
-pub loop-preserved-then-is_due : goal.loop-preserved-then-is_due
-loop-preserved-then-is_due g c =
+pub loop-preserved-then-owes : goal.loop-preserved-then-owes
+loop-preserved-then-owes g c =
     let at = c.loop.invariant in let one = c.in-Some-came in
     let came = datagram one.source (take one.length c.receive.new.octets) in
     let first : Grows (g.W.Wire.given c.loop.self.coming) (g.W.Wire.given c.receive.new.wire) (came ∷ []) = gave_one _ _ _ _ c.in-Ok.ensures.given (one.length, one.source) one.is in
@@ -43,7 +44,7 @@ loop-preserved-then-is_due g c =
       deaf = rw c.say.ensures.coming (deaf_after false false (g.W.Ear.misses c.args.self.now.coming) (g.W.Ear.misses c.loop.self.coming) (g.W.Ear.misses c.receive.new.wire) at.deaf c.in-Ok.ensures.deaf);
       going = grows_same (g.W.Wire.given c.args.self.now.going) (g.W.Wire.given c.loop.self.going) (g.W.Wire.given c.say.new.self.going) _ at.going c.say.ensures.given;
       refusing = refusing_more at.refusing after came gave (g.W.Wire.taken c.say.new.self.going) (g.W.Wire.failures c.say.new.self.going)
-          (sym c.is_due.ensures ∙ c.if-is_due.true) c.say.ensures.offered;
+          (subst (λ (desk : DeskSeen). is_line desk.networks came ≡ true) at.seen (sym c.owes.ensures ∙ c.if-owes.true)) c.say.ensures.offered;
     }
 
 pub loop-preserved : goal.loop-preserved
@@ -56,7 +57,7 @@ loop-preserved g c =
       deaf = deaf_after false false (g.W.Ear.misses c.args.self.now.coming) (g.W.Ear.misses c.loop.self.coming) (g.W.Ear.misses c.receive.new.wire) at.deaf c.in-Ok.ensures.deaf;
       going = at.going;
       refusing = refusing_blank at.refusing (g.W.Wire.given c.receive.new.wire) came first
-          (sym c.is_due.ensures ∙ c.if-is_due.false);
+          (subst (λ (desk : DeskSeen). is_line desk.networks came ≡ false) at.seen (sym c.owes.ensures ∙ c.if-owes.false));
     }
 
 pub returns-in_default-clause-deaf : goal.returns-in_default-clause-deaf

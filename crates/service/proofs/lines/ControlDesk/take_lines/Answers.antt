@@ -42,8 +42,8 @@ returns-in-Some-end_after-clause-taken g c =
     let after = g.W.Wire.given c.answer.new.self.coming in
     let first : Grows (g.W.Wire.given c.loop.self.coming) (g.W.Wire.given c.receive.new.wire) (came ∷ []) = gave_one _ _ _ _ c.in-Ok.ensures.given (one.length, one.source) one.is in
     let gave : Grows (g.W.Wire.given c.loop.self.coming) after (came ∷ []) = rw (c.answer.ensures.coming, c.take-done.ensures.coming) first in
-    let is : IsTaken came.octets (seen c.loop.self) (seen c.answer.new.self) c.loop.port c.take-done.new.port c.take-done.result =
-    subst (λ (s : DeskSeen). IsTaken came.octets (seen c.loop.self) s c.loop.port c.take-done.new.port c.take-done.result) (sym c.answer.ensures.seen) c.take-done.ensures.done in
+    let is : IsTaken came.peer came.octets (seen c.loop.self) (seen c.answer.new.self) c.loop.port c.take-done.new.port c.take-done.result =
+    subst (λ (s : DeskSeen). IsTaken came.peer came.octets (seen c.loop.self) s c.loop.port c.take-done.new.port c.take-done.result) (sym c.answer.ensures.seen) c.take-done.ensures.done in
     let replied = c.answer.ensures.answered in
     let said = rw c.take-done.ensures.going at replied.2 in
     let may = subst (λ (s : DeskSeen). MayReply s c.take-done.result replied.0) (sym c.answer.ensures.seen) replied.1 in
@@ -62,8 +62,8 @@ loop-preserved g c =
     let after = g.W.Wire.given c.answer.new.self.coming in
     let first : Grows (g.W.Wire.given c.loop.self.coming) (g.W.Wire.given c.receive.new.wire) (came ∷ []) = gave_one _ _ _ _ c.in-Ok.ensures.given (one.length, one.source) one.is in
     let gave : Grows (g.W.Wire.given c.loop.self.coming) after (came ∷ []) = rw (c.answer.ensures.coming, c.take-done.ensures.coming) first in
-    let is : IsTaken came.octets (seen c.loop.self) (seen c.answer.new.self) c.loop.port c.take-done.new.port c.take-done.result =
-    subst (λ (s : DeskSeen). IsTaken came.octets (seen c.loop.self) s c.loop.port c.take-done.new.port c.take-done.result) (sym c.answer.ensures.seen) c.take-done.ensures.done in
+    let is : IsTaken came.peer came.octets (seen c.loop.self) (seen c.answer.new.self) c.loop.port c.take-done.new.port c.take-done.result =
+    subst (λ (s : DeskSeen). IsTaken came.peer came.octets (seen c.loop.self) s c.loop.port c.take-done.new.port c.take-done.result) (sym c.answer.ensures.seen) c.take-done.ensures.done in
     let replied = c.answer.ensures.answered in
     let said = rw c.take-done.ensures.going at replied.2 in
     let may = subst (λ (s : DeskSeen). MayReply s c.take-done.result replied.0) (sym c.answer.ensures.seen) replied.1 in

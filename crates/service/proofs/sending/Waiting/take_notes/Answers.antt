@@ -1,9 +1,12 @@
 use Rattle.std.proofs.Common.{◌++◌, ◌∷◌, [], refl}
 use Rattle.service.proofs.Acts.{noted_more}
+use Rattle.service.proofs.Rowing.{rows_noted_more}
 use Rattle.service.proofs.sending.Waiting.take_notes.Goals as goal
 
 pub loop-preserved : goal.loop-preserved
-loop-preserved g c = record {
-  taken = c.loop.invariant.taken ++ c.in-Some.note ∷ [];
-  noted = noted_more c.loop.invariant.taken c.in-Some.note _ _ _ c.loop.invariant.noted (rw c.as_str.ensures at c.answer.ensures);
-}
+loop-preserved g c =
+    let was = c.loop.invariant in let n = c.in-Some.note in record {
+      taken = was.taken ++ n ∷ [];
+      noted = noted_more was.taken n _ _ _ was.noted (rw c.as_str.ensures at c.answer.ensures);
+      rows = rows_noted_more was.taken n _ _ _ was.rows (rw c.as_str-in-loop.ensures at c.answer-in-loop.ensures.rows);
+    }

@@ -1,6 +1,7 @@
 use Rattle.std.proofs.Common.{◌≡◌, List, map}
 use Rattle.transactions.specs.Runs.{state_after}
 use Rattle.service.specs.Noted.{answer_of}
+use Rattle.service.specs.Watched.{noted_rows}
 use Rattle.service.specs.declared.notes.Note.{Note}
 use Rattle.service.proofs.sending.Waiting.take_notes.Given as goal
 
@@ -8,4 +9,5 @@ abbrev pub invariant-loop : goal.invariant-loop
 invariant-loop g l = record {
   taken : List Note;
   noted : l.self.transactions ≡ state_after (map answer_of taken) l.fn.self.transactions;
+  rows : l.self.watchers.rows ≡ noted_rows taken l.fn.self.watchers.rows;
 }

@@ -34,6 +34,6 @@ returns-clause-book c =
       early = λ p t e. absurd (not_there (none p) e);
       names = ringed_alone (λ n. seated size (name_ring size) n (get c.in_ok-slab.slab n)) c.in_ok-names.names (size + size + 1) names (λ n s e. alone size (name_ring size) n s (sym (ap (seated size (name_ring size) n) (none n)) ∙ e));
       tags = ringed_alone (λ n. seated size (tag_ring size) n (get c.in_ok-slab.slab n)) c.in_ok-tags.tags (size + size + 1) tags (λ n s e. alone size (tag_ring size) n s (sym (ap (seated size (tag_ring size) n) (none n)) ∙ e));
-      many_names = names.many_older;
-      many_tags = tags.many_older;
+      many_names = names.many;
+      many_tags = tags.many;
     }

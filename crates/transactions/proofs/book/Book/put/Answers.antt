@@ -18,7 +18,7 @@ join-requires c =
     let head : c.name_head-name.result ≡ name_ring b.size t = c.name_head-name.ensures ∙ ap (λ x. name_head b.size x t.number) tag in
     let within : place < b.size = omega (arith, c.insert_reserved-place.ensures.key_in_range, c.insert_reserved-place.ensures.capacity, h.size) in
     let r = ready_ring b name_ring place t h b.names h.names h.many_names (name_is_head b.size t.tag t.number) c.insert_reserved-place.ensures.was_vacant within c.name_head-name.result head in
-    record { many = r.many; head = r.inside; node = omega (arith, within, h.many_names); newest = r.newest; apart = r.apart; comes = r.comes }
+    record { head = r.inside; node = omega (arith, within, h.many_names); newest = r.newest; apart = r.apart; comes = r.comes }
 
 pub join-requires-2 : goal.join-requires-2
 join-requires-2 c =
@@ -30,7 +30,7 @@ join-requires-2 c =
     let head : c.tag_head-tag.result ≡ tag_ring b.size t = c.tag_head-tag.ensures ∙ ap (tag_head b.size) tag in
     let within : place < b.size = omega (arith, c.insert_reserved-place.ensures.key_in_range, c.insert_reserved-place.ensures.capacity, h.size) in
     let r = ready_ring b tag_ring place t h b.tags h.tags h.many_tags (tag_is_head b.size t.tag) c.insert_reserved-place.ensures.was_vacant within c.tag_head-tag.result head in
-    record { many = r.many; head = r.inside; node = omega (arith, within, h.many_tags); newest = r.newest; apart = r.apart; comes = r.comes }
+    record { head = r.inside; node = omega (arith, within, h.many_tags); newest = r.newest; apart = r.apart; comes = r.comes }
 
 pub returns-clause-book : goal.returns-clause-book
 returns-clause-book c =
@@ -55,6 +55,6 @@ returns-clause-book c =
       early = λ u e. that_one (λ (x : Open). x.first < 2 ^ 63) t u e c.requires.in_range;
       names = ring_comes old name_ring place t h old.names h.names h.many_names c.insert_reserved-place.new.self c.join.new.self (name_is_head old.size t.tag t.number) put.was_vacant within put.updates c.requires.newest c.name_head-name.result name c.join.ensures;
       tags = ring_comes old tag_ring place t h old.tags h.tags h.many_tags c.insert_reserved-place.new.self c.join-2.new.self (tag_is_head old.size t.tag) put.was_vacant within put.updates c.requires.newest c.tag_head-tag.result ring c.join-2.ensures;
-      many_names = c.join.ensures.many_older;
-      many_tags = c.join-2.ensures.many_older;
+      many_names = c.join.ensures.many;
+      many_tags = c.join-2.ensures.many;
     })

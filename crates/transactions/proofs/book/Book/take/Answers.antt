@@ -12,7 +12,6 @@ part-requires c =
     let t = c.remove.result in
     let sits = ap (seated b.size (name_ring b.size) place) c.remove.ensures.value in
     record {
-      many = h.names.many;
       node = h.names.within place _ sits;
       older = older_within (name_seat b) b.names h.names place _ sits;
       newer = newer_within (name_seat b) b.names h.names place _ sits;
@@ -26,7 +25,6 @@ part-requires-2 c =
     let t = c.remove.result in
     let sits = ap (seated b.size (tag_ring b.size) place) c.remove.ensures.value in
     record {
-      many = h.tags.many;
       node = h.tags.within place _ sits;
       older = older_within (tag_seat b) b.tags h.tags place _ sits;
       newer = newer_within (tag_seat b) b.tags h.tags place _ sits;
@@ -48,6 +46,6 @@ returns-clause-book c =
       early = λ u e. absurd (cc);
       names = ring_goes old name_ring place t h old.names h.names h.many_names c.remove.new.self c.part.new.self c.remove.ensures.value c.remove.ensures.updates c.part.ensures;
       tags = ring_goes old tag_ring place t h old.tags h.tags h.many_tags c.remove.new.self c.part-2.new.self c.remove.ensures.value c.remove.ensures.updates c.part-2.ensures;
-      many_names = c.part.ensures.many_older;
-      many_tags = c.part-2.ensures.many_older;
+      many_names = c.part.ensures.many;
+      many_tags = c.part-2.ensures.many;
     })

@@ -1,0 +1,10 @@
+use Rattle.std.proofs.Common.{ap}
+use Rattle.service.proofs.running.new_ears.Goals as goal
+
+pub returns-clause-fresh : goal.returns-clause-fresh
+returns-clause-fresh c = record {
+  first = c.in_ok-desk.ensures.first;
+  unkept = c.in_ok-desk.ensures.unkept;
+  workers_are = c.in_ok-desk.ensures.workers;
+  networks_are = ap (λ networks. networks.items) c.in_ok-desk.ensures.networks;
+}

@@ -1,0 +1,5 @@
+mod Bounded
+mod Found
+mod Rows
+mod Same
+mod Tallies

@@ -1,0 +1,4 @@
+pub mod Notifies
+pub mod Pages
+pub mod Rows
+pub mod Tallies

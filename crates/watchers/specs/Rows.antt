@@ -1,0 +1,75 @@
+-- The live subscriptions as rows, each behind the local tag of its dialog, and what is made of them where a NOTIFY goes out, an
+-- answer comes, or one ends.
+use Rattle.std.specs.Prelude.{ℕ, Bool, false, ◌&&◌, ◌==◌, not, max, nat_lt, nat_le, List, [], ◌∷◌, ◌++◌, length, map, Option, Some, None, is_some, if◌then◌else◌, bytes_eq, string_bytes, String}
+use Rattle.indexmap.specs.IndexMap.{swap_remove_by}
+use Rattle.std.specs.Option.{option_map_or}
+use Rattle.std.specs.declared.alloc.Global.{Global}
+use Rattle.sip_text.specs.declared.address.Addr.{Addr}
+use Rattle.watchers.specs.Notifies.{until, first_row}
+use Rattle.watchers.specs.declared.row.Watcher.{Watcher}
+use Rattle.watchers.specs.declared.watchers.TheConstants.{GONE, FINAL}
+
+-- a subscription's tag, and what is known of it
+abbrev pub Row : Type 0
+Row = List ℕ × Watcher
+
+-- how many rows there may be, and those that there are, in order
+pub record Standing : Type 0 where
+  pub limit : ℕ
+  pub rows : List Row
+
+-- the rows that a map has
+abbrev pub rows_in : List (String Global × Watcher) → List Row
+rows_in entries = map (λ (e : String Global × Watcher). (string_bytes e.0, e.1)) entries
+
+-- what is known of the subscription with this tag
+abbrev pub found : List ℕ → List Row → Option Watcher
+found tag [] = None
+found tag (row ∷ rows) = if bytes_eq tag row.0 then Some row.1 else found tag rows
+
+abbrev pub has : List ℕ → List Row → Bool
+has tag rows = is_some (found tag rows)
+
+-- the row with this tag is changed so
+abbrev pub changed : List ℕ → (Watcher → Watcher) → List Row → List Row
+changed tag change [] = []
+changed tag change (row ∷ rows) = if bytes_eq tag row.0 then (row.0, change row.1) ∷ rows else row ∷ changed tag change rows
+
+-- ---- a NOTIFY went out
+
+abbrev pub renewed : ℕ → Addr → ℕ → Watcher → Watcher
+renewed number to until w = record w { sent = number; to = to; until = until }
+
+-- a subscription begins with it: it is the first one, and there is no row yet
+abbrev pub begins : List ℕ → ℕ → List Row → Bool
+begins tag number rows = (number == 1) && not (has tag rows)
+
+-- the row of one that begins stands behind the others
+abbrev pub after_notify : ℕ → List ℕ → ℕ → Addr → List ℕ → List Row → List Row
+after_notify now tag number to bytes rows =
+    if begins tag number rows then rows ++ (tag, first_row now to bytes) ∷ []
+    else changed tag (renewed number to (until now bytes)) rows
+
+-- ---- one ended
+
+-- the last row takes the place of its row
+abbrev pub without : List ℕ → List Row → List Row
+without tag rows = swap_remove_by (λ (row : Row). bytes_eq tag row.0) rows
+
+-- ---- an answer came
+
+abbrev pub answered : ℕ → Watcher → Watcher
+answered number w = record w { answered = max w.answered number }
+
+-- a NOTIFY with this number went out
+abbrev pub was_sent : List ℕ → ℕ → List Row → Bool
+was_sent tag number rows = option_map_or (λ (w : Watcher). nat_le number w.sent) (found tag rows) false
+
+-- A 481 says that the subscription is gone (RFC 6665 section 4.2.2). A provisional answer changes nothing, nor does one to what never
+-- went out.
+abbrev pub answered_rows : List ℕ → ℕ → ℕ → List Row → List Row
+answered_rows tag number status rows =
+    if nat_lt status FINAL then rows
+    else if not (was_sent tag number rows) then rows
+    else if status == GONE then without tag rows
+    else changed tag (answered number) rows

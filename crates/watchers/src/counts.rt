@@ -1,0 +1,69 @@
+//! How many rows each source has.
+ghost use Rattle.std.specs.Prelude.{◌≡◌, ◌<◌, ◌==◌, ℕ, [], if◌then◌else◌, IfOk, OnOk, OnErr, IsOk};
+ghost use Rattle.watchers.specs.Notifies as spec;
+ghost use Rattle.watchers.specs.Tallies.{tally};
+
+use crate::watchers::Full;
+use indexmap::IndexMap;
+use sip_text::{Addr, NoMemory};
+use std::alloc::Global;
+use std::marker::Model;
+
+/// Who sends from this address: its IPv4 address as a number, whose first octet has the highest bits.
+pub fn source(addr: Addr) -> u32
+    ensures { result ≡ spec.source addr }
+{
+    u32::from_be_bytes(addr.ip)
+}
+
+/// How much of something each source has. One that has none takes no room. Contracts see the pairs of a source and its count, and
+/// `specs/Tallies` how much a source has by them.
+#[derive(Drop)]
+pub struct Counts {
+    counts: IndexMap<u32, usize>,
+}
+
+impl Model for Counts {
+    ghost use Rattle.std.specs.Prelude.{ℕ, List};
+
+    ghost Value = { List (ℕ × ℕ) };
+
+    ghost view = { λ c. c.counts.entries };
+}
+
+impl Counts {
+    /// No source has any. There is room for so many that have.
+    pub fn new(alloc: Global, sources: usize) -> Result<Counts, NoMemory>
+        ensures { IfOk result (λ c. c ≡ []) }
+    {
+        let counts = IndexMap::with_capacity(alloc, sources)?;
+        Ok(Counts { counts })
+    }
+
+    /// How much this source has.
+    pub fn get(&self, source: u32) -> usize
+        ensures { result ≡ tally self.now source }
+    {
+        match self.counts.get(&source) {
+            Some(count) => *count,
+            None => 0,
+        }
+    }
+
+    /// This source has so much now. An error where there is no memory for one that had none: nothing changes then.
+    pub fn set(&mut self, source: u32, count: usize) -> Result<(), Full>
+        ensures set { OnOk result ((k : ℕ) → tally self.new k ≡ (if source == k then count else tally self.old k)) }
+        ensures unchanged { OnErr result (self.new ≡ self.old) }
+        ensures succeeds { 0 < tally self.old source → IsOk result }
+    {
+        if count == 0 {
+            let gone = self.counts.swap_remove(&source);
+            drop(gone);
+            return Ok(());
+        }
+        match self.counts.insert(source, count) {
+            Ok(_) => Ok(()),
+            Err(_) => Err(Full),
+        }
+    }
+}

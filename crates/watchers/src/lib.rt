@@ -1,0 +1,25 @@
+//! Who watches: a row for each live subscription, as its NOTIFYs and the answers to them tell.
+//!
+//! Whoever sends says so: a NOTIFY went out ([`Watchers::renew`]), an answer came ([`Watchers::answer`]), the last NOTIFY went out or
+//! one was given up ([`Watchers::end`]). Who watches which mailbox, and for how long, stands in the NOTIFY itself. [`Watchers::page`] tells
+//! some of the rows as lines, and looks at a bounded number of them, so that whoever sends can go on soon. [`Watchers::rows_from`] tells
+//! how many of them one source asked for.
+//!
+//! It sends nothing, reads no clock and starts no thread. [`Watchers::new`] makes the room for the rows. A call costs about the same
+//! however many rows there are.
+//!
+//! Begin with [`Watchers`], then `specs/Rows`: what the calls make of the rows, `specs/Notifies`: what a NOTIFY tells, `specs/Pages`:
+//! what a page is, and `specs/Tallies`: how many rows a source has.
+#![tactic(auto)]
+
+mod counts;
+mod inquiry;
+mod notify;
+mod page;
+mod row;
+mod watchers;
+
+pub use counts::{Counts, source};
+pub use inquiry::Inquiry;
+pub use row::Watcher;
+pub use watchers::{Full, Watchers};

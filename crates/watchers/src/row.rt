@@ -1,0 +1,44 @@
+//! What is known of a live subscription.
+ghost use Rattle.std.specs.Prelude.{◌≡◌};
+ghost use Rattle.watchers.specs.Rows as spec;
+
+use sip_text::{Addr, Text};
+
+/// A live subscription, as its NOTIFYs tell of it. Moments are milliseconds.
+#[derive(Debug, Drop)]
+pub struct Watcher {
+    /// Who watches: the URI of the first NOTIFY's To.
+    pub watcher: Text,
+    /// The mailbox: the user of the URI of its From.
+    pub mailbox: Text,
+    /// Who asked for it: the IPv4 address to which its first NOTIFY went, as a number.
+    pub source: u32,
+    /// Where the NOTIFYs go.
+    pub to: Addr,
+    /// The number of the last NOTIFY.
+    pub sent: u32,
+    /// The greatest number of a NOTIFY that was answered, 0 where none was.
+    pub answered: u32,
+    /// The moment of the first NOTIFY.
+    pub since: u64,
+    /// The moment at which it ends unless it is refreshed.
+    pub until: u64,
+}
+
+impl Watcher {
+    /// A NOTIFY with this number went to this address, and tells that it lasts until this moment.
+    pub(crate) fn renew(&mut self, number: u32, to: Addr, until: u64)
+        ensures { self.new ≡ spec.renewed number to until self.old }
+    {
+        self.sent = number;
+        self.to = to;
+        self.until = until;
+    }
+
+    /// The NOTIFY with this number was answered.
+    pub(crate) fn answer(&mut self, number: u32)
+        ensures { self.new ≡ spec.answered number self.old }
+    {
+        self.answered = self.answered.max(number);
+    }
+}
