@@ -1,7 +1,7 @@
 //! The mailboxes of the runs: one by its name, or some of four hundred by number.
 
 use crate::error::RunError;
-use home::key_hash;
+use notifier_model::homes::key_hash;
 use std::alloc::Global;
 
 /// How many workers hold the four hundred.

@@ -7,6 +7,7 @@ use crate::gathering::Gathered;
 use crate::names::{MAILBOXES, Names};
 use crate::page::Page;
 use crate::running::{Came, Plan, make_ready, run};
+use crew::Report;
 use package::Closing;
 use std::alloc::Global;
 use std::rt::Clock;
@@ -297,6 +298,13 @@ fn show_port(alloc: Global, fed: &[Fed], page: &mut Page) {
     page.say("\n");
 }
 
+/// Whether a worker passed the gate otherwise than once before each event, if one did.
+fn show_gate(report: &Report, props: &Props, page: &mut Page) {
+    if !props.stage.was_passed(report) {
+        page.say("a worker did not pass the gate once before each event\n");
+    }
+}
+
 /// How many events were not sent, if any.
 fn show_refused(alloc: Global, fed: &[Fed], page: &mut Page) {
     let mut refused = 0u32;
@@ -330,6 +338,7 @@ where
         return Ok(());
     }
     gathered.show(alloc, &came.report, page);
+    show_gate(&came.report, &props, page);
     show_refused(alloc, fed, page);
     match scene.tells {
         Tells::Meeting => tell_meeting(props.stage.was_kept(), page),

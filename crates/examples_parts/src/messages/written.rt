@@ -1,7 +1,7 @@
 //! Answers to a request, and NOTIFYs to the subscriber who sent one. What is written takes its values from the request as it was
 //! read, and else from here.
 
-use crate::look::as_text;
+use crate::messages::look::as_text;
 use event_headers::{EventValue, StateValue};
 use sip_read::{Addr, Head, Request};
 use sip_text::{Field, NoMemory};

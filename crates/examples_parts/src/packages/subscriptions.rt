@@ -2,7 +2,7 @@
 //!
 //! What befalls a subscription takes it and hands back what is left, so that it is let go in one place, at a scene's end.
 
-use crate::table::{Line, error_of, is_answer, line_of, number_of, tell};
+use crate::packages::table::{Line, error_of, is_answer, line_of, number_of, tell};
 use event_headers::read_event;
 use sip_read::{Addr, Message, Response, read};
 use sip_text::{NoMemory, Text, Values};
@@ -118,7 +118,7 @@ fn cause_of<'a>(line: &Line<'a>) -> Option<Cause<'a>> {
 fn left_of(step: Step) -> (Life, Option<Notice>) {
     match step {
         Step::Live(sub, notice) => (Life::Live(sub), Some(notice)),
-        Step::Over(usage, notice) => (Life::Over(usage), Some(notice)),
+        Step::Over(usage, _, notice) => (Life::Over(usage), Some(notice)),
     }
 }
 
@@ -130,7 +130,7 @@ fn begun(usage: Usage, want: Want, cause: Cause<'_>) -> (Life, Option<Notice>) {
             left_of(Sub::accept(usage, want, 0, 3600))
         }
         Cause::Fetch => {
-            let (usage, notice) = Sub::fetch(usage, want);
+            let (usage, _, notice) = Sub::fetch(usage, want);
             (Life::Over(usage), Some(notice))
         }
         _ => (Life::Asked(usage, want), None),
@@ -177,14 +177,17 @@ fn befallen(alloc: Global, sub: Sub, cause: Cause<'_>) -> Left {
         Cause::Refresh(renewal) => return renewed(alloc, sub, renewal),
         Cause::Change(now, is_over) => changed(sub, now, is_over),
         Cause::End(reason) => {
-            let (usage, notice) = sub.end(reason);
+            let (usage, _, notice) = sub.end(reason);
             (Life::Over(usage), Some(notice))
         }
         Cause::Answer(response) => match sub.refused_by(response) {
             Ok(usage) => (Life::Over(usage), None),
             Err(sub) => (Life::Live(sub), None),
         },
-        Cause::Loss => (Life::Over(sub.lost()), None),
+        Cause::Loss => {
+            let (usage, _) = sub.lost();
+            (Life::Over(usage), None)
+        }
         Cause::Accept(_) | Cause::Fetch => (Life::Live(sub), None),
     };
     (life, Ok(notice))

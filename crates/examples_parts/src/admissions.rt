@@ -6,9 +6,6 @@
 //! - [`values`] has values of `Authorization`, most of them wrong in one thing, each with the number of its error.
 //! - [`visits`] has requests that a guard judges, and its challenges.
 //! - [`datagrams`] has datagrams that an admission judges.
-//!
-//! There is nothing here that others build on.
-#![tactic(auto)]
 
 mod datagrams;
 mod people;
@@ -18,9 +15,10 @@ mod visits;
 
 use std::io;
 
-fn main(rt: HostRuntime) -> io::Result<()> {
-    vectors::tell_all(&rt)?;
-    values::tell_all(&rt)?;
-    visits::tell_all(&rt)?;
-    datagrams::tell_all(&rt)
+/// Tells of every example.
+pub(crate) fn tell_all(rt: &(impl Print + AllocGlobal)) -> io::Result<()> {
+    vectors::tell_all(rt)?;
+    values::tell_all(rt)?;
+    visits::tell_all(rt)?;
+    datagrams::tell_all(rt)
 }

@@ -1,9 +1,9 @@
-//! Values of headers. A line of `data/headers` has what is tried, a value (with backslashes as in [`crate::tables`]), and what is
+//! Values of headers. A line of `data/headers` has what is tried, a value (with backslashes as in [`crate::messages::tables`]), and what is
 //! wanted: what the value says and how it is written again, or why it is refused. `numbered`, `active` and `ended` are made by a
 //! call in place of being read. For `covers` the value is a range, a blank and a media type: whether the range covers it. For
 //! `package`, `id`, `word` and `reason` it is a text: whether it may be that part of a value.
 
-use crate::look::as_text;
+use crate::messages::look::as_text;
 use event_headers::{
     EventValue, HeaderError, Range, StateValue, covers, read_accept, read_event, read_expires,
     read_state, write_accept, write_event, write_expires, write_state,

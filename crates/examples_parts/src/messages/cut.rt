@@ -1,6 +1,6 @@
 //! Datagrams that end too early, or are too long.
 
-use crate::look::{has_fields, no_memory};
+use crate::messages::look::{has_fields, no_memory};
 use sip_text::NoMemory;
 use std::alloc::Global;
 use std::rt::Files;

@@ -1,7 +1,7 @@
 //! Whole messages: all that is read of them, and what is written to them, each beside a file that says what is wanted.
 
-use crate::look::{Look, look_at, no_memory};
-use crate::written::Example;
+use crate::messages::look::{Look, look_at, no_memory};
+use crate::messages::written::Example;
 use std::rt::Files;
 use std::{fs, io};
 

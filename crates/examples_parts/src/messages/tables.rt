@@ -5,9 +5,9 @@
 //! lines of that. In each column `\r`, `\n`, `\t` and `\0` are what they are in Rust, `\1` is a byte 1, `\a` a bell (7), `\d` a
 //! delete (127), `\y` the byte 255, and before anything else a backslash leaves it as it is.
 
-use crate::headers::value_told;
-use crate::look::{Look, as_text, look_at, no_memory};
-use crate::written::Example;
+use crate::messages::headers::value_told;
+use crate::messages::look::{Look, as_text, look_at, no_memory};
+use crate::messages::written::Example;
 use sip_text::NoMemory;
 use std::alloc::Global;
 use std::rt::Files;

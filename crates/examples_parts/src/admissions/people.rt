@@ -56,5 +56,6 @@ pub(crate) fn admission(alloc: Global) -> Result<Admission, NoMemory> {
         networks,
         rates,
         authentication: Some(authentication(alloc)?),
+        per_source: None,
     })
 }

@@ -1,7 +1,7 @@
 //! A datagram is read, looked at in one way, and what was read is let go in one place.
 
-use crate::fields::{fields_of, summary_of};
-use crate::written::{Example, written_for};
+use crate::messages::fields::{fields_of, summary_of};
+use crate::messages::written::{Example, written_for};
 use sip_read::{Message, ReadError, read};
 use sip_text::NoMemory;
 use std::alloc::Global;

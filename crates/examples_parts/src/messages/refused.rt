@@ -1,9 +1,9 @@
 //! Whichever growth is refused, each call answers that memory is short, and the bytes before stay. `rt try --fail-alloc N` refuses
 //! the growths in turn; each line here says true in each such run.
 
-use crate::headers::add_value;
-use crate::look::{Look, look_at};
-use crate::written::{Example, LEFT};
+use crate::messages::headers::add_value;
+use crate::messages::look::{Look, look_at};
+use crate::messages::written::{Example, LEFT};
 use event_headers::HeaderError;
 use sip_text::NoMemory;
 use std::alloc::Global;

@@ -1,6 +1,6 @@
 //! Datagrams, and what comes of each.
 
-use crate::people::admission;
+use crate::admissions::people::admission;
 use admission::{Admission, Arrival, Cause, Reading, Verdict};
 use sip_read::{Message, ReadError, read};
 use sip_text::{Addr, NoMemory};
@@ -210,6 +210,7 @@ fn judge<'a>(
         reading,
         source,
         moment,
+        live: 0,
     };
     admission.judge(alloc, arrival)
 }
@@ -236,13 +237,16 @@ fn name(verdict: &Verdict) -> &'static str {
         Verdict::Challenge(Cause::Wrong, _) => "401, wrong credentials",
         Verdict::Challenge(Cause::Stale, _) => "401, stale",
         Verdict::Forbidden(_) => "403",
+        Verdict::Crowded(_) => "503",
     }
 }
 
 /// The bytes that go back, as a text.
 fn answer(verdict: &Verdict) -> &str {
     let octets = match verdict {
-        Verdict::Challenge(_, octets) | Verdict::Forbidden(octets) => octets.as_slice(),
+        Verdict::Challenge(_, octets) | Verdict::Forbidden(octets) | Verdict::Crowded(octets) => {
+            octets.as_slice()
+        }
         Verdict::Allowed | Verdict::Foreign | Verdict::Limited => &[],
     };
     str::from_utf8(octets).unwrap_or("")

@@ -11,8 +11,7 @@
 //! - Whole messages with all their fields, and the answers and NOTIFYs, are datagrams in `data` and calls in [`whole`].
 //! - [`refused`] is for runs in which a growth is refused (`rt try --fail-alloc N`).
 //!
-//! There is nothing here that others build on. Begin with `data/lines` and [`tables`].
-#![tactic(auto)]
+//! Begin with `data/lines` and [`tables`].
 
 mod cut;
 mod fields;
@@ -25,11 +24,13 @@ mod whole;
 mod written;
 
 use std::io;
+use std::rt::Files;
 
-fn main(rt: HostRuntime) -> io::Result<()> {
-    refused::tell_all(&rt)?;
-    values::tell_all(&rt)?;
-    tables::tell_all(&rt)?;
-    whole::tell_all(&rt)?;
-    cut::tell_all(&rt)
+/// Tells of every example.
+pub(crate) fn tell_all(rt: &(impl Files + Print + AllocGlobal)) -> io::Result<()> {
+    refused::tell_all(rt)?;
+    values::tell_all(rt)?;
+    tables::tell_all(rt)?;
+    whole::tell_all(rt)?;
+    cut::tell_all(rt)
 }

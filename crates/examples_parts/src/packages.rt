@@ -1,5 +1,5 @@
-//! Worked examples of both packages, of changes, of closings and of one subscription: a program that says of each whether it
-//! goes as it should.
+//! Worked examples of both packages, of changes, of closings and of one subscription: of each a line says whether it goes
+//! as it should.
 //!
 //! `data/mailboxes` and `data/transfers` have scenes of a package, written by RFC 3842, RFC 3515 and RFC 3420 and not by the
 //! program: a title, the package with the closing that it leaves (its name, the resources that it held, its changes), and then
@@ -9,7 +9,6 @@
 //!
 //! Begin with `data/mailboxes` and `scenes`. `rt try --fail-alloc 1..` refuses each growth in turn: a line of a package's scene
 //! is then tried once more and goes as it does with ample memory; elsewhere the program ends with an error.
-#![tactic(auto)]
 
 mod closings;
 mod making;
@@ -17,8 +16,8 @@ mod scenes;
 mod subscriptions;
 mod table;
 
-use crate::closings::ending_counts;
-use crate::table::tell;
+use crate::packages::closings::ending_counts;
+use crate::packages::table::tell;
 use std::rt::Files;
 use std::{fs, io};
 
@@ -35,12 +34,13 @@ fn tell_table(rt: &(impl Files + Print + AllocGlobal), name: &str) -> io::Result
     Ok(())
 }
 
-fn main(rt: HostRuntime) -> io::Result<()> {
-    tell_table(&rt, "mailboxes")?;
-    tell_table(&rt, "transfers")?;
-    tell_table(&rt, "subscriptions")?;
+/// Tells of every example.
+pub(crate) fn tell_all(rt: &(impl Files + Print + AllocGlobal)) -> io::Result<()> {
+    tell_table(rt, "mailboxes")?;
+    tell_table(rt, "transfers")?;
+    tell_table(rt, "subscriptions")?;
     tell(
-        &rt,
+        rt,
         "an ending offers its name and what it counted",
         ending_counts(rt.alloc()),
     )

@@ -1,7 +1,7 @@
 //! Scenes of a package: what it is told and asked, line by line, and what it must answer.
-use crate::closings::{has_closing, offer};
-use crate::making::{change_of, mailboxes};
-use crate::table::{BAR, Line, error_of, is_answer, line_of, meant, tell};
+use crate::packages::closings::{has_closing, offer};
+use crate::packages::making::{change_of, mailboxes};
+use crate::packages::table::{BAR, Line, error_of, is_answer, line_of, meant, tell};
 use package::{Change, ClosingCell, MailChange, Outcome, Package, Progress};
 use refer::Transfers;
 use sip_text::NoMemory;

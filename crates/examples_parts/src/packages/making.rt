@@ -1,5 +1,5 @@
 //! Changes and packages as the lines of a table write them.
-use crate::table::{meant, number_of};
+use crate::packages::table::{meant, number_of};
 use message_summary::Mailboxes;
 use package::{Change, Class, ClosingCell, Counts, MailChange, Progress};
 use sip_text::{NoMemory, Text};
