@@ -10,6 +10,7 @@ counters have to be exact, and most of them once more in the line by which the s
 - `answers` by status, and `repeats`: what the relay took from the service before it lost some. Phones see fewer of both.
 - `datagrams` and `events`: what the relay handed to the service, without what the system dropped at its socket.
 - `given_up`: the NOTIFYs to phones that were silent; `gone_by_481`: the 481s that reached the service.
+- `live`: the phones that stay, and none at the end.
 - all others: 0.
 """
 
@@ -43,7 +44,7 @@ STILL, PATIENCE = 6.0, 120.0
 LINGER, LIMIT = 10, 400
 
 # What no phone here causes.
-NOTHING = ("starts", "failed", "once", "lost", "failed_receives", "too_long", "foreign", "limited")
+NOTHING = ("starts", "starts_dropped", "failed", "once", "lost", "failed_receives", "too_long", "foreign", "limited", "control_foreign")
 NOTHING += ("challenged", "wrong", "stale", "forbidden")
 
 
@@ -172,23 +173,23 @@ class Storm:
         same("the exit status", 0, ended.status)
         return last_counters(ended)
 
-    def counted(self, dropped):
-        """What phones and relay counted, where the system dropped so many datagrams at the service's socket."""
+    def counted(self, dropped, live):
+        """What phones and relay counted, where the system dropped so many datagrams at the service's socket, and so many phones live."""
         relay, handed = self.relay, self.relay.handed - dropped
         counted = {"datagrams": handed, "events": handed, "answers": sum(relay.answers.values()), "notifies": len(relay.notifies)}
         counted |= {"repeats": relay.sends - len(relay.notifies), "begun": len({tag for tag, _ in relay.notifies})}
         counted |= {"over": sum(relay.notifies.values()), "given_up": sum(sum(guest.heard.values()) for guest in self.guests)}
-        counted |= {f"answers_{status}": count for status, count in relay.answers.items()}
+        counted |= {f"answers_{status}": count for status, count in relay.answers.items()} | {"live": live}
         return {name: str(count) for name, count in {**counted, **dict.fromkeys(NOTHING, 0)}.items()} | {"unread": "0 0 0 0 0 0 0"}
 
-    def compare(self, counters, dropped, without=()):
-        """Compares all but these counters. What was counted by both, in a line."""
+    def compare(self, counters, dropped, live, without=()):
+        """Compares all but these counters, where so many phones live. What was counted by both, in a line."""
         same("datagrams that the system dropped at phones", 0, sum(overrun(guest.socket.getsockname()[1]) for guest in self.guests))
         forgotten = {tag for guest in self.forgetful for tag, _ in guest.heard}
         heard = {name for guest in self.guests for name in guest.heard if name[0] not in forgotten}
         sent = {name for name in self.relay.notifies if name[0] not in forgotten}
         same("the NOTIFYs that phones didn't hear who forgot nothing", set(), sent - heard)
-        counted = self.counted(dropped)
+        counted = self.counted(dropped, live)
         names = [name for name in counted if name not in without]
         same("the counters", {name: counted[name] for name in names}, {name: counters.get(name) for name in names})
         gone = int(counters["gone_by_481"])
@@ -203,10 +204,10 @@ def counts_are_exact(program):
         storm.rage()
         counters = storm.become_still()
         dropped = overrun(service.sip)
-        told = storm.compare(counters, dropped)
+        told = storm.compare(counters, dropped, STAYING)
         same("those who know the last change", {CHANGES}, {guest.new for guest in storm.staying})
         # Once it closes it hears the answers to its farewells alone, and counts no datagram more.
-        storm.compare(storm.close(), dropped, ("datagrams", "events"))
+        storm.compare(storm.close(), dropped, 0, ("datagrams", "events"))
         return f"        {told}"
 
 

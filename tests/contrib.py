@@ -125,7 +125,7 @@ begun 18
 over 17
 unread 1 2 3 4 5 6 7
 """
-MORE = b"repeats 5\ngiven_up 3\nonce 4\nlost 6\ngone_by_481 9\nfailed_receives 7\ntoo_long 8\nforeign 10\nlimited 11\nchallenged 12\nwrong 13\nstale 14\nforbidden 15\ncontrol_lines 8\nworkers_ended 0\n"
+MORE = b"repeats 5\ngiven_up 3\nonce 4\nlost 6\ngone_by_481 9\nfailed_receives 7\ntoo_long 8\nforeign 10\nlimited 11\nchallenged 12\nwrong 13\nstale 14\nforbidden 15\ncontrol_lines 8\nworkers_ended 0\nstarts_dropped 16\nkernel_drops 17\ncontrol_foreign 18\n"
 COUNTERS = FEWER_COUNTERS.replace(b"unread", MORE + b"unread") + b"""\
 workers 2
 live 1
@@ -134,7 +134,7 @@ answers_503 2
 unread_not_sip 1
 unread_bad_header 2
 """
-ALSO = ("repeats", "given_up", "once", "lost", "gone_by_481", "failed_receives", "too_long", "foreign", "limited", "challenged", "wrong", "stale", "forbidden", "control_lines", "workers_ended")
+ALSO = ("repeats", "given_up", "once", "lost", "gone_by_481", "failed_receives", "too_long", "foreign", "limited", "challenged", "wrong", "stale", "forbidden", "control_lines", "workers_ended", "starts_dropped", "kernel_drops", "control_foreign")
 REPEATS = {f"notifyd_{name}_total" for name in ALSO}
 GAUGES = {"notifyd_live": "1", "notifyd_workers": "2"}
 CODES = {f'notifyd_answers_by_code_total{{code="{code}"}}': count for code, count in (("200", "18"), ("503", "2"))}
@@ -273,7 +273,7 @@ def counts_outlive_restarts(program, folder):
     with Kept(program, state, "bob") as service, Operator(service.ports[1]) as operator:
         operator.tell("MAIL bob text 1 0 0 0")
     with open(state, "rb") as file:
-        same("what is kept then", b"MAIL alice voice 2 8 0 2\nMAIL alice fax 1 0 0 0\nMAIL bob text 1 0 0 0\n", file.read())
+        same("what is kept without a mailbox", b"MAIL bob text 1 0 0 0\n", file.read())
     same("what stands in the folder", ["state"], os.listdir(folder))
 
 

@@ -6,11 +6,13 @@ import os
 import re
 import resource
 import shutil
+import signal
 import subprocess
+import sys
 import time
 
 from phone import PATIENCE, open_socket, persist
-from service import SUBSCRIBE, Service, address, last_counters
+from service import SUBSCRIBE, Service, address, counters_become, last_counters
 from suite import LONG_LIMIT, Running, free_port, run, same
 from tags import home_of
 
@@ -21,6 +23,22 @@ LOST = ("EBADF", "ENOTSOCK")
 
 PLACE = "10.99.7.1"
 
+# Of two others control lines come, which are heard from the first.
+NEAR, FAR = "10.99.7.2", "10.99.7.3"
+
+# Sends a line from an address to the control address of that place, and prints the answer, if one comes within so many seconds.
+ASK = f"""
+import socket, sys
+asking = socket.socket(socket.AF_INET, socket.SOCK_DGRAM)
+asking.bind((sys.argv[1], 0))
+asking.settimeout(float(sys.argv[3]))
+asking.sendto(sys.argv[2].encode(), ("{PLACE}", 5061))
+try:
+    print(asking.recv(65535).decode())
+except socket.timeout:
+    print("nothing")
+"""
+
 # Where allocations are checked none of more bytes succeeds: a worker's table outgrows them at 2,048 subscriptions.
 CHECKED = {"ASAN_OPTIONS": "allocator_may_return_null=1:max_allocation_size_mb=1:symbolize=0"}
 
@@ -30,6 +48,9 @@ TABLE, FEW, SPARE, RESERVED = 2048, 8, 1 << 19, 1 << 40
 
 # So many outgrow each bound.
 MANY = 6000
+
+# So many may live at a worker: the service keeps room for a row of each from its start, within what a checked allocation may take.
+MOST = 3000
 
 
 class Failing(Service):
@@ -107,6 +128,26 @@ def less_room_is_told(program, folder):
     same("whether less room is told", got < 1 << 30, line.encode() in told)
 
 
+def drops_of_the_system_are_told(program, folder):
+    """While the service stands still the system keeps few datagrams, and drops the others: each came or is counted."""
+    count = 400
+    with Service(program, "--receive-buffer", "4096", "alice") as service, service.phone("alice") as phone, service.operator() as operator:
+        counters_become(operator, lambda: {"kernel_drops": "0"})
+        service.running.process.send_signal(signal.SIGSTOP)
+        for _ in range(count):
+            phone.send(b"s" * 1000)
+        service.running.process.send_signal(signal.SIGCONT)
+        until = time.monotonic() + PATIENCE
+        heard = dropped = 0
+        while heard + dropped != count and time.monotonic() < until:
+            told = operator.counters()
+            heard, dropped = int(told["datagrams"]), int(told["kernel_drops"])
+        same("how many came or were dropped", count, heard + dropped)
+        same("whether some were dropped", True, dropped > 0)
+        ended = service.close()
+    same("what is told at the end", str(dropped), last_counters(ended)["kernel_drops"])
+
+
 class Place:
     """A network namespace with an address that can be taken away."""
 
@@ -140,6 +181,34 @@ def an_address_is_taken_away(program, folder):
             began = time.monotonic()
             same("the exit status", 0, running.end().status)
             same("whether it ended at once", True, time.monotonic() - began < 10)
+
+
+def lines_from_elsewhere_are_dropped(program, folder):
+    """Where networks are named, no others are answered, nor is anything done for them; this machine's own lines are heard."""
+    with Place() as place:
+        for ip in (NEAR, FAR):
+            place.ip("address", "add", f"{ip}/32", "dev", "lo")
+        words = ["serve", "--listen", "127.0.0.1:5060", "--control", f"{PLACE}:5061", "--control-allow", f"{NEAR}/32", "alice"]
+        with Running("ip", place.inside(program, *words)) as running:
+            told = running.lines_until(b"listening at")
+
+            def ask(ip, line, seconds=PATIENCE):
+                return run("ip", place.inside(sys.executable, "-c", ASK, ip, line, str(seconds))).out.decode().rstrip("\n")
+
+            same("the answer to a line of a network that is heard", "ok", ask(NEAR, "MAIL alice voice 1 0 0 0"))
+            for line in "MAIL alice voice 2 0 0 0", "STATUS", "CLOSE":
+                same(f"the answer to {line} from elsewhere", "nothing", ask(FAR, line, 1))
+            same("what was told", "MAIL alice voice 1 0 0 0", ask("127.0.0.1", "SHOW alice").splitlines()[2])
+            counted = dict(line.split(" ", 1) for line in ask(NEAR, "STATUS").splitlines()[1:])
+            same("what is counted", ("6", "3"), (counted["control_lines"], counted["control_foreign"]))
+            same("the answer to CLOSE", "ok", ask("127.0.0.1", "CLOSE"))
+            ended = running.end()
+            same("the exit status", 0, ended.status)
+            same("whether it warns", False, b"warning" in told + ended.err)
+        with Running("ip", place.inside(program, *words[:5], "alice")) as running:
+            running.lines_until(b"warning: other machines may reach the control address")
+            same("the answer to a line from elsewhere, where no network is named", "ok", ask(FAR, "CLOSE"))
+            same("the exit status", 0, running.end().status)
 
 
 class Bounded(Service):
@@ -195,7 +264,7 @@ def a_worker_without_memory_ends_it(program, folder):
     full = "alice"
     worker = home_of(full, 2)
     other = next(name for name in ("bob", "carol", "dan", "eve") if home_of(name, 2) != worker)
-    words = ("--workers", "2", "--table", "65536", "--repeats", "0", "--linger", "0", full, other)
+    words = ("--workers", "2", "--table", str(MOST), "--repeats", "0", "--linger", "0", full, other)
     with Bounded(program, *words) as service, service.phone(other) as phone, service.operator() as operator:
         phone.subscribe()
         fill(service, operator, full)
@@ -231,6 +300,7 @@ def checks():
     yield "serve: datagrams that are too long are dropped and counted", long_datagrams_are_dropped
     yield "serve: less room for datagrams than asked for is told", less_room_is_told
     yield "serve: a worker without memory ends it", a_worker_without_memory_ends_it
+    yield "serve: what the system dropped is told", drops_of_the_system_are_told
     if can_trace():
         yield "serve: receives that fail are tried again, told and counted", failing(*PASSING[:5])
         yield "serve: other receives that fail are tried again, told and counted", failing(*PASSING[5:])
@@ -240,5 +310,6 @@ def checks():
         print("  faults: failed receives were not tried: strace can't be had", flush=True)
     if can_separate():
         yield "serve: it closes where its address was taken away", an_address_is_taken_away
+        yield "serve: control lines from elsewhere are dropped", lines_from_elsewhere_are_dropped
     else:
-        print("  faults: an address that is taken away was not tried: no network namespace can be had", flush=True)
+        print("  faults: an address that is taken away, and lines from elsewhere, were not tried: no network namespace can be had", flush=True)

@@ -8,7 +8,7 @@ import re
 import socket
 import time
 
-from phone import NO_MESSAGES, Message, persist
+from phone import NO_MESSAGES, PATIENCE, Message, persist
 from service import HEARD, SUBSCRIBE, Service, address, counters_become
 from suite import Running, ended_with, free_port, run, same
 
@@ -274,6 +274,12 @@ def malformed_values(program, folder):
         service.close(lambda: None)
 
 
+def handled(operator):
+    """How many datagrams were answered or dropped."""
+    told = operator.counters()
+    return sum(int(told[name]) for name in ("answers", "foreign", "limited"))
+
+
 class Elsewhere:
     """A socket of another address of this machine."""
 
@@ -289,10 +295,14 @@ class Elsewhere:
     def __exit__(self, *_):
         self.socket.close()
 
-    def answers(self, octets, count=1):
-        """How many answers come to so many of this datagram."""
+    def answers(self, operator, octets, count=1):
+        """How many answers come to so many of this datagram, once each of them was answered or dropped."""
+        before = handled(operator)
         for _ in range(count):
             persist(self.socket.send, octets)
+        until = time.monotonic() + PATIENCE
+        while handled(operator) < before + count and time.monotonic() < until:
+            time.sleep(0.02)
         came = 0
         try:
             while True:
@@ -315,18 +325,18 @@ def networks(program, folder):
     with Service(program, *words) as service, service.operator() as operator:
         for ip, count in (("127.0.0.1", 0), ("127.0.0.3", 0), ("127.0.0.5", 1), ("127.0.1.9", 1), ("127.0.2.9", 0)):
             with Elsewhere(ip, service.sip) as elsewhere:
-                same(f"how many answers come to {ip}", count, elsewhere.answers(question(f"o{ip}")))
+                same(f"how many answers come to {ip}", count, elsewhere.answers(operator, question(f"o{ip}")))
         count_is(operator, foreign=3)
 
 
 def rates(program, folder):
     with Service(program, "--rate", "1/3", "alice") as service, service.operator() as operator:
         with Elsewhere("127.0.0.2", service.sip) as one, Elsewhere("127.0.0.3", service.sip) as other:
-            came = one.answers(question("r1"), 12)
+            came = one.answers(operator, question("r1"), 12)
             same("whether the burst and little more is answered", True, 3 <= came <= 4)
-            same("how many answers come to another source", 3, other.answers(question("r2"), 3))
+            same("how many answers come to another source", 3, other.answers(operator, question("r2"), 3))
             time.sleep(2)
-            same("whether more comes later", True, one.answers(question("r3"), 1) == 1)
+            same("whether more comes later", True, one.answers(operator, question("r3")) == 1)
             same("whether the others are counted", 12 - came, counted(operator)["limited"])
 
 
@@ -419,6 +429,7 @@ def options_in_vain(program, folder):
         ("--rate", "5/65537", "<a second>/<at once>, each 1 to 65536"),
         ("--allow", "192.0.2.0", "<a.b.c.d/bits>"),
         ("--allow", "192.0.2.0/33", "<a.b.c.d/bits>"),
+        ("--control-allow", "192.0.2.0", "<a.b.c.d/bits>"),
         ("--nonce-time", "0", "<1 to 86400>"),
     )
     for option, value, form in forms:

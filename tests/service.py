@@ -283,6 +283,73 @@ def status_is_an_object(program, folder):
         service.close()
 
 
+def rows_told(operator, line):
+    """The rows that WATCHERS tells: of each the mailbox, who watches, the tag, and the numbers of the last NOTIFY and of the last that
+    was answered."""
+    first, *rows = operator.ask(line).splitlines()
+    same(f"the first line of {line}", "ok", first)
+    return sorted((row[0], row[1], row[3], int(row[4]), int(row[5])) for row in (line.split(" ") for line in rows))
+
+
+def rows_become(operator, line, *wanted):
+    """Waits until WATCHERS tells these rows: an answer counts just after it came."""
+    until = time.monotonic() + PATIENCE
+    came = None
+    while came != sorted(wanted) and time.monotonic() < until:
+        time.sleep(0.02)
+        came = rows_told(operator, line)
+    same(f"the rows of {line}", sorted(wanted), came)
+
+
+def who_watches_is_told(program, folder):
+    """A phone that answers, one that doesn't, and one at another mailbox: how far each was told, and how far it answered."""
+    with Service(program, *KNOWN, "--workers", "1", "alice", "bob") as service, service.operator() as operator:
+        operator.tell("WATCHERS", "ok\n")
+        with open_socket(("127.0.0.1", service.sip)) as silent, service.phone("alice") as phone, service.phone("bob") as other:
+            silent.send(SUBSCRIBE)
+            for octets in (ANSWER, NOTIFY):
+                same("what comes to the silent phone", octets, next_datagram(silent))
+            uri, tag = "sip:alice@127.0.0.1", "w0-1-76b8e0ada0f13d90"
+            place = "127.0.0.1:{}".format(*silent.getsockname()[1:])
+            told = re.sub(r" \d+ \d+\n$", " AGE LEFT\n", operator.ask("WATCHERS alice"))
+            same("the row of the silent phone", f"ok\nalice {uri} {place} {tag} 1 0 AGE LEFT\n", told)
+            dialog, away = phone.subscribe(), other.subscribe()
+            operator.tell("MAIL alice voice 2 8 0 2")
+            phone.expect_notify("active", HEARD)
+            behind, well = ("alice", uri, tag, 2, 0), ("alice", uri, dialog.tag, 2, 2)
+            strange = ("bob", "sip:bob@127.0.0.1", away.tag, 1, 1)
+            rows_become(operator, "WATCHERS alice", behind, well)
+            rows_become(operator, "WATCHERS bob", strange)
+            rows_become(operator, "WATCHERS", behind, well, strange)
+            rows_become(operator, "WATCHERS * 0", behind, well, strange)
+            rows_become(operator, "WATCHERS * 1", behind)  # those before the second row
+            operator.tell("WATCHERS carol", "unknown mailbox")
+            same("how many live", "3", operator.counters()["live"])
+            # A row goes with the last NOTIFY, and at a 481.
+            phone.leave(dialog, HEARD)
+            rows_become(operator, "WATCHERS alice", behind)
+            silent.send(Message(NOTIFY).answer("100 Trying"))
+            silent.send(Message(NOTIFY).answer("481 Call/Transaction Does Not Exist"))
+            rows_become(operator, "WATCHERS", strange)
+            counters_become(operator, lambda: {"live": "1", "gone_by_481": "1"})
+            service.close(other.hear_farewell)
+
+
+def watchers_are_told_page_by_page(program, folder):
+    with Service(program, "--workers", "2", "alice", "bob") as service, service.operator() as operator:
+        with service.phone("alice") as phone, service.phone("bob") as other:
+            tags = sorted(phone.subscribe().tag for _ in range(300))
+            last = other.subscribe().tag
+            page = operator.ask("WATCHERS")
+            same("whether a page is short", True, len(page) <= 8192)
+            same("the last line of a page", "more ", page.splitlines()[-1][:5])
+            for words, wanted in ((["WATCHERS"], sorted([*tags, last])), (["WATCHERS alice"], tags), (["WATCHERS bob"], [last])):
+                ended = run(program, ["tell", "--control", address(service.control), *words])
+                same("the exit status", 0, ended.status)
+                same(f"the tags of {words}", wanted, sorted(line.split(" ")[3] for line in ended.out.decode().splitlines()))
+            service.close(other.hear_farewell, *[phone.hear_farewell] * len(tags))
+
+
 def the_clock_ends_a_subscription(program, folder):
     with Service(program, "--min-time", "1", "bob") as service, service.phone("bob") as phone:
         phone.subscribe(seconds=1)
@@ -352,16 +419,14 @@ def close_says_farewell(program, folder):
 
 
 def lines_are_refused_at_the_end(program, folder):
-    """While nobody reads standard output a service can't write the lines of its transfers, and so not end."""
-    with Service(program, "--linger", "0", "--max-datagram", "65507", "alice") as service, service.phone("bob") as phone, service.operator() as operator:
-        for _ in range(2):
-            phone.refer("sip:" + "c" * 40_000)  # more than a pipe keeps
+    """While a service waits for the answer to its farewell it does nothing more for an operator."""
+    with Service(program, "--linger", "32", "alice") as service, service.phone("alice") as phone, service.operator() as operator:
+        phone.subscribe()
         operator.tell("CLOSE")
         for line in ("STATUS", "MAIL alice voice 1 0 0 0", "no line", "CLOSE"):
             operator.tell(line, "closed")
-        ended = service.running.end()
-        starts = [line for line in ended.out.splitlines() if line.startswith(b"START ")]
-        same("the exit status, and how many transfers were told", (0, 2), (ended.status, len(starts)))
+        phone.hear_farewell(NO_MESSAGES)
+        same("the exit status", 0, service.running.end().status)
 
 
 def subscriptions_may_be_kept(program, folder):
@@ -382,6 +447,44 @@ def a_transfer_is_told(program, folder):
         operator.tell(f"PROGRESS {tag} 200 OK")
         phone.expect_notify(OVER + "noresource", "SIP/2.0 200 OK\r\n")
         service.close()
+
+
+def nobody_reads_its_output(program, folder):
+    """START lines fill a pipe that nobody reads. Behind that each is dropped and counted, and its phone is told at once that the transfer
+    fails. Phones, STATUS and CLOSE go on, and the lines in the pipe are whole, each once and in order."""
+    count, target = 60, "sip:" + "c" * 3000
+    with Service(program, "alice") as service, service.phone("bob") as phone, service.operator() as operator:
+        tags, failed = [], set()
+
+        def hear():
+            """The next message; of a transfer that fails its dialog is noted."""
+            message = phone.receive()
+            if message.is_notify() and message.value("Subscription-State") == OVER + "noresource":
+                same("what a phone is told of a transfer that fails", "SIP/2.0 500 Server Internal Error\r\n", message.body)
+                failed.add(message.tag("From"))
+            return message
+
+        def wait_for(is_it):
+            while not is_it(message := hear()):
+                pass
+            return message
+
+        for _ in range(count):
+            phone.begin("REFER", "refer;id=1", (f"Refer-To: <{target}>",))
+            tags.append(wait_for(lambda message: message.first == "SIP/2.0 202 Accepted").tag("To"))
+        while len(failed) < int(operator.counters()["starts_dropped"]):
+            hear()
+        told = operator.counters()
+        same("how many were written or dropped", str(count), str(int(told["starts"]) + int(told["starts_dropped"])))
+        same("whether some were written, and some dropped", True, told["starts"] != "0" and told["starts_dropped"] != "0")
+        with service.phone("alice") as other:
+            other.leave(other.subscribe(), NO_MESSAGES)
+        operator.tell("CLOSE")
+        ended = service.running.end()
+        same("the exit status", 0, ended.status)
+        starts = [line.split(b" ")[1].decode() for line in ended.out.splitlines() if line.endswith(target.encode())]
+        same("the transfers whose lines were written", [tag for tag in tags if tag not in failed], starts)
+        same("the lines behind them", len(starts), sum(line.startswith(b"START") for line in ended.out.splitlines()))
 
 
 def a_long_reason_is_told_whole(program, folder):
@@ -592,12 +695,15 @@ def checks():
     yield "serve: two services that hear each other fall silent", services_fall_silent
     yield "serve: two lines under way at a service that stands still are done once each", lines_wait_for_a_stalled_service
     yield "serve: STATUS as one JSON object", status_is_an_object
+    yield "serve: WATCHERS tells how far each phone was told, and how far it answered", who_watches_is_told
+    yield "serve: WATCHERS page by page, and tell follows", watchers_are_told_page_by_page
     yield "serve: the clock alone ends a subscription of a second", the_clock_ends_a_subscription
     yield "serve: STATUS counts what came and went", status_counts
     yield "serve: CLOSE is answered, says farewell and ends it", close_says_farewell
     yield "serve: lines that come while it ends are answered closed", lines_are_refused_at_the_end
     yield "serve: no farewell with --keep-subscriptions", subscriptions_may_be_kept
     yield "serve: a transfer is told to its end", a_transfer_is_told
+    yield "serve: a transfer fails where nobody reads its line, and all else goes on", nobody_reads_its_output
     yield "serve: a control line of nine thousand octets is heard whole", a_long_reason_is_told_whole
     yield "serve: a file names mailboxes, with comments", a_file_names_mailboxes
     yield "serve: files that name none", a_file_names_none
