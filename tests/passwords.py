@@ -340,6 +340,31 @@ def rates(program, folder):
             same("whether the others are counted", 12 - came, counted(operator)["limited"])
 
 
+def lives(operator, count):
+    """Waits until so many subscriptions live: the thread that sends counts them behind its NOTIFYs."""
+    until = time.monotonic() + PATIENCE
+    while int(operator.counters()["live"]) != count and time.monotonic() < until:
+        time.sleep(0.02)
+    same("how many subscriptions live", str(count), operator.counters()["live"])
+
+
+def live_subscriptions(program, folder):
+    """A source with as many live subscriptions as it may is told to come later. It may renew those that it has, and begin another once one
+    of them is over."""
+    with Service(program, "--per-source", "2", "alice") as service, service.operator() as operator, service.phone("alice") as phone:
+        first, second = phone.subscribe(), phone.subscribe()
+        lives(operator, 2)
+        phone.begin("SUBSCRIBE", "message-summary", ("Event: message-summary", "Expires: 3600"))
+        same("in how many seconds it may come again", "60", phone.expect("SIP/2.0 503 Service Unavailable").value("Retry-After"))
+        phone.refresh(second, 600, NO_MESSAGES)
+        phone.leave(first, NO_MESSAGES)
+        lives(operator, 1)
+        phone.subscribe()
+        lives(operator, 2)
+        told = operator.counters()
+        same("what is counted", ("3", "1", "1"), tuple(told[name] for name in ("begun", "over", "per_source")))
+
+
 def strangers(service, count):
     """So many strangers of one address subscribe to alice's mailbox, and answer each NOTIFY once."""
     with socket.socket(socket.AF_INET, socket.SOCK_DGRAM) as stranger:
@@ -480,6 +505,7 @@ def checks():
     yield "malformed values never pass", malformed_values
     yield "networks are let in", networks
     yield "each source has its rate", rates
+    yield "each source has so many live subscriptions", live_subscriptions
     yield "1,024 strangers keep nobody out", strangers_keep_nobody_out
     yield "bad files of passwords end the start", bad_files
     yield "options in vain, and in a bad form", options_in_vain
