@@ -57,8 +57,8 @@ impl Passes {
     }
 }
 
-/// Two places to meet at: whether somebody came there. It is also the gate of a crew, which is open, or holds worker 0 before
-/// its event 0 until worker 1 passes before its event 1, and keeps a record of who passed.
+/// Two places to meet at: whether somebody came there. It is also the gate of a crew, which is open, or has worker 0 before its
+/// event 0 and worker 1 before its event 1 wait for each other, and keeps a record of who passed.
 #[derive(Drop)]
 pub(crate) struct Stage {
     holds_worker: bool,
@@ -70,7 +70,7 @@ pub(crate) struct Stage {
 }
 
 impl Stage {
-    /// A stage whose gate is open, or holds worker 0.
+    /// A stage whose gate is open, or holds both workers.
     pub(crate) fn new(holds_worker: bool) -> Stage {
         Stage {
             holds_worker,
@@ -119,8 +119,10 @@ impl Gate for Stage {
         }
         if worker == 1 && index == 1 {
             self.first.store(true, Ordering::SeqCst);
+            self.wait(&self.second);
         }
         if worker == 0 && index == 0 {
+            self.second.store(true, Ordering::SeqCst);
             self.wait(&self.first);
         }
     }

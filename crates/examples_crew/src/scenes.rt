@@ -158,7 +158,7 @@ pub(crate) const SCENES: [Scene; 12] = [
         feeds: &[&[Step::Rounds(ALICE, 0, 6), Step::Close]],
         tells: Tells::Workers,
     },
-    // worker 0 is held before its first event until worker 1 passes the gate before its second
+    // worker 0 before its first event and worker 1 before its second wait for each other, so one after the other they never meet
     Scene {
         name: "workers_meet",
         plan: ONE_PLACE,
