@@ -7,6 +7,9 @@ use package::{Counts, MailCounts};
 use sip_text::NoMemory;
 use std::alloc::Global;
 
+/// How many bytes a body has room for at first: more than most have, so that it grows once.
+const ROOM: usize = 128;
+
 fn is_waiting(counts: Option<Counts>) -> bool
     ensures { result ≡ spec.is_waiting counts }
 {
@@ -52,7 +55,7 @@ fn write_class(out: &mut String, label: &str, counts: Option<Counts>) -> Result<
 pub fn write_body(alloc: Global, mailbox: &MailCounts) -> Result<String, NoMemory>
     ensures { IfOk result (λ text. string_bytes text ≡ mail_body mailbox.now) }
 {
-    let mut out = String::new(alloc);
+    let mut out = String::with_capacity(alloc, ROOM)?;
     if has_waiting(mailbox) {
         out.push_str("Messages-Waiting: yes\r\n")?;
     } else {

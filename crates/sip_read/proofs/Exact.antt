@@ -32,7 +32,7 @@ use Rattle.sip_read.specs.AddressesComputed.{contact_of}
 use Rattle.sip_read.specs.FieldsComputed.{event_kept, expires_kept, accept_kept}
 use Rattle.sip_read.specs.FirstLine.{First, request, status}
 use Rattle.sip_read.specs.FirstLineComputed.{first_at}
-use Rattle.sip_read.specs.GatheredComputed.{Gathered, nothing, with_items, gather}
+use Rattle.sip_read.specs.GatheredComputed.{Gathered, nothing, capped, with_items, gather}
 use Rattle.sip_read.specs.Items.{Item, values_of}
 use Rattle.sip_read.specs.ItemsComputed.{section_of, items_of}
 use Rattle.sip_read.specs.LinesComputed.{lines_of}
@@ -44,7 +44,7 @@ use Rattle.sip_read.specs.ReferSub.{IsReferSub}
 use Rattle.sip_read.specs.ValuesComputed.{refer_sub_of}
 use Rattle.sip_read.specs.Vias.{Hop, via_of}
 use Rattle.sip_read.proofs.FirstLines.{first_takes, first_again}
-use Rattle.sip_read.proofs.GatheredLists.{once_of, top_of, texts, capped, accept_of_lines, gathered_of, gathered_is}
+use Rattle.sip_read.proofs.GatheredLists.{once_of, top_of, texts, accept_of_lines, gathered_of, gathered_is}
 use Rattle.sip_read.proofs.HeaderItems.{items_take, items_again}
 use Rattle.sip_read.proofs.Parties.{contact_takes, contact_again}
 use Rattle.sip_read.proofs.ReferSubs.{refer_sub_takes, refer_sub_again}

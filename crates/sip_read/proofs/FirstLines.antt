@@ -7,10 +7,11 @@ use Rattle.std.proofs.lemmas.Bool.{eqb-true, eq-eqb}
 use Rattle.std.proofs.lemmas.Bool.Decides.{nat_tests}
 use Rattle.sip_text.specs.declared.scan.Class.TheVariants as class
 use Rattle.sip_text.specs.Bytes.{is_in}
-use Rattle.sip_text.specs.Reading.{◌>>=◌, span_at, after_byte, text_of}
+use Rattle.sip_text.specs.Reading.{◌>>=◌, span_at, after_byte, text_of, word_at}
 use Rattle.sip_text.specs.Grammar.{AllPassing, IsWord, number_of}
 use Rattle.sip_text.proofs.Pieces.{bind_some, some_is, and_both, span_takes, span_again, byte_taken}
-use Rattle.sip_text.proofs.Utf8.{text_taken, text_again, text_from_ascii, token_small, uri_small}
+use Rattle.sip_text.proofs.Utf8.{text_taken, text_again, token_small, uri_small}
+use Rattle.sip_text.proofs.Words.{word_at_takes, word_at_again}
 use Rattle.sip_read.specs.FirstLine.{First, request, status, IsRequestLine, IsStatusLine, IsFirstLine}
 use Rattle.sip_read.specs.FirstLineComputed.{request_line, version_at, status_line, or_status, first_of, first_at}
 use Rattle.sip_read.specs.LinesComputed.{line_at}
@@ -24,19 +25,14 @@ request_last version m u = cond {A = Option First} (str_eq_ignore_ascii_case ver
 request_takes : (line : List ℕ) (first : First) → request_line line ≡ Some first → IsFirstLine line first
 unfolding request_line
 request_takes line first e =
-    let b = bind_some (span_at (is_in class.Token) line) (λ method. after_byte 32 method.1 >>= λ behind. span_at (is_in class.Uri) behind >>= λ uri. after_byte 32 uri.1 >>= λ version. text_of method.0 >>= λ m. text_of uri.0 >>= λ u. request_last version m u) first e in
-    let c = bind_some (after_byte 32 b.0.1) (λ behind. span_at (is_in class.Uri) behind >>= λ uri. after_byte 32 uri.1 >>= λ version. text_of b.0.0 >>= λ m. text_of uri.0 >>= λ u. request_last version m u) first b.2 in
-    let d = bind_some (span_at (is_in class.Uri) c.0) (λ uri. after_byte 32 uri.1 >>= λ version. text_of b.0.0 >>= λ m. text_of uri.0 >>= λ u. request_last version m u) first c.2 in
-    let f = bind_some (after_byte 32 d.0.1) (λ version. text_of b.0.0 >>= λ m. text_of d.0.0 >>= λ u. request_last version m u) first d.2 in
-    let g = bind_some (text_of b.0.0) (λ m. text_of d.0.0 >>= λ u. request_last f.0 m u) first f.2 in
-    let h = bind_some (text_of d.0.0) (λ u. request_last f.0 g.0 u) first g.2 in
-    let m-is = (text_taken b.0.0 g.0 g.1).0 in
-    let u-is = (text_taken d.0.0 h.0 h.1).0 in
-    let sip = subst (λ (n : List ℕ). request_last f.0 n d.0.0 ≡ Some first) m-is (subst (λ (n : List ℕ). request_last f.0 g.0 n ≡ Some first) u-is h.2) in
-    let m = span_takes class.Token line b.0.0 b.0.1 b.1 in
-    let u = span_takes class.Uri c.0 d.0.0 d.0.1 d.1 in
+    let b = bind_some (word_at (is_in class.Token) line) (λ method. after_byte 32 method.1 >>= λ behind. word_at (is_in class.Uri) behind >>= λ uri. after_byte 32 uri.1 >>= λ version. request_last version method.0 uri.0) first e in
+    let c = bind_some (after_byte 32 b.0.1) (λ behind. word_at (is_in class.Uri) behind >>= λ uri. after_byte 32 uri.1 >>= λ version. request_last version b.0.0 uri.0) first b.2 in
+    let d = bind_some (word_at (is_in class.Uri) c.0) (λ uri. after_byte 32 uri.1 >>= λ version. request_last version b.0.0 uri.0) first c.2 in
+    let f = bind_some (after_byte 32 d.0.1) (λ version. request_last version b.0.0 d.0.0) first d.2 in
+    let m = word_at_takes class.Token line b.0.0 b.0.1 b.1 in
+    let u = word_at_takes class.Uri c.0 d.0.0 d.0.1 d.1 in
     let whole = m.0 ∙ ap (λ (l : List ℕ). b.0.0 ++ l) (byte_taken 32 b.0.1 c.0 c.1 ∙ ap (λ (l : List ℕ). 32 ∷ l) (u.0 ∙ ap (λ (l : List ℕ). d.0.0 ++ l) (byte_taken 32 d.0.1 f.0 f.1))) in
-    made b.0.0 d.0.0 f.0 whole m.1 u.1 (str_eq_ignore_ascii_case f.0 (codes "SIP/2.0")) refl sip where
+    made b.0.0 d.0.0 f.0 whole m.1 u.1 (str_eq_ignore_ascii_case f.0 (codes "SIP/2.0")) refl f.2 where
       made : (method uri version : List ℕ) → line ≡ method ++ 32 ∷ (uri ++ 32 ∷ version) → IsWord class.Token method → IsWord class.Uri uri
           → (b : Bool) → str_eq_ignore_ascii_case version (codes "SIP/2.0") ≡ b → cond {A = Option First} b (Some (request method uri)) None ≡ Some first → IsFirstLine line first
       made method uri version whole m u true sip e = subst (IsFirstLine line) (some_is (request method uri) first e) (record { version = version; is_method = m; is_uri = u; sip = sip; whole = whole })
@@ -45,9 +41,9 @@ request_takes line first e =
 request_again : (line method uri : List ℕ) → IsRequestLine line method uri → request_line line ≡ Some (request method uri)
 unfolding request_line
 request_again line method uri w =
-    let second : span_at (is_in class.Token) line ≡ Some (method, 32 ∷ (uri ++ 32 ∷ w.version)) = ap (span_at (is_in class.Token)) w.whole ∙ span_again (is_in class.Token) method (32 ∷ (uri ++ 32 ∷ w.version)) w.is_method.0 w.is_method.1 refl in
-    let third : span_at (is_in class.Uri) (uri ++ 32 ∷ w.version) ≡ Some (uri, 32 ∷ w.version) = span_again (is_in class.Uri) uri (32 ∷ w.version) w.is_uri.0 w.is_uri.1 refl in
-    rw (second, third, text_again method (text_from_ascii (is_in class.Token) token_small method w.is_method.0), text_again uri (text_from_ascii (is_in class.Uri) uri_small uri w.is_uri.0), w.sip) refl
+    let second : word_at (is_in class.Token) line ≡ Some (method, 32 ∷ (uri ++ 32 ∷ w.version)) = ap (word_at (is_in class.Token)) w.whole ∙ word_at_again class.Token token_small method (32 ∷ (uri ++ 32 ∷ w.version)) w.is_method refl in
+    let third : word_at (is_in class.Uri) (uri ++ 32 ∷ w.version) ≡ Some (uri, 32 ∷ w.version) = word_at_again class.Uri uri_small uri (32 ∷ w.version) w.is_uri refl in
+    rw (second, third, w.sip) refl
 
 -- ---- a status line
 
@@ -140,7 +136,7 @@ not_request : (line : List ℕ) (code : ℕ) (reason : List ℕ) → IsStatusLin
 unfolding request_line
 not_request line code reason h =
     let rest : List ℕ = h.version ++ 32 ∷ (h.digits ++ 32 ∷ reason) in
-    let one : span_at (is_in class.Token) line ≡ Some (h.name, 47 ∷ rest) = ap (span_at (is_in class.Token)) h.whole ∙ span_again (is_in class.Token) h.name (47 ∷ rest) h.is_name.0 h.is_name.1 refl in
+    let one : word_at (is_in class.Token) line ≡ Some (h.name, 47 ∷ rest) = ap (word_at (is_in class.Token)) h.whole ∙ word_at_again class.Token token_small h.name (47 ∷ rest) h.is_name refl in
     rw one refl
 
 -- ---- the first line of a datagram

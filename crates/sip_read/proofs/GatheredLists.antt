@@ -1,14 +1,13 @@
 -- What is gathered from a list of values, header by header.
-use Rattle.std.proofs.Common.{◌≡◌, ℕ, ◌^◌, List, [], ◌∷◌, ◌++◌, Option, Some, None, refl, ◌∙◌, append_assoc, map, min}
+use Rattle.std.proofs.Common.{◌≡◌, ℕ, List, [], ◌∷◌, ◌++◌, Option, Some, None, refl, ◌∙◌, append_assoc, map}
 use Rattle.std.proofs.lemmas.List.{append-nil}
-use Rattle.sip_text.specs.Grammar.{number_of}
 use Rattle.sip_read.specs.declared.header.Header.TheVariants as headers
 use Rattle.sip_read.specs.declared.message.Via.{Via}
 use Rattle.sip_read.specs.declared.once.Once.{Once}
 use Rattle.sip_read.specs.declared.once.Once.TheVariants as once
 use Rattle.sip_read.specs.AddressesComputed.{contact_of}
 use Rattle.sip_read.specs.FieldsComputed.{event_kept, expires_kept}
-use Rattle.sip_read.specs.GatheredComputed.{Fields, Gathered, nothing, accept_more, first_or, with_item, with_items}
+use Rattle.sip_read.specs.GatheredComputed.{Fields, Gathered, nothing, capped, accept_more, first_or, with_item, with_items}
 use Rattle.sip_read.specs.Items.{Item, item, values_of}
 use Rattle.sip_read.specs.Message.{with_commas}
 use Rattle.sip_read.specs.OnceComputed.{once_all}
@@ -16,9 +15,6 @@ use Rattle.sip_read.specs.ValuesComputed.{refer_sub_of}
 use Rattle.sip_read.specs.Vias.{Hop, via_of}
 
 -- ---- what is gathered, header by header
-
-abbrev pub capped : List ℕ → ℕ
-capped d = min (number_of d) (2 ^ 32)
 
 abbrev accept_all : Option (List ℕ) → List (List ℕ) → Option (List ℕ)
 accept_all o [] = o

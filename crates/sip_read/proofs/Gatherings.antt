@@ -1,13 +1,18 @@
 -- What the loops over elements and over lines gather.
 use Rattle.std.proofs.Common.{◌≡◌, ℕ, zero, suc, ◌≤◌, ◌<◌, true, false, eqb, cond, List, [], ◌∷◌, ◌++◌, length, Option, Some, None, option_map, refl, sym, ap, subst, ◌∙◌, arith}
+use Rattle.std.specs.Str.{is_utf8}
 use Rattle.sip_text.specs.Reading.{◌>>=◌, after_comma, elements_at, elements_of}
 use Rattle.sip_text.proofs.Pieces.{bind_same, some_is}
 use Rattle.sip_text.proofs.CommaLists.{comma_shortens}
 use Rattle.sip_read.specs.declared.item.Listed.{Listed}
 use Rattle.sip_read.specs.Items.{Item}
-use Rattle.sip_read.specs.ItemsComputed.{element_at, line_items, items_of, section_of}
-use Rattle.sip_read.specs.GatheredComputed.{Gathered, with_item, with_items, gather_line, gather}
-use Rattle.sip_read.specs.LinesComputed.{line_at, unfolded_of, lines_at, lines_of}
+use Rattle.sip_read.specs.ItemsComputed.{element_at, alone, line_values, line_items, items_of, section_of}
+use Rattle.sip_read.specs.declared.error.ReadError.{ReadError}
+use Rattle.sip_read.specs.declared.error.ReadError.TheVariants as errors
+use Rattle.sip_read.specs.GatheredComputed.{Gathered, with_item, with_element, with_items, gather}
+use Rattle.sip_read.specs.Headers.{header_named}
+use Rattle.sip_read.specs.LineAnswers.{IsBad}
+use Rattle.sip_read.specs.LinesComputed.{line_at, header_of, unfolded_of, lines_at, lines_of}
 use Rattle.sip_read.proofs.Continuations.{unfolded_shortens}
 use Rattle.sip_read.proofs.Elements.{element_shortens}
 use Rattle.sip_read.proofs.Sections.{step_of, no_lines, enough}
@@ -37,33 +42,79 @@ later : (g : Gathered) (x : Item) (o : Option (List Item)) → option_map (with_
 later g x None = refl
 later g x (Some xs) = refl
 
-none_added : (g : Gathered) (o : Option (List Item)) → option_map (with_items g) o ≡ None → o ≡ None
-none_added g None e = refl
-none_added g (Some xs) e = absurd cc
+none_before : {A B : Type 0} (f : A → B) (o : Option A) → option_map f o ≡ None → o ≡ None
+none_before f None e = refl
+none_before f (Some x) e = absurd cc
 
-module _ (k : Listed) (g : Gathered) (t : List ℕ) (g₀ : Gathered) (t₀ : List ℕ) (so_far : adding k g t ≡ adding k g₀ t₀) where
-  failed : elements_of (element_at k) t ≡ None → elements_of (element_at k) t₀ ≡ None
-  failed e = none_added g₀ (elements_of (element_at k) t₀) (sym so_far ∙ ap (option_map (with_items g)) e)
+some_before : {A B : Type 0} (f : A → B) (o : Option A) (y : B) → option_map f o ≡ Some y → (x : A) × (o ≡ Some x) × (f x ≡ y)
+some_before f None y e = absurd cc
+some_before f (Some x) y e = (x, refl, some_is (f x) y e)
 
-  pub fails_element : element_at k t ≡ None → elements_of (element_at k) t₀ ≡ None
+pub bad_before : {A B : Type 0} (f : A → B) (o : Option A) (e : ReadError) → IsBad e (option_map f o) → IsBad e o
+bad_before f o errors.BadLine h = none_before f o h
+bad_before f o errors.NoMemory h = tt
+bad_before f o e h = absurd h
+
+bad_as : {A B : Type 0} (o : Option A) (p : Option B) → (o ≡ None → p ≡ None) → (e : ReadError) → IsBad e o → IsBad e p
+bad_as o p f errors.BadLine h = f h
+bad_as o p f errors.NoMemory h = tt
+bad_as o p f e h = absurd h
+
+module _ (k : Listed) (g : Gathered) (t : List ℕ) (total : Option Gathered) (so_far : adding k g t ≡ total) where
+  no_elements : elements_of (element_at k) t ≡ None → total ≡ None
+  no_elements e = sym so_far ∙ ap (option_map (with_items g)) e
+
+  no_element : element_at k t ≡ None → total ≡ None
   unfolding elements_at
-  fails_element e = let z : elements_of (element_at k) t ≡ None = rw e refl in failed z
+  no_element e = let z : elements_of (element_at k) t ≡ None = rw e refl in no_elements z
 
-  module _ (x : Item) (r : List ℕ) (is : element_at k t ≡ Some (x, r)) where
-    pub is_done : eqb (length r) 0 ≡ true → adding k g₀ t₀ ≡ Some (with_item g x)
+  pub bad_element : (e : ReadError) → IsBad e (with_element g (element_at k t)) → IsBad e total
+  bad_element e h = bad_as (element_at k t) total no_element e (bad_before (λ x. (with_item g x.0, x.1)) (element_at k t) e h)
+
+  module _ (g' : Gathered) (r : List ℕ) (with_one : with_element g (element_at k t) ≡ Some (g', r)) where
+    record One : Type 0 where
+      x : Item
+      is : element_at k t ≡ Some (x, r)
+      adds : with_item g x ≡ g'
+
+    one : One
+    one =
+        let b = some_before (λ (x : Item × List ℕ). (with_item g x.0, x.1)) (element_at k t) (g', r) with_one in
+        record {
+          x = b.0.0;
+          is = b.1 ∙ ap (λ (l : List ℕ). Some (b.0.0, l)) (ap (λ (q : Gathered × List ℕ). q.1) b.2);
+          adds = ap (λ (q : Gathered × List ℕ). q.0) b.2;
+        }
+
+    pub rest_shortens : length r ≤ length t
+    rest_shortens = element_shortens k t one.x r one.is
+
+    pub is_done : eqb (length r) 0 ≡ true → total ≡ Some g'
     unfolding elements_at
-    is_done empty = let z : elements_of (element_at k) t ≡ Some (x ∷ []) = rw (is, empty) refl in sym so_far ∙ ap (option_map (with_items g)) z
+    is_done empty =
+        let z : elements_of (element_at k) t ≡ Some (one.x ∷ []) = rw (one.is, empty) refl in
+        sym so_far ∙ ap (option_map (with_items g)) z ∙ ap (λ (h : Gathered). Some h) one.adds
 
-    pub fails_comma : eqb (length r) 0 ≡ false → after_comma r ≡ None → elements_of (element_at k) t₀ ≡ None
+    pub fails_comma : eqb (length r) 0 ≡ false → after_comma r ≡ None → total ≡ None
     unfolding elements_at
-    fails_comma some e = let z : elements_of (element_at k) t ≡ None = rw (is, some, e) refl in failed z
+    fails_comma some e = let z : elements_of (element_at k) t ≡ None = rw (one.is, some, e) refl in no_elements z
 
-    pub goes_on : eqb (length r) 0 ≡ false → (q : List ℕ) → after_comma r ≡ Some q → adding k (with_item g x) q ≡ adding k g₀ t₀
+    pub goes_on : eqb (length r) 0 ≡ false → (q : List ℕ) → after_comma r ≡ Some q → adding k g' q ≡ total
     unfolding elements_at
     goes_on some q c =
-        let enough : elements_at (element_at k) (length t) q ≡ elements_of (element_at k) q = fuel k (length t) (suc (length q)) q (omega (arith, element_shortens k t x r is, comma_shortens r q c)) (omega arith) in
-        let z : elements_of (element_at k) t ≡ (elements_of (element_at k) q >>= λ xs. found (x ∷ xs)) = rw (is, some, c) (ap (λ (o : Option (List Item)). o >>= λ xs. found (x ∷ xs)) enough) in
-        sym (later g x (elements_of (element_at k) q)) ∙ ap (option_map (with_items g)) (sym z) ∙ so_far
+        let x = one.x in
+        let enough : elements_at (element_at k) (length t) q ≡ elements_of (element_at k) q = fuel k (length t) (suc (length q)) q (omega (arith, rest_shortens, comma_shortens r q c)) (omega arith) in
+        let z : elements_of (element_at k) t ≡ (elements_of (element_at k) q >>= λ xs. found (x ∷ xs)) = rw (one.is, some, c) (ap (λ (o : Option (List Item)). o >>= λ xs. found (x ∷ xs)) enough) in
+        ap (λ (h : Gathered). adding k h q) (sym one.adds) ∙ sym (later g x (elements_of (element_at k) q)) ∙ ap (option_map (with_items g)) (sym z) ∙ so_far
+
+-- ---- a line
+
+pub bad_alone : {A : Type 0} (f : A → Item) (o : Option A) (g : Gathered) (e : ReadError) → IsBad e o → IsBad e (option_map (with_items g) (alone (option_map f o)))
+bad_alone f o g e h = bad_as o (option_map (with_items g) (alone (option_map f o))) (λ none. rw none refl) e h
+
+pub line_is : (line name value : List ℕ) → is_utf8 line ≡ true → header_of line ≡ Some (name, value) → line_items line ≡ line_values (header_named name) value
+unfolding line_items
+line_is line name value text is = rw (text, is) refl
 
 -- ---- lines
 
@@ -117,7 +168,7 @@ module _ (g : Gathered) (t : List ℕ) (total : Option (Gathered × List ℕ)) (
         let z : section_of t ≡ Some ([], s) = rw k refl in
         sym so_far ∙ ap (option_map (λ q. pair (with_items g q.0) q.1)) z
 
-    fails_unfolding : eqb (length first) 0 ≡ false → unfolded_of first s ≡ None → total ≡ None
+    pub fails_unfolding : eqb (length first) 0 ≡ false → unfolded_of first s ≡ None → total ≡ None
     fails_unfolding some e =
         let k : lines_of t ≡ None = step_of t first s is ∙ rw (some, e) refl in
         let z : section_of t ≡ None = rw k refl in
@@ -133,29 +184,11 @@ module _ (g : Gathered) (t : List ℕ) (total : Option (Gathered × List ℕ)) (
       fails_values : line_items line ≡ None → total ≡ None
       fails_values none = let z : section_of t ≡ None = unfolds ∙ rw none refl in sym so_far ∙ none_gathered g (section_of t) z
 
-      line_goes_on : (xs : List Item) → line_items line ≡ Some xs → gather (with_items g xs) r ≡ total
-      line_goes_on xs found =
-          let z : section_of t ≡ (section_of r >>= λ q. section_found (xs ++ q.0) q.1) = unfolds ∙ rw found refl in
-          sym (gathers g xs (section_of r)) ∙ ap (option_map (λ q. pair (with_items g q.0) q.1)) (sym z) ∙ so_far
+      pub bad_line : (e : ReadError) → IsBad e (option_map (with_items g) (line_items line)) → IsBad e total
+      bad_line e h = bad_as (line_items line) total fails_values e (bad_before (with_items g) (line_items line) e h)
 
-    module _ (some : eqb (length first) 0 ≡ false) where
-      pub fails_added : gather_line g first s ≡ None → total ≡ None
-      fails_added none = line (unfolded_of first s) refl none where
-        values : (l : List ℕ × List ℕ) → unfolded_of first s ≡ Some l → (o : Option (List Item)) → line_items l.0 ≡ o → option_map (λ xs. pair (with_items g xs) l.1) o ≡ None → total ≡ None
-        values l found None e none = fails_values some l.0 l.1 found e
-        values l found (Some xs) e none = absurd cc
-
-        line : (o : Option (List ℕ × List ℕ)) → unfolded_of first s ≡ o → (o >>= λ l. option_map (λ xs. pair (with_items g xs) l.1) (line_items l.0)) ≡ None → total ≡ None
-        line None found none = fails_unfolding some found
-        line (Some l) found none = values l found (line_items l.0) refl none
-
-      pub added_goes_on : (g' : Gathered) (r : List ℕ) → gather_line g first s ≡ Some (g', r) → (gather g' r ≡ total) × (length r ≤ length s)
-      added_goes_on g' r adds = line (unfolded_of first s) refl adds where
-        values : (l : List ℕ × List ℕ) → unfolded_of first s ≡ Some l → (o : Option (List Item)) → line_items l.0 ≡ o → option_map (λ xs. pair (with_items g xs) l.1) o ≡ Some (pair g' r) → (gather g' r ≡ total) × (length r ≤ length s)
-        values l found None e adds = absurd cc
-        values l found (Some xs) e adds =
-            subst (λ (q : Gathered × List ℕ). (gather q.0 q.1 ≡ total) × (length q.1 ≤ length s)) (some_is (pair (with_items g xs) l.1) (pair g' r) adds) (line_goes_on some l.0 l.1 found xs e, unfolded_shortens first s l.0 l.1 found)
-
-        line : (o : Option (List ℕ × List ℕ)) → unfolded_of first s ≡ o → (o >>= λ l. option_map (λ xs. pair (with_items g xs) l.1) (line_items l.0)) ≡ Some (pair g' r) → (gather g' r ≡ total) × (length r ≤ length s)
-        line None found adds = absurd cc
-        line (Some l) found adds = values l found (line_items l.0) refl adds
+      pub line_goes_on : (g' : Gathered) → option_map (with_items g) (line_items line) ≡ Some g' → gather g' r ≡ total
+      line_goes_on g' adds =
+          let b = some_before (with_items g) (line_items line) g' adds in
+          let z : section_of t ≡ (section_of r >>= λ q. section_found (b.0 ++ q.0) q.1) = unfolds ∙ ap (λ (o : Option (List Item)). o >>= λ xs. section_of r >>= λ q. section_found (xs ++ q.0) q.1) b.1 in
+          ap (λ (h : Gathered). gather h r) (sym b.2) ∙ sym (gathers g b.0 (section_of r)) ∙ ap (option_map (λ q. pair (with_items g q.0) q.1)) (sym z) ∙ so_far

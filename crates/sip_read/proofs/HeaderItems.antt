@@ -18,7 +18,7 @@ use Rattle.sip_read.specs.declared.item.Listed.TheVariants as listed
 use Rattle.sip_read.specs.AddressesComputed.{party_of}
 use Rattle.sip_read.specs.Headers.{header_named}
 use Rattle.sip_read.specs.Items.{Item, item, AreValues, IsLine, AreItems}
-use Rattle.sip_read.specs.ItemsComputed.{single_of, alone, line_values, line_items, items_of}
+use Rattle.sip_read.specs.ItemsComputed.{alone, line_values, line_items, items_of}
 use Rattle.sip_read.specs.LinesComputed.{header_of}
 use Rattle.sip_read.specs.ValuesComputed.{call_id_of, sequence_of}
 use Rattle.sip_read.proofs.Calls.{call_id_takes, call_id_again, sequence_takes, sequence_again}
@@ -31,13 +31,6 @@ use Rattle.sip_read.proofs.Parties.{party_takes, party_again}
 alone_some : {A : Type 0} (f : A → Item) (o : Option A) (xs : List Item) → alone (option_map f o) ≡ Some xs → (x : A) × (o ≡ Some x) × (xs ≡ f x ∷ [])
 alone_some f (Some x) xs e = (x, refl, sym (some_is (f x ∷ []) xs e))
 alone_some f None xs e = absurd cc
-
-pub single_alone : (header : Header) (v : List ℕ) (x : Item) → single_of header v ≡ Some x → line_values header v ≡ Some (x ∷ [])
-single_alone headers.Via v x e = absurd cc
-single_alone headers.Require v x e = absurd cc
-single_alone headers.RecordRoute v x e = absurd cc
-single_alone headers.Other v x e = absurd cc
-single_alone header v x e = ap alone e
 
 raw : (x : Item) (xs : List Item) → alone (Some x) ≡ Some xs → xs ≡ x ∷ []
 raw x xs e = sym (some_is (x ∷ []) xs e)

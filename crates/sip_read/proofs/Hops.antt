@@ -8,13 +8,14 @@ use Rattle.std.proofs.lemmas.Bool.{eqb-true, eq-eqb}
 use Rattle.std.proofs.lemmas.Bool.Decides.{nat_tests}
 use Rattle.sip_text.specs.declared.scan.Class.TheVariants as class
 use Rattle.sip_text.specs.Bytes.{is_in, is_space}
-use Rattle.sip_text.specs.Reading.{◌>>=◌, span_at, after_byte, after_spaces, text_of, some_of}
+use Rattle.sip_text.specs.Reading.{◌>>=◌, span_at, after_byte, after_spaces, text_of, some_of, word_at}
 use Rattle.sip_text.specs.Grammar.{Parameter, has_name, AreSpaces, IsWord, Stops, IsParameter, IsAssigned, AreParameters}
 use Rattle.sip_read.specs.Vias.{Hop, is_bare_rport, value_of_first, branch_of, IsSlashed, IsProtocol, IsHop}
-use Rattle.sip_read.specs.ViasComputed.{taken, slashed_at, protocol_at, some_text_of, hop_of, hop_at}
+use Rattle.sip_read.specs.ViasComputed.{taken, slashed_at, protocol_at, some_text_of, Marks, marks_of, marks_at, hop_at}
 use Rattle.sip_text.proofs.Pieces.{bind_some, some_is, and_both, span_takes, span_again, spaces_taken, spaces_again, byte_taken, NoSpace, not_of_space, stops_at_spaces, word_stops_spaces}
-use Rattle.sip_text.proofs.Utf8.{text_taken, text_again, text_from_ascii, text_after_ascii, token_small, space_small, split_text, is_wide}
+use Rattle.sip_text.proofs.Utf8.{text_taken, text_again, text_after_ascii, token_small, space_small, split_text, is_wide}
 use Rattle.sip_text.proofs.Groups.{group_takes, group_again, Ends}
+use Rattle.sip_text.proofs.Words.{word_at_takes, word_at_again}
 
 -- ---- a word and a slash
 
@@ -157,26 +158,22 @@ some_text_again : (o : Option (List ℕ)) → ((v : List ℕ) → o ≡ Some v �
 some_text_again None f = refl
 some_text_again (Some t) f = rw (text_again t (f t refl)) refl
 
-record IsMade (t by : List ℕ) (ps : List Parameter) (h : Hop) : Type 0 where
-  text : h.text ≡ t
-  sent_by : h.sent_by ≡ by
-  branch : h.branch ≡ branch_of ps
-  bare_rport : h.bare_rport ≡ list_any is_bare_rport ps
+abbrev hop_from : List ℕ → Marks → Option (List ℕ) → List ℕ → Hop
+hop_from s m o x = record { text = x; sent_by = s; branch = o; bare_rport = m.bare_rport }
 
-abbrev hop_from : List Parameter → Option (List ℕ) → List ℕ → List ℕ → Hop
-hop_from ps o s x = record { text = x; sent_by = s; branch = o; bare_rport = list_any is_bare_rport ps }
+abbrev some_hop : Hop → List ℕ → Option (Hop × List ℕ)
+some_hop h r = Some (h, r)
 
-abbrev some_hop : Hop → Option Hop
-some_hop h = Some h
+record Marked (t : List ℕ) (m : Marks) (r : List ℕ) : Type 0 where
+  parameters : List Parameter
+  found : some_of t ≡ Some (parameters, r)
+  same : m ≡ marks_of parameters
 
-hop_made : (t by : List ℕ) (ps : List Parameter) (h : Hop) → hop_of t by ps ≡ Some h → IsMade t by ps h
-unfolding hop_of
-hop_made t by ps h e =
-    let b = bind_some (some_text_of (branch_of ps)) (λ o. text_of by >>= λ s. text_of t >>= λ x. some_hop (hop_from ps o s x)) h e in
-    let d = bind_some (text_of by) (λ s. text_of t >>= λ x. some_hop (hop_from ps b.0 s x)) h b.2 in
-    let f = bind_some (text_of t) (λ x. some_hop (hop_from ps b.0 d.0 x)) h d.2 in
-    subst (IsMade t by ps) (some_is (hop_from ps b.0 d.0 f.0) h f.2)
-    (record { text = (text_taken t f.0 f.1).0; sent_by = (text_taken by d.0 d.1).0; branch = some_text_taken (branch_of ps) b.0 b.1; bare_rport = refl })
+marks_take : (t : List ℕ) (m : Marks) (r : List ℕ) → marks_at t ≡ Some (m, r) → Marked t m r
+unfolding marks_at
+marks_take t m r e =
+    let b = bind_some (some_of t) (λ ps. Some (marks_of ps.0, ps.1)) (m, r) e in
+    subst (λ (x : Marks × List ℕ). Marked t x.0 x.1) (some_is (marks_of b.0.0, b.0.1) (m, r) b.2) (record { parameters = b.0.0; found = b.1; same = refl })
 
 pub record TakesHop (t : List ℕ) (h : Hop) (r : List ℕ) : Type 0 where
   pub text : List ℕ
@@ -191,31 +188,32 @@ taken_is t text r e =
 pub hop_takes : (t : List ℕ) (h : Hop) (r : List ℕ) → hop_at t ≡ Some (h, r) → TakesHop t h r
 unfolding hop_at
 hop_takes t h r e =
-    let b = bind_some (protocol_at t) (λ a. span_at (is_in class.Host) a >>= λ w. some_of w.1 >>= λ ps. hop_of (taken t ps.1) w.0 ps.0 >>= λ x. Some (x, ps.1)) (h, r) e in
-    let d = bind_some (span_at (is_in class.Host) b.0) (λ w. some_of w.1 >>= λ ps. hop_of (taken t ps.1) w.0 ps.0 >>= λ x. Some (x, ps.1)) (h, r) b.2 in
-    let f = bind_some (some_of d.0.1) (λ ps. hop_of (taken t ps.1) d.0.0 ps.0 >>= λ x. Some (x, ps.1)) (h, r) d.2 in
-    let g = bind_some (hop_of (taken t f.0.1) d.0.0 f.0.0) (λ x. Some (x, f.0.1)) (h, r) f.2 in
+    let b = bind_some (protocol_at t) (λ a. word_at (is_in class.Host) a >>= λ w. marks_at w.1 >>= λ m. some_text_of (value_of_first m.0.branch) >>= λ o. text_of (taken t m.1) >>= λ x. some_hop (hop_from w.0 m.0 o x) m.1) (h, r) e in
+    let d = bind_some (word_at (is_in class.Host) b.0) (λ w. marks_at w.1 >>= λ m. some_text_of (value_of_first m.0.branch) >>= λ o. text_of (taken t m.1) >>= λ x. some_hop (hop_from w.0 m.0 o x) m.1) (h, r) b.2 in
+    let f = bind_some (marks_at d.0.1) (λ m. some_text_of (value_of_first m.0.branch) >>= λ o. text_of (taken t m.1) >>= λ x. some_hop (hop_from d.0.0 m.0 o x) m.1) (h, r) d.2 in
+    let g = bind_some (some_text_of (value_of_first f.0.0.branch)) (λ o. text_of (taken t f.0.1) >>= λ x. some_hop (hop_from d.0.0 f.0.0 o x) f.0.1) (h, r) f.2 in
+    let i = bind_some (text_of (taken t f.0.1)) (λ x. some_hop (hop_from d.0.0 f.0.0 g.0 x) f.0.1) (h, r) g.2 in
     let p = protocol_takes t b.0 b.1 in
-    let w = span_takes class.Host b.0 d.0.0 d.0.1 d.1 in
-    let q = group_takes (length d.0.1) d.0.1 f.0.0 f.0.1 f.1 in
-    let m = hop_made (taken t f.0.1) d.0.0 f.0.0 g.0 g.1 in
-    let text : List ℕ = p.text ++ (g.0.sent_by ++ q.text) in
+    let w = word_at_takes class.Host b.0 d.0.0 d.0.1 d.1 in
+    let m = marks_take d.0.1 f.0.0 f.0.1 f.1 in
+    let q = group_takes (length d.0.1) d.0.1 m.parameters f.0.1 m.found in
+    let text : List ℕ = p.text ++ (d.0.0 ++ q.text) in
     let parts : t ≡ text ++ f.0.1 =
-    p.whole ∙ ap (λ (l : List ℕ). p.text ++ l) (w.0 ∙ ap (λ (l : List ℕ). d.0.0 ++ l) q.whole ∙ ap (λ (l : List ℕ). l ++ (q.text ++ f.0.1)) (sym m.sent_by)) ∙ simp append_assoc in
-    subst (λ (x : Hop × List ℕ). TakesHop t x.0 x.1) (some_is (g.0, f.0.1) (h, r) g.2)
+    p.whole ∙ ap (λ (l : List ℕ). p.text ++ l) (w.0 ∙ ap (λ (l : List ℕ). d.0.0 ++ l) q.whole) ∙ simp append_assoc in
+    subst (λ (x : Hop × List ℕ). TakesHop t x.0 x.1) (some_is (hop_from d.0.0 f.0.0 g.0 i.0, f.0.1) (h, r) i.2)
     (record {
       text = text;
       whole = parts;
       is = record {
         protocol = p.text;
         behind = q.text;
-        parameters = f.0.0;
+        parameters = m.parameters;
         is_protocol = p.is;
-        host = subst (λ (n : List ℕ). IsWord class.Host n) (sym m.sent_by) w.1;
+        host = w.1;
         are = q.are;
-        branch = m.branch;
-        bare_rport = m.bare_rport;
-        same = m.text ∙ taken_is t text f.0.1 parts;
+        branch = some_text_taken (value_of_first f.0.0.branch) g.0 g.1 ∙ ap (λ (x : Marks). value_of_first x.branch) m.same;
+        bare_rport = ap (λ (x : Marks). x.bare_rport) m.same;
+        same = (text_taken (taken t f.0.1) i.0 i.1).0 ∙ taken_is t text f.0.1 parts;
         whole = refl;
       };
     })
@@ -237,15 +235,14 @@ tail_text text h x u =
     (split_text (x.protocol ++ h.sent_by) x.behind (group_narrow x.behind x.parameters x.are) k).1
 
 pub hop_again : (text : List ℕ) (h : Hop) (rest : List ℕ) → IsHop text h → IsUtf8 text → Ends rest → Stops (is_in class.Host) rest → hop_at (text ++ rest) ≡ Some (h, rest)
-unfolding hop_at hop_of
+unfolding hop_at marks_at
 hop_again text h rest x u ends stops =
     let at : text ++ rest ≡ x.protocol ++ (h.sent_by ++ (x.behind ++ rest)) = rw x.whole (simp append_assoc) in
     let one : protocol_at (text ++ rest) ≡ Some (h.sent_by ++ (x.behind ++ rest)) = ap protocol_at at ∙ protocol_again x.protocol (h.sent_by ++ (x.behind ++ rest)) x.is_protocol (word_stops_spaces (is_in class.Host) host h.sent_by (x.behind ++ rest) x.host.0 x.host.1) in
-    let two = span_again (is_in class.Host) h.sent_by (x.behind ++ rest) x.host.0 x.host.1 (group_stops_host x.behind x.parameters rest x.are stops) in
+    let two = word_at_again class.Host host_small h.sent_by (x.behind ++ rest) x.host (group_stops_host x.behind x.parameters rest x.are stops) in
     let three : some_of (x.behind ++ rest) ≡ Some (x.parameters, rest) = group_again x.parameters x.behind rest (length (x.behind ++ rest)) x.are ends (omega (arith, length-append x.behind rest)) in
     let four : some_text_of (branch_of x.parameters) ≡ Some (branch_of x.parameters) = some_text_again (branch_of x.parameters) (λ v e. branch_text x.parameters x.behind v x.are (tail_text text h x u) e) in
-    let five = text_again h.sent_by (text_from_ascii (is_in class.Host) host_small h.sent_by x.host.0) in
-    rw (one, two, three, four, five, taken_is (text ++ rest) text rest refl, text_again text u, ← x.branch, ← x.bare_rport, ← x.same) refl
+    rw (one, two, three, four, taken_is (text ++ rest) text rest refl, text_again text u, ← x.branch, ← x.bare_rport, ← x.same) refl
 
 pub hop_starts : (text : List ℕ) (h : Hop) (rest : List ℕ) → IsHop text h → Stops is_space (text ++ rest)
 hop_starts text h rest x =

@@ -1,4 +1,3 @@
-pub mod OverViews
 pub mod Lines
 pub mod Continuations
 pub mod Sections
@@ -20,3 +19,4 @@ pub mod Kept
 pub mod PlainLines
 pub mod Names
 pub mod LineEnds
+pub mod Marks

@@ -5,19 +5,17 @@ use Rattle.std.specs.Str.{byte, str_eq_ignore_ascii_case}
 use Rattle.sip_text.specs.declared.scan.Class.TheVariants as class
 use Rattle.sip_text.specs.Bytes.{is_in}
 use Rattle.sip_text.specs.Grammar.{number_of}
-use Rattle.sip_text.specs.Reading.{◌>>=◌, span_at, after_byte, text_of}
+use Rattle.sip_text.specs.Reading.{◌>>=◌, span_at, after_byte, text_of, word_at}
 use Rattle.sip_read.specs.FirstLine.{First, request, status}
 use Rattle.sip_read.specs.LinesComputed.{line_at}
 
 unfoldable pub request_line : List ℕ → Option First
 request_line line = do
-  method ← span_at (is_in class.Token) line
+  method ← word_at (is_in class.Token) line
   behind ← after_byte (byte " ") method.1
-  uri ← span_at (is_in class.Uri) behind
+  uri ← word_at (is_in class.Uri) behind
   version ← after_byte (byte " ") uri.1
-  m ← text_of method.0
-  u ← text_of uri.0
-  if str_eq_ignore_ascii_case version (codes "SIP/2.0") then Some (request m u) else None
+  if str_eq_ignore_ascii_case version (codes "SIP/2.0") then Some (request method.0 uri.0) else None
 
 -- what follows the version
 unfoldable pub version_at : List ℕ → Option (List ℕ)

@@ -1,8 +1,7 @@
 -- What the reader computes of all values, header by header.
-use Rattle.std.specs.Prelude.{◌≡◌, ℕ, Bool, true, false, List, [], ◌∷◌, ◌++◌, Option, Some, None, option_map, min, ◌^◌}
+use Rattle.std.specs.Prelude.{ℕ, Bool, List, [], ◌∷◌, ◌++◌, Option, Some, None, option_map, min, ◌^◌}
 use Rattle.std.specs.Str.{byte}
 use Rattle.sip_text.specs.Grammar.{number_of}
-use Rattle.sip_text.specs.Reading.{◌>>=◌}
 use Rattle.event_headers.specs.Values.{EventValue}
 use Rattle.sip_read.specs.declared.call.Sequence.{Sequence}
 use Rattle.sip_read.specs.declared.header.Header.TheVariants as headers
@@ -13,8 +12,7 @@ use Rattle.sip_read.specs.declared.once.Once.TheVariants as once
 use Rattle.sip_read.specs.AddressesComputed.{contact_of}
 use Rattle.sip_read.specs.FieldsComputed.{event_kept, expires_kept}
 use Rattle.sip_read.specs.Items.{Item, item}
-use Rattle.sip_read.specs.ItemsComputed.{line_items, section_of}
-use Rattle.sip_read.specs.LinesComputed.{unfolded_of}
+use Rattle.sip_read.specs.ItemsComputed.{section_of}
 use Rattle.sip_read.specs.OnceComputed.{once_more}
 use Rattle.sip_read.specs.ValuesComputed.{refer_sub_of}
 use Rattle.sip_read.specs.Vias.{via_of}
@@ -66,27 +64,26 @@ with_field f (item headers.Require v) = record f { require = f.require ++ v ∷ 
 with_field f (item headers.RecordRoute v) = record f { record_routes = f.record_routes ++ v ∷ [] }
 with_field f _ = f
 
+-- the number that digits stand for, or 2 ^ 32 where it is greater
+abbrev pub capped : List ℕ → ℕ
+capped d = min (number_of d) (2 ^ 32)
+
 abbrev pub with_item : Gathered → Item → Gathered
 with_item g (item headers.Via h) = record g { vias = g.vias ++ h.text ∷ []; top = first_or g.top (via_of h) }
 with_item g (item headers.From p) = record g { from = once_more g.from p }
 with_item g (item headers.To p) = record g { to = once_more g.to p }
 with_item g (item headers.CallId v) = record g { call_id = once_more g.call_id v }
 with_item g (item headers.CSeq s) = record g { cseq = once_more g.cseq s }
-with_item g (item headers.ContentLength d) = record g { content_length = once_more g.content_length (min (number_of d) (2 ^ 32)) }
+with_item g (item headers.ContentLength d) = record g { content_length = once_more g.content_length (capped d) }
 with_item g x = record g { fields = with_field g.fields x }
 
 abbrev pub with_items : Gathered → List Item → Gathered
 with_items g [] = g
 with_items g (x ∷ xs) = with_items (with_item g x) xs
 
--- whether there were such values, and what was gathered with them
-abbrev pub Adds : Gathered → Option (List Item) → Gathered → Bool → Type 0
-Adds old read new true = option_map (with_items old) read ≡ Some new
-Adds old read new false = read ≡ None
-
--- what a line that begins with this piece says beyond what was gathered before, and what follows it
-abbrev pub gather_line : Gathered → List ℕ → List ℕ → Option (Gathered × List ℕ)
-gather_line g first t = unfolded_of first t >>= λ l. option_map (λ xs. (with_items g xs, l.1)) (line_items l.0)
+-- what was gathered with an element of a list, if there is one, and what follows it
+abbrev pub with_element : Gathered → Option (Item × List ℕ) → Option (Gathered × List ℕ)
+with_element g read = option_map (λ x. (with_item g x.0, x.1)) read
 
 -- what the header lines say beyond what was gathered before, and what follows them
 abbrev pub gather : Gathered → List ℕ → Option (Gathered × List ℕ)

@@ -19,5 +19,6 @@ pub mod FieldsComputed
 pub mod GatheredComputed
 pub mod FirstLineComputed
 pub mod MessageComputed
+pub mod LineAnswers
 pub mod LineViews
 pub mod Views

@@ -5,9 +5,12 @@ ghost use Rattle.sip_read.specs.ValuesComputed.{call_id_of, sequence_of};
 ghost use Rattle.std.specs.List.{list_all};
 ghost use Rattle.sip_text.specs.Reading.{all_of};
 ghost use Rattle.sip_read.specs.Calls.{is_visible};
-ghost use Rattle.sip_read.specs.Views.{sequence};
+ghost use Rattle.sip_read.specs.LineAnswers.{Takes};
+ghost use Rattle.sip_read.specs.Views.{sequence_seen};
 
+use crate::error::ReadError;
 use sip_text::{Class, Text, capped_number, span_at, text_of, word_of};
+use std::alloc::Global;
 
 fn all_visible(text: &[u8]) -> bool
     ensures { result ≡ list_all is_visible text.now }
@@ -28,10 +31,18 @@ fn visible_of(text: &[u8]) -> Option<&[u8]>
 
 /// The Call-ID that the value is: one or more bytes from `!` to `~`.
 #[tactic(auto, unfolding(crate::specs::ValuesComputed::call_id_of))]
-pub fn call_id_of(value: &[u8]) -> Option<&str>
+fn call_id_at(value: &[u8]) -> Option<&str>
     ensures { Finds (λ x. x.now) result (call_id_of value.now) }
 {
     text_of(visible_of(value)?)
+}
+
+/// The Call-ID that the value is.
+pub fn call_id_of(alloc: Global, value: &[u8]) -> Result<Text, ReadError>
+    ensures { Takes (λ t. t) result (call_id_of value.now) }
+{
+    let text = call_id_at(value).ok_or(ReadError::BadLine)?;
+    Ok(Text::of(alloc, text)?)
 }
 
 /// The number, below 2^31, and the method of a CSeq.
@@ -41,27 +52,27 @@ pub struct Sequence {
     pub method: Text,
 }
 
-/// A CSeq, as it stands in the line.
-#[derive(Clone, Copy)]
-pub struct CSeq<'a> {
-    pub number: u32,
-    pub method: &'a str,
-}
-
+/// The number and the method of the CSeq that the value is, as they stand there.
 #[tactic(auto, unfolding(crate::specs::ValuesComputed::sequence_of))]
-pub fn sequence_of(text: &[u8]) -> Option<CSeq<'_>>
-    ensures { Finds sequence result (sequence_of text.now) }
+fn sequence_at(text: &[u8]) -> Option<(u32, &str)>
+    ensures { Finds sequence_seen result (sequence_of text.now) }
 {
     let (digits, rest) = span_at(Class::Digit, text)?;
     let (_, rest) = span_at(Class::Space, rest)?;
     let method = word_of(Class::Token, rest)?;
     let number = capped_number(digits);
     if number < 1 << 31 {
-        Some(CSeq {
-            number: number as u32,
-            method,
-        })
+        Some((number as u32, method))
     } else {
         None
     }
+}
+
+/// The CSeq that the value is.
+pub fn sequence_of(alloc: Global, value: &[u8]) -> Result<Sequence, ReadError>
+    ensures { Takes (λ s. s) result (sequence_of value.now) }
+{
+    let (number, method) = sequence_at(value).ok_or(ReadError::BadLine)?;
+    let method = Text::of(alloc, method)?;
+    Ok(Sequence { number, method })
 }

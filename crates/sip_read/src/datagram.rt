@@ -5,7 +5,6 @@ ghost use Rattle.sip_read.specs.declared.message.Message.{Message};
 ghost use Rattle.sip_read.specs.Message.{Says, Answers, IsReading};
 ghost use Rattle.sip_read.specs.MessageComputed.{read_of};
 
-use crate::assemble::message_of;
 use crate::error::ReadError;
 use crate::first_line::first_at;
 use crate::gathered::Gathered;
@@ -25,10 +24,8 @@ fn parse(alloc: Global, bytes: &[u8]) -> Result<Message, ReadError>
     };
     // Filled in place: what the lines say is large, and moved once.
     let mut gathered = Gathered::new(alloc);
-    let Some(rest) = gathered.add_lines(alloc, section)? else {
-        return Err(ReadError::BadLine);
-    };
-    message_of(alloc, first, gathered, rest)
+    let rest = gathered.add_lines(alloc, section)?;
+    gathered.finish(alloc, first, rest)
 }
 
 /// Reads a datagram (RFC 3261 sections 7, 18 and 20).

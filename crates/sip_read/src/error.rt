@@ -4,6 +4,7 @@ ghost use Rattle.sip_read.specs.declared.error.ReadError.TheVariants as errors;
 ghost use Rattle.sip_read.specs.Errors.{error_number};
 
 use sip_text::NoMemory;
+use std::alloc::AllocFailed;
 use std::fmt;
 use thiserror::Error;
 
@@ -81,6 +82,14 @@ impl From<NoMemory> for ReadError {
     ghost from_gives = { λ _ e. e ≡ errors.NoMemory };
 
     fn from(_refused: NoMemory) -> ReadError {
+        ReadError::NoMemory
+    }
+}
+
+impl<T: Drop> From<AllocFailed<T>> for ReadError {
+    ghost from_gives = { λ _ e. e ≡ errors.NoMemory };
+
+    fn from(_refused: AllocFailed<T>) -> ReadError {
         ReadError::NoMemory
     }
 }

@@ -1,18 +1,16 @@
 //! What the header lines say that only a request's reader asks for.
 ghost use Rattle.std.specs.Prelude.{◌≡◌, option_map, IfOk, OnOk};
-ghost use Rattle.sip_read.specs.MessageComputed.{request_of};
-ghost use Rattle.sip_read.specs.GatheredComputed.{fields_nothing, with_field, accept_more};
-ghost use Rattle.sip_read.specs.AddressesComputed.{contact_of as contact_text};
-ghost use Rattle.sip_read.specs.Views.{item as item_view, fields_seen};
+ghost use Rattle.sip_read.specs.declared.header.Header.TheVariants as headers;
+ghost use Rattle.sip_read.specs.GatheredComputed.{fields_nothing, with_field};
+ghost use Rattle.sip_read.specs.Items.{item};
+ghost use Rattle.sip_read.specs.MessageComputed.{accept_field, request_of};
+ghost use Rattle.sip_read.specs.Views.{fields_seen};
 
-use crate::assemble::Copies;
-use crate::item::Item;
 use crate::message::{Head, Request};
 use crate::once::{Once, field_of};
-use crate::party::contact_of;
-use crate::value::{event_of, expires_of, refer_sub_of};
-use event_headers::EventValue;
-use sip_text::{NoMemory, Text, Values, some_copy};
+use crate::value::accept_of;
+use event_headers::{EventValue, Range};
+use sip_text::{Field, NoMemory, Octets, Text, Values};
 use std::alloc::Global;
 
 /// What the lines say that only a request's reader asks for.
@@ -44,26 +42,17 @@ impl Drop for Fields {
     }
 }
 
-/// The address of a Contact or a Refer-To, if the value is one.
-fn contact_value(alloc: Global, value: &[u8]) -> Result<Option<Text>, NoMemory>
-    ensures { IfOk result (λ o. o ≡ contact_text value.now) }
-{
-    some_copy(alloc, contact_of(alloc, value)?)
-}
-
-/// A further Accept line, behind a comma where it isn't the first.
-fn accept_more(alloc: Global, lines: &mut Option<Vec<u8>>, value: &[u8]) -> Result<(), NoMemory>
-    ensures { OnOk result
-        (option_map (λ v. v.items) lines.new ≡ accept_more (option_map (λ v. v.items) lines.old) value.now) }
+/// What the Accept lines say.
+fn accept_field(alloc: Global, lines: &Option<Vec<u8>>) -> Result<Field<Values<Range>>, NoMemory>
+    ensures { IfOk result (λ f. f ≡ accept_field (option_map (λ v. v.items) lines.now)) }
 {
     match lines {
-        Some(joined) => {
-            joined.push(b',')?;
-            joined.extend_from_slice(value)?;
-        }
-        None => *lines = Some(Vec::from_slice(alloc, value)?),
+        None => Ok(Field::Absent),
+        Some(joined) => match accept_of(alloc, joined.as_slice())? {
+            Some(ranges) => Ok(Field::Value(ranges)),
+            None => Ok(Field::Bad),
+        },
     }
-    Ok(())
 }
 
 impl Fields {
@@ -82,30 +71,35 @@ impl Fields {
         }
     }
 
-    /// Takes in a value of a header that only requests are asked for.
-    pub fn add(&mut self, alloc: Global, item: Item<'_>) -> Result<(), NoMemory>
-        ensures { OnOk result (fields_seen self.new ≡ with_field (fields_seen self.old) (item_view item.entry)) }
+    /// Takes in an Accept line, behind a comma where it isn't the first.
+    pub fn add_accept(&mut self, alloc: Global, value: &[u8]) -> Result<(), NoMemory>
+        ensures { OnOk result (fields_seen self.new ≡ with_field (fields_seen self.old) (item headers.Accept value.now)) }
     {
-        match item {
-            Item::Event(value) => self.event.add(event_of(alloc, value)?),
-            Item::Expires(value) => self.expires.add(expires_of(value)?),
-            Item::Accept(value) => accept_more(alloc, &mut self.accept, value)?,
-            Item::Contact(value) => self.contact.add(contact_value(alloc, value)?),
-            Item::ReferTo(value) => self.refer_to.add(contact_value(alloc, value)?),
-            Item::ReferSub(value) => self.refer_sub.add(refer_sub_of(alloc, value)?),
-            Item::Require(token) => self.require.push(Text::of(alloc, token)?)?,
-            Item::RecordRoute(route) => self.record_routes.push(Text::of(alloc, route)?)?,
-            _ => {}
+        match &mut self.accept {
+            Some(joined) => {
+                joined.push(b',')?;
+                joined.extend_from_slice(value)?;
+            }
+            None => self.accept = Some(Vec::from_slice(alloc, value)?),
         }
         Ok(())
     }
 
-    /// The request of these and its other parts. Nothing can fail here, where what was read is taken apart.
-    pub fn request(self, copies: Copies, head: Head) -> Request
-        ensures { result ≡ record (request_of copies.method copies.uri head (fields_seen self) copies.body) {
-          accept = copies.accept;
-        } }
+    /// The request of these and its other parts.
+    pub fn request(
+        self,
+        alloc: Global,
+        head: Head,
+        method: &str,
+        uri: &str,
+        body: &[u8],
+    ) -> Result<Request, NoMemory>
+        ensures { IfOk result (λ r. r ≡ request_of method.now uri.now head (fields_seen self) body.now) }
     {
+        let method = Text::of(alloc, method)?;
+        let uri = Text::of(alloc, uri)?;
+        let accept = accept_field(alloc, &self.accept)?;
+        let body = Octets::new(Vec::from_slice(alloc, body)?);
         let Fields {
             event,
             expires,
@@ -116,19 +110,19 @@ impl Fields {
             require,
             record_routes,
         } = self;
-        Request {
-            method: copies.method,
-            uri: copies.uri,
+        Ok(Request {
+            method,
+            uri,
             head,
             event: field_of(event),
             expires: field_of(expires),
-            accept: copies.accept,
+            accept,
             contact: field_of(contact),
             refer_to: field_of(refer_to),
             refer_sub: field_of(refer_sub),
             require: Values::new(require),
             record_routes: Values::new(record_routes),
-            body: copies.body,
-        }
+            body,
+        })
     }
 }

@@ -1,11 +1,11 @@
 //! The first line of a message: a request line or a status line (RFC 3261 sections 7.1 and 7.2).
 ghost use Rattle.std.specs.Prelude.{◌<◌};
 ghost use Rattle.sip_text.specs.Bytes.{Finds};
-ghost use Rattle.sip_read.specs.FirstLineComputed.{request_line, version_at, status_line, first_of, first_at};
+ghost use Rattle.sip_read.specs.FirstLineComputed.{request_line, version_at, status_line, first_at};
 ghost use Rattle.sip_read.specs.Views.{first, first_pair};
 
 use crate::line::line_at;
-use sip_text::{Class, after_byte, all_in, capped_number, span_at, text_of};
+use sip_text::{Class, after_byte, all_in, capped_number, span_at, text_of, word_at};
 
 /// What the first line says.
 #[derive(Clone, Copy)]
@@ -19,11 +19,9 @@ pub enum First<'a> {
 fn request_line(line: &[u8]) -> Option<First<'_>>
     ensures { Finds first result (request_line line.now) }
 {
-    let (method, rest) = span_at(Class::Token, line)?;
-    let (uri, rest) = span_at(Class::Uri, after_byte(b' ', rest)?)?;
+    let (method, rest) = word_at(Class::Token, line)?;
+    let (uri, rest) = word_at(Class::Uri, after_byte(b' ', rest)?)?;
     let version = after_byte(b' ', rest)?;
-    let method = text_of(method)?;
-    let uri = text_of(uri)?;
     if version.eq_ignore_ascii_case(b"SIP/2.0") {
         Some(First::Request { method, uri })
     } else {
@@ -64,21 +62,15 @@ fn status_line(line: &[u8]) -> Option<First<'_>>
     }
 }
 
-/// What the line says, as a first line.
-fn first_of(line: &[u8]) -> Option<First<'_>>
-    ensures { Finds first result (first_of line.now) }
-{
-    match request_line(line) {
-        Some(request) => Some(request),
-        None => status_line(line),
-    }
-}
-
 /// The first line, and what follows it.
 #[tactic(auto, unfolding(crate::specs::FirstLineComputed::first_at))]
 pub fn first_at(bytes: &[u8]) -> Option<(First<'_>, &[u8])>
     ensures { Finds first_pair result (first_at bytes.now) }
 {
     let (line, section) = line_at(bytes)?;
-    Some((first_of(line)?, section))
+    let first = match request_line(line) {
+        Some(request) => request,
+        None => status_line(line)?,
+    };
+    Some((first, section))
 }

@@ -1,24 +1,26 @@
 //! What the header lines say, header by header.
-ghost use Rattle.std.specs.Prelude.{◌≡◌, ◌<◌, IfOk, OnOk};
-ghost use Rattle.sip_text.specs.Bytes.{Gives};
-ghost use Rattle.sip_read.specs.GatheredComputed.{nothing, with_item, Adds, gather_line, gather};
+ghost use Rattle.std.specs.Prelude.{◌≡◌, ◌<◌, option_map};
+ghost use Rattle.sip_text.specs.Bytes.{is_in};
+ghost use Rattle.sip_text.specs.Reading.{all_of, elements_of};
+ghost use Rattle.sip_text.specs.declared.scan.Class.TheVariants as class;
+ghost use Rattle.sip_read.specs.GatheredComputed.{nothing, capped, with_element, with_items, gather};
 ghost use Rattle.sip_read.specs.ItemsComputed.{element_at, line_values, line_items};
-ghost use Rattle.sip_read.specs.AddressesComputed.{contact_of as contact_text};
-ghost use Rattle.sip_text.specs.Reading.{elements_of};
-ghost use Rattle.sip_read.specs.Views.{item as item_view, party as party_view, gathered_seen};
+ghost use Rattle.sip_read.specs.LineAnswers.{Takes};
+ghost use Rattle.sip_read.specs.Views.{gathered_seen};
 
-use crate::call::{CSeq, Sequence};
-use crate::call_lines::CallLines;
+use crate::call::{Sequence, call_id_of, sequence_of};
+use crate::error::ReadError;
 use crate::fields::Fields;
 use crate::folding::unfolded_of;
 use crate::header::{Header, header_named};
-use crate::item::{Item, Listed, element_at, single_of};
+use crate::item::{Listed, route_at};
 use crate::line::{header_of, line_at};
 use crate::message::{Party, Via};
 use crate::once::Once;
-use crate::party::PartyText;
-use crate::via::Hop;
-use sip_text::{NoMemory, Text, after_comma, capped_number, is_text, some_copy};
+use crate::party::{contact_of, party_of};
+use crate::value::{event_of, expires_of, refer_sub_of};
+use crate::via::hop_at;
+use sip_text::{Class, Text, after_comma, all_of, capped_number, is_text, word_at};
 use std::alloc::Global;
 
 /// What the lines say, as far as they were read. Each value is a text of its own.
@@ -26,18 +28,21 @@ use std::alloc::Global;
 pub struct Gathered {
     pub vias: Vec<Text>,
     pub top: Option<Via>,
-    pub call: CallLines,
+    pub from: Once<Party>,
+    pub to: Once<Party>,
+    pub call_id: Once<Text>,
+    pub cseq: Once<Sequence>,
     /// The number, or 2^32 where it is greater.
     pub content_length: Once<u64>,
     pub fields: Fields,
 }
 
-fn owned_party(alloc: Global, from: PartyText<'_>) -> Result<Party, NoMemory>
-    ensures { IfOk result (λ p. p ≡ party_view from.entry) }
+/// The number that a Content-Length is, or 2^32 where it is greater.
+fn length_of(value: &[u8]) -> Result<u64, ReadError>
+    ensures { Takes (λ n. n) result (option_map capped (all_of (is_in class.Digit) value.now)) }
 {
-    let text = Text::of(alloc, from.text)?;
-    let tag = some_copy(alloc, from.tag)?;
-    Ok(Party { text, tag })
+    let digits = all_of(Class::Digit, value).ok_or(ReadError::BadLine)?;
+    Ok(capped_number(digits))
 }
 
 impl Gathered {
@@ -47,154 +52,121 @@ impl Gathered {
         Gathered {
             vias: Vec::new(alloc),
             top: None,
-            call: CallLines {
-                from: Once::Absent,
-                to: Once::Absent,
-                call_id: Once::Absent,
-                cseq: Once::Absent,
-            },
+            from: Once::Absent,
+            to: Once::Absent,
+            call_id: Once::Absent,
+            cseq: Once::Absent,
             content_length: Once::Absent,
             fields: Fields::new(alloc),
         }
     }
 
-    /// Takes in a Via value.
-    fn add_hop(&mut self, alloc: Global, hop: Hop<'_>) -> Result<(), NoMemory>
-        ensures { OnOk result (gathered_seen self.new
-            ≡ with_item (gathered_seen self.old) (item_view (Item.Via hop.entry))) }
-    {
-        self.vias.push(Text::of(alloc, hop.text)?)?;
-        if self.top.is_none() {
-            let sent_by = Text::of(alloc, hop.sent_by)?;
-            let branch = some_copy(alloc, hop.branch)?;
-            self.top = Some(Via {
-                sent_by,
-                branch,
-                bare_rport: hop.bare_rport,
-            });
-        }
-        Ok(())
-    }
-
-    /// Takes in a value. It stands at the call, where the value is made, so that no value is put together only to be taken apart.
-    #[inline(always)]
-    fn add(&mut self, alloc: Global, item: Item<'_>) -> Result<(), NoMemory>
-        ensures { OnOk result (gathered_seen self.new ≡ with_item (gathered_seen self.old) (item_view item.entry)) }
-    {
-        match item {
-            Item::Via(hop) => self.add_hop(alloc, hop)?,
-            Item::From(party) => self.call.from.add(owned_party(alloc, party)?),
-            Item::To(party) => self.call.to.add(owned_party(alloc, party)?),
-            Item::CallId(text) => self.call.call_id.add(Text::of(alloc, text)?),
-            Item::CSeq(CSeq { number, method }) => {
-                let method = Text::of(alloc, method)?;
-                self.call.cseq.add(Sequence { number, method });
-            }
-            Item::ContentLength(digits) => self.content_length.add(capped_number(digits)),
-            field => self.fields.add(alloc, field)?,
-        }
-        Ok(())
-    }
-
-    /// Takes in the elements of a list, and tells whether it is one.
-    fn add_elements(
+    /// Takes in the element of a list at the front. What follows it.
+    #[tactic(auto, unfolding(crate::specs::ItemsComputed::token_at, sip_text::specs::Reading::word_at))]
+    fn add_element<'a>(
         &mut self,
         alloc: Global,
         listed: Listed,
-        value: &[u8],
-    ) -> Result<bool, NoMemory>
-        ensures { IfOk result
-            (Adds (gathered_seen self.old) (elements_of (element_at listed) value.now) (gathered_seen self.new)) }
+        text: &'a [u8],
+    ) -> Result<&'a [u8], ReadError>
+        ensures { Takes (λ r. (gathered_seen self.new, r.now)) result
+            (with_element (gathered_seen self.old) (element_at listed text.now)) }
+    {
+        match listed {
+            Listed::Via => {
+                let (hop, rest) = hop_at(text).ok_or(ReadError::BadLine)?;
+                self.vias.push(Text::of(alloc, hop.text)?)?;
+                if self.top.is_none() {
+                    self.top = Some(hop.via(alloc)?);
+                }
+                Ok(rest)
+            }
+            Listed::Require => {
+                let (token, rest) = word_at(Class::Token, text).ok_or(ReadError::BadLine)?;
+                self.fields.require.push(Text::of(alloc, token)?)?;
+                Ok(rest)
+            }
+            Listed::RecordRoute => {
+                let (route, rest) = route_at(alloc, text)?.ok_or(ReadError::BadLine)?;
+                self.fields.record_routes.push(Text::of(alloc, route)?)?;
+                Ok(rest)
+            }
+        }
+    }
+
+    /// Takes in the elements of a list.
+    fn add_elements(&mut self, alloc: Global, listed: Listed, value: &[u8]) -> Result<(), ReadError>
+        ensures { Takes (λ done. gathered_seen self.new) result
+            (option_map (with_items (gathered_seen self.old)) (elements_of (element_at listed) value.now)) }
     {
         let mut rest = value;
         loop {
-            let Some((item, after)) = element_at(alloc, listed, rest)? else {
-                return Ok(false);
-            };
-            self.add(alloc, item)?;
+            let after = self.add_element(alloc, listed, rest)?;
             if after.is_empty() {
-                return Ok(true);
+                return Ok(());
             }
             let Some(next) = after_comma(after) else {
-                return Ok(false);
+                return Err(ReadError::BadLine);
             };
             rest = next;
         }
     }
 
-    /// Takes in the values of a header's line, and tells whether they are in its grammar.
-    fn add_values(&mut self, alloc: Global, header: Header, value: &[u8]) -> Result<bool, NoMemory>
-        ensures { IfOk result (Adds (gathered_seen self.old) (line_values header value.now) (gathered_seen self.new)) }
+    /// Takes in the values of a line of this header.
+    fn add_values(&mut self, alloc: Global, header: Header, value: &[u8]) -> Result<(), ReadError>
+        ensures { Takes (λ done. gathered_seen self.new) result
+            (option_map (with_items (gathered_seen self.old)) (line_values header value.now)) }
     {
         match header {
-            Header::Via => self.add_elements(alloc, Listed::Via, value),
-            Header::Require => self.add_elements(alloc, Listed::Require, value),
-            Header::RecordRoute => self.add_elements(alloc, Listed::RecordRoute, value),
-            Header::Other => Ok(true),
-            _ => match single_of(alloc, header, value)? {
-                Some(item) => {
-                    self.add(alloc, item)?;
-                    Ok(true)
-                }
-                None => Ok(false),
-            },
+            Header::Via => self.add_elements(alloc, Listed::Via, value)?,
+            Header::From => self.from.add(party_of(alloc, value)?),
+            Header::To => self.to.add(party_of(alloc, value)?),
+            Header::CallId => self.call_id.add(call_id_of(alloc, value)?),
+            Header::CSeq => self.cseq.add(sequence_of(alloc, value)?),
+            Header::ContentLength => self.content_length.add(length_of(value)?),
+            Header::Contact => self.fields.contact.add(contact_of(alloc, value)?),
+            Header::Event => self.fields.event.add(event_of(alloc, value)?),
+            Header::Expires => self.fields.expires.add(expires_of(value)?),
+            Header::Accept => self.fields.add_accept(alloc, value)?,
+            Header::ReferTo => self.fields.refer_to.add(contact_of(alloc, value)?),
+            Header::ReferSub => self.fields.refer_sub.add(refer_sub_of(alloc, value)?),
+            Header::Require => self.add_elements(alloc, Listed::Require, value)?,
+            Header::RecordRoute => self.add_elements(alloc, Listed::RecordRoute, value)?,
+            Header::Other => {}
         }
+        Ok(())
     }
 
-    /// Takes in a line, and tells whether it is a header line.
-    #[tactic(auto, unfolding(crate::specs::ItemsComputed::line_items))]
-    fn add_line(&mut self, alloc: Global, line: &[u8]) -> Result<bool, NoMemory>
-        ensures { IfOk result (Adds (gathered_seen self.old) (line_items line.now) (gathered_seen self.new)) }
+    /// Takes in a header line.
+    #[tactic(auto, using(crate::proofs::Gatherings::line_is), unfolding(crate::specs::ItemsComputed::line_items))]
+    fn add_line(&mut self, alloc: Global, line: &[u8]) -> Result<(), ReadError>
+        ensures { Takes (λ done. gathered_seen self.new) result
+            (option_map (with_items (gathered_seen self.old)) (line_items line.now)) }
     {
         if !is_text(line) {
-            return Ok(false);
+            return Err(ReadError::BadLine);
         }
-        match header_of(line) {
-            Some((name, value)) => self.add_values(alloc, header_named(name), value),
-            None => Ok(false),
-        }
-    }
-
-    /// Takes in the line that begins with this piece, with those that continue it. What stands behind it, if it is a header line.
-    fn add_unfolded<'a>(
-        &mut self,
-        alloc: Global,
-        first: &'a [u8],
-        text: &'a [u8],
-    ) -> Result<Option<&'a [u8]>, NoMemory>
-        ensures { Gives (λ r. (gathered_seen self.new, r.now)) result
-            (gather_line (gathered_seen self.old) first.now text.now) }
-    {
-        let Some((line, rest)) = unfolded_of(alloc, first, text)? else {
-            return Ok(None);
-        };
-        if self.add_line(alloc, line.as_slice())? {
-            Ok(Some(rest))
-        } else {
-            Ok(None)
-        }
+        let (name, value) = header_of(line).ok_or(ReadError::BadLine)?;
+        self.add_values(alloc, header_named(name), value)
     }
 
     /// Takes in the header lines at the front, up to the empty line. What follows that.
-    pub fn add_lines<'a>(
-        &mut self,
-        alloc: Global,
-        text: &'a [u8],
-    ) -> Result<Option<&'a [u8]>, NoMemory>
-        ensures { Gives (λ r. (gathered_seen self.new, r.now)) result (gather (gathered_seen self.old) text.now) }
+    pub fn add_lines<'a>(&mut self, alloc: Global, text: &'a [u8]) -> Result<&'a [u8], ReadError>
+        ensures { Takes (λ r. (gathered_seen self.new, r.now)) result (gather (gathered_seen self.old) text.now) }
     {
         let mut rest = text;
         loop {
             let Some((first, after)) = line_at(rest) else {
-                return Ok(None);
+                return Err(ReadError::BadLine);
             };
             if first.is_empty() {
-                return Ok(Some(after));
+                return Ok(after);
             }
-            let Some(next) = self.add_unfolded(alloc, first, after)? else {
-                return Ok(None);
+            let Some((line, after)) = unfolded_of(alloc, first, after)? else {
+                return Err(ReadError::BadLine);
             };
-            rest = next;
+            self.add_line(alloc, line.as_slice())?;
+            rest = after;
         }
     }
 }

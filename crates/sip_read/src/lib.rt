@@ -12,8 +12,8 @@
 
 mod address;
 mod assemble;
+mod boxed;
 mod call;
-mod call_lines;
 mod datagram;
 pub mod error;
 mod fields;
@@ -30,6 +30,7 @@ mod party;
 mod value;
 mod via;
 
+pub use boxed::Boxed;
 pub use datagram::read;
 pub use error::{HeaderName, ReadError};
 pub use folding::{Line, unfolded_of};

@@ -1,5 +1,6 @@
 //! SIP messages as values (RFC 3261 section 7).
 
+use crate::boxed::Boxed;
 use event_headers::{EventValue, Range};
 use sip_text::{Field, Octets, Text, Values};
 
@@ -113,9 +114,9 @@ impl Drop for Response {
     }
 }
 
-/// What a datagram is.
+/// What a datagram is. What it says stands behind one pointer.
 #[derive(Debug, Drop)]
 pub enum Message {
-    Request(Request),
-    Response(Response),
+    Request(Boxed<Request>),
+    Response(Boxed<Response>),
 }

@@ -1,49 +1,46 @@
 //! Values that are one address: From, To, Contact and Refer-To.
-ghost use Rattle.sip_text.specs.Bytes.{Gives};
+ghost use Rattle.std.specs.Prelude.{◌≡◌, IfOk};
+ghost use Rattle.sip_text.specs.Bytes.{Finds};
 ghost use Rattle.sip_read.specs.AddressesComputed.{party_of, contact_of};
-ghost use Rattle.sip_read.specs.Views.{party};
+ghost use Rattle.sip_read.specs.LineAnswers.{Takes};
+ghost use Rattle.sip_read.specs.Views.{party_seen};
 
 use crate::address::address_at;
-use sip_text::{Class, NoMemory, parameters_of, text_of, word_named};
+use crate::error::ReadError;
+use crate::message::Party;
+use sip_text::{Class, NoMemory, Text, parameters_of, some_copy, text_of, word_among};
 use std::alloc::Global;
 
-/// A From or a To, as it stands in the line.
-#[derive(Clone, Copy)]
-pub struct PartyText<'a> {
-    pub text: &'a str,
-    pub tag: Option<&'a str>,
+/// The text and the tag of the From or To that the value is.
+#[tactic(auto, unfolding(crate::specs::AddressesComputed::party_of, sip_text::specs::Reading::word_among))]
+fn party_texts(value: &[u8]) -> Option<(&str, Option<&str>)>
+    ensures { Finds party_seen result (party_of value.now) }
+{
+    let (_, rest) = address_at(value)?;
+    let tag = word_among(Class::Token, b"tag", rest)?;
+    Some((text_of(value)?, tag))
 }
 
 /// The From or To that the value is.
-#[tactic(auto, unfolding(crate::specs::AddressesComputed::party_of))]
-pub fn party_of(alloc: Global, value: &[u8]) -> Result<Option<PartyText<'_>>, NoMemory>
-    ensures { Gives party result (party_of value.now) }
+pub fn party_of(alloc: Global, value: &[u8]) -> Result<Party, ReadError>
+    ensures { Takes (λ p. p) result (party_of value.now) }
 {
-    let Some((_, rest)) = address_at(value) else {
-        return Ok(None);
-    };
-    let Some(parameters) = parameters_of(alloc, rest)? else {
-        return Ok(None);
-    };
-    let Some(tag) = word_named(Class::Token, b"tag", parameters.as_slice()) else {
-        return Ok(None);
-    };
-    let Some(text) = text_of(value) else {
-        return Ok(None);
-    };
-    Ok(Some(PartyText { text, tag }))
+    let (text, tag) = party_texts(value).ok_or(ReadError::BadLine)?;
+    let text = Text::of(alloc, text)?;
+    let tag = some_copy(alloc, tag)?;
+    Ok(Party { text, tag })
 }
 
 /// The uri of the one address that the value is.
 #[tactic(auto, unfolding(crate::specs::AddressesComputed::contact_of))]
-pub fn contact_of(alloc: Global, value: &[u8]) -> Result<Option<&str>, NoMemory>
-    ensures { Gives (λ x. x.now) result (contact_of value.now) }
+pub fn contact_of(alloc: Global, value: &[u8]) -> Result<Option<Text>, NoMemory>
+    ensures { IfOk result (λ o. o ≡ contact_of value.now) }
 {
     let Some((uri, rest)) = address_at(value) else {
         return Ok(None);
     };
     match parameters_of(alloc, rest)? {
-        Some(_) => Ok(text_of(uri)),
+        Some(_) => some_copy(alloc, text_of(uri)),
         None => Ok(None),
     }
 }

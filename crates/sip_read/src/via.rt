@@ -1,14 +1,15 @@
 //! Values of Via (RFC 3261 section 20.42, RFC 3581).
-ghost use Rattle.std.specs.Prelude.{◌≡◌, ◌-◌, option_map};
-ghost use Rattle.std.specs.List.{list_any};
-ghost use Rattle.sip_text.specs.Bytes.{Finds, Gives};
-ghost use Rattle.sip_text.specs.Views.{view, views};
-ghost use Rattle.sip_read.specs.Vias.{branch_of, is_bare_rport};
-ghost use Rattle.sip_read.specs.ViasComputed.{taken, slashed_at, protocol_at, some_text_of, hop_of, hop_at};
-ghost use Rattle.sip_read.specs.Views.{hop};
+ghost use Rattle.std.specs.Prelude.{◌≡◌, ◌-◌, option_map, IfOk};
+ghost use Rattle.sip_text.specs.Bytes.{Finds};
+ghost use Rattle.sip_text.specs.Views.{view};
+ghost use Rattle.sip_read.specs.Vias.{via_of};
+ghost use Rattle.sip_read.specs.ViasComputed.{taken, slashed_at, protocol_at, marks_with, marks_at, some_text_of, hop_at};
+ghost use Rattle.sip_read.specs.Views.{hop, marks};
 
+use crate::message::Via;
 use sip_text::{
-    Class, NoMemory, Parameter, after_byte, first_named, skip_spaces, some_of, span_at, text_of,
+    Class, NoMemory, Parameter, Text, after_byte, begins, parameter_at, skip_spaces, some_copy,
+    span_at, text_of, word_at,
 };
 use std::alloc::Global;
 
@@ -19,6 +20,21 @@ pub struct Hop<'a> {
     pub sent_by: &'a str,
     pub branch: Option<&'a str>,
     pub bare_rport: bool,
+}
+
+impl Hop<'_> {
+    /// Its parts that decide, as texts of their own.
+    pub fn via(self, alloc: Global) -> Result<Via, NoMemory>
+        ensures { IfOk result (λ v. v ≡ via_of (hop self.entry)) }
+    {
+        let sent_by = Text::of(alloc, self.sent_by)?;
+        let branch = some_copy(alloc, self.branch)?;
+        Ok(Via {
+            sent_by,
+            branch,
+            bare_rport: self.bare_rport,
+        })
+    }
 }
 
 /// The text without the rest that stands at its end.
@@ -54,30 +70,52 @@ fn protocol_at(text: &[u8]) -> Option<&[u8]>
     Some(rest)
 }
 
-/// The value of the first branch.
-#[tactic(auto, using(sip_text::proofs::OverViews::over_views))]
-fn branch_of<'a>(parameters: &[Parameter<'a>]) -> Option<&'a [u8]>
-    ensures { option_map (λ t. t.now) result ≡ branch_of (views parameters.now) }
-{
-    match first_named(b"branch", parameters) {
-        Some(parameter) => parameter.value,
-        None => None,
+/// The parameters of a Via that decide.
+#[derive(Clone, Copy)]
+struct Marks<'a> {
+    /// The first `branch`.
+    branch: Option<Parameter<'a>>,
+    /// Whether a parameter `rport` stands there without a value.
+    bare_rport: bool,
+}
+
+impl<'a> Marks<'a> {
+    /// These and a further parameter.
+    fn with(self, parameter: Parameter<'a>) -> Marks<'a>
+        ensures { marks result ≡ marks_with (marks self.entry) (view parameter.entry) }
+    {
+        let is_branch = self.branch.is_none() && parameter.has_name(b"branch");
+        Marks {
+            branch: if is_branch {
+                Some(parameter)
+            } else {
+                self.branch
+            },
+            bare_rport: self.bare_rport
+                || parameter.has_name(b"rport") && parameter.value.is_none(),
+        }
     }
 }
 
-fn is_bare_rport(parameter: &Parameter<'_>) -> bool
-    ensures { result ≡ is_bare_rport (view parameter.now) }
+/// What the parameters at the front mark, and the rest.
+#[tactic(auto, unfolding(crate::specs::ViasComputed::marks_at))]
+fn marks_at(text: &[u8]) -> Option<(Marks<'_>, &[u8])>
+    ensures { Finds (λ x. (marks x.0, x.1.now)) result (marks_at text.now) }
 {
-    parameter.has_name(b"rport") && parameter.value.is_none()
+    let mut marks = Marks {
+        branch: None,
+        bare_rport: false,
+    };
+    let mut rest = text;
+    while begins(b';', skip_spaces(rest)) {
+        let (parameter, after) = parameter_at(rest)?;
+        marks = marks.with(parameter);
+        rest = after;
+    }
+    Some((marks, rest))
 }
 
-/// Whether a parameter `rport` stands there without a value.
-fn has_bare_rport(parameters: &[Parameter<'_>]) -> bool
-    ensures { result ≡ list_any (λ p. is_bare_rport (view p)) parameters.now }
-{
-    parameters.iter().any(|p| is_bare_rport(p))
-}
-
+/// The text that the bytes are, where there are any.
 fn some_text_of(bytes: Option<&[u8]>) -> Option<Option<&str>>
     ensures { Finds (λ o. option_map (λ t. t.now) o) result (some_text_of (option_map (λ t. t.now) bytes.entry)) }
 {
@@ -87,38 +125,23 @@ fn some_text_of(bytes: Option<&[u8]>) -> Option<Option<&str>>
     }
 }
 
-/// A hop of these parts.
-#[tactic(auto, using(crate::proofs::OverViews::any_views), unfolding(crate::specs::ViasComputed::hop_of))]
-fn hop_of<'a>(text: &'a [u8], host: &'a [u8], parameters: &[Parameter<'a>]) -> Option<Hop<'a>>
-    ensures { Finds hop result (hop_of text.now host.now (views parameters.now)) }
-{
-    let branch = some_text_of(branch_of(parameters))?;
-    let sent_by = text_of(host)?;
-    let text = text_of(text)?;
-    Some(Hop {
-        text,
-        sent_by,
-        branch,
-        bare_rport: has_bare_rport(parameters),
-    })
-}
-
 /// A Via value at the front, and the rest.
 #[tactic(auto, unfolding(crate::specs::ViasComputed::hop_at))]
-pub fn hop_at(alloc: Global, text: &[u8]) -> Result<Option<(Hop<'_>, &[u8])>, NoMemory>
-    ensures { Gives (λ x. (hop x.0, x.1.now)) result (hop_at text.now) }
+pub fn hop_at(text: &[u8]) -> Option<(Hop<'_>, &[u8])>
+    ensures { Finds (λ x. (hop x.0, x.1.now)) result (hop_at text.now) }
 {
-    let Some(rest) = protocol_at(text) else {
-        return Ok(None);
-    };
-    let Some((host, rest)) = span_at(Class::Host, rest) else {
-        return Ok(None);
-    };
-    let Some((parameters, rest)) = some_of(alloc, rest)? else {
-        return Ok(None);
-    };
-    match hop_of(before(text, rest), host, parameters.as_slice()) {
-        Some(hop) => Ok(Some((hop, rest))),
-        None => Ok(None),
-    }
+    let rest = protocol_at(text)?;
+    let (sent_by, rest) = word_at(Class::Host, rest)?;
+    let (marks, rest) = marks_at(rest)?;
+    let branch = some_text_of(marks.branch.and_then(|it| it.value))?;
+    let text = text_of(before(text, rest))?;
+    Some((
+        Hop {
+            text,
+            sent_by,
+            branch,
+            bare_rport: marks.bare_rport,
+        },
+        rest,
+    ))
 }
