@@ -9,50 +9,19 @@ use Rattle.arguments.specs.declared.arguments.Arguments.{Arguments}
 use Rattle.arguments.specs.declared.arguments.ArgumentsError.{ArgumentsError}
 use Rattle.arguments.specs.declared.arguments.ArgumentsError.TheVariants as error
 use Rattle.arguments.specs.Arguments.{zero_seed, default_arguments, IsSeed, IsStop, IsScriptCall, AreArguments, AnswersArguments}
-use Rattle.arguments.specs.ArgumentsReading.{value_of, seed_of, workers_of, crew_at, stop_at, script_at, arguments_of, GivesArguments}
+use Rattle.arguments.specs.ArgumentsReading.{crew_at, stop_at, script_at, arguments_of, GivesArguments}
 use Rattle.sip_text.specs.Reading.{◌>>=◌, is_other, plain_up_to}
 use Rattle.sip_text.proofs.Cuts.{Lacks}
 use Rattle.sip_text.proofs.Pieces.{bind_some, some_is, and_both}
 use Rattle.sip_text.proofs.PlainNumbers.{up_to_takes, up_to_again}
 use Rattle.sip_text.proofs.Addresses.{decimal_lacks}
+use Rattle.arguments.specs.Values.{seed_bytes, between}
+use Rattle.arguments.proofs.Values.{between_takes, between_again, seed_takes, seed_again}
 use Rattle.arguments.proofs.Flags.{same_text}
 
 pub or_takes : {A : Type 0} (b : Bool) (x other : Option A) (y : A) {P : Type 0} → cond b x other ≡ Some y → (b ≡ true → x ≡ Some y → P) → (b ≡ false → other ≡ Some y → P) → P
 or_takes true x other y e f g = f refl e
 or_takes false x other y e f g = g refl e
-
--- ---- the seed
-
-value_takes : (r : Result (List ℕ) FromHexError) (seed : List ℕ) → value_of r ≡ Some seed → r ≡ Ok seed
-value_takes (Ok x) seed e = ap (λ (s : List ℕ). Ok s) (some_is x seed e)
-value_takes (Err e) seed k = absurd cc
-
-pub seed_takes : (digits seed : List ℕ) → seed_of digits ≡ Some seed → decode_sized digits 32 ≡ Ok seed
-unfolding seed_of
-seed_takes digits seed e = value_takes (decode_sized digits 32) seed e
-
-pub seed_again : (digits seed : List ℕ) → decode_sized digits 32 ≡ Ok seed → seed_of digits ≡ Some seed
-unfolding seed_of
-seed_again digits seed e = ap value_of e
-
--- ---- the workers
-
-pub workers_take : (w : List ℕ) (n : ℕ) → workers_of w ≡ Some n → (w ≡ decimal n) × (1 ≤ n) × (n ≤ 256)
-unfolding workers_of
-workers_take w n e =
-    let p = bind_some (plain_up_to 256 w) (λ m. cond {A = Option ℕ} (eqb m 0) None (Some m)) n e in
-    let t = up_to_takes 256 w p.0 p.1 in
-    made p.0 t.0 t.2 (eqb p.0 0) refl p.2 where
-      made : (m : ℕ) → w ≡ decimal m → m ≤ 256 → (b : Bool) → eqb m 0 ≡ b → cond {A = Option ℕ} b None (Some m) ≡ Some n → (w ≡ decimal n) × (1 ≤ n) × (n ≤ 256)
-      made m is le true zero_is e = absurd cc
-      made m is le false some e =
-          let same : m ≡ n = some_is m n e in
-          let least : 1 ≤ m = omega (arith, eqb-false m 0 some) in
-          (is ∙ ap decimal same, rw (← same) least, rw (← same) le)
-
-pub workers_again : (n : ℕ) → 1 ≤ n → n ≤ 256 → workers_of (decimal n) ≡ Some n
-unfolding workers_of
-workers_again n least le = rw (up_to_again 256 n le (omega arith), ne_eqb n 0 (λ e. omega (arith, e, least))) refl
 
 -- ---- workers and mailboxes
 
@@ -68,8 +37,8 @@ crew_takes : (seed : List ℕ) (stop : Bool) (words : List (List ℕ)) (a : Argu
 unfolding crew_at
 crew_takes seed stop [] a e = absurd cc
 crew_takes seed stop (word ∷ mailboxes) a e =
-    let p = bind_some (workers_of word) (λ n. cond {A = Option Arguments} (eqb (length mailboxes) 0) None (Some (record { seed = seed; stop = stop; workers = n; mailboxes = mailboxes }))) a e in
-    let t = workers_take word p.0 p.1 in
+    let p = bind_some (between 1 256 word) (λ n. cond {A = Option Arguments} (eqb (length mailboxes) 0) None (Some (record { seed = seed; stop = stop; workers = n; mailboxes = mailboxes }))) a e in
+    let t = between_takes 1 256 word p.0 p.1 in
     made p.0 t.0 t.1 t.2 (eqb (length mailboxes) 0) refl p.2 where
       made : (n : ℕ) → word ≡ decimal n → 1 ≤ n → n ≤ 256 → (b : Bool) → eqb (length mailboxes) 0 ≡ b
           → cond {A = Option Arguments} b None (Some (record { seed = seed; stop = stop; workers = n; mailboxes = mailboxes })) ≡ Some a → TakesCrew seed stop (word ∷ mailboxes) a
@@ -84,7 +53,7 @@ some_length (x ∷ xs) h = ne_eqb (length (x ∷ xs)) 0 (λ e. omega (arith, e))
 
 crew_again : (a : Arguments) → 1 ≤ a.workers → a.workers ≤ 256 → a.mailboxes ≢ [] → crew_at a.seed a.stop (decimal a.workers ∷ a.mailboxes) ≡ Some a
 unfolding crew_at
-crew_again a least le some = rw (workers_again a.workers least le, some_length a.mailboxes some) refl
+crew_again a least le some = rw (between_again 1 256 a.workers least le (omega arith), some_length a.mailboxes some) refl
 
 -- ---- behind the seed
 
@@ -161,10 +130,10 @@ unfolding script_at
 script_takes [] a e = with_zero [] a e
 script_takes (word ∷ []) a e = with_zero (word ∷ []) a e
 script_takes (flag ∷ digits ∷ words) a e =
-    or_takes (bytes_eq flag (codes "--seed")) (seed_of digits >>= λ seed. stop_at seed words) (stop_at zero_seed (flag ∷ digits ∷ words)) a e seeded (λ _ k. with_zero (flag ∷ digits ∷ words) a k) where
-      seeded : bytes_eq flag (codes "--seed") ≡ true → (seed_of digits >>= λ seed. stop_at seed words) ≡ Some a → TakesScript (flag ∷ digits ∷ words) a
+    or_takes (bytes_eq flag (codes "--seed")) (seed_bytes digits >>= λ seed. stop_at seed words) (stop_at zero_seed (flag ∷ digits ∷ words)) a e seeded (λ _ k. with_zero (flag ∷ digits ∷ words) a k) where
+      seeded : bytes_eq flag (codes "--seed") ≡ true → (seed_bytes digits >>= λ seed. stop_at seed words) ≡ Some a → TakesScript (flag ∷ digits ∷ words) a
       seeded same e =
-          let p = bind_some (seed_of digits) (λ seed. stop_at seed words) a e in
+          let p = bind_some (seed_bytes digits) (λ seed. stop_at seed words) a e in
           let k = stop_takes p.0 words a p.2 in
           record {
             seed_words = codes "--seed" ∷ digits ∷ [];

@@ -22,25 +22,8 @@ pub new_mailboxes-named : (names : List (String Global)) → new_mailboxes names
 new_mailboxes-named names =
     ap (λ entries. let m : Seen = record { name = mail_package; content_type = mail_type; contents = from_entries entries } in m) (new_entries names)
 
-pub boxes_are : {P : Type 0} (seen : P → Seen) (boxes : List P) (mailboxes transfers : P) (names : List (String Global))
-    → boxes ≡ mailboxes ∷ transfers ∷ [] → seen mailboxes ≡ new_mailboxes names → seen transfers ≡ new_transfers
-    → map seen boxes ≡ boxes_with (map string_bytes names)
-boxes_are seen boxes mailboxes transfers names are mail moved =
-    ap (map seen) are
-    ∙ ap (λ (m : Seen). m ∷ seen transfers ∷ []) (mail ∙ new_mailboxes-named names)
-    ∙ ap (λ (t : Seen). mailboxes_named (map string_bytes names) ∷ t ∷ []) moved
-
 pub names-push : (n worker : ℕ) (names : List (List ℕ)) (name : List ℕ) → names_for n worker (names ++ name ∷ []) ≡ names_for n worker names ++ names_for n worker (name ∷ [])
 names-push n worker names name = filter-append (λ (x : List ℕ). key_hash x % n == worker) names (name ∷ [])
-
-pub boxes-push : {X : Type 0} (seen : X → List Seen) (all : List X) (boxes : X) (n worker : ℕ) (names its : List (List ℕ))
-    → map seen all ≡ map (λ w. boxes_with (names_for n w names)) (range_with_len 0 worker) → seen boxes ≡ boxes_with its → its ≡ names_for n worker names
-    → map seen (all ++ boxes ∷ []) ≡ map (λ w. boxes_with (names_for n w names)) (range_with_len 0 (worker + 1))
-boxes-push seen all boxes n worker names its so_far new named =
-    map-append seen all (boxes ∷ [])
-    ∙ ap (λ (b : List Seen). map seen all ++ b ∷ []) (new ∙ ap boxes_with named)
-    ∙ ap (λ (bs : List (List Seen)). bs ++ boxes_with (names_for n worker names) ∷ []) so_far
-    ∙ sym (map-range_with_len_more (λ w. boxes_with (names_for n w names)) 0 worker worker (omega arith))
 
 pub boxes-len : {X : Type 0} (seen : X → List Seen) (all : List X) (n : ℕ) (names : List (List ℕ)) → map seen all ≡ boxes_for n names → length all ≡ n
 boxes-len seen all n names are = sym (length-map all seen) ∙ ap length are ∙ length-map-range_with_len (λ w. boxes_with (names_for n w names)) 0 n

@@ -1,5 +1,6 @@
 pub mod Flags
 pub mod Words
+pub mod Values
 pub mod Settings
 pub mod Telling
 pub mod Calls

@@ -33,23 +33,12 @@ use Rattle.arguments.specs.declared.error.OptionsError.{OptionsError}
 use Rattle.arguments.specs.declared.error.OptionsError.TheVariants as error
 use Rattle.arguments.specs.Flags.{place_text, bound_text, flag_text, switch_text, least, most}
 use Rattle.arguments.specs.Settings.{is_user, has_no_colon, watched_text, IsRateNumber, rate_text, joined, AreOption, IsMailbox, IsSetting, AreSettings, BeginsWrong, AreWrong, Answers}
-use Rattle.arguments.specs.Reading.{flag_of, joined_of, switch_of, or_bad, value_of, seed_of, between, is_mailbox, is_colon, watch, watch_of, rate_of, valued, named, by_switch, by_joined, alone, then_more, by_flag, settings_from, Reads}
+use Rattle.arguments.specs.Reading.{flag_of, joined_of, switch_of, or_bad, is_mailbox, is_colon, watch, watch_of, rate_of, valued, named, by_switch, by_joined, alone, then_more, by_flag, settings_from, Reads}
+use Rattle.arguments.specs.Values.{seed_bytes, between}
+use Rattle.arguments.proofs.Values.{between_takes, between_again, seed_takes, seed_again}
 use Rattle.arguments.proofs.Flags.{flag_takes, flag_again, no_flag, joined_takes, joined_again, no_joined, joined_is_no_flag, switch_takes, switch_again, no_switch, switch_is_no_flag}
 
--- ---- numbers and seeds
-
-between_takes : (least most : ℕ) (w : List ℕ) (n : ℕ) → between least most w ≡ Some n → (w ≡ decimal n) × (least ≤ n) × (n ≤ most)
-unfolding between
-between_takes least most w n e =
-    let p = bind_some (plain_up_to most w) (λ m. cond {A = Option ℕ} (nat_lt m least) None (Some m)) n e in
-    let t = up_to_takes most w p.0 p.1 in
-    made p.0 t.0 t.2 (nat_lt p.0 least) refl p.2 where
-      made : (m : ℕ) → w ≡ decimal m → m ≤ most → (b : Bool) → nat_lt m least ≡ b → cond {A = Option ℕ} b None (Some m) ≡ Some n → (w ≡ decimal n) × (least ≤ n) × (n ≤ most)
-      made m is le true low e = absurd cc
-      made m is le false high e =
-          let same : m ≡ n = some_is m n e in
-          let enough : least ≤ m = grind (arith, nat_tests) in
-          (is ∙ ap decimal same, rw (← same) enough, rw (← same) le)
+-- ---- numbers
 
 most_is_small : (b : Bound) → most b ≤ 4294967295
 most_is_small bound.Workers = omega arith
@@ -69,24 +58,6 @@ most_is_small bound.MaxDatagram = omega arith
 most_is_small bound.ReceiveBuffer = omega arith
 most_is_small bound.NonceTime = omega arith
 most_is_small bound.PerSource = omega arith
-
-between_again : (least most n : ℕ) → least ≤ n → n ≤ most → most ≤ 4294967295 → between least most (decimal n) ≡ Some n
-unfolding between
-between_again least most n high le small =
-    let enough : nat_lt n least ≡ false = grind (arith, nat_tests) in
-    rw (up_to_again most n le (omega (arith, small)), enough) refl
-
-value_takes : (r : Result (List ℕ) FromHexError) (seed : List ℕ) → value_of r ≡ Some seed → r ≡ Ok seed
-value_takes (Ok x) seed e = ap (λ (s : List ℕ). Ok s) (some_is x seed e)
-value_takes (Err e) seed k = absurd cc
-
-seed_takes : (digits seed : List ℕ) → seed_of digits ≡ Some seed → decode_sized digits 32 ≡ Ok seed
-unfolding seed_of
-seed_takes digits seed e = value_takes (decode_sized digits 32) seed e
-
-seed_again : (digits seed : List ℕ) → decode_sized digits 32 ≡ Ok seed → seed_of digits ≡ Some seed
-unfolding seed_of
-seed_again digits seed e = ap value_of e
 
 -- ---- a rate
 
@@ -211,7 +182,7 @@ valued_takes flag.ControlAllow words value s are e =
     let p = bind_some (network value) (λ n. Some (setting.ControlAllow n)) s (or_bad_ok flag.ControlAllow (network value >>= λ n. Some (setting.ControlAllow n)) s e) in
     subst (IsSetting words) (some_is (setting.ControlAllow p.0) s p.2) (value, are, p.1)
 valued_takes flag.Seed words value s are e =
-    let p = bind_some (seed_of value) (λ x. Some (setting.Seed x)) s (or_bad_ok flag.Seed (seed_of value >>= λ x. Some (setting.Seed x)) s e) in
+    let p = bind_some (seed_bytes value) (λ x. Some (setting.Seed x)) s (or_bad_ok flag.Seed (seed_bytes value >>= λ x. Some (setting.Seed x)) s e) in
     subst (IsSetting words) (some_is (setting.Seed p.0) s p.2) (value, are, seed_takes value p.0 p.1)
 
 or_bad_err : (f : Flag) (o : Option Setting) (e : OptionsError) → or_bad f o ≡ Err e → error.Bad f ≡ e
@@ -229,7 +200,7 @@ valued_wrong flag.Watch value e k = or_bad_err flag.Watch (watch_of value >>= λ
 valued_wrong flag.Rate value e k = or_bad_err flag.Rate (rate_of value >>= λ r. Some (setting.Rate r)) e k
 valued_wrong flag.Allow value e k = or_bad_err flag.Allow (network value >>= λ n. Some (setting.Allow n)) e k
 valued_wrong flag.ControlAllow value e k = or_bad_err flag.ControlAllow (network value >>= λ n. Some (setting.ControlAllow n)) e k
-valued_wrong flag.Seed value e k = or_bad_err flag.Seed (seed_of value >>= λ x. Some (setting.Seed x)) e k
+valued_wrong flag.Seed value e k = or_bad_err flag.Seed (seed_bytes value >>= λ x. Some (setting.Seed x)) e k
 
 abbrev by_name : List ℕ → Result Setting OptionsError
 by_name word = cond (is_word word && is_user word) (Ok (setting.Mailbox word)) (Err (error.NoMailbox word))

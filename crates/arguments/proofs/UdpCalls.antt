@@ -7,7 +7,7 @@ use Rattle.arguments.specs.declared.udp_arguments.Numbers.{Numbers}
 use Rattle.arguments.specs.declared.arguments.ArgumentsError.{ArgumentsError}
 use Rattle.arguments.specs.declared.arguments.ArgumentsError.TheVariants as error
 use Rattle.arguments.specs.Arguments.{zero_seed, IsSeed, IsStop}
-use Rattle.arguments.specs.ArgumentsReading.{seed_of, workers_of}
+use Rattle.arguments.specs.Values.{seed_bytes, between}
 use Rattle.arguments.specs.UdpArguments.{IsFromOne, AreUdpArguments, AnswersUdpArguments}
 use Rattle.arguments.specs.UdpReading.{port_of, numbers_of, with_numbers, udp_crew_at, udp_stop_at, udp_at, udp_arguments_of, GivesUdpArguments}
 use Rattle.sip_text.specs.Reading.{◌>>=◌, plain_up_to}
@@ -15,7 +15,8 @@ use Rattle.sip_text.proofs.Pieces.{bind_some, some_is}
 use Rattle.sip_text.proofs.PlainNumbers.{up_to_takes, up_to_again}
 use Rattle.sip_text.proofs.Addresses.{decimal_lacks}
 use Rattle.arguments.proofs.Flags.{same_text}
-use Rattle.arguments.proofs.Calls.{or_takes, seed_takes, seed_again, workers_take, workers_again, some_length, no_flag}
+use Rattle.arguments.proofs.Values.{between_takes, between_again, seed_takes, seed_again}
+use Rattle.arguments.proofs.Calls.{or_takes, some_length, no_flag}
 
 -- ---- the numbers
 
@@ -49,13 +50,13 @@ record AreNumbers (port control_port workers count : List ℕ) (n : Numbers) : T
 numbers_take : (port control_port workers count : List ℕ) (n : Numbers) → numbers_of port control_port workers count ≡ Some n → AreNumbers port control_port workers count n
 unfolding numbers_of
 numbers_take port control_port workers count n e =
-    let a = bind_some (port_of port) (λ p. port_of control_port >>= λ c. workers_of workers >>= λ w. plain_up_to 4294967295 count >>= λ k. Some (the p c w k)) n e in
-    let b = bind_some (port_of control_port) (λ c. workers_of workers >>= λ w. plain_up_to 4294967295 count >>= λ k. Some (the a.0 c w k)) n a.2 in
-    let c = bind_some (workers_of workers) (λ w. plain_up_to 4294967295 count >>= λ k. Some (the a.0 b.0 w k)) n b.2 in
+    let a = bind_some (port_of port) (λ p. port_of control_port >>= λ c. between 1 256 workers >>= λ w. plain_up_to 4294967295 count >>= λ k. Some (the p c w k)) n e in
+    let b = bind_some (port_of control_port) (λ c. between 1 256 workers >>= λ w. plain_up_to 4294967295 count >>= λ k. Some (the a.0 c w k)) n a.2 in
+    let c = bind_some (between 1 256 workers) (λ w. plain_up_to 4294967295 count >>= λ k. Some (the a.0 b.0 w k)) n b.2 in
     let d = bind_some (plain_up_to 4294967295 count) (λ k. Some (the a.0 b.0 c.0 k)) n c.2 in
     let p = port_takes port a.0 a.1 in
     let q = port_takes control_port b.0 b.1 in
-    let w = workers_take workers c.0 c.1 in
+    let w = between_takes 1 256 workers c.0 c.1 in
     let k = up_to_takes 4294967295 count d.0 d.1 in
     subst (AreNumbers port control_port workers count) (some_is (the a.0 b.0 c.0 d.0) n d.2) (record {
       port_is = p.0;
@@ -73,7 +74,7 @@ numbers_take port control_port workers count n e =
 numbers_again : (n : Numbers) → IsFromOne 65535 n.port → IsFromOne 65535 n.control_port → IsFromOne 256 n.workers → n.count ≤ 4294967295
     → numbers_of (decimal n.port) (decimal n.control_port) (decimal n.workers) (decimal n.count) ≡ Some n
 unfolding numbers_of
-numbers_again n p c w k = rw (port_again n.port p, port_again n.control_port c, workers_again n.workers w.0 w.1, up_to_again 4294967295 n.count k (omega arith)) refl
+numbers_again n p c w k = rw (port_again n.port p, port_again n.control_port c, between_again 1 256 n.workers w.0 w.1 (omega arith), up_to_again 4294967295 n.count k (omega arith)) refl
 
 -- ---- numbers and mailboxes
 
@@ -190,10 +191,10 @@ unfolding udp_at
 udp_takes [] a e = with_zero [] a e
 udp_takes (word ∷ []) a e = with_zero (word ∷ []) a e
 udp_takes (flag ∷ digits ∷ words) a e =
-    or_takes (bytes_eq flag (codes "--seed")) (seed_of digits >>= λ seed. udp_stop_at seed words) (udp_stop_at zero_seed (flag ∷ digits ∷ words)) a e seeded (λ _ k. with_zero (flag ∷ digits ∷ words) a k) where
-      seeded : bytes_eq flag (codes "--seed") ≡ true → (seed_of digits >>= λ seed. udp_stop_at seed words) ≡ Some a → TakesUdp (flag ∷ digits ∷ words) a
+    or_takes (bytes_eq flag (codes "--seed")) (seed_bytes digits >>= λ seed. udp_stop_at seed words) (udp_stop_at zero_seed (flag ∷ digits ∷ words)) a e seeded (λ _ k. with_zero (flag ∷ digits ∷ words) a k) where
+      seeded : bytes_eq flag (codes "--seed") ≡ true → (seed_bytes digits >>= λ seed. udp_stop_at seed words) ≡ Some a → TakesUdp (flag ∷ digits ∷ words) a
       seeded same e =
-          let p = bind_some (seed_of digits) (λ seed. udp_stop_at seed words) a e in
+          let p = bind_some (seed_bytes digits) (λ seed. udp_stop_at seed words) a e in
           let k = stop_takes p.0 words a p.2 in
           record {
             seed_words = codes "--seed" ∷ digits ∷ [];

@@ -1,30 +1,17 @@
 -- What the reader of arguments computes, piece by piece. No public contract cites this.
 use Rattle.std.specs.Prelude.{◌≡◌, ℕ, Bool, true, false, List, [], ◌∷◌, length, ◌==◌, if◌then◌else◌, Option, Some, None, Result, Ok, Err, codes, bytes_eq}
-use Rattle.hex.specs.declared.error.FromHexError.{FromHexError}
-use Rattle.hex.specs.Hex.{decode_sized}
 use Rattle.arguments.specs.declared.arguments.Arguments.{Arguments}
 use Rattle.arguments.specs.declared.arguments.ArgumentsError.{ArgumentsError}
 use Rattle.arguments.specs.declared.arguments.ArgumentsError.TheVariants as error
 use Rattle.arguments.specs.Arguments.{zero_seed, default_arguments}
-use Rattle.sip_text.specs.Reading.{◌>>=◌, plain_up_to}
-
-abbrev pub value_of : Result (List ℕ) FromHexError → Option (List ℕ)
-value_of (Ok seed) = Some seed
-value_of (Err e) = None
-
-unfoldable pub seed_of : List ℕ → Option (List ℕ)
-seed_of digits = value_of (decode_sized digits 32)
-
-unfoldable pub workers_of : List ℕ → Option ℕ
-workers_of word = do
-  n ← plain_up_to 256 word
-  if n == 0 then None else Some n
+use Rattle.arguments.specs.Values.{seed_bytes, between}
+use Rattle.sip_text.specs.Reading.{◌>>=◌}
 
 -- the workers and the mailboxes
 unfoldable pub crew_at : List ℕ → Bool → List (List ℕ) → Option Arguments
 crew_at seed stop [] = None
 crew_at seed stop (word ∷ mailboxes) = do
-  n ← workers_of word
+  n ← between 1 256 word
   if length mailboxes == 0 then None else Some (record { seed = seed; stop = stop; workers = n; mailboxes = mailboxes })
 
 -- what stands behind the seed
@@ -37,7 +24,7 @@ unfoldable pub script_at : List (List ℕ) → Option Arguments
 script_at [] = stop_at zero_seed []
 script_at (word ∷ []) = stop_at zero_seed (word ∷ [])
 script_at (flag ∷ digits ∷ words) =
-    if bytes_eq flag (codes "--seed") then (seed_of digits >>= λ seed. stop_at seed words) else stop_at zero_seed (flag ∷ digits ∷ words)
+    if bytes_eq flag (codes "--seed") then (seed_bytes digits >>= λ seed. stop_at seed words) else stop_at zero_seed (flag ∷ digits ∷ words)
 
 unfoldable pub arguments_of : List (List ℕ) → Option Arguments
 arguments_of [] = Some default_arguments

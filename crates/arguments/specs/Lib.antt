@@ -2,6 +2,7 @@ pub mod Choices
 pub mod Flags
 pub mod NumberRanges
 pub mod MailboxFile
+pub mod Values
 pub mod Reading
 pub mod Settings
 pub mod Tell

@@ -2,9 +2,7 @@
 use Rattle.std.specs.Prelude.{◌≡◌, ℕ, Bool, ◌==◌, ◌&&◌, not, length, List, [], ◌∷◌, ◌++◌, if◌then◌else◌, nat_lt, Option, Some, None, Result, Ok, Err, codes, bytes_eq}
 use Rattle.std.specs.Str.{byte}
 use Rattle.std.specs.List.{position_or_len, before_first, after_first}
-use Rattle.hex.specs.declared.error.FromHexError.{FromHexError}
-use Rattle.hex.specs.Hex.{decode_sized}
-use Rattle.sip_text.specs.Reading.{◌>>=◌, begins, addr_of, cut_at, plain_up_to}
+use Rattle.sip_text.specs.Reading.{◌>>=◌, begins, addr_of, cut_at}
 use Rattle.package.specs.Texts.{is_word}
 use Rattle.admission.specs.declared.bucket.Rate.{Rate}
 use Rattle.admission.specs.Networks.{network}
@@ -22,6 +20,7 @@ use Rattle.arguments.specs.declared.error.OptionsError.{OptionsError}
 use Rattle.arguments.specs.declared.error.OptionsError.TheVariants as error
 use Rattle.arguments.specs.Flags.{least, most, place_text, bound_text, flag_text, switch_text}
 use Rattle.arguments.specs.Settings.{is_user}
+use Rattle.arguments.specs.Values.{seed_bytes, between}
 
 -- ---- the option that a word is
 
@@ -110,19 +109,6 @@ abbrev pub or_bad : Flag → Option Setting → Result Setting OptionsError
 or_bad flag (Some s) = Ok s
 or_bad flag None = Err (error.Bad flag)
 
-abbrev pub value_of : Result (List ℕ) FromHexError → Option (List ℕ)
-value_of (Ok seed) = Some seed
-value_of (Err e) = None
-
-unfoldable pub seed_of : List ℕ → Option (List ℕ)
-seed_of digits = value_of (decode_sized digits 32)
-
--- a number from the least to the most
-unfoldable pub between : ℕ → ℕ → List ℕ → Option ℕ
-between least most word = do
-  n ← plain_up_to most word
-  if nat_lt n least then None else Some n
-
 -- a name of a mailbox
 abbrev pub is_mailbox : List ℕ → Bool
 is_mailbox name = is_word name && (is_user name && not (begins (byte "-") name))
@@ -157,7 +143,7 @@ valued flag.Watch value = or_bad flag.Watch (watch_of value >>= λ w. Some (sett
 valued flag.Rate value = or_bad flag.Rate (rate_of value >>= λ r. Some (setting.Rate r))
 valued flag.Allow value = or_bad flag.Allow (network value >>= λ n. Some (setting.Allow n))
 valued flag.ControlAllow value = or_bad flag.ControlAllow (network value >>= λ n. Some (setting.ControlAllow n))
-valued flag.Seed value = or_bad flag.Seed (seed_of value >>= λ s. Some (setting.Seed s))
+valued flag.Seed value = or_bad flag.Seed (seed_bytes value >>= λ s. Some (setting.Seed s))
 
 -- a word that is no option
 unfoldable pub named : List ℕ → Result Setting OptionsError

@@ -5,7 +5,7 @@ use Rattle.arguments.specs.declared.udp_arguments.Numbers.{Numbers}
 use Rattle.arguments.specs.declared.arguments.ArgumentsError.{ArgumentsError}
 use Rattle.arguments.specs.declared.arguments.ArgumentsError.TheVariants as error
 use Rattle.arguments.specs.Arguments.{zero_seed}
-use Rattle.arguments.specs.ArgumentsReading.{seed_of, workers_of}
+use Rattle.arguments.specs.Values.{seed_bytes, between}
 use Rattle.sip_text.specs.Reading.{◌>>=◌, plain_up_to}
 
 unfoldable pub port_of : List ℕ → Option ℕ
@@ -17,7 +17,7 @@ unfoldable pub numbers_of : List ℕ → List ℕ → List ℕ → List ℕ → 
 numbers_of port control_port workers count = do
   p ← port_of port
   c ← port_of control_port
-  n ← workers_of workers
+  n ← between 1 256 workers
   k ← plain_up_to 4294967295 count
   Some (record { port = p; control_port = c; workers = n; count = k })
 
@@ -53,7 +53,7 @@ unfoldable pub udp_at : List (List ℕ) → Option UdpArguments
 udp_at [] = udp_stop_at zero_seed []
 udp_at (word ∷ []) = udp_stop_at zero_seed (word ∷ [])
 udp_at (flag ∷ digits ∷ words) =
-    if bytes_eq flag (codes "--seed") then (seed_of digits >>= λ seed. udp_stop_at seed words) else udp_stop_at zero_seed (flag ∷ digits ∷ words)
+    if bytes_eq flag (codes "--seed") then (seed_bytes digits >>= λ seed. udp_stop_at seed words) else udp_stop_at zero_seed (flag ∷ digits ∷ words)
 
 unfoldable pub udp_arguments_of : List (List ℕ) → Option UdpArguments
 udp_arguments_of [] = None

@@ -3,14 +3,15 @@ ghost use Rattle.std.specs.Prelude.{◌≡◌, IfOk, IfErr, Some};
 ghost use Rattle.arguments.specs.declared.arguments.Arguments.{Arguments};
 ghost use Rattle.arguments.specs.declared.arguments.ArgumentsError.TheVariants.{NoMemory};
 ghost use Rattle.arguments.specs.Arguments.{default_arguments, AreArguments, AnswersArguments};
-ghost use Rattle.arguments.specs.ArgumentsReading.{seed_of, workers_of, crew_at, stop_at, script_at, arguments_of, GivesArguments};
-ghost use Rattle.sip_text.specs.Bytes.{Finds};
-ghost use Rattle.sip_text.specs.Reading.{plain_up_to};
+ghost use Rattle.arguments.specs.ArgumentsReading.{crew_at, stop_at, script_at, arguments_of, GivesArguments};
 
-use hex::FromHex;
-use sip_text::{NoMemory as NoRoom, Text, Values, plain_number};
+use crate::value::{between, seed_bytes};
+use sip_text::{NoMemory as NoRoom, Text, Values};
 use std::alloc::{AllocError, AllocFailed, Global};
 use thiserror::Error;
+
+/// How many workers there are at most.
+pub(crate) const MOST_WORKERS: u32 = 256;
 
 /// What the program was asked to do.
 #[derive(Debug, Drop)]
@@ -60,38 +61,6 @@ impl<T: Drop> From<AllocFailed<T>> for ArgumentsError {
     }
 }
 
-/// 32 bytes from 64 hex digits.
-#[tactic(auto, unfolding(crate::specs::ArgumentsReading::seed_of))]
-pub(crate) fn seed_of(digits: &str) -> Option<[u8; 32]>
-    ensures { Finds (λ x. x) result (seed_of digits.now) }
-{
-    match <[u8; 32] as FromHex>::from_hex(digits) {
-        Ok(seed) => Some(seed),
-        Err(_) => None,
-    }
-}
-
-/// A number of workers.
-#[tactic(auto, unfolding(crate::specs::ArgumentsReading::workers_of))]
-pub(crate) fn workers_of(word: &str) -> Option<u32>
-    ensures { Finds (λ x. x) result (workers_of word.now) }
-{
-    let number = up_to_256(word.as_bytes())?;
-    if number == 0 { None } else { Some(number) }
-}
-
-#[tactic(auto, unfolding(sip_text::specs::Reading::plain_up_to))]
-fn up_to_256(word: &[u8]) -> Option<u32>
-    ensures { Finds (λ x. x) result (plain_up_to 256 word.now) }
-{
-    let number = plain_number(word)?;
-    if number <= 256 {
-        Some(number as u32)
-    } else {
-        None
-    }
-}
-
 /// Copies of these texts.
 pub(crate) fn copies_of(alloc: Global, texts: &[Text]) -> Result<Vec<Text>, ArgumentsError>
     ensures copied { IfOk result (λ copies. copies.items ≡ texts.now) }
@@ -106,7 +75,7 @@ pub(crate) fn copies_of(alloc: Global, texts: &[Text]) -> Result<Vec<Text>, Argu
 
 /// The workers and the mailboxes.
 #[tactic(auto, unfolding(crate::specs::ArgumentsReading::crew_at))]
-fn crew_at(
+fn read_crew(
     alloc: Global,
     seed: [u8; 32],
     stop: bool,
@@ -117,7 +86,7 @@ fn crew_at(
     let [word, mailboxes @ ..] = words else {
         return Err(ArgumentsError::Bad);
     };
-    let Some(workers) = workers_of(word.as_str()) else {
+    let Some(workers) = between(1, MOST_WORKERS, word.as_str().as_bytes()) else {
         return Err(ArgumentsError::Bad);
     };
     if mailboxes.is_empty() {
@@ -134,26 +103,26 @@ fn crew_at(
 
 /// What stands behind the seed.
 #[tactic(auto, unfolding(crate::specs::ArgumentsReading::stop_at))]
-fn stop_at(alloc: Global, seed: [u8; 32], words: &[Text]) -> Result<Arguments, ArgumentsError>
+fn read_stop(alloc: Global, seed: [u8; 32], words: &[Text]) -> Result<Arguments, ArgumentsError>
     ensures { GivesArguments result (stop_at seed words.now) }
 {
     match words {
-        [flag, words @ ..] if flag.is("--stop") => crew_at(alloc, seed, true, words),
-        _ => crew_at(alloc, seed, false, words),
+        [flag, words @ ..] if flag.is("--stop") => read_crew(alloc, seed, true, words),
+        _ => read_crew(alloc, seed, false, words),
     }
 }
 
 /// What stands behind the first word.
 #[tactic(auto, unfolding(crate::specs::ArgumentsReading::script_at))]
-fn script_at(alloc: Global, words: &[Text]) -> Result<Arguments, ArgumentsError>
+fn read_script_call(alloc: Global, words: &[Text]) -> Result<Arguments, ArgumentsError>
     ensures { GivesArguments result (script_at words.now) }
 {
     match words {
-        [flag, digits, words @ ..] if flag.is("--seed") => match seed_of(digits.as_str()) {
-            Some(seed) => stop_at(alloc, seed, words),
+        [flag, digits, words @ ..] if flag.is("--seed") => match seed_bytes(digits.as_str()) {
+            Some(seed) => read_stop(alloc, seed, words),
             None => Err(ArgumentsError::Bad),
         },
-        _ => stop_at(alloc, [0; 32], words),
+        _ => read_stop(alloc, [0; 32], words),
     }
 }
 
@@ -177,7 +146,7 @@ fn arguments_of(alloc: Global, words: &[Text]) -> Result<Arguments, ArgumentsErr
 {
     match words {
         [] => default_arguments(alloc),
-        [program, words @ ..] if program.is("script") => script_at(alloc, words),
+        [program, words @ ..] if program.is("script") => read_script_call(alloc, words),
         _ => Err(ArgumentsError::Bad),
     }
 }

@@ -177,7 +177,7 @@ impl Display for Flag {
 }
 
 #[tactic(auto, unfolding(crate::specs::Reading::place_of))]
-fn place_of(word: &str) -> Option<Place>
+fn place_flag(word: &str) -> Option<Place>
     ensures { Finds (λ x. x) result (place_of word.now) }
 {
     if word == "--listen" {
@@ -193,7 +193,7 @@ fn place_of(word: &str) -> Option<Place>
 
 /// An option whose value is a time in seconds.
 #[tactic(auto, unfolding(crate::specs::Reading::time_of))]
-fn time_of(word: &str) -> Option<Bound>
+fn time_flag(word: &str) -> Option<Bound>
     ensures { Finds (λ x. x) result (time_of word.now) }
 {
     if word == "--min-time" {
@@ -215,7 +215,7 @@ fn time_of(word: &str) -> Option<Bound>
 
 /// An option whose value is a count.
 #[tactic(auto, unfolding(crate::specs::Reading::count_of))]
-fn count_of(word: &str) -> Option<Bound>
+fn count_flag(word: &str) -> Option<Bound>
     ensures { Finds (λ x. x) result (count_of word.now) }
 {
     if word == "--workers" {
@@ -243,7 +243,7 @@ fn count_of(word: &str) -> Option<Bound>
 
 /// An option whose value is a size in octets.
 #[tactic(auto, unfolding(crate::specs::Reading::size_of))]
-fn size_of(word: &str) -> Option<Bound>
+fn size_flag(word: &str) -> Option<Bound>
     ensures { Finds (λ x. x) result (size_of word.now) }
 {
     if word == "--max-datagram" {
@@ -257,28 +257,28 @@ fn size_of(word: &str) -> Option<Bound>
 
 /// An option whose value is a count or a size.
 #[tactic(auto, unfolding(crate::specs::Reading::number_of))]
-fn number_of(word: &str) -> Option<Bound>
+fn number_flag(word: &str) -> Option<Bound>
     ensures { Finds (λ x. x) result (number_of word.now) }
 {
-    match count_of(word) {
+    match count_flag(word) {
         Some(bound) => Some(bound),
-        None => size_of(word),
+        None => size_flag(word),
     }
 }
 
 #[tactic(auto, unfolding(crate::specs::Reading::bound_of))]
-fn bound_of(word: &str) -> Option<Bound>
+fn bound_flag(word: &str) -> Option<Bound>
     ensures { Finds (λ x. x) result (bound_of word.now) }
 {
-    match time_of(word) {
+    match time_flag(word) {
         Some(bound) => Some(bound),
-        None => number_of(word),
+        None => number_flag(word),
     }
 }
 
 /// An option whose value is neither an address nor a number.
 #[tactic(auto, unfolding(crate::specs::Reading::special_of))]
-fn special_of(word: &str) -> Option<Flag>
+fn special_flag(word: &str) -> Option<Flag>
     ensures { Finds (λ x. x) result (special_of word.now) }
 {
     if word == "--mailboxes" {
@@ -304,18 +304,18 @@ fn special_of(word: &str) -> Option<Flag>
 
 /// An option whose value is no address.
 #[tactic(auto, unfolding(crate::specs::Reading::other_of))]
-fn other_of(word: &str) -> Option<Flag>
+fn other_flag(word: &str) -> Option<Flag>
     ensures { Finds (λ x. x) result (other_of word.now) }
 {
-    match special_of(word) {
+    match special_flag(word) {
         Some(flag) => Some(flag),
-        None => bound_of(word).map(Flag::Number),
+        None => bound_flag(word).map(Flag::Number),
     }
 }
 
 /// The option that stands before the first `=` of the word, and the value behind it.
 #[tactic(auto, unfolding(crate::specs::Reading::joined_of))]
-pub(crate) fn joined_of(word: &str) -> Option<(Flag, &str)>
+pub(crate) fn joined_option(word: &str) -> Option<(Flag, &str)>
     ensures { Finds (λ x. (x.0, x.1.now)) result (joined_of word.now) }
 {
     let (name, value) = word.split_once('=')?;
@@ -328,8 +328,8 @@ pub(crate) fn joined_of(word: &str) -> Option<(Flag, &str)>
 pub(crate) fn flag_of(word: &str) -> Option<Flag>
     ensures { Finds (λ x. x) result (flag_of word.now) }
 {
-    match place_of(word) {
+    match place_flag(word) {
         Some(place) => Some(Flag::Address(place)),
-        None => other_of(word),
+        None => other_flag(word),
     }
 }

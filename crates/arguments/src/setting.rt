@@ -5,16 +5,16 @@ ghost use Rattle.arguments.specs.declared.setting.Setting.{Setting};
 ghost use Rattle.arguments.specs.declared.setting.Setting.TheVariants as setting;
 ghost use Rattle.arguments.specs.Settings.{is_user, IsMailbox, AreSettings, AreWrong, Answers};
 ghost use Rattle.arguments.specs.Reading as spec;
-ghost use Rattle.arguments.specs.Reading.{seed_of, between, watch_of, rate_of, valued, named, alone, Reads};
-ghost use Rattle.sip_text.specs.Reading.{begins, plain_up_to};
+ghost use Rattle.arguments.specs.Reading.{watch_of, rate_of, valued, named, alone, Reads};
+ghost use Rattle.sip_text.specs.Reading.{begins};
 
 use crate::error::OptionsError;
-use crate::flag::{Bound, Flag, Place, flag_of, joined_of};
-use crate::switch::{Switch, switch_of};
+use crate::flag::{Bound, Flag, Place, flag_of, joined_option};
+use crate::switch::{Switch, switch_named};
+use crate::value::{between, seed_bytes};
 use admission::{Network, Rate};
-use hex::FromHex;
 use package::texts::is_word;
-use sip_text::{Addr, NoMemory, Text, cut_at, plain_number};
+use sip_text::{Addr, NoMemory, Text, cut_at};
 use std::alloc::Global;
 
 /// One thing that the words say.
@@ -46,41 +46,9 @@ pub enum Setting {
     Mailbox(Text),
 }
 
-/// 32 bytes from 64 hex digits.
-#[tactic(auto, unfolding(crate::specs::Reading::seed_of))]
-fn seed_of(digits: &str) -> Option<[u8; 32]>
-    ensures { Finds (λ x. x) result (seed_of digits.now) }
-{
-    match <[u8; 32] as FromHex>::from_hex(digits) {
-        Ok(seed) => Some(seed),
-        Err(_) => None,
-    }
-}
-
-#[tactic(auto, unfolding(sip_text::specs::Reading::plain_up_to))]
-fn up_to(most: u32, word: &[u8]) -> Option<u32>
-    ensures { Finds (λ x. x) result (plain_up_to most word.now) }
-{
-    let number = plain_number(word)?;
-    if number <= u64::from(most) {
-        Some(number as u32)
-    } else {
-        None
-    }
-}
-
-/// A number from the least to the most.
-#[tactic(auto, unfolding(crate::specs::Reading::between))]
-fn between(least: u32, most: u32, word: &[u8]) -> Option<u32>
-    ensures { Finds (λ x. x) result (between least most word.now) }
-{
-    let number = up_to(most, word)?;
-    if number < least { None } else { Some(number) }
-}
-
 /// How many datagrams a second, and how many at once: `n/burst`, each from 1 to 65536.
 #[tactic(auto, unfolding(crate::specs::Reading::rate_of))]
-fn rate_of(value: &[u8]) -> Option<Rate>
+fn read_rate(value: &[u8]) -> Option<Rate>
     ensures { Finds (λ x. x) result (rate_of value.now) }
 {
     let (per_second, rest) = cut_at(b'/', value)?;
@@ -91,7 +59,7 @@ fn rate_of(value: &[u8]) -> Option<Rate>
 
 /// A user before the first colon, and a mailbox behind it.
 #[tactic(auto, unfolding(crate::specs::Reading::watch_of))]
-fn watch_of(value: &str) -> Option<(&str, &str)>
+fn read_watch(value: &str) -> Option<(&str, &str)>
     ensures { Finds (λ x. (x.0.now, x.1.now)) result (watch_of value.now) }
 {
     let (user, mailbox) = value.split_once(':')?;
@@ -127,11 +95,11 @@ fn valued(alloc: Global, flag: Flag, value: &str) -> Result<Setting, OptionsErro
         Flag::MailboxFile => Some(Setting::MailboxFile(Text::of(alloc, value)?)),
         Flag::StateFile => Some(Setting::StateFile(Text::of(alloc, value)?)),
         Flag::PasswordFile => Some(Setting::PasswordFile(Text::of(alloc, value)?)),
-        Flag::Watch => match watch_of(value) {
+        Flag::Watch => match read_watch(value) {
             Some((user, mailbox)) => Some(watched(alloc, user, mailbox)?),
             None => None,
         },
-        Flag::Rate => rate_of(value.as_bytes()).map(Setting::Rate),
+        Flag::Rate => read_rate(value.as_bytes()).map(Setting::Rate),
         Flag::Allow => {
             let network = Network::of(value.as_bytes());
             network.map(|network| Setting::Allow(network))
@@ -140,7 +108,7 @@ fn valued(alloc: Global, flag: Flag, value: &str) -> Result<Setting, OptionsErro
             let network = Network::of(value.as_bytes());
             network.map(|network| Setting::ControlAllow(network))
         }
-        Flag::Seed => seed_of(value).map(Setting::Seed),
+        Flag::Seed => seed_bytes(value).map(Setting::Seed),
     };
     setting.ok_or(OptionsError::Bad(flag))
 }
@@ -188,10 +156,10 @@ fn named(alloc: Global, word: &Text) -> Result<Setting, OptionsError>
 fn alone(alloc: Global, word: &Text) -> Result<Setting, OptionsError>
     ensures { Reads (λ x. x) result (alone word.now) }
 {
-    if let Some((flag, value)) = joined_of(word.as_str()) {
+    if let Some((flag, value)) = joined_option(word.as_str()) {
         return valued(alloc, flag, value);
     }
-    match switch_of(word.as_str()) {
+    match switch_named(word.as_str()) {
         Some(switch) => Ok(Setting::Switch(switch)),
         None => named(alloc, word),
     }

@@ -1,12 +1,9 @@
-//! What the program's workers start from: what all have in common, and the packages of each.
+//! What the program's workers start from: what all have in common, and the mailboxes of each.
 ghost use Rattle.std.specs.Prelude.{◌≡◌, ◌<◌, ◌∷◌, [], ◌++◌, map, string_bytes, IfOk, OnOk};
 ghost use Rattle.arguments.specs.Setup as spec;
-ghost use Rattle.arguments.specs.Wanted.{Gives};
 
-use crate::wanted::Wanted;
 use notifier_model::homes::key_hash;
 use notifier_model::{Limits, Setup};
-use package::Package;
 use sip_read::Addr;
 use sip_text::{NoMemory, Text};
 use std::alloc::Global;
@@ -64,45 +61,4 @@ pub fn names_for(
         add_name(alloc, &mut names, mailbox, workers, worker)?;
     }
     Ok(names)
-}
-
-/// The packages of a worker with these mailboxes, each as `make` gives it.
-pub fn boxes_with<P, F>(alloc: Global, names: Vec<String>, make: &F) -> Result<Vec<P>, NoMemory>
-where
-    P: Package,
-    F: Fn(Wanted) -> Result<P, NoMemory>,
-    requires callable { F.IsAlwaysCallable make.now }
-    requires gives { Gives P.seen (F.post make.now) }
-    ensures { IfOk result (λ boxes. map P.seen boxes.items ≡ spec.boxes_with (map string_bytes names.items)) }
-{
-    let mailboxes = make(Wanted::Mailboxes(names))?;
-    let transfers = make(Wanted::Transfers)?;
-    let mut boxes = Vec::new(alloc);
-    boxes.push(mailboxes)?;
-    boxes.push(transfers)?;
-    Ok(boxes)
-}
-
-/// The packages of each worker, among whom the mailboxes are dealt out, each as `make` gives it.
-pub fn boxes_for<P, F>(
-    alloc: Global,
-    mailboxes: &[Text],
-    workers: u32,
-    make: &F,
-) -> Result<Vec<Vec<P>>, NoMemory>
-where
-    P: Package,
-    F: Fn(Wanted) -> Result<P, NoMemory>,
-    requires some { 0 < workers }
-    requires callable { F.IsAlwaysCallable make.now }
-    requires gives { Gives P.seen (F.post make.now) }
-    ensures { IfOk result (λ all.
-        map (λ boxes. map P.seen boxes.items) all.items ≡ spec.boxes_for workers mailboxes.now) }
-{
-    let mut all = Vec::new(alloc);
-    for worker in 0..workers {
-        let names = names_for(alloc, mailboxes, workers, worker)?;
-        all.push(boxes_with(alloc, names, make)?)?;
-    }
-    Ok(all)
 }

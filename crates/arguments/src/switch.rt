@@ -36,7 +36,7 @@ impl Switch {
 
 /// The option that the word is.
 #[tactic(auto, unfolding(crate::specs::Reading::switch_of))]
-pub(crate) fn switch_of(word: &str) -> Option<Switch>
+pub(crate) fn switch_named(word: &str) -> Option<Switch>
     ensures { Finds (λ x. x) result (switch_of word.now) }
 {
     if word == "--keep-subscriptions" {

@@ -1,5 +1,6 @@
-//! What the workers of a service start from: mailboxes that were told of changes, and transfers, unless they are left out.
+//! The packages that workers start from: mailboxes, which a service tells of changes before, and transfers, unless they are left out.
 ghost use Rattle.std.specs.Prelude.{◌≡◌, ◌<◌, map, string_bytes, IfOk, OnOk};
+ghost use Rattle.arguments.specs.Setup as setup;
 ghost use Rattle.arguments.specs.Told as spec;
 ghost use Rattle.arguments.specs.Wanted.{Gives};
 
@@ -73,4 +74,35 @@ where
         all.push(boxes_told(alloc, names, changes, no_refer, make)?)?;
     }
     Ok(all)
+}
+
+/// The packages of a worker with these mailboxes, each as `make` gives it.
+pub fn boxes_with<P, F>(alloc: Global, names: Vec<String>, make: &F) -> Result<Vec<P>, NoMemory>
+where
+    P: Package,
+    F: Fn(Wanted) -> Result<P, NoMemory>,
+    requires callable { F.IsAlwaysCallable make.now }
+    requires gives { Gives P.seen (F.post make.now) }
+    ensures { IfOk result (λ boxes. map P.seen boxes.items ≡ setup.boxes_with (map string_bytes names.items)) }
+{
+    boxes_told(alloc, names, &[], false, make)
+}
+
+/// The packages of each worker, among whom the mailboxes are dealt out, each as `make` gives it.
+pub fn boxes_for<P, F>(
+    alloc: Global,
+    mailboxes: &[Text],
+    workers: u32,
+    make: &F,
+) -> Result<Vec<Vec<P>>, NoMemory>
+where
+    P: Package,
+    F: Fn(Wanted) -> Result<P, NoMemory>,
+    requires some { 0 < workers }
+    requires callable { F.IsAlwaysCallable make.now }
+    requires gives { Gives P.seen (F.post make.now) }
+    ensures { IfOk result (λ all.
+        map (λ boxes. map P.seen boxes.items) all.items ≡ setup.boxes_for workers mailboxes.now) }
+{
+    all_told(alloc, mailboxes, workers, &[], false, make)
 }

@@ -5,7 +5,8 @@ ghost use Rattle.arguments.specs.UdpArguments.{AreUdpArguments, AnswersUdpArgume
 ghost use Rattle.arguments.specs.UdpReading.{port_of, numbers_of, udp_crew_at, udp_stop_at, udp_at, udp_arguments_of, GivesUdpArguments};
 ghost use Rattle.sip_text.specs.Bytes.{Finds};
 
-use crate::arguments::{ArgumentsError, copies_of, seed_of, workers_of};
+use crate::arguments::{ArgumentsError, MOST_WORKERS, copies_of};
+use crate::value::{between, seed_bytes};
 use sip_text::{Text, Values, count_of, short_of};
 use std::alloc::Global;
 
@@ -39,7 +40,7 @@ struct Numbers {
 
 /// The number of a port.
 #[tactic(auto, unfolding(crate::specs::UdpReading::port_of))]
-fn port_of(word: &Text) -> Option<u16>
+fn port_number(word: &Text) -> Option<u16>
     ensures { Finds (λ x. x) result (port_of word.now) }
 {
     let number = short_of(word.as_str().as_bytes())?;
@@ -50,9 +51,9 @@ fn port_of(word: &Text) -> Option<u16>
 fn numbers_of(port: &Text, control_port: &Text, workers: &Text, count: &Text) -> Option<Numbers>
     ensures { Finds (λ x. x) result (numbers_of port.now control_port.now workers.now count.now) }
 {
-    let port = port_of(port)?;
-    let control_port = port_of(control_port)?;
-    let workers = workers_of(workers.as_str())?;
+    let port = port_number(port)?;
+    let control_port = port_number(control_port)?;
+    let workers = between(1, MOST_WORKERS, workers.as_str().as_bytes())?;
     let count = count_of(count.as_str().as_bytes())?;
     Some(Numbers {
         port,
@@ -64,7 +65,7 @@ fn numbers_of(port: &Text, control_port: &Text, workers: &Text, count: &Text) ->
 
 /// The numbers and the mailboxes.
 #[tactic(auto, unfolding(crate::specs::UdpReading::udp_crew_at))]
-fn udp_crew_at(
+fn read_udp_crew(
     alloc: Global,
     seed: [u8; 32],
     stop: bool,
@@ -95,7 +96,7 @@ fn udp_crew_at(
 
 /// What stands behind the seed.
 #[tactic(auto, unfolding(crate::specs::UdpReading::udp_stop_at))]
-fn udp_stop_at(
+fn read_udp_stop(
     alloc: Global,
     seed: [u8; 32],
     words: &[Text],
@@ -103,22 +104,22 @@ fn udp_stop_at(
     ensures { GivesUdpArguments result (udp_stop_at seed words.now) }
 {
     match words {
-        [flag, words @ ..] if flag.is("--stop") => udp_crew_at(alloc, seed, true, words),
-        _ => udp_crew_at(alloc, seed, false, words),
+        [flag, words @ ..] if flag.is("--stop") => read_udp_crew(alloc, seed, true, words),
+        _ => read_udp_crew(alloc, seed, false, words),
     }
 }
 
 /// What stands behind the first word.
 #[tactic(auto, unfolding(crate::specs::UdpReading::udp_at))]
-fn udp_at(alloc: Global, words: &[Text]) -> Result<UdpArguments, ArgumentsError>
+fn read_udp_call(alloc: Global, words: &[Text]) -> Result<UdpArguments, ArgumentsError>
     ensures { GivesUdpArguments result (udp_at words.now) }
 {
     match words {
-        [flag, digits, words @ ..] if flag.is("--seed") => match seed_of(digits.as_str()) {
-            Some(seed) => udp_stop_at(alloc, seed, words),
+        [flag, digits, words @ ..] if flag.is("--seed") => match seed_bytes(digits.as_str()) {
+            Some(seed) => read_udp_stop(alloc, seed, words),
             None => Err(ArgumentsError::Bad),
         },
-        _ => udp_stop_at(alloc, [0; 32], words),
+        _ => read_udp_stop(alloc, [0; 32], words),
     }
 }
 
@@ -127,7 +128,7 @@ fn udp_arguments_of(alloc: Global, words: &[Text]) -> Result<UdpArguments, Argum
     ensures { GivesUdpArguments result (udp_arguments_of words.now) }
 {
     match words {
-        [program, words @ ..] if program.is("udp") => udp_at(alloc, words),
+        [program, words @ ..] if program.is("udp") => read_udp_call(alloc, words),
         _ => Err(ArgumentsError::Bad),
     }
 }

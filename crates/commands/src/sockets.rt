@@ -13,9 +13,9 @@ use arguments::{Choices, Place};
 use sip_text::Addr;
 use std::io;
 use std::io::ErrorKind;
-use std::net::{IpAddr, Ipv4Addr, Net, SocketAddr, UdpSocket};
+use std::net::{Net, UdpSocket};
 use std::sync::Wait;
-use transport::UdpWire;
+use transport::{UdpWire, system_addr};
 
 /// The sockets of a service, open: each of two addresses has a wire that receives and one that sends, and that of SIP one for refusals.
 #[derive(Drop)]
@@ -27,11 +27,6 @@ pub(crate) struct Sockets {
     pub(crate) replies: UdpWire,
 }
 
-/// This address as the system's.
-fn system_addr(addr: Addr) -> SocketAddr {
-    SocketAddr::new(IpAddr::V4(Ipv4Addr::from_octets(addr.ip)), addr.port)
-}
-
 /// Whether the system says that the program, or all of them, have too many files open.
 fn is_too_many(fault: &io::Error) -> bool
     ensures { IsTrue result ↔ IsTooMany (raw_os_error fault.now) }
@@ -40,7 +35,7 @@ fn is_too_many(fault: &io::Error) -> bool
 }
 
 /// Why there is no socket where an option says, by what the system said.
-fn refusal_of(place: Place, fault: &io::Error) -> ServeError
+fn socket_refusal(place: Place, fault: &io::Error) -> ServeError
     ensures too_many { IsTooMany (raw_os_error fault.now) → result ≡ error.Descriptors }
     ensures in_use { ¬ (IsTooMany (raw_os_error fault.now)) → error_kind fault.now ≡ ErrorKind.AddrInUse
         → result ≡ error.Address place }
@@ -70,11 +65,11 @@ fn why_none<R: Wait + Net>(rt: &R, place: Place, addr: Addr) -> ServeError
 {
     let socket = match UdpSocket::bind(rt, system_addr(addr)) {
         Ok(socket) => socket,
-        Err(fault) => return refusal_of(place, &fault),
+        Err(fault) => return socket_refusal(place, &fault),
     };
     match socket.try_clone() {
         Ok(_) => ServeError::System,
-        Err(fault) => refusal_of(place, &fault),
+        Err(fault) => socket_refusal(place, &fault),
     }
 }
 

@@ -5,9 +5,10 @@ use crate::asking::{Speaker, SpeakerFault};
 use sip_text::Addr;
 use std::io;
 use std::io::ErrorKind;
-use std::net::{IpAddr, Ipv4Addr, Net, SocketAddr, UdpSocket};
+use std::net::{Net, UdpSocket};
 use std::sync::Wait;
 use std::time::Duration;
+use transport::system_addr;
 
 /// How long is waited for an answer, in milliseconds.
 const PATIENCE: u64 = 200;
@@ -25,11 +26,6 @@ impl From<io::Error> for SpeakerFault {
     fn from(_error: io::Error) -> SpeakerFault {
         SpeakerFault
     }
-}
-
-/// This address as the system's.
-fn system_addr(addr: Addr) -> SocketAddr {
-    SocketAddr::new(IpAddr::V4(Ipv4Addr::from_octets(addr.ip)), addr.port)
 }
 
 impl UdpSpeaker {

@@ -255,7 +255,7 @@ brief (Starts tag refer_to) = Started tag refer_to
 
 abbrev pub bytes_of_out : Out → Bytes
 bytes_of_out (Answer to bytes) = bytes
-bytes_of_out (Notify tag number terminated to bytes) = bytes
+bytes_of_out (Notify to number terminated tag bytes) = bytes
 bytes_of_out (Begins tag refer_to) = []
 
 -- what the book makes of these events, in brief and in bytes

@@ -8,15 +8,19 @@ use Rattle.notifier_model.specs.declared.place.Place.{Place}
 use Rattle.notifier_model.specs.declared.event.Event.{Event}
 use Rattle.notifier_model.specs.Start.{tag_of}
 use Rattle.notifier_model.specs.Tag.{local_tag, tag_bytes}
-use Rattle.notifier_model.specs.Home.{worker_named, worker_in, key_hash, key_of, tag_in, home, is_for_all, events_for}
+use Rattle.notifier_model.specs.Home.{names_serial, worker_named, worker_in, key_hash, key_of, tag_in, home, is_for_all, events_for}
 use Rattle.notifier_model.specs.HomeLaws.{NamedLaw, MailboxLaw, BelowLaw, OneLaw}
-use Rattle.notifier_model.proofs.HomeNames.{Names, some_named, IsBelow, named_below}
+use Rattle.notifier_model.proofs.HomeNames.{Names, is_serial, some_named, IsBelow, named_below}
 
 -- ---- a tag of its own names a worker
 
 names_own : (place : Place) (serial : ℕ) → Names place.worker (tag_of place serial)
 unfolding local_tag
 names_own place serial = (decimal serial ++ (codes "-" ++ encode_lower (tag_bytes place.seed place.worker serial)), refl)
+
+pub serial_own : (place : Place) (serial : ℕ) → names_serial place.worker serial (tag_of place serial) ≡ true
+unfolding local_tag
+serial_own place serial = is_serial place.worker serial (tag_of place serial) (encode_lower (tag_bytes place.seed place.worker serial), refl)
 
 pub named_law : NamedLaw
 unfolding home

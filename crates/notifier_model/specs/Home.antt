@@ -48,6 +48,10 @@ tag_in Shut = None
 abbrev pub names : ℕ → List ℕ → Bool
 names worker tag = starts_with nat_eq tag (codes "w" ++ (decimal worker ++ codes "-"))
 
+-- it goes on with `<serial>-`
+abbrev pub names_serial : ℕ → ℕ → List ℕ → Bool
+names_serial worker serial tag = starts_with nat_eq tag (codes "w" ++ (decimal worker ++ (codes "-" ++ (decimal serial ++ codes "-"))))
+
 -- the worker below n that the tag names
 unfoldable pub worker_named : ℕ → List ℕ → Option ℕ
 worker_named zero tag = None

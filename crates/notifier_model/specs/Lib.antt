@@ -12,4 +12,5 @@ pub mod Rows
 pub mod Home
 pub mod HomeLaws
 pub mod Book
+pub mod Cases
 pub mod Run

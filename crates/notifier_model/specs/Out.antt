@@ -17,7 +17,7 @@ is_last state = bytes_eq state.word (codes "terminated")
 -- in bytes
 unfoldable pub out_of : Send → Out
 out_of (Answers to bytes) = Answer to bytes
-out_of (Notifies to n) = Notify n.local_tag n.number (is_last n.state) to (notify_text n)
+out_of (Notifies to n) = Notify to n.number (is_last n.state) n.local_tag (notify_text n)
 out_of (Starts tag refer_to) = Start tag refer_to
 
 -- ---- the NOTIFYs of one subscription

@@ -3,16 +3,17 @@ ghost use Rattle.std.specs.Prelude.{◌≡◌};
 ghost use Rattle.notifier_model.specs.Sent.{notify_of};
 
 use package::{MailChange, Progress};
-use sip_read::{Addr, Request, Response};
+use sip_read::{Addr, Boxed, Request, Response};
 use sip_text::{Octets, Text};
+use std::mem::size_of;
 
-/// What comes to a desk.
+/// What comes to a desk. It is small, since it is moved several times on its way there.
 #[derive(Debug)]
 pub enum Event {
     /// A request, with the address that it came from.
-    Request(Addr, Request),
+    Request(Addr, Boxed<Request>),
     /// A response.
-    Reply(Response),
+    Reply(Boxed<Response>),
     /// A mailbox has new counts.
     Mail(MailChange),
     /// A transfer goes on.
@@ -38,7 +39,7 @@ impl Drop for Event {
     }
 }
 
-/// What a desk sends.
+/// What a desk sends. It is small, as an event is: what is short in a NOTIFY stands first, and shares 16 bytes with the mark of the variant.
 #[derive(Debug)]
 pub enum Out {
     /// An answer to a request.
@@ -48,10 +49,10 @@ pub enum Out {
     },
     /// A NOTIFY of the subscription with this local tag.
     Notify {
-        tag: Text,
+        to: Addr,
         number: u32,
         terminated: bool,
-        to: Addr,
+        tag: Text,
         bytes: Octets,
     },
     /// The transfer with this tag may start, to this URI.
@@ -60,6 +61,13 @@ pub enum Out {
         refer_to: Text,
     },
 }
+
+/// How many bytes an event and an out have at most.
+const SMALL: usize = 64;
+
+const _: () = prove!(size_of::<Event>() <= SMALL);
+
+const _: () = prove!(size_of::<Out>() <= SMALL);
 
 /// By hand, as an [`Event`]'s.
 impl Drop for Out {

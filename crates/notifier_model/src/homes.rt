@@ -14,4 +14,5 @@ mod worker;
 
 pub use key::key_hash;
 pub use laws::stay;
+pub use tag::TagNumbers;
 pub use worker::{home, is_for_all};

@@ -21,5 +21,5 @@ pub use datagram::Datagram;
 pub use device::{Sink, Source};
 pub use ear::{Ear, ReceiveFault};
 pub use memory::MemoryWire;
-pub use udp::UdpWire;
+pub use udp::{UdpWire, system_addr};
 pub use wire::{Wire, WireFault};

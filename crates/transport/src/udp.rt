@@ -1,5 +1,7 @@
 //! Sockets as wires.
 ghost use Rattle.std.specs.Prelude.{◌≡◌, ◌≤◌, IfOk, Some};
+ghost use Rattle.std.specs.Net.Addr.{IsV4And, ipv4_octets};
+ghost use Rattle.std.specs.Net.Socket.{socket_ip, socket_port};
 ghost use Rattle.transport.specs.Sockets.{loopback, IsNew, IsFurther, failed, missed, heard};
 ghost use Rattle.transport.specs.Ears.{is_lost};
 
@@ -33,8 +35,11 @@ pub struct UdpWire {
     send_error: Option<u32>,
 }
 
-/// This address as the system's.
-fn system_addr(addr: Addr) -> SocketAddr {
+/// This address as the system's: one of IPv4, with the same octets and port.
+pub fn system_addr(addr: Addr) -> SocketAddr
+    ensures ip { IsV4And (socket_ip result) (λ ip. ipv4_octets ip ≡ addr.ip) }
+    ensures port { socket_port result ≡ addr.port }
+{
     SocketAddr::new(IpAddr::V4(Ipv4Addr::from_octets(addr.ip)), addr.port)
 }
 

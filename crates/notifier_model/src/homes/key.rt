@@ -1,9 +1,9 @@
 //! The key of an event: what it goes by where no tag names a worker.
-ghost use Rattle.std.specs.Prelude.{◌≡◌};
+ghost use Rattle.std.specs.Prelude.{◌≡◌, option_map};
 ghost use Rattle.notifier_model.specs.Home as spec;
 
 use crate::{Event, user_part};
-use sip_read::Request;
+use sip_text::Text;
 
 /// The hash of a key: from 0, for each byte 31 times as much and the byte, modulo 2^32.
 pub fn key_hash(key: &str) -> u32
@@ -16,26 +16,32 @@ pub fn key_hash(key: &str) -> u32
     hash
 }
 
-/// The mailbox of a SUBSCRIBE outside a dialog, the Call-ID of any other request.
-fn request_key(request: &Request) -> &str
-    ensures { result.now ≡ spec.request_key request.now }
+fn some_str(text: &Option<Text>) -> Option<&str>
+    ensures { option_map (λ text. text.now) result ≡ text.now }
 {
-    if request.method.is("SUBSCRIBE") && request.head.to.tag.is_none() {
-        user_part(request.uri.as_str())
-    } else {
-        request.head.call_id.as_str()
+    match text {
+        Some(text) => Some(text.as_str()),
+        None => None,
     }
 }
 
-/// The mailbox, Call-ID or tag that an event is about.
-pub fn key_of(event: &Event) -> &str
-    ensures { result.now ≡ spec.key_of event.now }
+/// The tag in which an event may name a worker, and its key: the mailbox, Call-ID or tag that it is about.
+pub fn tag_and_key(event: &Event) -> (Option<&str>, &str)
+    ensures tag { option_map (λ tag. tag.now) result.0 ≡ spec.tag_in event.now }
+    ensures key { result.1.now ≡ spec.key_of event.now }
 {
     match event {
-        Event::Request(_, request) => request_key(request),
-        Event::Reply(response) => response.head.call_id.as_str(),
-        Event::Mail(change) => change.mailbox(),
-        Event::Progress(progress) => progress.tag(),
-        Event::Tick(_) | Event::Shut => "",
+        Event::Request(_, request) => match &request.head.to.tag {
+            Some(tag) => (Some(tag.as_str()), request.head.call_id.as_str()),
+            None if request.method.is("SUBSCRIBE") => (None, user_part(request.uri.as_str())),
+            None => (None, request.head.call_id.as_str()),
+        },
+        Event::Reply(response) => (
+            some_str(&response.head.from.tag),
+            response.head.call_id.as_str(),
+        ),
+        Event::Mail(change) => (None, change.mailbox()),
+        Event::Progress(progress) => (Some(progress.tag()), progress.tag()),
+        Event::Tick(_) | Event::Shut => (None, ""),
     }
 }

@@ -4,8 +4,8 @@
 ghost use Rattle.std.specs.Prelude.{◌≡◌, ◌<◌, false};
 ghost use Rattle.notifier_model.specs.Home as spec;
 
-use super::key::{key_hash, key_of};
-use super::tag::{tag_in, worker_named};
+use super::key::{key_hash, tag_and_key};
+use super::tag::worker_named;
 use crate::Event;
 
 /// Whether the event has no home, but goes to every worker.
@@ -23,12 +23,13 @@ pub fn home(event: &Event, workers: u32) -> u32
     ensures value { result ≡ spec.home event.now workers }
     ensures below { result < workers }
 {
-    let named = match tag_in(event) {
+    let (tag, key) = tag_and_key(event);
+    let named = match tag {
         Some(tag) => worker_named(workers, tag),
         None => None,
     };
     match named {
         Some(worker) => worker,
-        None => key_hash(key_of(event)) % workers,
+        None => key_hash(key) % workers,
     }
 }
