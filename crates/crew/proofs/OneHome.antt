@@ -1,6 +1,6 @@
 -- A subscription was born of a request that its worker took, which has its home there.
-use Rattle.std.proofs.Common.{◌≡◌, ◌==◌, ◌<◌, ◌≤◌, ◌^◌, ℕ, Bool, true, false, List, [], ◌∷◌, Option, Some, None, length, get_or, refl, ap, sym, subst, ◌∙◌, arith}
-use Rattle.std.specs.Prelude.{◌+◌, if◌then◌else◌, option_map}
+use Rattle.std.proofs.Common.{◌≡◌, ◌<◌, ◌≤◌, ◌^◌, ℕ, true, List, [], ◌∷◌, Option, Some, None, length, get_or, refl, ap, sym, subst, ◌∙◌, arith}
+use Rattle.std.specs.Prelude.{option_map}
 use Rattle.std.specs.List.{All}
 use Rattle.std.proofs.lemmas.Bool.Decides.{nat_tests}
 use Rattle.std.proofs.lemmas.List.Elements.{All-nil, All-cons, All-head, All-tail}
@@ -12,13 +12,13 @@ use Rattle.notifier_model.specs.Home.{comes_to, home}
 use Rattle.notifier_model.specs.Start.{Start}
 use Rattle.queues.specs.declared.items.Item.{Item}
 use Rattle.notifier_model.specs.declared.event.Out.{Out}
-use Rattle.life.specs.Life.{Life, birth, is_gone}
-use Rattle.life.specs.Lives.{or_before, births, life, birth_at, lived, befalls, befell}
+use Rattle.life.specs.Life.{Life, birth}
+use Rattle.life.specs.Lives.{life, birth_at, lived}
 use Rattle.life.specs.Notices.{newest_first, onto}
 use Rattle.life.specs.Own.{born_of}
-use Rattle.life.proofs.IsolationLaw.{BirthKept, lived-kept}
+use Rattle.life.proofs.Deeds.{lived_is}
 use Rattle.life.proofs.Homes.{nowhere_else_law}
-use Rattle.life.proofs.NextLives.{birth_of_some, life-next}
+use Rattle.life.proofs.NextLives.{After, birth_of_some, each_life}
 use Rattle.crew.specs.Elsewhere.{IsEveryPort, AllAtHome, events_taken}
 use Rattle.crew.specs.Laws.{its_tag}
 use Rattle.crew.specs.OneHome.{OneHomeLaw}
@@ -33,56 +33,34 @@ module _ (P : Event → Type 0) where
   abbrev Came : Request → Type 0
   Came x = (source : Addr) × P (Comes source x)
 
-  abbrev CameWith : Option Life → Type 0
-  CameWith None = Unit {0}
-  CameWith (Some l) = Came (birth l)
-
   came_here : (start : Start) (past : List Event) (e : Event) (l : Life) → P e → birth_at start past e ≡ Some l → Came (birth l)
   unfolding birth
   came_here start past e l p h =
       let b = birth_of_some start past e l h in
       subst (λ (m : Life). Came (birth m)) (sym b.is) (b.source, subst P b.event p)
 
-  came_next : (start : Start) (past : List Event) (e : Event) (serial : ℕ) → P e → CameWith (life start past serial) → CameWith (or_before (befell start past e serial) (life start past serial))
-  unfolding befell
-  came_next start past e serial p before = by_life (life start past serial) before
-    where
-      unborn : (n : Bool) (b : Option Life) → birth_at start past e ≡ b → CameWith (or_before (befalls start serial past e n b None) None)
-      unborn true None is = unfold befalls in tt
-      unborn true (Some l) is = unfold befalls in came_here start past e l p is
-      unborn false b is = unfold befalls in tt
+  came_on : (start : Start) (past : List Event) (e : Event) (serial : ℕ) (l : Life) → (All P past → Came (birth l)) → After (λ m. All P (e ∷ past) → Came (birth m)) l (lived start serial past e l)
+  unfolding birth
+  came_on start past e serial l before = lived_is start serial past e l (After (λ m. All P (e ∷ past) → Came (birth m)) l) (λ all. before (All-tail P e past all)) (λ d all. before (All-tail P e past all))
 
-      kept : (l : Life) (o : Option Life) → BirthKept l o → Came (birth l) → CameWith (or_before o (Some l))
-      kept l None k w = w
-      kept l (Some m) k w = subst Came (sym k) w
-
-      gone_or : (l : Life) → Came (birth l) → (d : Bool) → CameWith (or_before (if d then None else lived start serial past e l) (Some l))
-      gone_or l w true = w
-      gone_or l w false = kept l (lived start serial past e l) (lived-kept start serial past e l) w
-
-      by_life : (o : Option Life) → CameWith o → CameWith (or_before (befalls start serial past e (serial == births start past + 1) (birth_at start past e) o) o)
-      by_life None w = unborn (serial == births start past + 1) (birth_at start past e) refl
-      by_life (Some l) w = unfold befalls in gone_or l w (is_gone start.place.limits l)
-
-  none_came : (start : Start) (serial : ℕ) → CameWith (life start [] serial)
-  unfolding life
-  none_came start serial = tt
-
-  came : (start : Start) (past : List Event) (serial : ℕ) → All P past → CameWith (life start past serial)
-  came start [] serial all = none_came start serial
-  came start (e ∷ past) serial all =
-      subst CameWith (sym (life-next start past e serial)) (came_next start past e serial (All-head P e past all) (came start past serial (All-tail P e past all)))
+  came : (start : Start) (past : List Event) (serial : ℕ) (l : Life) → life start past serial ≡ Some l → All P past → Came (birth l)
+  came start past serial l is =
+      each_life start (λ past s l. All P past → Came (birth l))
+      (λ past e l begins all. came_here start past e l (All-head P e past all) begins)
+      (λ past e s l at before alive. came_on start past e s l before)
+      (λ past e s l before gone all. before (All-tail P e past all))
+      past serial l is
 
   born_came : (start : Start) (serial : ℕ) (past : List Event) (x : Request) → All P past → born_of start serial past ≡ Some x → Came x
   unfolding born_of
-  born_came start serial past x all h = by_life (life start past serial) (came start past serial all) h
+  born_came start serial past x all h = by_life (life start past serial) (λ l is. came start past serial l is all) h
     where
       same : {a b : Request} → Some a ≡ Some b → a ≡ b
       same is = cc
 
-      by_life : (o : Option Life) → CameWith o → option_map birth o ≡ Some x → Came x
+      by_life : (o : Option Life) → ((l : Life) → o ≡ Some l → Came (birth l)) → option_map birth o ≡ Some x → Came x
       by_life None w is = absurd (cc)
-      by_life (Some l) w is = subst Came (same is) w
+      by_life (Some l) w is = subst Came (same is) (w l refl)
 
   all_onto : (past es : List Event) → All P past → All P es → All P (onto past es)
   all_onto past [] old new = old

@@ -15,14 +15,13 @@ use Rattle.crew.specs.Whole.{AllBy, TookAll, TookLaw, IsCrewRun, WholeLaw, Risin
 use Rattle.crew.specs.Joined.{Reported}
 use Rattle.crew.specs.Started.{Hired}
 use Rattle.crew.specs.declared.report.WorkerReport.{WorkerReport}
-use Rattle.life.specs.Notices.{newest_first, notices}
 use Rattle.life.specs.Laws.{IsStart, AreNotifies, notifies_with}
 use Rattle.schedules.proofs.Cases.{never_both, is_below}
 use Rattle.schedules.proofs.Steps.{above}
 use Rattle.schedules.proofs.Numbering.{first_rise}
 use Rattle.schedules.proofs.Told.{none_at_all}
 use Rattle.schedules.proofs.Others.{IsStrange, others_strange, others_silent, with_tag, IsAlone, own_alone}
-use Rattle.crew.specs.Laws.{events_handled, its_tag}
+use Rattle.crew.specs.Laws.{events_handled, its_notices, its_past, its_tag}
 use Rattle.crew.proofs.Joined.{joined_life_law}
 use Rattle.crew.proofs.Zipped.{zip_at}
 
@@ -102,12 +101,12 @@ whole_law start crew got reports w serial h r run by lt small =
     let all : with_tag tag got ≡ with_tag tag (items_of hired.posts.number got) =
     own_alone tag w got (alone start crew got reports h r run by w serial lt)
     ∙ ap (λ k. with_tag tag (items_of k got)) (sym (posts_as start crew got reports h r run by w lt)) in
-    subst (AreNotifies tag (notices hired.start serial (newest_first (events_handled hired report)))) (sym all) of_worker
+    subst (AreNotifies tag (its_notices hired report serial)) (sym all) of_worker
 
 pub rising_law : RisingLaw
 rising_law start crew got reports w serial h r run by lt small =
     let hired : Hired = get_or crew w h in
-    let past = newest_first (events_handled hired (get_or reports w r)) in
-    let all = notices hired.start serial past in
+    let past = its_past hired (get_or reports w r) in
+    let all = its_notices hired (get_or reports w r) serial in
     first_rise hired.start serial past (its_tag hired serial) all (notifies_with (its_tag hired serial) (values got))
     ([], sym (append-nil all)) (whole_law start crew got reports w serial h r run by lt small)

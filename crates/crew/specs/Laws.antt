@@ -6,6 +6,7 @@ use Rattle.queues.specs.Items.{items_of}
 use Rattle.queues.specs.Values.{values}
 use Rattle.notifier_model.specs.declared.event.Event.{Event}
 use Rattle.notifier_model.specs.declared.event.Out.{Out}
+use Rattle.notifier_model.specs.Out.{Notification}
 use Rattle.notifier_model.specs.Start.{Start, tag_of}
 use Rattle.queues.specs.InboxEvents.{events_of}
 use Rattle.crew.specs.Worked.{handled_of}
@@ -32,6 +33,14 @@ its_tag h serial = tag_of h.start.place serial
 abbrev pub its_notifies : Hired → List (Item Out) → ℕ → List Out
 its_notifies h got serial = notifies_with (its_tag h serial) (values (items_of h.posts.number got))
 
+-- these events, newest first, as lives are told
+abbrev pub its_past : Hired → WorkerReport → List Event
+its_past h report = newest_first (events_handled h report)
+
+-- what the subscription's watcher is told of them
+abbrev pub its_notices : Hired → WorkerReport → ℕ → List Notification
+its_notices h report serial = notices h.start serial (its_past h report)
+
 -- A worker that ended as Closed handled all events that it took.
 abbrev pub AllLaw : Type 0
 AllLaw = (h : Hired) (got : List (Item Out)) (report : WorkerReport) → Reported h got report → report.end ≡ Closed →
@@ -41,15 +50,15 @@ AllLaw = (h : Hired) (got : List (Item Out)) (report : WorkerReport) → Reporte
 abbrev pub LifeLaw : Type 0
 LifeLaw = (h : Hired) (got : List (Item Out)) (report : WorkerReport) (serial : ℕ) →
     IsStart h.start → serial < 2 ^ 64 → Reported h got report →
-    AreNotifies (its_tag h serial) (notices h.start serial (newest_first (events_handled h report))) (its_notifies h got serial)
+    AreNotifies (its_tag h serial) (its_notices h report serial) (its_notifies h got serial)
 
 -- It is what the subscription would be told of its own events alone: whatever other workers there were, how many, and whatever
 -- else came to its own.
 abbrev pub AloneLaw : Type 0
 AloneLaw = (h : Hired) (got : List (Item Out)) (report : WorkerReport) (other : Start) (serial : ℕ) (x : Request) →
     IsStart h.start → serial < 2 ^ 64 → Reported h got report →
-    born_of h.start serial (newest_first (events_handled h report)) ≡ Some x → IsLike h.start other x →
-    are_apart h.start serial x (newest_first (events_handled h report)) ≡ true →
+    born_of h.start serial (its_past h report) ≡ Some x → IsLike h.start other x →
+    are_apart h.start serial x (its_past h report) ≡ true →
     AreNotifies (its_tag h serial)
-    (notices other 1 (renamed (its_tag h serial) (tag_of other.place 1) (own h.start serial x (newest_first (events_handled h report)))))
+    (notices other 1 (renamed (its_tag h serial) (tag_of other.place 1) (own h.start serial x (its_past h report))))
     (its_notifies h got serial)

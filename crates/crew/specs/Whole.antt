@@ -11,10 +11,9 @@ use Rattle.crew.specs.Joined.{IsJoined}
 use Rattle.crew.specs.Ports.{PortSeats}
 use Rattle.crew.specs.Started.{Hired, IsStarted}
 use Rattle.crew.specs.declared.report.WorkerReport.{WorkerReport}
-use Rattle.life.specs.Notices.{newest_first, notices}
 use Rattle.life.specs.Laws.{AreNotifies, notifies_with}
 use Rattle.schedules.specs.Laws.{AreStarts, Rise}
-use Rattle.crew.specs.Laws.{events_handled, its_tag}
+use Rattle.crew.specs.Laws.{its_notices, its_tag}
 use Rattle.std.specs.List.{All}
 
 -- each item is of one of the first n workers
@@ -48,7 +47,7 @@ WholeLaw = (start : ℕ → Start) (crew : List Hired) (got : List (Item Out)) (
     (w serial : ℕ) (h : Hired) (r : WorkerReport) →
     IsCrewRun start crew got reports → AllBy (length crew) got → w < length crew → serial < 2 ^ 64 →
     AreNotifies (its_tag (get_or crew w h) serial)
-    (notices (get_or crew w h).start serial (newest_first (events_handled (get_or crew w h) (get_or reports w r))))
+    (its_notices (get_or crew w h) (get_or reports w r) serial)
     (notifies_with (its_tag (get_or crew w h) serial) (values got))
 
 -- They are numbered 1, 2, 3 and so on, and none follows a terminated one.

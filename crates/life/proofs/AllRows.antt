@@ -1,6 +1,6 @@
 -- An event with no birth: one rule for all rows.
 use Rattle.std.proofs.Common.{◌≡◌, ℕ, ◌+◌, ◌<◌, ◌≤◌, ◌^◌, List, [], ◌∷◌, Option, Some, None, Bool, true, false, refl, sym, ◌∙◌, ap, arith}
-use Rattle.std.specs.Prelude.{if◌then◌else◌, ◌==◌, bytes_eq}
+use Rattle.std.specs.Prelude.{if◌then◌else◌, bytes_eq, option_and_then}
 use Rattle.life.proofs.Texts.{Bytes, bytes_not}
 use Rattle.notifier_model.specs.Start.{Start, tag_of}
 use Rattle.notifier_model.specs.declared.event.Event.{Event}
@@ -8,11 +8,12 @@ use Rattle.notifier_model.specs.declared.row.Row.{Row}
 use Rattle.notifier_model.specs.Rows.{Told, stays, left, said}
 use Rattle.notifier_model.specs.Out.{notifications}
 use Rattle.life.specs.Life.{Life, is_gone}
-use Rattle.life.specs.Lives.{lived, or_before, life, births, birth_at, befalls, befell}
+use Rattle.life.specs.Lives.{lived, life, births, birth_at, befalls, befell}
+use Rattle.life.specs.Sentences.{or_before}
 use Rattle.life.specs.Notices.{notices_at}
 use Rattle.life.proofs.TagTexts.{tags_apart}
 use Rattle.life.proofs.Rows.{row_of, live_row, rows_to, left_of, said_of, left-rows_to, said-rows_to}
-use Rattle.life.proofs.NextLives.{life-next, births-of_none, births_few, no_life, Ranges}
+use Rattle.life.proofs.NextLives.{befell-none, life-next, births-of_none, births_few, no_life, Ranges}
 use Rattle.life.proofs.Turns.{Follows}
 
 -- what a rule does to the row of a living l is what befalls it
@@ -29,11 +30,10 @@ pub record Both (start : Start) (s : ℕ) (es : List Event) (rule : Row → Told
 abbrev pub Rules : Start → List Event → Event → (Row → Told) → Type 0
 Rules start past e rule = (s : ℕ) (l : Life) → life start past s ≡ Some l → is_gone start.place.limits l ≡ false → Turned start s (e ∷ past) (rule (row_of start s l)) l (lived start s past e l)
 
-one_row : (start : Start) (s : ℕ) (past : List Event) (e : Event) (rule : Row → Told) (is_next : Bool) (o : Option Life) → ((l : Life) → o ≡ Some l → is_gone start.place.limits l ≡ false → Turned start s (e ∷ past) (rule (row_of start s l)) l (lived start s past e l)) → Both start s (e ∷ past) rule o (befalls start s past e is_next None o)
+one_row : (start : Start) (s : ℕ) (past : List Event) (e : Event) (rule : Row → Told) (o : Option Life) → ((l : Life) → o ≡ Some l → is_gone start.place.limits l ≡ false → Turned start s (e ∷ past) (rule (row_of start s l)) l (lived start s past e l)) → Both start s (e ∷ past) rule o (option_and_then (befalls start s past e) o)
 unfolding live_row left_of said_of befalls notices_at stays notifications
-one_row start s past e rule true None h = record { row = refl; own = refl; others = λ tag f. refl }
-one_row start s past e rule false None h = record { row = refl; own = refl; others = λ tag f. refl }
-one_row start s past e rule is_next (Some l) h = by_gone (is_gone start.place.limits l) refl
+one_row start s past e rule None h = record { row = refl; own = refl; others = λ tag f. refl }
+one_row start s past e rule (Some l) h = by_gone (is_gone start.place.limits l) refl
   where
     by_lived : is_gone start.place.limits l ≡ false → (o : Option Life) → Turned start s (e ∷ past) (rule (row_of start s l)) l o → Both start s (e ∷ past) rule (Some l) o
     by_lived alive None t = record { row = rw (alive, t) refl; own = rw (alive, t) refl; others = λ tag f. rw (alive, t) refl }
@@ -44,8 +44,7 @@ one_row start s past e rule is_next (Some l) h = by_gone (is_gone start.place.li
     by_gone false g = by_lived g (lived start s past e l) (h l refl g)
 
 each_row : (start : Start) (past : List Event) (e : Event) (rule : Row → Told) → birth_at start past e ≡ None → Rules start past e rule → (s : ℕ) → Both start s (e ∷ past) rule (life start past s) (befell start past e s)
-unfolding befell
-each_row start past e rule none h s = rw none (one_row start s past e rule (s == births start past + 1) (life start past s) (h s))
+each_row start past e rule none h s = rw (befell-none start past e s none) (one_row start s past e rule (life start past s) (h s))
 
 -- tags of serials that may be are apart
 pub apart : (start : Start) (s k : ℕ) → s < 2 ^ 64 → k < 2 ^ 64 → (s ≡ k → ⊥) → bytes_eq (tag_of start.place s) (tag_of start.place k) ≡ false

@@ -12,7 +12,7 @@ use Rattle.notifier_model.specs.declared.event.Event.TheVariants.{Request as Com
 use Rattle.notifier_model.specs.Limits.{Limits}
 use Rattle.notifier_model.specs.Requests.{is_refer, event_of, user_part, granted}
 use Rattle.life.specs.Past.{now, is_fresh}
-use Rattle.life.specs.Life.{Deed, Life, Then, Heard, MailChanged, Progressed, Stopped, hearing, last_heard, birth, is_accepted, is_grant, address, end_of, end_of_grant}
+use Rattle.life.specs.Life.{Deed, Life, Then, Heard, MailChanged, Progressed, Stopped, hearing, last_heard, birth, accepts, grants, last_accepted, last_grant, address, end_of, end_of_grant}
 use Rattle.life.specs.Lives.{when, is_in_dialog, is_answer_in_dialog, concerns, may_hear, is_to_notify, answer_deed, tick_deed, is_changed, deed_at, lived}
 use Rattle.life.proofs.Rows.{accepted_cseq}
 
@@ -67,26 +67,26 @@ lived_is start s past e l P none some = by_tests (concerns (tag_of start.place s
 
 -- ---- what a request that is heard makes of the last accepted one and of the last grant
 
-pub address-accepted : (limits : Limits) (t : ℕ) (source : Addr) (r : Request) (l : Life) → is_accepted limits (birth l) r ≡ true → address limits (Then t (Heard source r) l) ≡ source
+pub address-accepted : (limits : Limits) (t : ℕ) (source : Addr) (r : Request) (l : Life) → accepts limits l r ≡ true → address limits (Then t (Heard source r) l) ≡ source
 unfolding address last_heard birth
-address-accepted limits t source r l e = ap (λ (d : Bool). (if d then hearing t source r else last_heard (is_accepted limits (birth l)) l).source) e
+address-accepted limits t source r l e = ap (λ (d : Bool). (if d then hearing t source r else last_accepted limits l).source) e
 
-pub address-refused : (limits : Limits) (t : ℕ) (source : Addr) (r : Request) (l : Life) → is_accepted limits (birth l) r ≡ false → address limits (Then t (Heard source r) l) ≡ address limits l
+pub address-refused : (limits : Limits) (t : ℕ) (source : Addr) (r : Request) (l : Life) → accepts limits l r ≡ false → address limits (Then t (Heard source r) l) ≡ address limits l
 unfolding address last_heard birth
-address-refused limits t source r l e = ap (λ (d : Bool). (if d then hearing t source r else last_heard (is_accepted limits (birth l)) l).source) e
+address-refused limits t source r l e = ap (λ (d : Bool). (if d then hearing t source r else last_accepted limits l).source) e
 
-pub cseq-accepted : (limits : Limits) (t : ℕ) (source : Addr) (r : Request) (l : Life) → is_accepted limits (birth l) r ≡ true → accepted_cseq limits (Then t (Heard source r) l) ≡ r.head.cseq
+pub cseq-accepted : (limits : Limits) (t : ℕ) (source : Addr) (r : Request) (l : Life) → accepts limits l r ≡ true → accepted_cseq limits (Then t (Heard source r) l) ≡ r.head.cseq
 unfolding accepted_cseq last_heard birth
-cseq-accepted limits t source r l e = ap (λ (d : Bool). (if d then hearing t source r else last_heard (is_accepted limits (birth l)) l).request.head.cseq) e
+cseq-accepted limits t source r l e = ap (λ (d : Bool). (if d then hearing t source r else last_accepted limits l).request.head.cseq) e
 
-pub cseq-refused : (limits : Limits) (t : ℕ) (source : Addr) (r : Request) (l : Life) → is_accepted limits (birth l) r ≡ false → accepted_cseq limits (Then t (Heard source r) l) ≡ accepted_cseq limits l
+pub cseq-refused : (limits : Limits) (t : ℕ) (source : Addr) (r : Request) (l : Life) → accepts limits l r ≡ false → accepted_cseq limits (Then t (Heard source r) l) ≡ accepted_cseq limits l
 unfolding accepted_cseq last_heard birth
-cseq-refused limits t source r l e = ap (λ (d : Bool). (if d then hearing t source r else last_heard (is_accepted limits (birth l)) l).request.head.cseq) e
+cseq-refused limits t source r l e = ap (λ (d : Bool). (if d then hearing t source r else last_accepted limits l).request.head.cseq) e
 
-pub end-granted : (limits : Limits) (t : ℕ) (source : Addr) (r : Request) (l : Life) → is_grant limits (birth l) r ≡ true → end_of_grant limits (Then t (Heard source r) l) ≡ t + granted limits r
+pub end-granted : (limits : Limits) (t : ℕ) (source : Addr) (r : Request) (l : Life) → grants limits l r ≡ true → end_of_grant limits (Then t (Heard source r) l) ≡ t + granted limits r
 unfolding end_of_grant last_heard birth
-end-granted limits t source r l e = ap (λ (d : Bool). end_of limits (if d then hearing t source r else last_heard (is_grant limits (birth l)) l)) e
+end-granted limits t source r l e = ap (λ (d : Bool). end_of limits (if d then hearing t source r else last_grant limits l)) e
 
-pub end-not_granted : (limits : Limits) (t : ℕ) (source : Addr) (r : Request) (l : Life) → is_grant limits (birth l) r ≡ false → end_of_grant limits (Then t (Heard source r) l) ≡ end_of_grant limits l
+pub end-not_granted : (limits : Limits) (t : ℕ) (source : Addr) (r : Request) (l : Life) → grants limits l r ≡ false → end_of_grant limits (Then t (Heard source r) l) ≡ end_of_grant limits l
 unfolding end_of_grant last_heard birth
-end-not_granted limits t source r l e = ap (λ (d : Bool). end_of limits (if d then hearing t source r else last_heard (is_grant limits (birth l)) l)) e
+end-not_granted limits t source r l e = ap (λ (d : Bool). end_of limits (if d then hearing t source r else last_grant limits l)) e

@@ -1,6 +1,6 @@
 -- None of the NOTIFYs of one subscription but the last says that it is terminated.
 use Rattle.std.proofs.Common.{◌≡◌, ℕ, ◌+◌, List, [], ◌∷◌, ◌++◌, Option, Some, None, Bool, true, false, not, ◌&&◌, refl, sym, ◌∙◌, ap}
-use Rattle.std.specs.Prelude.{if◌then◌else◌, ◌==◌, ◌||◌, is_some}
+use Rattle.std.specs.Prelude.{if◌then◌else◌, ◌||◌, is_some}
 use Rattle.std.proofs.lemmas.List.{append-nil}
 use Rattle.subscription.specs.declared.notify.Reason.{Reason}
 use Rattle.notifier_model.specs.Limits.{Limits}
@@ -8,11 +8,12 @@ use Rattle.notifier_model.specs.Start.{Start}
 use Rattle.notifier_model.specs.declared.event.Event.{Event}
 use Rattle.notifier_model.specs.Out.{Notification, is_last}
 use Rattle.life.specs.Life.{Life, is_touched, terminated, is_removed, is_gone}
-use Rattle.life.specs.Lives.{lived, befalls, or_before, births, life, birth_at, befell}
+use Rattle.life.specs.Lives.{life, befell}
+use Rattle.life.specs.Sentences.{or_before}
 use Rattle.life.specs.Notices.{phase, notice_of, notices_at, notices}
 use Rattle.life.specs.Laws.{ends_once, EndsLaw}
 use Rattle.life.proofs.Texts.{and-left, and-right, if_is}
-use Rattle.life.proofs.NextLives.{life-next}
+use Rattle.life.proofs.NextLives.{by_fate, life-next}
 
 goes_on : Limits → Option Life → Bool
 goes_on limits None = true
@@ -45,14 +46,10 @@ active-ends (n ∷ []) a = refl
 active-ends (n ∷ o ∷ ns) a = rw (and-left (not (is_last n.state)) (not (is_last o.state) && all_active ns) a) (active-ends (o ∷ ns) (and-right (not (is_last n.state)) (not (is_last o.state) && all_active ns) a))
 
 -- what befalls one befalls one that goes on
-befalls-on : (start : Start) (s : ℕ) (past : List Event) (e : Event) (d : Bool) (begun o : Option Life) (m : Life) → befalls start s past e d begun o ≡ Some m → goes_on start.place.limits o ≡ true
-unfolding befalls goes_on
-befalls-on start s past e d begun None m h = refl
-befalls-on start s past e d begun (Some l) m h = by_gone (is_gone start.place.limits l) h
-  where
-    by_gone : (d : Bool) → (if d then None else lived start s past e l) ≡ Some m → not d ≡ true
-    by_gone true h = absurd (cc)
-    by_gone false h = refl
+befell-on : (start : Start) (s : ℕ) (past : List Event) (e : Event) (m : Life) → befell start past e s ≡ Some m → goes_on start.place.limits (life start past s) ≡ true
+unfolding goes_on
+befell-on start s past e m = by_fate start past e s (λ o before. o ≡ Some m → goes_on start.place.limits before ≡ true)
+    (λ unborn h. refl) (λ l next begins h. refl) (λ l is gone h. absurd (cc)) (λ l is alive h. rw alive refl)
 
 -- one that goes on was told that it is active, if anything
 active_at : (start : Start) (es : List Event) (m : Life) → is_gone start.place.limits m ≡ false → all_active (notices_at start es (Some m)) ≡ true
@@ -96,9 +93,8 @@ ends_more start s past e (Some m) is h before = record {
     alive g = flip (is_gone start.place.limits m) (sym (ap (goes_on start.place.limits) same) ∙ g)
 
 ends : (start : Start) (s : ℕ) (past : List Event) → Ends start s past
-unfolding befell
 ends start s [] = record { active = λ g. unfold notices all_active in refl; once = unfold notices ends_once in refl }
-ends start s (e ∷ past) = ends_more start s past e (befell start past e s) refl (λ m is. befalls-on start s past e (s == births start past + 1) (birth_at start past e) (life start past s) m is) (ends start s past)
+ends start s (e ∷ past) = ends_more start s past e (befell start past e s) refl (λ m is. befell-on start s past e m is) (ends start s past)
 
 pub ends_law : EndsLaw
 ends_law start s past = (ends start s past).once

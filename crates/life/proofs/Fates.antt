@@ -17,13 +17,13 @@ use Rattle.notifier_model.specs.Out.{Notification}
 use Rattle.notifier_model.specs.declared.event.Event.{Event}
 use Rattle.notifier_model.specs.declared.row.Unanswered.{Unanswered}
 use Rattle.life.specs.Life.{Deed, Life, Born, Then, Heard, MailChanged, Progressed, Due, Answered, Disowned, Lost, Stopped, birth, address, end_of_grant, last_heard, is_touched, number, just_made, unanswered, ended, terminated, is_removed, is_gone}
-use Rattle.life.specs.Lives.{lived, befalls, or_before, births, life, birth_at, befell}
+use Rattle.life.specs.Lives.{lived, life}
 use Rattle.life.specs.Notices.{notices}
 use Rattle.life.specs.Laws.{up_to}
 use Rattle.life.specs.Sentences.{InTimeLaw, is_hearing, MovedLaw, TerminatedLaw, UnansweredLaw, number_of, UnwatchedLaw}
-use Rattle.life.proofs.Deeds.{address-accepted, address-refused, end-granted, end-not_granted}
-use Rattle.life.proofs.NextLives.{life-next, birth_of_some, ranges}
-use Rattle.life.proofs.SoundLives.{sound_of, gone-removed, BirthKept, lived-birth}
+use Rattle.life.proofs.Deeds.{lived_is, address-accepted, address-refused, end-granted, end-not_granted}
+use Rattle.life.proofs.NextLives.{After, each_life, birth_of_some, ranges}
+use Rattle.life.proofs.SoundLives.{sound_of, gone-removed}
 use Rattle.life.proofs.Numbers.{numbers_rise}
 
 pub in_time_law : InTimeLaw
@@ -125,40 +125,22 @@ record Unseen (limits : Limits) (l : Life) : Type 0 where
   gone : is_gone limits l ≡ true
   number : number limits l ≡ 0
 
-abbrev Untold : Limits → Option Life → Type 0
-Untold limits None = Unit {0}
-Untold limits (Some l) = is_unwatched (birth l) ≡ true → Unseen limits l
-
-untold_after : (start : Start) (s : ℕ) (past : List Event) (e : Event) (d : Bool) (begun o : Option Life) → Untold start.place.limits begun → Untold start.place.limits o → ((l m : Life) → o ≡ Some l → lived start s past e l ≡ Some m → birth m ≡ birth l) → Untold start.place.limits (or_before (befalls start s past e d begun o) o)
-unfolding befalls
-untold_after start s past e true None None b h k = tt
-untold_after start s past e true (Some m) None b h k = b
-untold_after start s past e false begun None b h k = tt
-untold_after start s past e d begun (Some l) b h k = by_gone (is_gone start.place.limits l) refl
-  where
-    by_lived : is_gone start.place.limits l ≡ false → (o : Option Life) → lived start s past e l ≡ o → Untold start.place.limits (or_before o (Some l))
-    by_lived alive None is = h
-    by_lived alive (Some m) is = λ unwatched. absurd (never_both (is_gone start.place.limits l) (h (ap is_unwatched (sym (k l m refl is)) ∙ unwatched)).gone alive)
-
-    by_gone : (c : Bool) → is_gone start.place.limits l ≡ c → Untold start.place.limits (or_before (if c then None else lived start s past e l) (Some l))
-    by_gone true g = h
-    by_gone false g = by_lived g (lived start s past e l) refl
+untold_on : (start : Start) (s : ℕ) (past : List Event) (e : Event) (l : Life) → (is_unwatched (birth l) ≡ true → Unseen start.place.limits l) → is_gone start.place.limits l ≡ false → After (λ m. is_unwatched (birth m) ≡ true → Unseen start.place.limits m) l (lived start s past e l)
+unfolding birth
+untold_on start s past e l h alive = lived_is start s past e l (After (λ m. is_unwatched (birth m) ≡ true → Unseen start.place.limits m) l) h
+    (λ d unwatched. absurd (never_both (is_gone start.place.limits l) (h unwatched).gone alive))
 
 unseen : (limits : Limits) (moment : ℕ) (source : Addr) (r : Request) → is_unwatched (birth (Born moment source r)) ≡ true → Unseen limits (Born moment source r)
 unfolding birth is_removed number is_touched
 unseen limits moment source r h = record { gone = gone-removed limits (Born moment source r) h; number = rw h refl }
 
-untold_born : (start : Start) (past : List Event) (e : Event) (o : Option Life) → birth_at start past e ≡ o → Untold start.place.limits o
-untold_born start past e None is = tt
-untold_born start past e (Some l) is = let b = birth_of_some start past e l is in subst (λ (x : Life). is_unwatched (birth x) ≡ true → Unseen start.place.limits x) (sym b.is) (unseen start.place.limits (now past) b.source b.request)
-
-untold : (start : Start) (past : List Event) (s : ℕ) → Untold start.place.limits (life start past s)
-unfolding befell
-untold start [] s = unfold births life in tt
-untold start (e ∷ past) s =
-    subst (Untold start.place.limits) (sym (life-next start past e s))
-    (untold_after start s past e (s == births start past + 1) (birth_at start past e) (life start past s) (untold_born start past e (birth_at start past e) refl) (untold start past s)
-    (λ l m at is. subst (BirthKept l) is (lived-birth start s past e l)))
+untold : (start : Start) (past : List Event) (s : ℕ) (l : Life) → life start past s ≡ Some l → is_unwatched (birth l) ≡ true → Unseen start.place.limits l
+untold start past s l is =
+    each_life start (λ past s l. is_unwatched (birth l) ≡ true → Unseen start.place.limits l)
+    (λ past e l begins. let b = birth_of_some start past e l begins in subst (λ (x : Life). is_unwatched (birth x) ≡ true → Unseen start.place.limits x) (sym b.is) (unseen start.place.limits (now past) b.source b.request))
+    (λ past e s l at h alive. untold_on start s past e l h alive)
+    (λ past e s l h gone. h)
+    past s l is
 
 none_told : (ns : List Notification) → map (λ n. n.number) ns ≡ [] → ns ≡ []
 none_told [] h = refl
@@ -166,6 +148,6 @@ none_told (n ∷ ns) h = absurd (cc)
 
 pub unwatched_law : UnwatchedLaw
 unwatched_law start past s l is h =
-    let unseen = subst (Untold start.place.limits) is (untold start past s) h in
+    let unseen = untold start past s l is h in
     let nothing : number_of start.place.limits (life start past s) ≡ 0 = ap (number_of start.place.limits) is ∙ unseen.number in
     record { gone = unseen.gone; untold = none_told (notices start s past) (numbers_rise start s past ∙ ap up_to nothing) }

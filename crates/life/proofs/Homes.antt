@@ -1,6 +1,6 @@
 -- What concerns a subscription goes where its birth went.
-use Rattle.std.proofs.Common.{◌≡◌, ℕ, List, [], ◌∷◌, Option, Some, None, Bool, true, false, ◌&&◌, refl, sym, ◌∙◌, ap, subst, arith}
-use Rattle.std.specs.Prelude.{◌||◌, ◌==◌, ◌+◌, bytes_eq, if◌then◌else◌, is_none, option_map, slice_index_or}
+use Rattle.std.proofs.Common.{◌≡◌, ℕ, List, Option, Some, None, Bool, true, false, ◌&&◌, refl, sym, ◌∙◌, ap, subst, arith}
+use Rattle.std.specs.Prelude.{◌||◌, ◌==◌, bytes_eq, is_none, option_map, slice_index_or}
 use Rattle.std.proofs.lemmas.Bool.Decides.{nat_tests}
 use Rattle.sip_text.specs.declared.address.Addr.{Addr}
 use Rattle.sip_read.specs.declared.message.Request.{Request}
@@ -14,13 +14,13 @@ use Rattle.notifier_model.specs.Start.{Start, tag_of}
 use Rattle.notifier_model.specs.Requests.{is_subscribe, is_refer, misfit, user_part, event_of}
 use Rattle.notifier_model.proofs.HomeFacts.{named_law, mailbox_law}
 use Rattle.life.specs.Past.{is_fresh, is_placed, fits}
-use Rattle.life.specs.Life.{Life, birth, is_gone}
-use Rattle.life.specs.Lives.{or_before, is_in_dialog, is_answer_in_dialog, concerns, births, life, birth_at, lived, befalls, befell}
+use Rattle.life.specs.Life.{Life, birth}
+use Rattle.life.specs.Lives.{is_in_dialog, is_answer_in_dialog, concerns, life, birth_at, lived}
 use Rattle.life.proofs.Texts.{Bytes, bytes_same, bytes_own, never_both, and-left, and-right}
-use Rattle.life.proofs.NextLives.{birth_of_some, life-next}
+use Rattle.life.proofs.NextLives.{After, birth_of_some, each_life}
 use Rattle.life.specs.Own.{born_of}
 use Rattle.life.specs.Together.{IsBornAtHome, TogetherLaw, NowhereElseLaw}
-use Rattle.life.proofs.IsolationLaw.{BirthKept, lived-kept}
+use Rattle.life.proofs.Deeds.{lived_is}
 
 -- ---- the request that a subscription was born of
 
@@ -40,48 +40,20 @@ well_here start past e l h =
       fit = and-left (is_none (misfit b.request)) (is_placed start b.request b.request.head.to.tag) (and-right (is_fresh start.place.limits past b.request) (is_none (misfit b.request) && is_placed start b.request b.request.head.to.tag) b.fits);
     })
 
--- where it is born, or was
-abbrev Well : Option Life → Type 0
-Well None = Unit {0}
-Well (Some l) = BornWell (birth l)
+kept_well : (start : Start) (s : ℕ) (past : List Event) (e : Event) (l : Life) → BornWell (birth l) → After (λ m. BornWell (birth m)) l (lived start s past e l)
+unfolding birth
+kept_well start s past e l w = lived_is start s past e l (After (λ m. BornWell (birth m)) l) w (λ d. w)
 
--- one event more
-well_next : (start : Start) (past : List Event) (e : Event) (serial : ℕ) → Well (life start past serial) → Well (or_before (befell start past e serial) (life start past serial))
-unfolding befell
-well_next start past e serial before = by_life (life start past serial) before
-  where
-    unborn : (n : Bool) (b : Option Life) → birth_at start past e ≡ b → Well (or_before (befalls start serial past e n b None) None)
-    unborn true None is = unfold befalls in tt
-    unborn true (Some l) is = unfold befalls in well_here start past e l is
-    unborn false b is = unfold befalls in tt
-
-    kept : (l : Life) (o : Option Life) → BirthKept l o → BornWell (birth l) → Well (or_before o (Some l))
-    kept l None k w = w
-    kept l (Some m) k w = subst BornWell (sym k) w
-
-    gone_or : (l : Life) → BornWell (birth l) → (d : Bool) → Well (or_before (if d then None else lived start serial past e l) (Some l))
-    gone_or l w true = w
-    gone_or l w false = kept l (lived start serial past e l) (lived-kept start serial past e l) w
-
-    by_life : (o : Option Life) → Well o → Well (or_before (befalls start serial past e (serial == births start past + 1) (birth_at start past e) o) o)
-    by_life None w = unborn (serial == births start past + 1) (birth_at start past e) refl
-    by_life (Some l) w = unfold befalls in gone_or l w (is_gone start.place.limits l)
-
-none_well : (start : Start) (serial : ℕ) → Well (life start [] serial)
-unfolding life
-none_well start serial = tt
-
-well : (start : Start) (past : List Event) (serial : ℕ) → Well (life start past serial)
-well start [] serial = none_well start serial
-well start (e ∷ past) serial = subst Well (sym (life-next start past e serial)) (well_next start past e serial (well start past serial))
+well : (start : Start) (past : List Event) (s : ℕ) (l : Life) → life start past s ≡ Some l → BornWell (birth l)
+well start past s l is = each_life start (λ past s l. BornWell (birth l)) (λ past e l begins. well_here start past e l begins) (λ past e s l at w alive. kept_well start s past e l w) (λ past e s l w gone. w) past s l is
 
 born_well : (start : Start) (serial : ℕ) (past : List Event) (x : Request) → born_of start serial past ≡ Some x → BornWell x
 unfolding born_of
 born_well start serial past x h = by_life (life start past serial) (well start past serial) h
   where
-    by_life : (o : Option Life) → Well o → option_map birth o ≡ Some x → BornWell x
+    by_life : (o : Option Life) → ((l : Life) → o ≡ Some l → BornWell (birth l)) → option_map birth o ≡ Some x → BornWell x
     by_life None w is = absurd (cc)
-    by_life (Some l) w is = subst BornWell (some_same is) w
+    by_life (Some l) w is = subst BornWell (some_same is) (w l refl)
 
 -- a request with an event of mailboxes against which nothing stands is a SUBSCRIBE
 mail-subscribes : (x : Request) → is_none (misfit x) ≡ true → (event_of x).package ≡ mail_package → is_subscribe x ≡ true

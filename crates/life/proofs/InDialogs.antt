@@ -27,7 +27,7 @@ use Rattle.notifier_model.specs.Rows.{renewed_sub, stays, opened, with_sub, turn
 use Rattle.notifier_model.specs.Answers.{refusal_answer, renewal_answer}
 use Rattle.notifier_model.specs.Out.{Answers, notifications}
 use Rattle.life.specs.Past.{now, is_fresh}
-use Rattle.life.specs.Life.{Life, Then, Heard, birth, last_heard, is_accepted, is_above, end_of_grant, address, status, is_touched, number, just_made, unanswered, ended, terminated, is_removed, is_gone}
+use Rattle.life.specs.Life.{Life, Then, Heard, birth, last_heard, accepts, is_above, end_of_grant, address, status, is_touched, number, just_made, unanswered, ended, terminated, is_removed, is_gone}
 use Rattle.life.specs.Lives.{births, life, birth_at}
 use Rattle.life.specs.Notices.{notices_at, body}
 use Rattle.life.proofs.Rows.{last_cseq, target_of, usage_of, want_of, sub_of, row_of, live_row, rows_to}
@@ -42,7 +42,7 @@ use Rattle.life.proofs.RefusedRequests.{Nobody_hears, ring_goes, refused_goes, S
 -- ---- what the rule does is what the life says
 
 -- a refused request that was heard moves the CSeq alone
-counted_follows : (start : Start) (past : List Event) (source : Addr) (r : Request) (s : ℕ) (l : Life) → is_gone start.place.limits l ≡ false → is_accepted start.place.limits (birth l) r ≡ false → Follows start s (Comes source r ∷ past) (counted r (row_of start s l)) (Then (now past) (Heard source r) l)
+counted_follows : (start : Start) (past : List Event) (source : Addr) (r : Request) (s : ℕ) (l : Life) → is_gone start.place.limits l ≡ false → accepts start.place.limits l r ≡ false → Follows start s (Comes source r ∷ past) (counted r (row_of start s l)) (Then (now past) (Heard source r) l)
 unfolding counted stays notices_at notifications live_row is_gone terminated is_touched is_removed row_of sub_of usage_of want_of target_of number birth last_cseq unanswered just_made
 counted_follows start past source r s l alive refused_one = record {
   row = rw (
@@ -67,17 +67,17 @@ heard_body start past source r boxes s l ok none hold is alive =
     body-is start (Comes source r ∷ past) boxes s l (sound_of start past s l ok is).plain (holdings_quiet start past (Comes source r) boxes none refl hold).contents (hold.transfers s l is alive)
 
 -- an accepted request isn't a REFER
-accepted-plain : (limits : Limits) (x r : Request) → is_accepted limits x r ≡ true → is_refer r ≡ false
-unfolding is_accepted unheard
-accepted-plain limits x r h = not_true (is_refer r) (λ refers. by_refer refers h)
+accepted-plain : (limits : Limits) (l : Life) (r : Request) → accepts limits l r ≡ true → is_refer r ≡ false
+unfolding unheard
+accepted-plain limits l r h = not_true (is_refer r) (λ refers. by_refer refers h)
   where
     by_refer : is_refer r ≡ true → is_none (if is_refer r then Some ReferInDialog
-        else if not (same_event (event_of r) (event_of x)) then Some OtherEvent
+        else if not (same_event (event_of r) (event_of (birth l))) then Some OtherEvent
         else if is_too_brief limits r then Some TooBrief
         else None) ≡ true → ⊥
     by_refer refers g =
         let e : false ≡ true = subst (λ (d : Bool). is_none (if d then Some ReferInDialog
-        else if not (same_event (event_of r) (event_of x)) then Some OtherEvent
+        else if not (same_event (event_of r) (event_of (birth l))) then Some OtherEvent
         else if is_too_brief limits r then Some TooBrief
         else None) ≡ true) refers g in cc
 
@@ -89,7 +89,7 @@ asks-more limits r plain h = positive (asked limits r) (subst (λ (d : Bool). (n
     positive n e = grind (arith, nat_tests)
 
 -- asked 0: it ends
-renewed_over : (start : Start) (past : List Event) (b : Book) (source : Addr) (r : Request) (s : ℕ) (l : Life) → is_accepted start.place.limits (birth l) r ≡ true → asks_nothing start.place.limits r ≡ true
+renewed_over : (start : Start) (past : List Event) (b : Book) (source : Addr) (r : Request) (s : ℕ) (l : Life) → accepts start.place.limits l r ≡ true → asks_nothing start.place.limits r ≡ true
     → body_of_held (content_in b.boxes (want_of start s l).event.package (want_of start s l).resource) ≡ body start (Comes source r ∷ past) (Then (now past) (Heard source r) l)
     → Follows start s (Comes source r ∷ past) (turned start.place b.boxes b.clock source (row_of start s l).sub.want (with_sub (record (row_of start s l) { last_cseq = r.head.cseq })) (over (end (row_of start s l).sub Timeout))) (Then (now past) (Heard source r) l)
 unfolding end row_of sub_of usage_of
@@ -98,7 +98,7 @@ renewed_over start past b source r s l accepted zero_asked same_body =
     refl (unfold number is_touched in (rw accepted refl)) (sym (address-accepted start.place.limits (now past) source r l accepted)) same_body (unfold is_touched in accepted) (unfold terminated is_touched ended in (rw (accepted, zero_asked) refl))
 
 -- or goes on
-renewed_on : (start : Start) (past : List Event) (b : Book) (source : Addr) (r : Request) (s : ℕ) (l : Life) → b.clock ≡ now past → is_accepted start.place.limits (birth l) r ≡ true → asks_nothing start.place.limits r ≡ false
+renewed_on : (start : Start) (past : List Event) (b : Book) (source : Addr) (r : Request) (s : ℕ) (l : Life) → b.clock ≡ now past → accepts start.place.limits l r ≡ true → asks_nothing start.place.limits r ≡ false
     → body_of_held (content_in b.boxes (want_of start s l).event.package (want_of start s l).resource) ≡ body start (Comes source r ∷ past) (Then (now past) (Heard source r) l)
     → Follows start s (Comes source r ∷ past) (turned start.place b.boxes b.clock source (row_of start s l).sub.want (with_sub (record (row_of start s l) { last_cseq = r.head.cseq })) (refresh (row_of start s l).sub r.head.cseq (value_of r.contact) source b.clock (granted start.place.limits r))) (Then (now past) (Heard source r) l)
 unfolding refresh row_of
@@ -113,7 +113,7 @@ renewed_on start past b source r s l clock accepted some_asked same_body =
     next_sub (sym (address-accepted start.place.limits (now past) source r l accepted)) (unfold sub_of in same_body) (unfold opened row_of last_cseq unanswered just_made is_touched in (rw (accepted, clock) refl)) time (unfold is_touched in accepted) (unfold ended in (rw some_asked refl)) (unfold is_removed in refl)
   where
     asks : nat_lt 0 (asked start.place.limits r) ≡ true
-    asks = asks-more start.place.limits r (accepted-plain start.place.limits (birth l) r accepted) some_asked
+    asks = asks-more start.place.limits r (accepted-plain start.place.limits l r accepted) some_asked
 
     due_is : end_of_grant start.place.limits (Then (now past) (Heard source r) l) ≡ now past + granted start.place.limits r
     due_is = end-granted start.place.limits (now past) source r l (rw (accepted, asks) refl)
@@ -147,7 +147,7 @@ heard_goes start past b source r tag k who ok h fresh good to lives alive dialog
     same_body : body_of_held (content_in b.boxes (want_of start k who).event.package (want_of start k who).resource) ≡ body start (Comes source r ∷ past) (Then (now past) (Heard source r) who)
     same_body = heard_body start past source r b.boxes k who ok none h.boxes_hold lives alive
 
-    renewed_is : is_accepted start.place.limits (birth who) r ≡ true → Follows start k (Comes source r ∷ past) (renewed start.place b.boxes b.clock source r (row_of start k who)) (Then (now past) (Heard source r) who)
+    renewed_is : accepts start.place.limits who r ≡ true → Follows start k (Comes source r ∷ past) (renewed start.place b.boxes b.clock source r (row_of start k who)) (Then (now past) (Heard source r) who)
     renewed_is accepted = unfold renewed renewed_sub in if_is (λ (turn : Turn). Follows start k (Comes source r ∷ past) (turned start.place b.boxes b.clock source (row_of start k who).sub.want (with_sub (record (row_of start k who) { last_cseq = r.head.cseq })) turn) (Then (now past) (Heard source r) who)) (asks_nothing start.place.limits r)
         (over (end (row_of start k who).sub Timeout)) (refresh (row_of start k who).sub r.head.cseq (value_of r.contact) source b.clock (granted start.place.limits r))
         (λ e. renewed_over start past b source r k who accepted e same_body)
@@ -157,11 +157,11 @@ heard_goes start past b source r tag k who ok h fresh good to lives alive dialog
     by_cause (Some cause) e = unfold unless_denied served denied refused keeping row_of in
         by_all_rows start past (Comes source r) (keeping start.place b r (refusal_answer start.place b.boxes source r cause)) (only k (counted r)) (Answers source (answer_text (refusal_answer start.place b.boxes source r cause)) ∷ []) ok none
         (unfold keeping in clock) (unfold keeping in h.next_is) (unfold keeping in h.rows_are) (unfold keeping in after) (unfold keeping in (ring_goes start past source b.ring r (answer_text (refusal_answer start.place b.boxes source r cause)) h.ring_is fresh)) (λ t more. unfold notifications in refl)
-        (dialog_rules start past source r tag k who (counted r) ok fresh good to lives dialog above (counted_follows start past source r k who alive (unfold is_accepted in (ap is_none e))))
+        (dialog_rules start past source r tag k who (counted r) ok fresh good to lives dialog above (counted_follows start past source r k who alive (ap is_none e)))
     by_cause None e = unfold unless_denied served accepted row_of in
         by_all_rows start past (Comes source r) (keeping start.place b r (renewal_answer start.place source r)) (only k (renewed start.place b.boxes b.clock source r)) (Answers source (answer_text (renewal_answer start.place source r)) ∷ []) ok none
         (unfold keeping in clock) (unfold keeping in h.next_is) (unfold keeping in h.rows_are) (unfold keeping in after) (unfold keeping in (ring_goes start past source b.ring r (answer_text (renewal_answer start.place source r)) h.ring_is fresh)) (λ t more. unfold notifications in refl)
-        (dialog_rules start past source r tag k who (renewed start.place b.boxes b.clock source r) ok fresh good to lives dialog above (renewed_is (unfold is_accepted in (ap is_none e))))
+        (dialog_rules start past source r tag k who (renewed start.place b.boxes b.clock source r) ok fresh good to lives dialog above (renewed_is (ap is_none e)))
 
 -- an old CSeq is heard by no one
 too_old_unheard : (start : Start) (past : List Event) (r : Request) (tag : Bytes) (k : ℕ) (who : Life) → Ranges start.place.limits → is_fresh start.place.limits past r ≡ true → is_none (misfit r) ≡ true → r.head.to.tag ≡ Some tag → life start past k ≡ Some who → is_dialog r tag (row_of start k who) ≡ true → is_above who r.head.cseq ≡ false → Nobody_hears start past r

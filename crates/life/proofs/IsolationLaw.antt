@@ -16,12 +16,13 @@ use Rattle.notifier_model.specs.Start.{Start, tag_of}
 use Rattle.notifier_model.specs.Requests.{event_of}
 use Rattle.life.specs.Past.{now}
 use Rattle.life.specs.Life.{Life, Born, birth, is_gone, is_touched, number, terminated, one_if, end_of_grant, address}
-use Rattle.life.specs.Lives.{or_before, is_in_dialog, concerns, lived, births, life, birth_at, birth_here, befalls, befell}
+use Rattle.life.specs.Lives.{is_in_dialog, concerns, lived, begun, lives, births, life, birth_at, befell, is_born_at}
+use Rattle.life.specs.Sentences.{or_before}
 use Rattle.life.specs.Notices.{phase, body, notice_of, notices_at, notices}
 use Rattle.life.proofs.Texts.{Bytes, and-left, and-right}
-use Rattle.life.proofs.Deeds.{lived_is}
-use Rattle.life.proofs.NextLives.{life-next, births-next, no_life}
-use Rattle.life.specs.Own.{is_born_here, is_own, born_of}
+use Rattle.life.proofs.SoundLives.{BirthKept, lived-birth}
+use Rattle.life.proofs.NextLives.{befell-born, befell-unborn, life-next, births-next, no_life, no_life_yet}
+use Rattle.life.specs.Own.{is_own, born_of}
 use Rattle.life.specs.Renaming.{other_tag, renamed_tag, renamed_request, renamed_event}
 use Rattle.life.specs.Apart.{has_new_key, is_open_to, matters, are_apart}
 use Rattle.life.specs.IsolationLaws.{IsLike, AloneLaw, SameLaw}
@@ -32,14 +33,6 @@ use Rattle.life.proofs.Befalls.{its_life, own-lived}
 use Rattle.life.proofs.Births.{own-begins, unborn-tagged}
 
 -- ---- the request that it was born of stays
-
-abbrev pub BirthKept : Life → Option Life → Type 0
-BirthKept l None = Unit {0}
-BirthKept l (Some m) = birth m ≡ birth l
-
-pub lived-kept : (start : Start) (serial : ℕ) (past : List Event) (e : Event) (l : Life) → BirthKept l (lived start serial past e l)
-unfolding birth
-lived-kept start serial past e l = lived_is start serial past e l (BirthKept l) tt (λ d. refl)
 
 before-kept : (l : Life) (d : Bool) (o : Option Life) → BirthKept l o → BirthKept l (or_before (if d then None else o) (Some l))
 before-kept l true o k = refl
@@ -54,7 +47,7 @@ born_before : (start : Start) (serial : ℕ) (x : Request) (past : List Event) (
 born_before start serial x past e born l is = kept (or_before (befell start past e serial) (Some l)) refl stays
   where
     stays : BirthKept l (or_before (befell start past e serial) (Some l))
-    stays = unfold befell befalls in (rw is (before-kept l (is_gone start.place.limits l) (lived start serial past e l) (lived-kept start serial past e l)))
+    stays = (rw (befell-born start past e serial l is) (before-kept l (is_gone start.place.limits l) (lived start serial past e l) (lived-birth start serial past e l)))
 
     kept : (o : Option Life) → or_before (befell start past e serial) (Some l) ≡ o → BirthKept l o → birth l ≡ x
     kept None f k = absurd (some-before (befell start past e serial) l f)
@@ -62,8 +55,8 @@ born_before start serial x past e born l is = kept (or_before (befell start past
 
 -- ---- it is not born a second time
 
-pub once : (start : Start) (serial : ℕ) (past : List Event) (e : Event) (l : Life) → life start past serial ≡ Some l → is_born_here start serial past e ≡ false
-unfolding is_born_here
+pub once : (start : Start) (serial : ℕ) (past : List Event) (e : Event) (l : Life) → life start past serial ≡ Some l → is_born_at start serial past e ≡ false
+unfolding is_born_at
 once start serial past e l is = by_serial (serial == births start past + 1) refl
   where
     by_serial : (d : Bool) → (serial == births start past + 1) ≡ d → (d && is_some (birth_at start past e)) ≡ false
@@ -95,13 +88,13 @@ module _ (start other : Start) (serial : ℕ) (x : Request) (like : IsLike start
   abbrev IsApart : List Event → Event → Type 0
   IsApart past e = matters start serial x past e ≡ true → has_new_key past e ≡ true
 
-  apart-born : (past : List Event) (e : Event) → IsApart past e → is_born_here start serial past e ≡ true → has_new_key past e ≡ true
+  apart-born : (past : List Event) (e : Event) → IsApart past e → is_born_at start serial past e ≡ true → has_new_key past e ≡ true
   unfolding matters
   apart-born past e apart h = apart (rw h refl)
 
   apart-heard : (past : List Event) (e : Event) (l : Life) → life start past serial ≡ Some l → is_own start serial x past e ≡ true → IsApart past e → is_open_to start.place.limits (Some l) e ≡ true → has_new_key past e ≡ true
   unfolding matters
-  apart-heard past e l is o apart h = apart (rw (o, is, h) (last (is_born_here start serial past e)))
+  apart-heard past e l is o apart h = apart (rw (o, is, h) (last (is_born_at start serial past e)))
     where
       last : (d : Bool) → (d || true) ≡ true
       last true = refl
@@ -109,22 +102,17 @@ module _ (start other : Start) (serial : ℕ) (x : Request) (like : IsLike start
 
   concerned : (past : List Event) (e : Event) (l : Life) → life start past serial ≡ Some l → is_own start serial x past e ≡ true → concerns old x e ≡ true
   unfolding is_own
-  concerned past e l is h = first (concerns old x e) (is_born_here start serial past e) (once start serial past e l is) h
+  concerned past e l is h = first (concerns old x e) (is_born_at start serial past e) (once start serial past e l is) h
     where
       first : (a b : Bool) → b ≡ false → (a || b) ≡ true → a ≡ true
       first true b f h = refl
       first false b f h = absurd (cc)
 
-  of_its : (past : List Event) (e : Event) → life start past serial ≡ None → IsBornOf start serial x (e ∷ past) → (source : Addr) (r : Request) → e ≡ Comes source r → is_born_here start serial past e ≡ true → birth_at start past e ≡ Some (Born (now past) source r) → x ≡ r
-  unfolding is_born_here befell befalls birth
+  of_its : (past : List Event) (e : Event) → life start past serial ≡ None → IsBornOf start serial x (e ∷ past) → (source : Addr) (r : Request) → e ≡ Comes source r → is_born_at start serial past e ≡ true → birth_at start past e ≡ Some (Born (now past) source r) → x ≡ r
+  unfolding is_born_at birth
   of_its past e is born source r same here begun =
       let next = and-left (serial == births start past + 1) (is_some (birth_at start past e)) here in
-      sym (born (Born (now past) source r) (life-next start past e serial ∙ rw (is, next, begun) refl))
-
-  unborn-befalls : (s : Start) (k : ℕ) (past : List Event) (e : Event) (n : Bool) (b : Option Life) → befalls s k past e n b None ≡ (if n then b else None)
-  unfolding befalls
-  unborn-befalls s k past e true b = refl
-  unborn-befalls s k past e false b = refl
+      sym (born (Born (now past) source r) (life-next start past e serial ∙ rw (befell-unborn start past e serial is, is, next, begun) refl))
 
   its_if : (d : Bool) (o p : Option Life) → (d ≡ false → o ≡ its_life old new p) → (if d then None else o) ≡ its_life old new (if d then None else p)
   its_if true o p h = refl
@@ -141,19 +129,18 @@ module _ (start other : Start) (serial : ℕ) (x : Request) (like : IsLike start
 
   -- what befalls it, in both runs
   own-befell : (past : List Event) (e : Event) → Stands past → IsBornOf start serial x (e ∷ past) → is_own start serial x past e ≡ true → IsApart past e → befell other (past_of past) (its_event start other serial x e) 1 ≡ its_life old new (befell start past e serial)
-  unfolding befell
-  own-befell past e st born h apart = rw st.life_is (by_life (life start past serial) refl)
+  own-befell past e st born h apart = by_life (life start past serial) refl
     where
-      by_life : (o : Option Life) → life start past serial ≡ o
-          → befalls other 1 (past_of past) (its_event start other serial x e) (1 == births other (past_of past) + 1) (birth_at other (past_of past) (its_event start other serial x e)) (its_life old new o)
-          ≡ its_life old new (befalls start serial past e (serial == births start past + 1) (birth_at start past e) o)
+      by_life : (o : Option Life) → life start past serial ≡ o → befell other (past_of past) (its_event start other serial x e) 1 ≡ its_life old new (befell start past e serial)
       by_life None is =
           let z : births other (past_of past) ≡ 0 = st.births_is ∙ rw is refl in
-          unborn-befalls other 1 (past_of past) (its_event start other serial x e) (1 == births other (past_of past) + 1) (birth_at other (past_of past) (its_event start other serial x e))
-          ∙ (rw z (own-begins start other serial x like past e z h (apart-born past e apart) (of_its past e is born))
-          ∙ ap (its_life old new) (sym (unborn-befalls start serial past e (serial == births start past + 1) (birth_at start past e))))
-      by_life (Some l) is = unfold befalls in
-          (rw (gone-same l) (its_if (is_gone start.place.limits l) _ (lived start serial past e l) (λ lives. same-lived past e l h born is lives apart)))
+          let none : life other (past_of past) 1 ≡ None = st.life_is ∙ rw is refl in
+          befell-unborn other (past_of past) (its_event start other serial x e) 1 none
+          ∙ (rw z (own-begins start other serial x like past e z h (apart-born past e apart) (of_its past e is born)) ∙ ap (its_life old new) (sym (befell-unborn start past e serial is)))
+      by_life (Some l) is =
+          let some : life other (past_of past) 1 ≡ Some (renamed_life old new l) = st.life_is ∙ rw is refl in
+          befell-born other (past_of past) (its_event start other serial x e) 1 (renamed_life old new l) some
+          ∙ (rw (gone-same l) (its_if (is_gone start.place.limits l) _ (lived start serial past e l) (λ alive. same-lived past e l h born is alive apart)) ∙ ap (its_life old new) (sym (befell-born start past e serial l is)))
 
   -- ---- the birth is the only one
 
@@ -167,21 +154,17 @@ module _ (start other : Start) (serial : ℕ) (x : Request) (like : IsLike start
       let rest = and-right (bytes_eq x.head.call_id r.head.call_id) (same_text (Some old) r.head.to.tag && bytes_eq (or_empty x.head.from.tag) (or_empty r.head.from.tag)) h in
       let t = tagged r.head.to.tag (and-left (same_text (Some old) r.head.to.tag) (bytes_eq (or_empty x.head.from.tag) (or_empty r.head.from.tag)) rest) in
       unborn-tagged other (past_of past) source (renamed_request old new r) (other_tag old new t.0) (ap (renamed_tag old new) t.1)
-  unborn past (Replies r) h = unfold birth_at birth_here in refl
-  unborn past (Mails m) h = unfold birth_at birth_here in refl
-  unborn past (Progresses p) h = unfold birth_at birth_here in refl
-  unborn past (Ticks t) h = unfold birth_at birth_here in refl
-  unborn past Shuts h = unfold birth_at birth_here in refl
+  unborn past (Replies r) h = unfold birth_at begun in refl
+  unborn past (Mails m) h = unfold birth_at begun in refl
+  unborn past (Progresses p) h = unfold birth_at begun in refl
+  unborn past (Ticks t) h = unfold birth_at begun in refl
+  unborn past Shuts h = unfold birth_at begun in refl
 
   -- ---- one event more
 
   its-before : (o p : Option Life) → or_before (its_life old new o) (its_life old new p) ≡ its_life old new (or_before o p)
   its-before None p = refl
   its-before (Some m) p = refl
-
-  befell-unborn : (past : List Event) (e : Event) → life start past serial ≡ None → befell start past e serial ≡ (if serial == births start past + 1 then birth_at start past e else None)
-  unfolding befell
-  befell-unborn past e is = rw is (unborn-befalls start serial past e (serial == births start past + 1) (birth_at start past e))
 
   own-births : (past : List Event) (e : Event) → Stands past → IsBornOf start serial x (e ∷ past) → is_own start serial x past e ≡ true → IsApart past e
       → births other (past_of past) + one_if (is_some (birth_at other (past_of past) (its_event start other serial x e))) ≡ one_if (is_some (or_before (befell start past e serial) (life start past serial)))
@@ -191,7 +174,7 @@ module _ (start other : Start) (serial : ℕ) (x : Request) (like : IsLike start
       by_life None is =
           let z : births other (past_of past) ≡ 0 = st.births_is ∙ rw is refl in
           let begins = own-begins start other serial x like past e z h (apart-born past e apart) (of_its past e is born) in
-          rw (z, begins, befell-unborn past e is) (begun (if serial == births start past + 1 then birth_at start past e else None))
+          rw (z, begins, befell-unborn start past e serial is) (begun (if serial == births start past + 1 then birth_at start past e else None))
         where
           begun : (o : Option Life) → 0 + one_if (is_some (its_life old new o)) ≡ one_if (is_some (or_before o None))
           begun None = refl
@@ -217,8 +200,10 @@ module _ (start other : Start) (serial : ℕ) (x : Request) (like : IsLike start
   }
 
   none_stands : Stands []
-  unfolding life births
-  none_stands = record { life_is = rw (mine-none start other serial x) refl; births_is = rw (mine-none start other serial x) refl }
+  none_stands = record {
+    life_is = rw (mine-none start other serial x, no_life_yet other 1, no_life_yet start serial) refl;
+    births_is = rw (mine-none start other serial x, no_life_yet start serial) (unfold births lives in refl);
+  }
 
   stands : (past : List Event) → IsBornOf start serial x past → are_apart start serial x past ≡ true → Stands past
   unfolding are_apart

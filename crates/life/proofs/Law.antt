@@ -25,11 +25,11 @@ use Rattle.notifier_model.specs.Answers.{kept_answer}
 use Rattle.notifier_model.specs.Out.{Answers, notifications}
 use Rattle.notifier_model.specs.Run.{made, made_from, empty}
 use Rattle.life.specs.Past.{now, content, mail_content, last_counts, is_fresh, is_placed, fits, keys}
-use Rattle.life.specs.Lives.{life, births, befell}
+use Rattle.life.specs.Lives.{lives, births, befell}
 use Rattle.life.specs.Notices.{notices_at, notices, onto}
 use Rattle.life.specs.Laws.{IsStart, NoticesLaw}
 use Rattle.life.proofs.Rows.{rows_to, notifications-append}
-use Rattle.life.proofs.NextLives.{Ranges, ranges}
+use Rattle.life.proofs.NextLives.{Ranges, ranges, no_life_yet}
 use Rattle.life.proofs.Invariant.{Holds, Goes}
 use Rattle.life.proofs.RepliesAndTicks.{reply_goes, shut_goes, tick_goes}
 use Rattle.life.proofs.MailChanges.{mail_goes}
@@ -87,7 +87,7 @@ content-first start name resource = if_is (λ (c : Option Content). content_in s
     by_content (Some (OfMail counts)) = unfold mail_content last_counts in refl
 
 pub empty_holds : (start : Start) → IsStart start → Holds start [] (empty start)
-unfolding empty now births life keys rows_to
+unfolding empty now births lives keys rows_to
 empty_holds start ok = record {
   clock_is = refl;
   next_is = refl;
@@ -95,7 +95,7 @@ empty_holds start ok = record {
   boxes_hold = record {
     types = λ name. refl;
     contents = λ name resource f. content-first start name resource;
-    transfers = λ s l is alive refers. absurd (let e : None ≡ Some l = is in cc);
+    transfers = λ s l is alive refers. absurd (let none = no_life_yet start s in cc);
     not_begun = λ s later small. ok.no_transfer (tag_of start.place s);
   };
   ring_is = none start.place.limits.kept;

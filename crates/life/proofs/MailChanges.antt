@@ -27,7 +27,7 @@ use Rattle.notifier_model.specs.Rows.{stays, wherever, opened, with_sub, tells, 
 use Rattle.notifier_model.specs.Out.{notifications}
 use Rattle.life.specs.Past.{now, same_class, last_counts, mail_content, content, keys}
 use Rattle.life.specs.Life.{Life, Then, MailChanged, birth, last_heard, address, number, end_of_grant, status, is_touched, just_made, unanswered, ended, is_removed, is_gone}
-use Rattle.life.specs.Lives.{same_content, is_changed, when, life, birth_at, birth_here}
+use Rattle.life.specs.Lives.{same_content, is_changed, when, life, birth_at, begun}
 use Rattle.life.specs.Notices.{body}
 use Rattle.life.proofs.Boxes.{mailed, mail_outcome, mail-after, mail-outcome, types-stay, content-other, same_counts-own}
 use Rattle.life.proofs.Rows.{row_of, sub_of, want_of, usage_of, target_of, accepted_cseq, last_cseq}
@@ -81,7 +81,7 @@ content-mail-other start m past name resource f = rw f refl
 -- ---- the packages after the change
 
 mail_holdings : (start : Start) (past : List Event) (m : MailChange) (boxes : List Seen) → Holdings start past boxes → Holdings start (Mails m ∷ past) (change_first boxes (Mail m)).1
-unfolding birth_at birth_here
+unfolding birth_at begun
 mail_holdings start past m boxes hold = record {
   types = λ name. types-stay boxes (Mail m) name ∙ hold.types name;
   contents = λ name resource f. by_name name resource f (bytes_eq mail_package name) refl;
@@ -177,7 +177,7 @@ mail_turns start past m b ok clock hold e s l is alive = rw (lived-mails start s
     by_refer false g = by_tests (bytes_eq (event_of (birth l)).package mail_package) (bytes_eq (user_part (birth l).uri) m.mailbox)
 
 pub mail_goes : (start : Start) (past : List Event) (m : MailChange) (b : Book) → Ranges start.place.limits → Holds start past b → Goes start past (Mails m) (step start.place b (Mails m))
-unfolding step keys now birth_at birth_here nothing content_changed
+unfolding step keys now birth_at begun nothing content_changed
 mail_goes start past m b ok h = by_outcome (change_first b.boxes (Mail m)).0 refl
   where
     after : Holdings start (Mails m ∷ past) (change_first b.boxes (Mail m)).1

@@ -18,8 +18,8 @@ use Rattle.notifier_model.specs.Start.{Start, tag_of}
 use Rattle.notifier_model.specs.Requests.{is_ack, same_key, key_of_request, user_part, event_of}
 use Rattle.life.specs.Past.{now, same_class, last_counts, mail_content, content, is_among, is_new, with_key, keys_with, keys, is_fresh}
 use Rattle.life.proofs.Texts.{bytes_other_way}
-use Rattle.life.specs.Lives.{concerns}
-use Rattle.life.specs.Own.{is_own, is_born_here, own}
+use Rattle.life.specs.Lives.{concerns, is_born_at}
+use Rattle.life.specs.Own.{is_own, own}
 use Rattle.life.specs.Renaming.{renamed_event, renamed}
 use Rattle.life.specs.Apart.{all_keys}
 
@@ -132,7 +132,7 @@ module _ (start other : Start) (serial : ℕ) (x : Request) where
   others-mail : (past : List Event) (m : MailChange) → bytes_eq (event_of x).package mail_package ≡ true → is_own start serial x past (Mails m) ≡ false → bytes_eq m.mailbox (user_part x.uri) ≡ false
   unfolding is_own concerns
   others-mail past m mail h =
-      bytes_other_way (user_part x.uri) m.mailbox (second (bytes_eq (event_of x).package mail_package) (bytes_eq (user_part x.uri) m.mailbox) mail (or-left (bytes_eq (event_of x).package mail_package && bytes_eq (user_part x.uri) m.mailbox) (is_born_here start serial past (Mails m)) h))
+      bytes_other_way (user_part x.uri) m.mailbox (second (bytes_eq (event_of x).package mail_package) (bytes_eq (user_part x.uri) m.mailbox) mail (or-left (bytes_eq (event_of x).package mail_package && bytes_eq (user_part x.uri) m.mailbox) (is_born_at start serial past (Mails m)) h))
     where
       second : (a b : Bool) → a ≡ true → (a && b) ≡ false → b ≡ false
       second true b e h = h

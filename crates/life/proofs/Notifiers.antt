@@ -52,7 +52,7 @@ two = comes before ∷ comes refer_1 ∷ []
 
 -- in the first run it has serial 1, in the second serial 2
 has_same : HasSameOwn transfers transfers 1 2 refer_1 (newest_first one) (newest_first two)
-unfolding Tag.local_tag Requests.key_of_request Requests.is_sip_uri Requests.user_part Requests.event_of Requests.asks_nothing Requests.is_unwatched Requests.is_malformed Requests.misfit Requests.misplaced_at Requests.is_full Block.block_word Block.double_rounds Block.diagonal_round Block.column_round Block.quarter_round Steps.u32_at Hex.encode_with Fmt.digits Past.is_among Past.keys_with Past.keys Past.is_fresh Past.fits Life.birth Life.is_touched Life.number Life.ended Life.terminated Life.is_removed Life.is_gone Lives.is_in_dialog Lives.concerns Lives.lived Lives.is_alive Lives.count_alive Lives.is_birth Lives.birth_of Lives.birth_here Lives.befalls Lives.lives_on Lives.births Lives.birth_at Own.is_born_here Own.is_own Own.own Own.born_of Renaming.renamed_event Renaming.renamed Apart.all_keys Apart.has_new_key Apart.matters Apart.are_apart
+unfolding Tag.local_tag Requests.key_of_request Requests.is_sip_uri Requests.user_part Requests.event_of Requests.asks_nothing Requests.is_unwatched Requests.is_malformed Requests.misfit Requests.misplaced_at Requests.is_full Block.block_word Block.double_rounds Block.diagonal_round Block.column_round Block.quarter_round Steps.u32_at Hex.encode_with Fmt.digits Past.is_among Past.keys_with Past.keys Past.is_fresh Past.fits Life.birth Life.is_touched Life.number Life.ended Life.terminated Life.is_removed Life.is_gone Lives.is_in_dialog Lives.concerns Lives.lived Lives.count_alive Lives.is_birth Lives.begun Lives.befalls Lives.go_on Lives.after Lives.lives Lives.births Lives.life Lives.birth_at Lives.is_born_at Own.is_own Own.own Own.born_of Renaming.renamed_event Renaming.renamed Apart.all_keys Apart.has_new_key Apart.matters Apart.are_apart
 has_same = record {
   born = refl;
   born_too = refl;

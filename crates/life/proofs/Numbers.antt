@@ -1,20 +1,20 @@
 -- The numbers of the NOTIFYs of one subscription are 1, 2, and so on.
 use Rattle.std.proofs.Common.{◌≡◌, ℕ, ◌+◌, List, [], ◌∷◌, ◌++◌, length, map, Option, Some, None, Bool, true, false, refl, sym, ◌∙◌, ap, subst, arith, length-append}
 use Prim.Native.Nat.{zero, suc}
-use Rattle.std.specs.Prelude.{if◌then◌else◌, ◌==◌}
+use Rattle.std.specs.Prelude.{if◌then◌else◌}
 use Rattle.std.proofs.lemmas.List.{append-nil}
 use Rattle.notifier_model.specs.Limits.{Limits}
 use Rattle.notifier_model.specs.Start.{Start}
 use Rattle.notifier_model.specs.declared.event.Event.{Event}
 use Rattle.notifier_model.specs.Out.{Notification}
-use Rattle.life.specs.Life.{Life, is_touched, one_if, number, is_gone}
-use Rattle.life.specs.Lives.{lived, befalls, or_before, births, life, birth_at, befell}
+use Rattle.life.specs.Life.{Life, is_touched, one_if, number}
+use Rattle.life.specs.Lives.{lived, life, birth_at, befell}
 use Rattle.life.specs.Notices.{notice_of, notices_at, notices}
 use Rattle.life.specs.Laws.{up_to, NumbersLaw}
-use Rattle.life.specs.Sentences.{number_of, is_touch}
+use Rattle.life.specs.Sentences.{or_before, number_of, is_touch}
 use Rattle.life.proofs.Texts.{if_is}
 use Rattle.life.proofs.Deeds.{lived_is}
-use Rattle.life.proofs.NextLives.{life-next, birth_of_some}
+use Rattle.life.proofs.NextLives.{by_fate, life-next, no_life_yet, birth_of_some}
 
 abbrev Counts : Limits → Life → Option Life → Type 0
 Counts limits l None = Unit {0}
@@ -33,21 +33,12 @@ number-born : (start : Start) (past : List Event) (e : Event) (l : Life) → bir
 unfolding number is_touched
 number-born start past e l is = let b = birth_of_some start past e l is in subst (λ (x : Life). number start.place.limits x ≡ 0 + one_if (is_touched start.place.limits x)) (sym b.is) (unfold number in (omega arith))
 
-number-after : (start : Start) (s : ℕ) (past : List Event) (e : Event) (d : Bool) (begun : Option Life) (o : Option Life) → ((l : Life) → begun ≡ Some l → number start.place.limits l ≡ 0 + one_if (is_touched start.place.limits l)) → number_of start.place.limits (or_before (befalls start s past e d begun o) o) ≡ number_of start.place.limits o + one_if (is_touch start.place.limits (befalls start s past e d begun o))
-unfolding befalls
-number-after start s past e true (Some l) None h = h l refl
-number-after start s past e true None None h = refl
-number-after start s past e false begun None h = refl
-number-after start s past e d begun (Some l) h = by_gone (is_gone start.place.limits l)
-  where
-    by_gone : (d : Bool) → number_of start.place.limits (or_before (if d then None else lived start s past e l) (Some l)) ≡ number start.place.limits l + one_if (is_touch start.place.limits (if d then None else lived start s past e l))
-    by_gone true = omega arith
-    by_gone false = number-or start.place.limits l (lived start s past e l) (lived-counts start s past e l)
-
 -- the number rises by one exactly where it is touched
 pub number-next : (start : Start) (past : List Event) (e : Event) (s : ℕ) → number_of start.place.limits (life start (e ∷ past) s) ≡ number_of start.place.limits (life start past s) + one_if (is_touch start.place.limits (befell start past e s))
-unfolding befell
-number-next start past e s = ap (number_of start.place.limits) (life-next start past e s) ∙ number-after start s past e (s == births start past + 1) (birth_at start past e) (life start past s) (λ l is. number-born start past e l is)
+number-next start past e s =
+    ap (number_of start.place.limits) (life-next start past e s)
+    ∙ by_fate start past e s (λ o before. number_of start.place.limits (or_before o before) ≡ number_of start.place.limits before + one_if (is_touch start.place.limits o))
+    (λ unborn. refl) (λ l next begins. number-born start past e l begins) (λ l is gone. omega arith) (λ l is alive. number-or start.place.limits l (lived start s past e l) (lived-counts start s past e l))
 
 abbrev numbers : List Notification → List ℕ
 numbers ns = map (λ n. n.number) ns
@@ -71,8 +62,7 @@ one_more limits (Some m) before n e = by_touched (is_touched limits m) e
     by_touched false e = append-nil (up_to n) ∙ ap up_to (let f : n ≡ number limits m = omega arith in f)
 
 nothing_yet : (start : Start) (s : ℕ) → up_to (number_of start.place.limits (life start [] s)) ≡ []
-unfolding births life
-nothing_yet start s = refl
+nothing_yet start s = rw (no_life_yet start s) refl
 
 pub numbers_rise : (start : Start) (s : ℕ) (past : List Event) → numbers (notices start s past) ≡ up_to (number_of start.place.limits (life start past s))
 unfolding notices

@@ -1,12 +1,14 @@
 -- An event that isn't its own is nothing to a subscription.
-use Rattle.std.proofs.Common.{◌≡◌, ℕ, ◌+◌, List, Option, Some, None, Bool, true, false, ◌&&◌, refl, ◌∙◌, ap}
-use Rattle.std.specs.Prelude.{if◌then◌else◌, ◌==◌, is_some}
+use Rattle.std.proofs.Common.{◌≡◌, ℕ, ◌+◌, List, Some, None, true, false, ◌&&◌, refl, ◌∙◌, ap}
+use Rattle.std.specs.Prelude.{◌==◌, is_some}
 use Rattle.sip_read.specs.declared.message.Request.{Request}
 use Rattle.notifier_model.specs.declared.event.Event.{Event}
 use Rattle.notifier_model.specs.Start.{Start, tag_of}
-use Rattle.life.specs.Life.{Life, birth, is_gone}
-use Rattle.life.specs.Lives.{concerns, lived, befalls, births, life, birth_at, befell}
-use Rattle.life.specs.Own.{is_born_here, is_own}
+use Rattle.life.specs.Life.{Life, birth}
+use Rattle.life.specs.Lives.{concerns, lived, births, life, birth_at, befell, is_born_at}
+use Rattle.life.specs.Own.{is_own}
+use Rattle.life.proofs.Texts.{never_both}
+use Rattle.life.proofs.NextLives.{by_fate}
 use Rattle.life.proofs.Mine.{or-left, or-right}
 
 -- an event that doesn't concern it doesn't befall it
@@ -19,19 +21,11 @@ abbrev pub IsBornOf : Start → ℕ → Request → List Event → Type 0
 IsBornOf start serial x past = (l : Life) → life start past serial ≡ Some l → birth l ≡ x
 
 pub not_own-befell : (start : Start) (serial : ℕ) (x : Request) (past : List Event) (e : Event) → IsBornOf start serial x past → is_own start serial x past e ≡ false → befell start past e serial ≡ None
-unfolding befell befalls is_own is_born_here
-not_own-befell start serial x past e born h = by_life (life start past serial) refl
+unfolding is_own is_born_at
+not_own-befell start serial x past e born h = by_fate start past e serial (λ o before. o ≡ None) (λ unborn. refl) (λ l next begins. absurd (born_here l next begins)) (λ l is gone. refl)
+    (λ l is alive. unconcerned start serial past e l (ap (λ (y : Request). concerns (tag_of start.place serial) y e) (born l is) ∙ or-left (concerns (tag_of start.place serial) x e) (serial == births start past + 1 && is_some (birth_at start past e)) h))
   where
-    not_here : (n : Bool) (b : Option Life) → (n && is_some b) ≡ false → befalls start serial past e n b None ≡ None
-    not_here true None h = unfold befalls in refl
-    not_here true (Some l) h = absurd (cc)
-    not_here false b h = unfold befalls in refl
-
-    none_both : (d : Bool) (o : Option Life) → o ≡ None → (if d then None else o) ≡ None
-    none_both true o e = refl
-    none_both false o e = e
-
-    by_life : (o : Option Life) → life start past serial ≡ o → befalls start serial past e (serial == births start past + 1) (birth_at start past e) o ≡ None
-    by_life None is = not_here (serial == births start past + 1) (birth_at start past e) (or-right (concerns (tag_of start.place serial) x e) (serial == births start past + 1 && is_some (birth_at start past e)) h)
-    by_life (Some l) is = unfold befalls in none_both (is_gone start.place.limits l) (lived start serial past e l)
-        (unconcerned start serial past e l (ap (λ (y : Request). concerns (tag_of start.place serial) y e) (born l is) ∙ or-left (concerns (tag_of start.place serial) x e) (serial == births start past + 1 && is_some (birth_at start past e)) h))
+    born_here : (l : Life) → (serial == births start past + 1) ≡ true → birth_at start past e ≡ Some l → ⊥
+    born_here l next begins =
+        never_both (serial == births start past + 1 && is_some (birth_at start past e)) (rw (next, begins) refl)
+        (or-right (concerns (tag_of start.place serial) x e) (serial == births start past + 1 && is_some (birth_at start past e)) h)

@@ -19,7 +19,7 @@ of_record tag to n same = record {
   number = refl;
   state = refl;
   body = refl;
-  out_is = ap (λ (t : Bytes). Notify t n.number (is_last n.state) to (notify_text n)) same;
+  out_is = ap (λ (t : Bytes). Notify to n.number (is_last n.state) t (notify_text n)) same;
 }
 
 of_records : (tag : Bytes) (sends : List Send) → AreNotifies tag (notifications tag sends) (notifies_with tag (map out_of sends))

@@ -1,5 +1,5 @@
 -- The steps at which a request comes outside a dialog.
-use Rattle.std.proofs.Common.{◌≡◌, ℕ, ◌+◌, ◌-◌, ◌<◌, ◌≤◌, ◌^◌, List, [], ◌∷◌, ◌++◌, length, Option, Some, None, Bool, true, false, not, ◌&&◌, refl, sym, ◌∙◌, ap, inr, arith, subst, add-one}
+use Rattle.std.proofs.Common.{◌≡◌, ℕ, ◌+◌, ◌-◌, ◌<◌, ◌≤◌, ◌^◌, List, [], ◌∷◌, ◌++◌, length, Option, Some, None, Bool, true, false, not, ◌&&◌, refl, sym, ◌∙◌, ap, arith, subst, add-one}
 use Prim.Native.Nat.{suc}
 use Rattle.std.specs.Prelude.{if◌then◌else◌, ◌==◌, is_none, is_some, bytes_eq, option_map, option_to_list, codes}
 use Rattle.std.proofs.lemmas.Bool.Decides.{nat_tests}
@@ -31,12 +31,13 @@ use Rattle.notifier_model.specs.Out.{Notification, Send, Starts, notifications}
 use Rattle.notifier_model.specs.Answers.{birth_answer}
 use Rattle.life.specs.Past.{now, content, mail_content, is_fresh, is_placed, fits}
 use Rattle.life.specs.Life.{Life, Born, birth, last_heard, end_of_grant, address, status, is_touched, number, just_made, unanswered, ended, terminated, is_removed, is_gone}
-use Rattle.life.specs.Lives.{when, is_in_dialog, may_hear, is_birth, birth_of, birth_here, befalls, or_before, births, life, birth_at, befell}
+use Rattle.life.specs.Lives.{when, is_in_dialog, may_hear, is_birth, births, life, birth_at, befell, begun}
+use Rattle.life.specs.Sentences.{or_before}
 use Rattle.life.specs.Notices.{notices_at, body}
 use Rattle.life.proofs.Boxes.{boxes_without, types-stay, content-other, begin-own, begin-elsewhere}
 use Rattle.life.proofs.Rows.{last_cseq, target_of, accepted_cseq, usage_of, want_of, sub_of, row_of, live_row, rows_to, rows_to-same, length-rows_to, notifications-append}
 use Rattle.life.proofs.Deeds.{hears, lived-comes}
-use Rattle.life.proofs.NextLives.{no_life, births-of_birth, life-next, Ranges}
+use Rattle.life.proofs.NextLives.{births-of_birth, by_fate, life-next, Ranges}
 use Rattle.life.proofs.SoundLives.{fits-plain, gone-removed}
 use Rattle.life.proofs.Turns.{Follows, over_follows, told_follows}
 use Rattle.life.proofs.AllRows.{apart, born_small}
@@ -104,9 +105,8 @@ fits-outside start past r d fresh good to e =
 -- ---- who is born, and that nothing befalls the others
 
 birth_at-is : (start : Start) (past : List Event) (b : Book) (source : Addr) (r : Request) → Holds start past b → r.head.to.tag ≡ None → birth_at start past (Comes source r) ≡ when (fits start past r && not (is_full start.place.limits b.next (length b.rows) r)) (Born (now past) source r)
-unfolding birth_at birth_here birth_of is_birth
-birth_at-is start past b source r h to =
-    ap (birth_of start past (births start past) (life start past) source r) to ∙ rw (h.next_is, h.rows_are, length-rows_to start (life start past) (births start past)) refl
+unfolding birth_at begun is_birth
+birth_at-is start past b source r h to = rw (to, h.next_is, h.rows_are, length-rows_to start past) (unfold births in refl)
 
 -- a request without a To tag is heard by no one
 unheard_outside : (start : Start) (past : List Event) (r : Request) (s : ℕ) (l : Life) → r.head.to.tag ≡ None → hears start s past r l ≡ false
@@ -119,21 +119,13 @@ unheard_outside start past r s l to =
     no_second true = refl
     no_second false = refl
 
-both_none : (d : Bool) → if◌then◌else◌ {A = Option Life} d None None ≡ None
-both_none true = refl
-both_none false = refl
-
 befell-other : (start : Start) (past : List Event) (source : Addr) (r : Request) (s : ℕ) → r.head.to.tag ≡ None → (s == births start past + 1) ≡ false → befell start past (Comes source r) s ≡ None
-unfolding befell befalls
-befell-other start past source r s to other = rw other (by_life (life start past s))
-  where
-    by_life : (o : Option Life) → befalls start s past (Comes source r) false (birth_at start past (Comes source r)) o ≡ None
-    by_life None = unfold befalls in refl
-    by_life (Some l) = unfold befalls in (rw (lived-comes start s past source r l, unheard_outside start past r s l to) (both_none (is_gone start.place.limits l)))
+befell-other start past source r s to other = by_fate start past (Comes source r) s (λ o before. o ≡ None) (λ unborn. refl) (λ l next begins. absurd (never_both (s == births start past + 1) next other)) (λ l is gone. refl)
+    (λ l is alive. rw (lived-comes start s past source r l, unheard_outside start past r s l to) refl)
 
 befell-new : (start : Start) (past : List Event) (source : Addr) (r : Request) → birth_at start past (Comes source r) ≡ Some (Born (now past) source r) → befell start past (Comes source r) (births start past + 1) ≡ Some (Born (now past) source r)
-unfolding befell befalls
-befell-new start past source r is = let own : (births start past + 1 == births start past + 1) ≡ true = grind (arith, nat_tests) in rw (own, is, no_life start past (births start past + 1) (inr (omega arith))) refl
+unfolding befell
+befell-new start past source r is = let own : (births start past + 1 == births start past + 1) ≡ true = grind (arith, nat_tests) in rw (own, is) refl
 
 new-life : (start : Start) (past : List Event) (source : Addr) (r : Request) → birth_at start past (Comes source r) ≡ Some (Born (now past) source r) → life start (Comes source r ∷ past) (births start past + 1) ≡ Some (Born (now past) source r)
 new-life start past source r is = life-next start past (Comes source r) (births start past + 1) ∙ ap (λ (o : Option Life). or_before o (life start past (births start past + 1))) (befell-new start past source r is)

@@ -6,9 +6,9 @@ use Rattle.notifier_model.specs.declared.event.Event.{Event}
 use Rattle.notifier_model.specs.declared.event.Event.TheVariants.{Request as Comes, Reply as Replies, Mail as Mails, Progress as Progresses, Tick as Ticks, Shut as Shuts}
 use Rattle.notifier_model.specs.declared.row.Key.{Key}
 use Rattle.notifier_model.specs.Start.{Start, tag_of}
-use Rattle.life.specs.Lives.{life, concerns}
+use Rattle.life.specs.Lives.{life, concerns, is_born_at}
 use Rattle.life.proofs.Texts.{and-right}
-use Rattle.life.specs.Own.{is_born_here, is_own, own}
+use Rattle.life.specs.Own.{is_own, own}
 use Rattle.life.specs.Apart.{all_keys, has_new_key, is_open_to, matters, are_apart, has_none_of, have_own_keys}
 use Rattle.life.specs.IsolationLaws.{OwnKeysLaw}
 use Rattle.life.proofs.IsolationLaw.{alone_law}
@@ -46,8 +46,8 @@ unfolding have_own_keys are_apart matters is_own
 apart_of_own_keys start serial x later [] h = refl
 apart_of_own_keys start serial x later (e ∷ past) h =
     let more = apart_of_own_keys start serial x (all_keys (e ∷ []) ++ later) past (and-right (not (is_own start serial x past e) || (has_none_of later e && has_none_of (all_keys past) e)) (have_own_keys start serial x (all_keys (e ∷ []) ++ later) past) h) in
-    let here : (not (is_born_here start serial past e || ((concerns (tag_of start.place serial) x e || is_born_here start serial past e) && is_open_to start.place.limits (life start past serial) e)) || has_none_of (all_keys past) e) ≡ true =
-    weaker (is_born_here start serial past e) (concerns (tag_of start.place serial) x e) (is_open_to start.place.limits (life start past serial) e) (has_none_of (all_keys past) e) (has_none_of later e) (have_own_keys start serial x (all_keys (e ∷ []) ++ later) past) h in
+    let here : (not (is_born_at start serial past e || ((concerns (tag_of start.place serial) x e || is_born_at start serial past e) && is_open_to start.place.limits (life start past serial) e)) || has_none_of (all_keys past) e) ≡ true =
+    weaker (is_born_at start serial past e) (concerns (tag_of start.place serial) x e) (is_open_to start.place.limits (life start past serial) e) (has_none_of (all_keys past) e) (has_none_of later e) (have_own_keys start serial x (all_keys (e ∷ []) ++ later) past) h in
     rw (← same-new past e, here) more
 
 pub own_keys_law : OwnKeysLaw

@@ -22,7 +22,8 @@ use Rattle.notifier_model.specs.Rows.{stays, wherever, opened, with_sub, tells, 
 use Rattle.notifier_model.specs.Out.{notifications}
 use Rattle.life.specs.Past.{now, content, last_counts, keys}
 use Rattle.life.specs.Life.{Life, Then, Progressed, birth, last_heard, address, number, end_of_grant, status, is_news, is_touched, just_made, unanswered, ended, terminated, is_removed, is_gone}
-use Rattle.life.specs.Lives.{when, lived, or_before, life, birth_at, birth_here}
+use Rattle.life.specs.Lives.{when, lived, life, birth_at, begun}
+use Rattle.life.specs.Sentences.{or_before}
 use Rattle.life.specs.Notices.{notices_at, body}
 use Rattle.life.proofs.Boxes.{stepped, step_outcome, step-after, step-outcome, types-stay, content-other}
 use Rattle.life.proofs.Rows.{row_of, sub_of, want_of, usage_of, target_of, accepted_cseq, last_cseq, live_row}
@@ -93,7 +94,7 @@ progress_transfer start past p boxes s l m was unfinished refers next = step-aft
     by_tag false e = was ∙ ap (λ (x : Life). Some (OfStatus (status x).0 (status x).1)) (as_old e)
 
 progress_transfers : (start : Start) (past : List Event) (p : Progress) (boxes : List Seen) → Ranges start.place.limits → Transfers start past boxes → Transfers start (Progresses p ∷ past) (change_first boxes (Step p)).1
-unfolding birth_at birth_here
+unfolding birth_at begun
 progress_transfers start past p boxes ok h s m is alive refers =
     let from = came start past (Progresses p) s m refl is alive in
     let same = next-birth from.before m (lived start s past (Progresses p) from.before) (lived-birth start s past (Progresses p) from.before) from.next in
@@ -101,7 +102,7 @@ progress_transfers start past p boxes ok h s m is alive refers =
     progress_transfer start past p boxes s from.before m (h s from.before from.is from.alive refers_before) ((sound_of start past s from.before ok from.is).unfinished from.alive) refers_before from.next
 
 progress_holdings : (start : Start) (past : List Event) (p : Progress) (boxes : List Seen) → Ranges start.place.limits → Holdings start past boxes → Holdings start (Progresses p ∷ past) (change_first boxes (Step p)).1
-unfolding birth_at birth_here stepped
+unfolding birth_at begun stepped
 progress_holdings start past p boxes ok hold = record {
   types = λ name. types-stay boxes (Step p) name ∙ hold.types name;
   contents = λ name resource f. content-other boxes (Step p) name resource (bytes_other_way name refer_package f) ∙ (hold.contents name resource f ∙ sym (content-progress start past p name resource));
@@ -176,7 +177,7 @@ progress_turns start past p b ok clock hold e s l is alive = unfold row_of sub_o
     by_refer false g = rw ((sound_of start past s l ok is).plain g, and-false (bytes_eq (tag_of start.place s) p.tag)) refl
 
 pub progress_goes : (start : Start) (past : List Event) (p : Progress) (b : Book) → Ranges start.place.limits → Holds start past b → Goes start past (Progresses p) (step start.place b (Progresses p))
-unfolding step keys now birth_at birth_here nothing content_changed
+unfolding step keys now birth_at begun nothing content_changed
 progress_goes start past p b ok h = by_outcome (change_first b.boxes (Step p)).0 refl
   where
     after : Holdings start (Progresses p ∷ past) (change_first b.boxes (Step p)).1

@@ -22,8 +22,8 @@ use Rattle.notifier_model.specs.Rows.{Told, stays, wherever, only, is_dialog}
 use Rattle.notifier_model.specs.Answers.{has_key, kept_answer, ring_with, refusal_answer}
 use Rattle.notifier_model.specs.Out.{Send, Answers, notifications}
 use Rattle.life.specs.Past.{now, is_among, is_new, with_key, keys_with, keys, is_fresh, fits}
-use Rattle.life.specs.Life.{Life, Then, Heard, birth, is_above, is_gone}
-use Rattle.life.specs.Lives.{when, is_in_dialog, may_hear, is_birth, birth_of, birth_here, births, life, birth_at}
+use Rattle.life.specs.Life.{Life, Then, Heard, birth, is_above, is_gone, Born}
+use Rattle.life.specs.Lives.{when, is_in_dialog, may_hear, is_birth, births, life, birth_at, begun}
 use Rattle.life.proofs.Rows.{usage_of, sub_of, row_of, live_row, rows_to}
 use Rattle.life.proofs.Deeds.{hears, lived-comes}
 use Rattle.life.proofs.NextLives.{no_life, Ranges}
@@ -87,12 +87,12 @@ refused_goes start past b source r cause ok h fresh none nobody =
 
 -- what doesn't fit
 pub birth-unfit : (start : Start) (past : List Event) (source : Addr) (r : Request) → fits start past r ≡ false → birth_at start past (Comes source r) ≡ None
-unfolding birth_at birth_here birth_of is_birth
-birth-unfit start past source r unfit = by_tag r.head.to.tag
+unfolding birth_at begun is_birth
+birth-unfit start past source r unfit = rw unfit (by_tag (is_none r.head.to.tag))
   where
-    by_tag : (o : Option Bytes) → birth_of start past (births start past) (life start past) source r o ≡ None
-    by_tag None = unfold birth_of is_birth in (rw unfit refl)
-    by_tag (Some tag) = unfold birth_of in refl
+    by_tag : (d : Bool) → when (d && false) (Born (now past) source r) ≡ None
+    by_tag true = refl
+    by_tag false = refl
 
 pub unfit-unheard : (start : Start) (past : List Event) (r : Request) → (is_fresh start.place.limits past r && is_none (misfit r)) ≡ false → Nobody_hears start past r
 unfolding hears may_hear
@@ -183,8 +183,8 @@ others_not start r tag k s l m small_k small_s e differ =
 
 -- a request with a To tag makes no dialog
 pub no_birth : (start : Start) (past : List Event) (source : Addr) (r : Request) (tag : Bytes) → r.head.to.tag ≡ Some tag → birth_at start past (Comes source r) ≡ None
-unfolding birth_at birth_here birth_of
-no_birth start past source r tag to = ap (birth_of start past (births start past) (life start past) source r) to
+unfolding birth_at begun is_birth
+no_birth start past source r tag to = rw to refl
 
 pub heard-is : (start : Start) (past : List Event) (r : Request) (tag : Bytes) (s : ℕ) (l : Life) → is_fresh start.place.limits past r ≡ true → is_none (misfit r) ≡ true → r.head.to.tag ≡ Some tag → hears start s past r l ≡ (is_dialog r tag (row_of start s l) && is_above l r.head.cseq)
 unfolding hears may_hear is_in_dialog is_dialog row_of sub_of usage_of

@@ -6,7 +6,7 @@ use Rattle.sip_read.specs.declared.message.Request.{Request}
 use Rattle.notifier_model.specs.Limits.{Limits}
 use Rattle.notifier_model.specs.Requests.{event_of, asked, granted, asks_nothing, unheard, is_unwatched, birth_of as kind_of, is_malformed, misfit, key_of_request}
 use Rattle.notifier_model.specs.declared.row.Unanswered.{Unanswered}
-use Rattle.life.specs.Life.{Deed, Life, Hearing, Born, Then, Heard, MailChanged, Progressed, Due, Answered, Disowned, Lost, Stopped, hearing, birth, last_heard, cseqs, is_accepted, is_grant, is_above, end_of, end_of_grant, address, status, is_touched, one_if, number, just_made, unanswered, is_overdue, ended, terminated, is_removed, is_gone}
+use Rattle.life.specs.Life.{Deed, Life, Hearing, Born, Then, Heard, MailChanged, Progressed, Due, Answered, Disowned, Lost, Stopped, hearing, birth, last_heard, cseqs, accepts, grants, last_grant, is_above, end_of, end_of_grant, address, status, is_touched, one_if, number, just_made, unanswered, is_overdue, ended, terminated, is_removed, is_gone}
 use Rattle.life.specs.Renaming.{renamed_request, renamed_tag, other_tag}
 
 module _ (old new : List ℕ) where
@@ -58,10 +58,6 @@ module _ (old new : List ℕ) where
   unfolding kind_of is_unwatched asks_nothing asked event_of
   kind-renamed limits r = refl
 
-  pub accepted-renamed : (limits : Limits) (x r : Request) → is_accepted limits (renamed_request old new x) (renamed_request old new r) ≡ is_accepted limits x r
-  unfolding is_accepted unheard event_of asked
-  accepted-renamed limits x r = refl
-
   -- ---- what it is, and what it heard
 
   pub birth-renamed : (l : Life) → birth (renamed_life l) ≡ renamed_request old new (birth l)
@@ -108,15 +104,16 @@ module _ (old new : List ℕ) where
   last-renamed test test' same (Then t Lost l) = last-renamed test test' same l
   last-renamed test test' same (Then t Stopped l) = last-renamed test test' same l
 
-  heard-accepted : (limits : Limits) (l : Life) → AreAlike (is_accepted limits (birth l)) (is_accepted limits (birth (renamed_life l)))
-  heard-accepted limits l r = rw (birth-renamed l) (accepted-renamed limits (birth l) r)
+  heard-accepted : (limits : Limits) (l : Life) → AreAlike (accepts limits l) (accepts limits (renamed_life l))
+  unfolding unheard event_of asked
+  heard-accepted limits l r = rw (birth-renamed l) refl
 
-  heard-granted : (limits : Limits) (l : Life) → AreAlike (λ r. is_grant limits (birth l) r) (λ r. is_grant limits (birth (renamed_life l)) r)
+  heard-granted : (limits : Limits) (l : Life) → AreAlike (λ r. grants limits l r) (λ r. grants limits (renamed_life l) r)
   heard-granted limits l r = rw (heard-accepted limits l r, asked-renamed limits r) refl
 
   pub address-renamed : (limits : Limits) (l : Life) → address limits (renamed_life l) ≡ address limits l
   unfolding address
-  address-renamed limits l = ap (λ (h : Hearing). h.source) (last-renamed (is_accepted limits (birth l)) (is_accepted limits (birth (renamed_life l))) (heard-accepted limits l) l)
+  address-renamed limits l = ap (λ (h : Hearing). h.source) (last-renamed (accepts limits l) (accepts limits (renamed_life l)) (heard-accepted limits l) l)
 
   end-renamed : (limits : Limits) (h : Hearing) → end_of limits (renamed_hearing h) ≡ end_of limits h
   end-renamed limits h = ap (λ (n : ℕ). h.moment + n) (granted-renamed limits h.request)
@@ -124,8 +121,8 @@ module _ (old new : List ℕ) where
   pub grant-renamed : (limits : Limits) (l : Life) → end_of_grant limits (renamed_life l) ≡ end_of_grant limits l
   unfolding end_of_grant
   grant-renamed limits l =
-      ap (end_of limits) (last-renamed (λ r. is_grant limits (birth l) r) (λ r. is_grant limits (birth (renamed_life l)) r) (heard-granted limits l) l)
-      ∙ end-renamed limits (last_heard (λ r. is_grant limits (birth l) r) l)
+      ap (end_of limits) (last-renamed (λ r. grants limits l r) (λ r. grants limits (renamed_life l) r) (heard-granted limits l) l)
+      ∙ end-renamed limits (last_grant limits l)
 
   pub status-renamed : (l : Life) → status (renamed_life l) ≡ status l
   unfolding status renamed_life

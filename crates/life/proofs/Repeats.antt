@@ -11,11 +11,12 @@ use Rattle.notifier_model.specs.Requests.{is_ack, is_subscribe, is_refer, misfit
 use Rattle.notifier_model.specs.Start.{Start, tag_of}
 use Rattle.life.specs.Past.{now, is_new}
 use Rattle.life.specs.Life.{Deed, Life, Then, Heard, MailChanged, Progressed, Due, Answered, Disowned, Lost, Stopped, birth, cseqs, is_above, is_gone}
-use Rattle.life.specs.Lives.{or_before, is_in_dialog, concerns, may_hear, lived, life, befalls, befell}
+use Rattle.life.specs.Lives.{is_in_dialog, concerns, may_hear, lived, life, is_born_at}
+use Rattle.life.specs.Sentences.{or_before}
 use Rattle.life.proofs.Texts.{Bytes, never_both, and-left, and-right, and-false, bytes_same}
 use Rattle.life.proofs.Deeds.{hears, lived-comes, lived_is}
-use Rattle.life.proofs.NextLives.{life-next}
-use Rattle.life.specs.Own.{is_born_here, is_own, born_of}
+use Rattle.life.proofs.NextLives.{befell-born, life-next}
+use Rattle.life.specs.Own.{is_own, born_of}
 use Rattle.life.specs.Apart.{all_keys, has_new_key, matters, are_apart}
 use Rattle.life.specs.IsolationLaws.{AgainLaw}
 use Rattle.life.proofs.Mine.{fresh-apart}
@@ -82,7 +83,7 @@ quiet-next : (start : Start) (serial : ℕ) (past : List Event) (e : Event) (r :
 quiet-next start serial past e r q = by_gone (is_gone start.place.limits q.l) refl
   where
     next : (d : Bool) → is_gone start.place.limits q.l ≡ d → life start (e ∷ past) serial ≡ or_before (if d then None else lived start serial past e q.l) (Some q.l)
-    next d g = life-next start past e serial ∙ (unfold befell befalls in rw (q.is, g) refl)
+    next d g = life-next start past e serial ∙ rw (befell-born start past e serial q.l q.is, q.is, g) refl
 
     by_lived : (o : Option Life) → lived start serial past e q.l ≡ o → StaysLow q.l o → is_gone start.place.limits q.l ≡ false → Quiet start serial (e ∷ past) r
     by_lived None is low g = record { l = q.l; is = next false g ∙ rw is refl; still = q.still }
@@ -124,7 +125,7 @@ quiet-first start serial past source r l is dialog key = by (quiet start.place.l
         let heard = heard-first start serial past r l dialog (key h) (and-right (not (is_gone start.place.limits l)) (may_hear r l) h) in
         record {
           l = Then (now past) (Heard source r) l;
-          is = life-next start past (Comes source r) serial ∙ (unfold befell befalls in rw (is, alive, lived-comes start serial past source r l, heard) refl);
+          is = life-next start past (Comes source r) serial ∙ rw (befell-born start past (Comes source r) serial l is, is, alive, lived-comes start serial past source r l, heard) refl;
           still = rw (low-own l (now past) source r) (and-false (not (is_gone start.place.limits (Then (now past) (Heard source r) l))));
         }
 
@@ -137,7 +138,7 @@ unfolding born_of are_apart matters is_own concerns has_new_key
 again_law start serial x later past source again r born own apart =
     let b = born-of start serial x past (life start past serial) born in
     let here = once start serial past (Comes source r) b.0 b.1 in
-    let dialog : is_in_dialog (tag_of start.place serial) x r ≡ true = first (is_in_dialog (tag_of start.place serial) x r) (is_born_here start serial past (Comes source r)) here own in
+    let dialog : is_in_dialog (tag_of start.place serial) x r ≡ true = first (is_in_dialog (tag_of start.place serial) x r) (is_born_at start serial past (Comes source r)) here own in
     let q = quiet-on start serial later (Comes source r ∷ past) r (quiet-first start serial past source r b.0 b.1 (subst (λ (y : Request). is_in_dialog (tag_of start.place serial) y r ≡ true) (sym b.2) dialog)
     (λ h. apart_here (matters start serial x past (Comes source r)) (is_new (key_of_request r) (all_keys past)) (are_apart start serial x past) apart (counted b.0 b.1 own h))) in
     let late = once start serial (later ++ Comes source r ∷ past) (Comes again r) q.l q.is in
@@ -152,4 +153,4 @@ again_law start serial x later past source again r born own apart =
     last false = refl
 
     counted : (l : Life) → life start past serial ≡ Some l → is_own start serial x past (Comes source r) ≡ true → quiet start.place.limits r l ≡ true → matters start serial x past (Comes source r) ≡ true
-    counted l is o h = rw (o, is, h) (last (is_born_here start serial past (Comes source r)))
+    counted l is o h = rw (o, is, h) (last (is_born_at start serial past (Comes source r)))

@@ -25,7 +25,7 @@ use Rattle.notifier_model.specs.Rows.{Told, stays, goes, wherever, with_sub, tel
 use Rattle.notifier_model.specs.Out.{Send, notifications}
 use Rattle.life.specs.Past.{now, content, mail_content, last_counts, keys}
 use Rattle.life.specs.Life.{Deed, Life, Then, Due, Answered, Disowned, Lost, Stopped, birth, last_heard, address, number, end_of_grant, status, is_touched, unanswered, is_overdue, ended, terminated, is_removed, is_gone}
-use Rattle.life.specs.Lives.{is_answer_in_dialog, is_to_notify, answer_deed, tick_deed, is_due, when, lived, births, life, birth_at, birth_here}
+use Rattle.life.specs.Lives.{is_answer_in_dialog, is_to_notify, answer_deed, tick_deed, is_due, when, lived, births, life, birth_at, begun}
 use Rattle.life.specs.Notices.{notices_at, body}
 use Rattle.life.proofs.Rows.{row_of, sub_of, want_of, usage_of, target_of, accepted_cseq, last_cseq, live_row, rows_to}
 use Rattle.life.proofs.Deeds.{lived-replies, lived-ticks, lived-shuts}
@@ -184,7 +184,7 @@ reply_turns start past r s l is alive = rw (lived-replies start s past r l, answ
     by_test false = refl
 
 pub reply_goes : (start : Start) (past : List Event) (r : Response) (b : Book) → Ranges start.place.limits → Holds start past b → Goes start past (Replies r) (step start.place b (Replies r))
-unfolding step replied now keys birth_at birth_here
+unfolding step replied now keys birth_at begun
 reply_goes start past r b ok h =
     by_all_rows start past (Replies r) b (answered r) [] ok refl h.clock_is h.next_is h.rows_are (holdings_quiet start past (Replies r) b.boxes refl refl h.boxes_hold) h.ring_is (λ tag more. refl) (reply_turns start past r)
 
@@ -210,10 +210,10 @@ shut_turns : (start : Start) (past : List Event) (b : Book) → Ranges start.pla
 unfolding stops ends
 shut_turns start past b ok hold s l is alive = rw (lived-shuts start s past l)
     (ended_follows start (Shuts ∷ past) b.boxes b.clock s l (Then (now past) Stopped l) Deactivated (unfold number is_touched in refl) (unfold address last_heard birth in refl)
-    (quiet_body start past Shuts b.boxes s l (now past) Stopped ok (unfold birth_at birth_here in refl) refl hold is alive (unfold status in refl)) (unfold is_touched in refl) (unfold terminated is_touched ended in refl))
+    (quiet_body start past Shuts b.boxes s l (now past) Stopped ok (unfold birth_at begun in refl) refl hold is alive (unfold status in refl)) (unfold is_touched in refl) (unfold terminated is_touched ended in refl))
 
 pub shut_goes : (start : Start) (past : List Event) (b : Book) → Ranges start.place.limits → Holds start past b → Goes start past Shuts (step start.place b Shuts)
-unfolding step shut now keys birth_at birth_here
+unfolding step shut now keys birth_at begun
 shut_goes start past b ok h =
     by_all_rows start past Shuts b (stops start.place b.boxes b.clock) [] ok refl h.clock_is h.next_is h.rows_are (holdings_quiet start past Shuts b.boxes refl refl h.boxes_hold) h.ring_is (λ tag more. refl) (shut_turns start past b ok h.boxes_hold)
 
@@ -237,7 +237,7 @@ tick_turns start past t b ok clock hold s l is alive = unfold row_of sub_of in r
   where
     follows : Follows start s (Ticks t ∷ past) (tells start.place b.boxes (now (Ticks t ∷ past)) (row_of start s l) (over (end (row_of start s l).sub Timeout))) (Then (now (Ticks t ∷ past)) Due l)
     follows = ended_follows start (Ticks t ∷ past) b.boxes (now (Ticks t ∷ past)) s l (Then (now (Ticks t ∷ past)) Due l) Timeout (unfold number is_touched in refl) (unfold address last_heard birth in refl)
-        (quiet_body start past (Ticks t) b.boxes s l (now (Ticks t ∷ past)) Due ok (unfold birth_at birth_here in refl) refl hold is alive (unfold status in refl)) (unfold is_touched in refl) (unfold terminated is_touched ended in refl)
+        (quiet_body start past (Ticks t) b.boxes s l (now (Ticks t ∷ past)) Due ok (unfold birth_at begun in refl) refl hold is alive (unfold status in refl)) (unfold is_touched in refl) (unfold terminated is_touched ended in refl)
 
     by_tests : (a d : Bool) → Turned start s (Ticks t ∷ past) (if a then goes else if d then tells start.place b.boxes (now (Ticks t ∷ past)) (row_of start s l) (over (end (row_of start s l).sub Timeout)) else stays (row_of start s l)) l (option_map (λ x. Then (now (Ticks t ∷ past)) x l) (if a then Some Lost else when d Due))
     by_tests true d = goes_follows start s (Ticks t ∷ past) (Then (now (Ticks t ∷ past)) Lost l) (unfold is_touched in refl) (unfold is_removed in refl)
@@ -263,7 +263,7 @@ unfolding now
 now-late past t late = let above : nat_le t last_moment ≡ false = grind (arith, nat_tests) in rw above refl
 
 pub tick_goes : (start : Start) (past : List Event) (t : ℕ) (b : Book) → Ranges start.place.limits → Holds start past b → Goes start past (Ticks t) (step start.place b (Ticks t))
-unfolding step ticked keys birth_at birth_here nothing
+unfolding step ticked keys birth_at begun nothing
 tick_goes start past t b ok h = by_time (nat_lt last_moment t) refl
   where
     after : Holdings start (Ticks t ∷ past) b.boxes

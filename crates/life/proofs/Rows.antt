@@ -1,8 +1,11 @@
 -- The rows of the book, as the living subscriptions by rising serial.
-use Rattle.std.proofs.Common.{◌≡◌, ℕ, ◌<◌, ◌≤◌, List, [], ◌∷◌, ◌++◌, length, Option, Some, None, Bool, true, false, not, ◌&&◌, refl, sym, ◌∙◌, ◌⊎◌, arith, append_assoc, length-append}
+use Rattle.std.proofs.Common.{◌≡◌, ℕ, ◌<◌, ◌≤◌, List, [], ◌∷◌, ◌++◌, ◌+◌, length, take, get_or, Option, Some, None, Bool, true, false, not, ◌&&◌, refl, sym, ◌∙◌, ap, subst, ◌⊎◌, inl, inr, arith, append_assoc, length-append}
 use Prim.Native.Nat.{zero, suc}
-use Rattle.std.specs.Prelude.{if◌then◌else◌, ◌==◌, nat_lt, nat_le, option_to_list, bytes_eq, unwrap_or}
+use Rattle.std.specs.Prelude.{if◌then◌else◌, ◌==◌, nat_lt, nat_le, count_by, slice_get, option_to_list, bytes_eq, unwrap_or}
 use Rattle.std.proofs.lemmas.List.{append-nil}
+use Rattle.std.proofs.lemmas.List.Sums.{count_by_more_yes, count_by_more_no}
+use Rattle.std.proofs.lemmas.Option.{slice_get_cases, slice_get_within, get_or_from_slice_get}
+use Rattle.std.proofs.Math.Seq.{take-length}
 use Rattle.std.proofs.lemmas.Bool.Decides.{nat_tests}
 use Rattle.life.proofs.Texts.{Bytes}
 use Rattle.notifier_model.specs.Fields.{value_of, or_empty}
@@ -10,13 +13,14 @@ use Rattle.subscription.specs.declared.terms.Usage.{Usage}
 use Rattle.subscription.specs.declared.terms.Want.{Want}
 use Rattle.subscription.specs.State.{State}
 use Rattle.notifier_model.specs.Limits.{Limits}
+use Rattle.notifier_model.specs.declared.event.Event.{Event}
 use Rattle.notifier_model.specs.Start.{Start, tag_of}
 use Rattle.notifier_model.specs.Requests.{is_refer, user_part, event_of}
 use Rattle.notifier_model.specs.declared.row.Row.{Row}
 use Rattle.notifier_model.specs.Rows.{Told, left, said}
 use Rattle.notifier_model.specs.Out.{Send, Answers, Notifies, Starts, Notification, notification, notifications}
-use Rattle.life.specs.Life.{Life, Born, Then, Heard, birth, address, number, end_of_grant, is_accepted, is_gone, last_heard, one_if, unanswered}
-use Rattle.life.specs.Lives.{is_alive, count_alive}
+use Rattle.life.specs.Life.{Life, Born, Then, Heard, birth, address, number, end_of_grant, accepts, is_gone, last_accepted, one_if, unanswered}
+use Rattle.life.specs.Lives.{count_alive, lives, births, life}
 
 -- the CSeq that was heard last
 unfoldable pub last_cseq : Life → ℕ
@@ -27,11 +31,11 @@ last_cseq (Then t deed l) = last_cseq l
 -- the target and the CSeq of the last accepted request, the birth included
 unfoldable pub target_of : Limits → Life → Bytes
 target_of limits (Born t source r) = or_empty (value_of r.contact)
-target_of limits (Then t (Heard source r) l) = if is_accepted limits (birth l) r then unwrap_or (value_of r.contact) (target_of limits l) else target_of limits l
+target_of limits (Then t (Heard source r) l) = if accepts limits l r then unwrap_or (value_of r.contact) (target_of limits l) else target_of limits l
 target_of limits (Then t deed l) = target_of limits l
 
 unfoldable pub accepted_cseq : Limits → Life → ℕ
-accepted_cseq limits l = (last_heard (is_accepted limits (birth l)) l).request.head.cseq
+accepted_cseq limits l = (last_accepted limits l).request.head.cseq
 
 unfoldable pub usage_of : Start → ℕ → Life → Usage
 usage_of start serial l = record {
@@ -120,20 +124,44 @@ unfolding rows_to
 rows_to-same start life after zero h = refl
 rows_to-same start life after (suc n) h = rw (h (suc n) (omega arith), rows_to-same start life after n (λ s le. h s (omega arith))) refl
 
-length-live_row : (start : Start) (s : ℕ) (o : Option Life) → length (option_to_list (live_row start s o)) ≡ one_if (is_alive start.place.limits o)
-unfolding live_row is_alive
-length-live_row start s None = refl
-length-live_row start s (Some l) = by_gone (is_gone start.place.limits l)
+length-live_row : (start : Start) (s : ℕ) (l : Life) → length (option_to_list (live_row start s (Some l))) ≡ one_if (not (is_gone start.place.limits l))
+unfolding live_row
+length-live_row start s l = by_gone (is_gone start.place.limits l)
   where
     by_gone : (d : Bool) → length (option_to_list (if d then None else Some (row_of start s l))) ≡ one_if (not d)
     by_gone true = refl
     by_gone false = refl
 
+-- how many of these are so, with one more
+count-more : (p : Life → Bool) (ls : List Life) (n : ℕ) (l : Life) → slice_get ls n ≡ Some l → count_by p (take (n + 1) ls) ≡ count_by p (take n ls) + one_if (p l)
+count-more p ls n l h = by_test (p l) refl
+  where
+    here : get_or ls n l ≡ l
+    here = get_or_from_slice_get ls n l l h
+
+    by_test : (d : Bool) → p l ≡ d → count_by p (take (n + 1) ls) ≡ count_by p (take n ls) + one_if d
+    by_test true e = count_by_more_yes p ls n l (slice_get_within ls n l h) (ap p here ∙ e)
+    by_test false e = count_by_more_no p ls n l (slice_get_within ls n l h) (ap p here ∙ e) ∙ (let z : count_by p (take n ls) ≡ count_by p (take n ls) + 0 = omega arith in z)
+
+rows-alive : (start : Start) (f : ℕ → Option Life) (ls : List Life) → ((i : ℕ) → f (suc i) ≡ slice_get ls i) → (n : ℕ) → n ≤ length ls → length (rows_to start f n) ≡ count_by (λ l. not (is_gone start.place.limits l)) (take n ls)
+unfolding rows_to
+rows-alive start f ls nth zero le = refl
+rows-alive start f ls nth (suc n) le =
+    length-append (rows_to start f n) (option_to_list (live_row start (suc n) (f (suc n))))
+    ∙ (rw (rows-alive start f ls nth n (omega arith), nth n) (by_place (slice_get_cases ls n).1))
+  where
+    by_place : ((l : Life) × (n < length ls) × (slice_get ls n ≡ Some l) × (get_or ls n l ≡ l)) ⊎ ((length ls ≤ n) × (slice_get ls n ≡ None))
+        → count_by (λ l. not (is_gone start.place.limits l)) (take n ls) + length (option_to_list (live_row start (suc n) (slice_get ls n))) ≡ count_by (λ l. not (is_gone start.place.limits l)) (take (suc n) ls)
+    by_place (inl p) = rw (p.2, length-live_row start (suc n) p.0)
+        (sym (subst (λ (i : ℕ). count_by (λ l. not (is_gone start.place.limits l)) (take i ls) ≡ count_by (λ l. not (is_gone start.place.limits l)) (take n ls) + one_if (not (is_gone start.place.limits p.0))) (let s : n + 1 ≡ suc n = omega arith in s) (count-more (λ l. not (is_gone start.place.limits l)) ls n p.0 p.2)))
+    by_place (inr p) = absurd (let le' = p.0 in omega arith)
+
 -- as many rows as live
-pub length-rows_to : (start : Start) (life : ℕ → Option Life) (n : ℕ) → length (rows_to start life n) ≡ count_alive start.place.limits life n
-unfolding rows_to count_alive
-length-rows_to start life zero = refl
-length-rows_to start life (suc n) = rw (length-append (rows_to start life n) (option_to_list (live_row start (suc n) (life (suc n)))), length-live_row start (suc n) (life (suc n)), length-rows_to start life n) refl
+pub length-rows_to : (start : Start) (past : List Event) → length (rows_to start (life start past) (births start past)) ≡ count_alive start.place.limits (lives start past)
+unfolding births life count_alive
+length-rows_to start past =
+    rows-alive start (life start past) (lives start past) (λ i. refl) (length (lives start past)) (omega arith)
+    ∙ ap (λ (ls : List Life). count_by (λ l. not (is_gone start.place.limits l)) ls) (take-length (lives start past))
 
 pub notifications-append : (tag : Bytes) (xs ys : List Send) → notifications tag (xs ++ ys) ≡ notifications tag xs ++ notifications tag ys
 unfolding notifications

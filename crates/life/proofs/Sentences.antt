@@ -1,10 +1,10 @@
 -- The sentences on a life.
 use Rattle.std.proofs.Common.{◌≡◌, ℕ, ◌+◌, ◌<◌, ◌≤◌, List, [], ◌∷◌, ◌++◌, Option, Some, None, Bool, true, false, not, ◌&&◌, refl, sym, ◌∙◌, ap, subst, arith, ◌⊎◌, inl, inr}
-use Rattle.std.specs.Prelude.{if◌then◌else◌, ◌==◌, ◌||◌, nat_lt, nat_le, max, is_some, bytes_eq, codes, option_map}
+use Rattle.std.specs.Prelude.{if◌then◌else◌, ◌==◌, ◌||◌, nat_lt, nat_le, max, is_none, is_some, bytes_eq, option_map}
 use Rattle.std.proofs.lemmas.Bool.Decides.{nat_tests}
 use Rattle.std.proofs.lemmas.List.{append-nil}
 use Rattle.package.specs.declared.counts.Counts.{Counts}
-use Rattle.life.proofs.Texts.{Bytes, never_both, not_true, and-left, and-right, and-false, if_is, when_is}
+use Rattle.life.proofs.Texts.{Bytes, never_both, and-left, and-right, and-three, and-false, if_is, when_is}
 use Rattle.sip_text.specs.declared.address.Addr.{Addr}
 use Rattle.sip_read.specs.declared.message.Request.{Request}
 use Rattle.package.specs.declared.counts.Class.{Class}
@@ -20,12 +20,12 @@ use Rattle.package.specs.Content.{is_final}
 use Rattle.sip_read.specs.declared.message.Response.{Response}
 use Rattle.notifier_model.specs.Requests.{is_refer, is_no, is_unwatched, asked, asks_nothing, birth_of as birth_of_request, needs_place, is_full}
 use Rattle.life.specs.Past.{now, last_counts, is_fresh}
-use Rattle.life.specs.Life.{Life, Then, Heard, MailChanged, Progressed, Due, Answered, Disowned, Lost, is_overdue, birth, status, cseqs, is_above, is_gone}
-use Rattle.life.specs.Lives.{when, is_answer_in_dialog, is_to_notify, answer_deed, tick_deed, is_due, may_hear, lived, count_alive, is_birth, birth_of, birth_here, befalls, or_before, births, life, birth_at, befell}
+use Rattle.life.specs.Life.{Life, Born, Then, Heard, MailChanged, Progressed, Due, Answered, Disowned, Lost, is_overdue, birth, status, cseqs, is_above, is_gone}
+use Rattle.life.specs.Lives.{when, is_answer_in_dialog, is_to_notify, answer_deed, tick_deed, is_due, may_hear, lived, count_alive, is_birth, begun, lives, births, life, birth_at, is_born_at, befell}
 use Rattle.life.specs.Notices.{notices, notices_at}
-use Rattle.life.specs.Sentences.{Came, IsNow, NowLaw, sets, CountsLaw, IsBirth, BirthsLaw, is_gone_by, GoneLaw, SilentLaw, rise, RisingLaw, status_after, last_status, StatusLaw, TouchedLaw}
+use Rattle.life.specs.Sentences.{Came, IsNow, NowLaw, sets, CountsLaw, IsBirth, BirthsLaw, or_before, GoesOnLaw, is_gone_by, GoneLaw, SilentLaw, rise, RisingLaw, status_after, last_status, StatusLaw, TouchedLaw}
 use Rattle.life.proofs.Deeds.{hears, lived-comes, lived-replies, lived-mails, lived-progresses, lived-ticks, lived-shuts}
-use Rattle.life.proofs.NextLives.{births-next, life-next, no_life, birth_of_some}
+use Rattle.life.proofs.NextLives.{After, births-next, by_fate, each_life, life-next, not_next, birth_of_some}
 use Rattle.life.proofs.Numbers.{number-next}
 
 -- ---- the moment
@@ -148,73 +148,59 @@ born_where start past source r None e h = absurd (cc)
 born_where start past source r (Some l) e h =
     let b = birth_of_some start past (Comes source r) l e in
     subst (λ (x : Request). IsBirth start past x) (sym (same_request b.event)) (
-    let room = room-is start.place.limits (births start past + 1) (count_alive start.place.limits (life start past) (births start past)) b.request b.room in
+    let room = room-is start.place.limits (births start past + 1) (count_alive start.place.limits (lives start past)) b.request b.room in
     record { fits = b.fits; no_tag = b.no_tag; serial = room.0; place = room.1 })
   where
     same_request : {a b : Addr} {q t : Request} → Comes a q ≡ Comes b t → q ≡ t
     same_request e = cc
 
 where_born : (start : Start) (past : List Event) (source : Addr) (r : Request) → IsBirth start past r → is_some (birth_at start past (Comes source r)) ≡ true
-unfolding birth_at birth_here birth_of is_birth
+unfolding birth_at begun is_birth births
 where_born start past source r b =
-    let room = is-room start.place.limits (births start past + 1) (count_alive start.place.limits (life start past) (births start past)) r b.serial b.place in
-    ap (λ (tag : Option Bytes). is_some (birth_of start past (births start past) (life start past) source r tag)) b.no_tag ∙ rw (b.fits, room) refl
-
-born-by : (start : Start) (s : ℕ) (past : List Event) (e : Event) (d : Bool) (begun o : Option Life) → (is_some o ≡ true → d ≡ false) → is_some (or_before (befalls start s past e d begun o) o) ≡ (is_some o || (d && is_some begun))
-unfolding befalls
-born-by start s past e true None None h = refl
-born-by start s past e true (Some l) None h = refl
-born-by start s past e false begun None h = refl
-born-by start s past e d begun (Some l) h = there (if is_gone start.place.limits l then None else lived start s past e l)
-  where
-    there : (o : Option Life) → is_some (or_before o (Some l)) ≡ true
-    there None = refl
-    there (Some m) = refl
-
--- one that has a life isn't the next
-pub not_next : (start : Start) (past : List Event) (s : ℕ) (o : Option Life) → life start past s ≡ o → is_some o ≡ true → (s == births start past + 1) ≡ false
-not_next start past s None is there = absurd (cc)
-not_next start past s (Some l) is there = not_true (s == births start past + 1) (λ next. absurd (let lt : births start past < s = grind (arith, nat_tests) in let f : Some l ≡ None = sym is ∙ no_life start past s (inr lt) in cc))
+    let room = is-room start.place.limits (births start past + 1) (count_alive start.place.limits (lives start past)) r b.serial b.place in
+    ap (λ (d : Bool). is_some (when d (Born (now past) source r))) (and-three (ap is_none b.no_tag) b.fits (ap not room))
 
 pub births_law : BirthsLaw
-unfolding befell
+unfolding is_born_at
 births_law start past = record {
   where_born = λ source r. (λ h. born_where start past source r (birth_at start past (Comes source r)) refl h, where_born start past source r);
   counted = births-next start past;
-  born = λ e s. ap is_some (life-next start past e s) ∙ born-by start s past e (s == births start past + 1) (birth_at start past e) (life start past s) (not_next start past s (life start past s) refl);
+  born = λ e s. ap is_some (life-next start past e s) ∙ born_here e s;
 }
+  where
+    there : (o : Option Life) (l : Life) → is_some (or_before o (Some l)) ≡ true
+    there None l = refl
+    there (Some m) l = refl
+
+    born_here : (e : Event) (s : ℕ) → is_some (or_before (befell start past e s) (life start past s)) ≡ (is_some (life start past s) || is_born_at start s past e)
+    born_here e s = by_fate start past e s (λ o before. is_some (or_before o before) ≡ (is_some before || is_born_at start s past e))
+        (λ unborn. sym unborn) (λ l next begins. rw (next, begins) refl) (λ l is gone. refl) (λ l is alive. there (lived start s past e l) l)
+
+-- a life goes on as what befell it says
+pub goes_on_law : GoesOnLaw
+goes_on_law = life-next
 
 -- ---- gone for good
 
-gone-by : (start : Start) (s : ℕ) (past : List Event) (e : Event) (d : Bool) (begun o : Option Life) → is_gone_by start.place.limits (or_before (befalls start s past e d begun o) o) ≡ (is_gone_by start.place.limits o || is_gone_by start.place.limits (befalls start s past e d begun o))
-unfolding befalls
-gone-by start s past e true None None = refl
-gone-by start s past e true (Some l) None = refl
-gone-by start s past e false begun None = refl
-gone-by start s past e d begun (Some l) = by_gone (is_gone start.place.limits l) refl
-  where
-    by_lived : is_gone start.place.limits l ≡ false → (o : Option Life) → is_gone_by start.place.limits (or_before o (Some l)) ≡ (false || is_gone_by start.place.limits o)
-    by_lived alive None = alive
-    by_lived alive (Some m) = refl
-
-    by_gone : (d : Bool) → is_gone start.place.limits l ≡ d → is_gone_by start.place.limits (or_before (if d then None else lived start s past e l) (Some l)) ≡ (d || is_gone_by start.place.limits (if d then None else lived start s past e l))
-    by_gone true g = g
-    by_gone false g = by_lived g (lived start s past e l)
-
 pub gone_law : GoneLaw
-unfolding befell
-gone_law start past e s = ap (is_gone_by start.place.limits) (life-next start past e s) ∙ gone-by start s past e (s == births start past + 1) (birth_at start past e) (life start past s)
-
-gone-nothing : (start : Start) (s : ℕ) (past : List Event) (e : Event) (d : Bool) (begun o : Option Life) → is_gone_by start.place.limits o ≡ true → befalls start s past e d begun o ≡ None
-unfolding befalls
-gone-nothing start s past e d begun None h = absurd (cc)
-gone-nothing start s past e d begun (Some l) h = rw h refl
+gone_law start past e s =
+    ap (is_gone_by start.place.limits) (life-next start past e s)
+    ∙ by_fate start past e s (λ o before. is_gone_by start.place.limits (or_before o before) ≡ (is_gone_by start.place.limits before || is_gone_by start.place.limits o))
+    (λ unborn. refl) (λ l next begins. refl) (λ l is gone. rw gone refl) (λ l is alive. by_lived l alive (lived start s past e l))
+  where
+    by_lived : (l : Life) → is_gone start.place.limits l ≡ false → (o : Option Life) → is_gone_by start.place.limits (or_before o (Some l)) ≡ (is_gone start.place.limits l || is_gone_by start.place.limits o)
+    by_lived l alive None = rw alive refl
+    by_lived l alive (Some m) = rw alive refl
 
 pub silent_law : SilentLaw
-unfolding notices notices_at befell
+unfolding notices notices_at
 silent_law start past e s h =
-    ap (λ (o : Option Life). notices start s past ++ notices_at start (e ∷ past) o) (gone-nothing start s past e (s == births start past + 1) (birth_at start past e) (life start past s) h)
+    ap (λ (o : Option Life). notices start s past ++ notices_at start (e ∷ past) o) (nothing h)
     ∙ append-nil (notices start s past)
+  where
+    nothing : is_gone_by start.place.limits (life start past s) ≡ true → befell start past e s ≡ None
+    nothing = by_fate start past e s (λ o before. is_gone_by start.place.limits before ≡ true → o ≡ None)
+        (λ unborn h. refl) (λ l next begins h. absurd (cc)) (λ l is gone h. refl) (λ l is alive h. absurd (never_both (is_gone start.place.limits l) h alive))
 
 pub touched_law : TouchedLaw
 touched_law = number-next
@@ -240,56 +226,30 @@ by_tick P limits moment l lost due none = by_tests (is_overdue limits moment l) 
     by_tests false true = due
     by_tests false false = none
 
-abbrev Rises : Option Life → Type 0
-Rises None = Unit {0}
-Rises (Some l) = rise (cseqs l) ≡ true
+abbrev Rises : Life → Option Life → Type 0
+Rises l o = After (λ m. rise (cseqs m) ≡ true) l o
 
-rising-lived : (start : Start) (s : ℕ) (past : List Event) (e : Event) (l : Life) → rise (cseqs l) ≡ true → Rises (lived start s past e l)
+rising-lived : (start : Start) (s : ℕ) (past : List Event) (e : Event) (l : Life) → rise (cseqs l) ≡ true → Rises l (lived start s past e l)
 unfolding cseqs is_above
 rising-lived start s past (Comes source r) l h = rw (lived-comes start s past source r l)
-    (when_is Rises (hears start s past r l) (Then (now past) (Heard source r) l) (λ heard. rw (above heard) h) (λ g. tt))
+    (when_is (Rises l) (hears start s past r l) (Then (now past) (Heard source r) l) (λ heard. rw (above heard) h) (λ g. h))
   where
     above : hears start s past r l ≡ true → is_above l r.head.cseq ≡ true
     above heard = unfold hears may_hear in and-right _ (is_above l r.head.cseq) (and-right (is_fresh start.place.limits past r) _ (and-right _ _ (unfold hears may_hear in heard)))
-rising-lived start s past (Replies r) l h = rw (lived-replies start s past r l) (if_is Rises (is_answer_in_dialog (tag_of start.place s) (birth l) r && is_to_notify start.place.limits r l) (option_map (λ d. Then (now past) d l) (answer_deed r)) None (λ g. by_answer Rises start.place.limits (now past) r l h h tt) (λ g. tt))
-rising-lived start s past (Mails m) l h = rw (lived-mails start s past m l) (when_is Rises _ (Then (now past) MailChanged l) (λ g. h) (λ g. tt))
-rising-lived start s past (Progresses p) l h = rw (lived-progresses start s past p l) (when_is Rises _ (Then (now past) (Progressed p) l) (λ g. h) (λ g. tt))
-rising-lived start s past (Ticks t) l h = rw (lived-ticks start s past t l) (by_tick Rises start.place.limits (now (Ticks t ∷ past)) l h h tt)
+rising-lived start s past (Replies r) l h = rw (lived-replies start s past r l) (if_is (Rises l) (is_answer_in_dialog (tag_of start.place s) (birth l) r && is_to_notify start.place.limits r l) (option_map (λ d. Then (now past) d l) (answer_deed r)) None (λ g. by_answer (Rises l) start.place.limits (now past) r l h h h) (λ g. h))
+rising-lived start s past (Mails m) l h = rw (lived-mails start s past m l) (when_is (Rises l) _ (Then (now past) MailChanged l) (λ g. h) (λ g. h))
+rising-lived start s past (Progresses p) l h = rw (lived-progresses start s past p l) (when_is (Rises l) _ (Then (now past) (Progressed p) l) (λ g. h) (λ g. h))
+rising-lived start s past (Ticks t) l h = rw (lived-ticks start s past t l) (by_tick (Rises l) start.place.limits (now (Ticks t ∷ past)) l h h h)
 rising-lived start s past Shuts l h = rw (lived-shuts start s past l) h
 
-rising-after : (start : Start) (s : ℕ) (past : List Event) (e : Event) (d : Bool) (begun o : Option Life) → Rises begun → Rises o → Rises (or_before (befalls start s past e d begun o) o)
-unfolding befalls
-rising-after start s past e true None None b h = tt
-rising-after start s past e true (Some m) None b h = b
-rising-after start s past e false begun None b h = tt
-rising-after start s past e d begun (Some l) b h = by_gone (is_gone start.place.limits l)
-  where
-    by_lived : (o : Option Life) → Rises o → Rises (or_before o (Some l))
-    by_lived None r = h
-    by_lived (Some m) r = r
-
-    by_gone : (c : Bool) → Rises (or_before (if c then None else lived start s past e l) (Some l))
-    by_gone true = h
-    by_gone false = by_lived (lived start s past e l) (rising-lived start s past e l h)
-
-rising_born : (start : Start) (past : List Event) (e : Event) (o : Option Life) → birth_at start past e ≡ o → Rises o
+rising_born : (start : Start) (past : List Event) (e : Event) (l : Life) → birth_at start past e ≡ Some l → rise (cseqs l) ≡ true
 unfolding cseqs
-rising_born start past e None is = tt
-rising_born start past e (Some l) is = let b = birth_of_some start past e l is in subst (λ (x : Life). rise (cseqs x) ≡ true) (sym b.is) refl
-
-rises : (start : Start) (past : List Event) (s : ℕ) → Rises (life start past s)
-unfolding befell
-rises start [] s = unfold births life in tt
-rises start (e ∷ past) s = subst Rises (sym (life-next start past e s)) (rising-after start s past e (s == births start past + 1) (birth_at start past e) (life start past s) (rising_born start past e (birth_at start past e) refl) (rises start past s))
+rising_born start past e l is = subst (λ (x : Life). rise (cseqs x) ≡ true) (sym (birth_of_some start past e l is).is) refl
 
 pub rising_law : RisingLaw
-rising_law start past s l is = subst Rises is (rises start past s)
+rising_law start past s l is = each_life start (λ past s l. rise (cseqs l) ≡ true) (λ past e l begins. rising_born start past e l begins) (λ past e s l at h alive. rising-lived start s past e l h) (λ past e s l h gone. h) past s l is
 
 -- ---- how far a transfer has come
-
-abbrev IsStatus : Start → ℕ → List Event → Option Life → Type 0
-IsStatus start s es None = Unit {0}
-IsStatus start s es (Some m) = is_refer (birth m) ≡ true → status m ≡ last_status start s es
 
 -- and where nothing befalls a transfer, no Progress of its tag came
 abbrev StatusAt : Start → ℕ → List Event → Event → Life → Option Life → Type 0
@@ -313,53 +273,40 @@ lived-status_after start s past (Progresses p) l = rw (lived-progresses start s 
     left_false false b e h = refl
 
 -- the status of one that isn't gone
-abbrev Stands : Start → ℕ → List Event → Option Life → Type 0
-Stands start s past None = Unit {0}
-Stands start s past (Some l) = is_gone start.place.limits l ≡ false → is_refer (birth l) ≡ true → status l ≡ last_status start s past
+abbrev Stands : Start → ℕ → List Event → Life → Type 0
+Stands start s past l = is_gone start.place.limits l ≡ false → is_refer (birth l) ≡ true → status l ≡ last_status start s past
 
-record Told_status (start : Start) (s : ℕ) (past : List Event) (e : Event) (befallen before : Option Life) : Type 0 where
-  here : IsStatus start s (e ∷ past) befallen
-  after : Stands start s (e ∷ past) (or_before befallen before)
+status_born : (start : Start) (past : List Event) (e : Event) (s : ℕ) (l : Life) → (s == births start past + 1) ≡ true → birth_at start past e ≡ Some l → status l ≡ last_status start s (e ∷ past)
+unfolding status last_status is_born_at
+status_born start past e s l next begins = ap status (birth_of_some start past e l begins).is ∙ rw (next, begins) refl
 
-status_born : (start : Start) (past : List Event) (e : Event) (l : Life) → birth_at start past e ≡ Some l → status l ≡ (100, codes "Trying")
-unfolding status
-status_born start past e l is = ap status (birth_of_some start past e l is).is
+-- a living one has the status that the event leaves
+status_on : (start : Start) (past : List Event) (e : Event) (s : ℕ) (l : Life) → life start past s ≡ Some l → Stands start s past l → is_gone start.place.limits l ≡ false → is_refer (birth l) ≡ true → status_after (tag_of start.place s) e (status l) ≡ last_status start s (e ∷ past)
+unfolding last_status is_born_at
+status_on start past e s l is h alive refers = rw (not_next start past s l is) (ap (status_after (tag_of start.place s) e) (h alive refers))
 
-status_by : (start : Start) (s : ℕ) (past : List Event) (e : Event) (d : Bool) (begun o : Option Life) → (s == births start past + 1) ≡ d → birth_at start past e ≡ begun → life start past s ≡ o → Stands start s past o → Told_status start s past e (befalls start s past e d begun o) o
-unfolding befalls last_status
-status_by start s past e true None None next is at h = record { here = tt; after = tt }
-status_by start s past e true (Some l) None next is at h =
-    let now_born : status l ≡ last_status start s (e ∷ past) = status_born start past e l is ∙ rw (next, is) refl in
-    record { here = λ f. now_born; after = λ g f. now_born }
-status_by start s past e false begun None next is at h = record { here = tt; after = tt }
-status_by start s past e d begun (Some l) next is at h = by_gone (is_gone start.place.limits l) refl
+status_lived : (start : Start) (past : List Event) (e : Event) (s : ℕ) (l m : Life) → life start past s ≡ Some l → Stands start s past l → is_gone start.place.limits l ≡ false → lived start s past e l ≡ Some m → is_refer (birth m) ≡ true → status m ≡ last_status start s (e ∷ past)
+status_lived start past e s l m is h alive at refers =
+    let after = subst (StatusAt start s past e l) at (lived-status_after start s past e l) refers in
+    after.1 ∙ status_on start past e s l is h alive after.0
+
+status_stays : (start : Start) (past : List Event) (e : Event) (s : ℕ) (l : Life) → life start past s ≡ Some l → Stands start s past l → is_gone start.place.limits l ≡ false → lived start s past e l ≡ None → is_refer (birth l) ≡ true → status l ≡ last_status start s (e ∷ past)
+status_stays start past e s l is h alive at refers = subst (StatusAt start s past e l) at (lived-status_after start s past e l) refers ∙ status_on start past e s l is h alive refers
+
+stands : (start : Start) (past : List Event) (s : ℕ) (l : Life) → life start past s ≡ Some l → Stands start s past l
+stands start past s l is = each_life start (λ past s l. Stands start s past l)
+    (λ past e l begins alive refers. status_born start past e (births start past + 1) l (let own : (births start past + 1 == births start past + 1) ≡ true = grind (arith, nat_tests) in own) begins)
+    (λ past e s l at h alive. on past e s l at h alive (lived start s past e l) refl)
+    (λ past e s l h gone alive. absurd (never_both (is_gone start.place.limits l) gone alive))
+    past s l is
   where
-    older : last_status start s (e ∷ past) ≡ status_after (tag_of start.place s) e (last_status start s past)
-    older = rw (not_next start past s (Some l) at refl) refl
-
-    by_lived : is_gone start.place.limits l ≡ false → (o : Option Life) → StatusAt start s past e l o → Told_status start s past e o (Some l)
-    by_lived alive None k = record { here = tt; after = λ g f. k f ∙ (ap (status_after (tag_of start.place s) e) (h alive f) ∙ sym older) }
-    by_lived alive (Some m) k = record {
-      here = λ f. (k f).1 ∙ (ap (status_after (tag_of start.place s) e) (h alive (k f).0) ∙ sym older);
-      after = λ g f. (k f).1 ∙ (ap (status_after (tag_of start.place s) e) (h alive (k f).0) ∙ sym older);
-    }
-
-    by_gone : (c : Bool) → is_gone start.place.limits l ≡ c → Told_status start s past e (if c then None else lived start s past e l) (Some l)
-    by_gone true g = record { here = tt; after = λ alive f. absurd (never_both (is_gone start.place.limits l) g alive) }
-    by_gone false g = by_lived g (lived start s past e l) (lived-status_after start s past e l)
-
-stands : (start : Start) (s : ℕ) (past : List Event) → Stands start s past (life start past s)
-unfolding befell
-stands start s [] = nothing
-  where
-    nothing : Stands start s [] (life start [] s)
-    nothing = unfold births life in tt
-stands start s (e ∷ past) = subst (λ (o : Option Life). Stands start s (e ∷ past) o) (sym (life-next start past e s)) (status_by start s past e (s == births start past + 1) (birth_at start past e) (life start past s) refl refl refl (stands start s past)).after
+    on : (past : List Event) (e : Event) (s : ℕ) (l : Life) → life start past s ≡ Some l → Stands start s past l → is_gone start.place.limits l ≡ false → (o : Option Life) → lived start s past e l ≡ o → After (Stands start s (e ∷ past)) l o
+    on past e s l at h alive None is = λ g refers. status_stays start past e s l at h alive is refers
+    on past e s l at h alive (Some m) is = λ g refers. status_lived start past e s l m at h alive is refers
 
 pub status_law : StatusLaw
-unfolding befell
-status_law start past e s m is refers = at_some (befell start past e s) is (status_by start s past e (s == births start past + 1) (birth_at start past e) (life start past s) refl refl refl (stands start s past)).here
-  where
-    at_some : (o : Option Life) → o ≡ Some m → IsStatus start s (e ∷ past) o → status m ≡ last_status start s (e ∷ past)
-    at_some None f h = absurd (cc)
-    at_some (Some n) f h = let same : n ≡ m = cc in subst (λ (x : Life). is_refer (birth x) ≡ true → status x ≡ last_status start s (e ∷ past)) same h refers
+status_law start past e s m = by_fate start past e s (λ o before. o ≡ Some m → is_refer (birth m) ≡ true → status m ≡ last_status start s (e ∷ past))
+    (λ unborn h. absurd (cc))
+    (λ l next begins h refers. let same : l ≡ m = cc in subst (λ (x : Life). status x ≡ last_status start s (e ∷ past)) same (status_born start past e s l next begins))
+    (λ l is gone h. absurd (cc))
+    (λ l is alive h refers. status_lived start past e s l m is (stands start past s l is) alive h refers)

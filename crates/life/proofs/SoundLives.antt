@@ -1,6 +1,6 @@
 -- What is true of each life at any moment, and what befalls a living one.
 use Rattle.std.proofs.Common.{◌≡◌, ℕ, ◌+◌, ◌<◌, List, [], ◌∷◌, ◌++◌, Option, Some, None, Bool, true, false, not, ◌&&◌, refl, sym, ◌∙◌, ap, arith, subst}
-use Rattle.std.specs.Prelude.{if◌then◌else◌, ◌==◌, ◌||◌, nat_lt, nat_le, min, is_some, is_none, bytes_eq, filter, option_map}
+use Rattle.std.specs.Prelude.{if◌then◌else◌, ◌==◌, ◌||◌, nat_lt, nat_le, min, is_some, is_none, bytes_eq, filter, option_map, option_and_then}
 use Rattle.std.specs.List.{list_any}
 use Rattle.std.proofs.lemmas.Bool.Decides.{nat_tests}
 use Rattle.std.proofs.Math.Bool.{and-true}
@@ -23,11 +23,12 @@ use Rattle.notifier_model.specs.declared.event.Event.TheVariants.{Request as Com
 use Rattle.notifier_model.specs.Requests.{is_refer, event_of, is_of_refer, asked, granted, asks_nothing, is_unwatched, is_no, misfit, misplaced_at, is_acceptable, is_too_brief, user_part}
 use Rattle.notifier_model.specs.declared.refusal.Refusal.TheVariants.{OnlyByRefer, NotAcceptable, NoResource, TooBrief}
 use Rattle.life.specs.Past.{now, is_placed, is_fresh, fits}
-use Rattle.life.specs.Life.{Deed, Life, Born, Then, Heard, MailChanged, Progressed, Due, Answered, Disowned, Lost, Stopped, Hearing, hearing, last_heard, cseqs, birth, is_accepted, is_above, is_grant, is_news, end_of, end_of_grant, status, is_touched, number, just_made, unanswered, is_overdue, ended, terminated, is_removed, is_gone}
-use Rattle.life.specs.Lives.{when, is_answer_in_dialog, is_to_notify, answer_deed, tick_deed, is_due, may_hear, lived, befalls, or_before, births, life, birth_at, befell}
+use Rattle.life.specs.Life.{Deed, Life, Born, Then, Heard, MailChanged, Progressed, Due, Answered, Disowned, Lost, Stopped, Hearing, hearing, last_heard, cseqs, birth, accepts, is_above, grants, last_grant, is_news, end_of, end_of_grant, status, is_touched, number, just_made, unanswered, is_overdue, ended, terminated, is_removed, is_gone}
+use Rattle.life.specs.Lives.{when, is_answer_in_dialog, is_to_notify, answer_deed, tick_deed, is_due, may_hear, lived, befalls, life, birth_at}
+use Rattle.life.specs.Sentences.{or_before}
 use Rattle.life.proofs.Deeds.{hears, lived-comes, lived-replies, lived-mails, lived-progresses, lived-ticks, lived-shuts, lived_is}
 use Rattle.life.proofs.Rows.{last_cseq}
-use Rattle.life.proofs.NextLives.{life-next, birth_of_some, Ranges}
+use Rattle.life.proofs.NextLives.{After, befell-none, each_life, life-next, birth_of_some, Ranges}
 
 pub record Sound (start : Start) (past : List Event) (l : Life) : Type 0 where
   pub above : (c : ℕ) → is_above l c ≡ nat_lt (last_cseq l) c
@@ -155,8 +156,8 @@ unfolding is_above cseqs last_cseq birth now end_of_grant last_heard status
 sound_heard start past source r l ok sound alive above = record {
   above = λ c. let a = sound.above c in let b = sound.above r.head.cseq in rw a (lt_all r.head.cseq (last_cseq l) c (sym b ∙ above));
   plain = sound.plain;
-  time = λ g. if_is (λ (h : Hearing). now past < end_of start.place.limits h) (is_grant start.place.limits (birth l) r) (hearing (now past) source r) (last_heard (is_grant start.place.limits (birth l)) l)
-      (λ e. let pos = granted-positive start.place.limits r ok (asks-something start.place.limits r (and-right (is_accepted start.place.limits (birth l) r) (nat_lt 0 (asked start.place.limits r)) e)) in omega arith)
+  time = λ g. if_is (λ (h : Hearing). now past < end_of start.place.limits h) (grants start.place.limits l r) (hearing (now past) source r) (last_grant start.place.limits l)
+      (λ e. let pos = granted-positive start.place.limits r ok (asks-something start.place.limits r (and-right (accepts start.place.limits l r) (nat_lt 0 (asked start.place.limits r)) e)) in omega arith)
       (λ e. sound.time alive);
   unfinished = λ g. sound.unfinished alive;
   patient = λ g. unfold is_overdue unanswered now in still_early start.place.limits (now past) l (Then (now past) (Heard source r) l) (sound.patient alive);
@@ -191,8 +192,7 @@ sound_stays : (start : Start) (past : List Event) (e : Event) (l : Life) → Sou
 sound_stays start past e l sound later = record { above = sound.above; plain = sound.plain; time = λ g. (later g).0; unfinished = sound.unfinished; patient = λ g. (later g).1 }
 
 abbrev pub SoundAfter : Start → List Event → Life → Option Life → Type 0
-SoundAfter start es l None = Sound start es l
-SoundAfter start es l (Some m) = Sound start es m
+SoundAfter start es l o = After (Sound start es) l o
 
 sound_changed : (start : Start) (past : List Event) (m : MailChange) (l : Life) → Sound start past l → is_gone start.place.limits l ≡ false → Sound start (Mails m ∷ past) (Then (now past) MailChanged l)
 unfolding is_above cseqs last_cseq birth now end_of_grant last_heard status
@@ -276,24 +276,6 @@ sound_lived start s past (Progresses p) l ok sound alive = rw (lived-progresses 
 sound_lived start s past (Ticks t) l ok sound alive = rw (lived-ticks start s past t l) (sound_ticked start past t l sound)
 sound_lived start s past Shuts l ok sound alive = rw (lived-shuts start s past l) (sound_gone start past Shuts (now past) Stopped l sound (λ c. refl, refl) (gone_stopped start.place.limits (now past) l))
 
-sound_after : (start : Start) (past : List Event) (e : Event) (s : ℕ) (is_next : Bool) (begun before : Option Life) → Ranges start.place.limits → ((m : Life) → begun ≡ Some m → Sound start (e ∷ past) m) → ((m : Life) → before ≡ Some m → Sound start past m) → (l : Life) → or_before (befalls start s past e is_next begun before) before ≡ Some l → Sound start (e ∷ past) l
-unfolding befalls
-sound_after start past e s true begun None ok birth was l h = birth l (by_begun begun h)
-  where
-    by_begun : (o : Option Life) → or_before o None ≡ Some l → o ≡ Some l
-    by_begun None h = absurd (cc)
-    by_begun (Some m) h = h
-sound_after start past e s false begun None ok birth was l h = absurd (cc)
-sound_after start past e s is_next begun (Some m) ok birth was l h = by_gone (is_gone start.place.limits m) refl h
-  where
-    by_lived : (o : Option Life) → SoundAfter start (e ∷ past) m o → or_before o (Some m) ≡ Some l → Sound start (e ∷ past) l
-    by_lived None sound h = let same : m ≡ l = cc in subst (λ (x : Life). Sound start (e ∷ past) x) same sound
-    by_lived (Some n) sound h = let same : n ≡ l = cc in subst (λ (x : Life). Sound start (e ∷ past) x) same sound
-
-    by_gone : (d : Bool) → is_gone start.place.limits m ≡ d → or_before (if d then None else lived start s past e m) (Some m) ≡ Some l → Sound start (e ∷ past) l
-    by_gone true g h = let same : m ≡ l = cc in subst (λ (x : Life). Sound start (e ∷ past) x) same (sound_stays start past e m (was m refl) (λ alive. absurd (never_both (is_gone start.place.limits m) g alive)))
-    by_gone false g h = by_lived (lived start s past e m) (sound_lived start s past e m ok (was m refl) g) h
-
 birth_sound : (start : Start) (past : List Event) (e : Event) (m : Life) → Ranges start.place.limits → birth_at start past e ≡ Some m → Sound start (e ∷ past) m
 birth_sound start past e m ok h =
     let b = birth_of_some start past e m h in
@@ -301,13 +283,12 @@ birth_sound start past e m ok h =
 
 -- each life is sound
 pub sound_of : (start : Start) (past : List Event) (s : ℕ) (l : Life) → Ranges start.place.limits → life start past s ≡ Some l → Sound start past l
-unfolding befell
-sound_of start [] s l ok h = absurd (nothing h)
-  where
-    nothing : life start [] s ≡ Some l → ⊥
-    nothing h = let none : life start [] s ≡ None = unfold life in refl in cc
-sound_of start (e ∷ past) s l ok h =
-    sound_after start past e s (s == births start past + 1) (birth_at start past e) (life start past s) ok (λ m is. birth_sound start past e m ok is) (λ m is. sound_of start past s m ok is) l (sym (life-next start past e s) ∙ h)
+sound_of start past s l ok is =
+    each_life start (λ past s l. Sound start past l)
+    (λ past e l begins. birth_sound start past e l ok begins)
+    (λ past e s l at sound alive. sound_lived start s past e l ok sound alive)
+    (λ past e s l sound gone. sound_stays start past e l sound (λ alive. absurd (never_both (is_gone start.place.limits l) gone alive)))
+    past s l is
 
 -- ---- where a living one came from, at an event without a birth
 
@@ -317,19 +298,17 @@ pub record Came (start : Start) (past : List Event) (e : Event) (s : ℕ) (m : L
   pub alive : is_gone start.place.limits before ≡ false
   pub next : or_before (lived start s past e before) (Some before) ≡ Some m
 
-came_after : (start : Start) (past : List Event) (e : Event) (s : ℕ) (is_next : Bool) (o : Option Life) (m : Life) → life start past s ≡ o → is_gone start.place.limits m ≡ false → or_before (befalls start s past e is_next None o) o ≡ Some m → Came start past e s m
+came_after : (start : Start) (past : List Event) (e : Event) (s : ℕ) (o : Option Life) (m : Life) → life start past s ≡ o → is_gone start.place.limits m ≡ false → or_before (option_and_then (befalls start s past e) o) o ≡ Some m → Came start past e s m
 unfolding befalls
-came_after start past e s true None m is alive h = absurd (cc)
-came_after start past e s false None m is alive h = absurd (cc)
-came_after start past e s is_next (Some l) m is alive h = by_gone (is_gone start.place.limits l) refl h
+came_after start past e s None m is alive h = absurd (cc)
+came_after start past e s (Some l) m is alive h = by_gone (is_gone start.place.limits l) refl h
   where
     by_gone : (d : Bool) → is_gone start.place.limits l ≡ d → or_before (if d then None else lived start s past e l) (Some l) ≡ Some m → Came start past e s m
     by_gone true g h = absurd (let same : l ≡ m = cc in never_both (is_gone start.place.limits l) g (ap (is_gone start.place.limits) same ∙ alive))
     by_gone false g h = record { before = l; is = is; alive = g; next = h }
 
 pub came : (start : Start) (past : List Event) (e : Event) (s : ℕ) (m : Life) → birth_at start past e ≡ None → life start (e ∷ past) s ≡ Some m → is_gone start.place.limits m ≡ false → Came start past e s m
-unfolding befell
-came start past e s m none is alive = came_after start past e s (s == births start past + 1) (life start past s) m refl alive (rw (← none) (sym (life-next start past e s) ∙ is))
+came start past e s m none is alive = came_after start past e s (life start past s) m refl alive (rw (← befell-none start past e s none) (sym (life-next start past e s) ∙ is))
 
 -- what befalls keeps the birth, and the status but for a Progress
 abbrev pub BirthKept : Life → Option Life → Type 0

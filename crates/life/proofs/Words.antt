@@ -1,6 +1,6 @@
 -- A living transfer has come as far as the words of it say.
-use Rattle.std.proofs.Common.{◌≡◌, ℕ, ◌+◌, List, [], ◌∷◌, ◌++◌, Option, Some, None, Bool, true, false, refl, sym, ◌∙◌, ap, subst}
-use Rattle.std.specs.Prelude.{if◌then◌else◌, ◌==◌, find, unwrap_or}
+use Rattle.std.proofs.Common.{◌≡◌, ℕ, ◌+◌, List, [], ◌∷◌, ◌++◌, Option, Some, None, false, refl, sym, ◌∙◌, ap, subst}
+use Rattle.std.specs.Prelude.{find, unwrap_or}
 use Rattle.std.proofs.lemmas.List.Folds.{find-append}
 use Rattle.package.specs.Content.{is_final}
 use Rattle.package.specs.Run.{Status, last_status, trying}
@@ -9,10 +9,10 @@ use Rattle.notifier_model.specs.Start.{Start}
 use Rattle.notifier_model.specs.declared.event.Event.{Event}
 use Rattle.life.specs.Past.{now}
 use Rattle.life.specs.Life.{Deed, Life, Born, Then, Heard, MailChanged, Progressed, Due, Answered, Disowned, Lost, Stopped, status, is_gone}
-use Rattle.life.specs.Lives.{lived, befalls, or_before, births, life, birth_at, befell}
+use Rattle.life.specs.Lives.{lived, life}
 use Rattle.life.specs.Sentences.{words, TransferLaw}
 use Rattle.life.proofs.Deeds.{lived_is}
-use Rattle.life.proofs.NextLives.{life-next, birth_of_some, Ranges, ranges}
+use Rattle.life.proofs.NextLives.{After, befell-born, each_life, life-next, birth_of_some, Ranges, ranges}
 use Rattle.life.proofs.SoundLives.{sound_of}
 
 last-of : (first s : Status) (ws : List Status) → last_status first (ws ++ s ∷ []) ≡ s
@@ -32,9 +32,8 @@ status-is (Then t Lost l) = status-is l
 status-is (Then t Stopped l) = status-is l
 
 -- no word of one that lives is final
-abbrev Unfinished : Limits → Option Life → Type 0
-Unfinished limits None = Unit {0}
-Unfinished limits (Some l) = is_gone limits l ≡ false → find (λ (s : Status). is_final s.0) (words l) ≡ None
+abbrev Unfinished : Limits → Life → Type 0
+Unfinished limits l = is_gone limits l ≡ false → find (λ (s : Status). is_final s.0) (words l) ≡ None
 
 unfinished_then : (moment : ℕ) (deed : Deed) (l : Life) → find (λ (s : Status). is_final s.0) (words l) ≡ None → is_final (status (Then moment deed l)).0 ≡ false → find (λ (s : Status). is_final s.0) (words (Then moment deed l)) ≡ None
 unfolding status
@@ -47,38 +46,25 @@ unfinished_then moment Disowned l h f = h
 unfinished_then moment Lost l h f = h
 unfinished_then moment Stopped l h f = h
 
--- of whatever lives, the status isn't final
-abbrev Open : Limits → Option Life → Type 0
-Open limits o = (m : Life) → o ≡ Some m → is_gone limits m ≡ false → is_final (status m).0 ≡ false
-
-unfinished_after : (start : Start) (s : ℕ) (past : List Event) (e : Event) (d : Bool) (begun o : Option Life) → Open start.place.limits (or_before (befalls start s past e d begun o) o) → Unfinished start.place.limits begun → Unfinished start.place.limits o → Unfinished start.place.limits (or_before (befalls start s past e d begun o) o)
-unfolding befalls
-unfinished_after start s past e true None None k b h = tt
-unfinished_after start s past e true (Some m) None k b h = b
-unfinished_after start s past e false begun None k b h = tt
-unfinished_after start s past e d begun (Some l) k b h = by_gone (is_gone start.place.limits l) refl k
+unfinished_on : (start : Start) (s : ℕ) (past : List Event) (e : Event) (l : Life) → Ranges start.place.limits → life start past s ≡ Some l → Unfinished start.place.limits l → is_gone start.place.limits l ≡ false → After (Unfinished start.place.limits) l (lived start s past e l)
+unfinished_on start s past e l ok is h alive = lived_is start s past e l (λ o. After (λ m. is_gone start.place.limits m ≡ false → is_final (status m).0 ≡ false) l o → After (Unfinished start.place.limits) l o)
+    (λ none. h) (λ deed none g. unfinished_then (now (e ∷ past)) deed l (h alive) (none g)) not_final
   where
-    by_lived : is_gone start.place.limits l ≡ false → Open start.place.limits (or_before (lived start s past e l) (Some l)) → Unfinished start.place.limits (or_before (lived start s past e l) (Some l))
-    by_lived alive = lived_is start s past e l (λ (o : Option Life). Open start.place.limits (or_before o (Some l)) → Unfinished start.place.limits (or_before o (Some l))) (λ k. h)
-        (λ deed k g. unfinished_then (now (e ∷ past)) deed l (h alive) (k (Then (now (e ∷ past)) deed l) refl g))
+    not_final : After (λ m. is_gone start.place.limits m ≡ false → is_final (status m).0 ≡ false) l (lived start s past e l)
+    not_final = by_lived (lived start s past e l) refl
+      where
+        by_lived : (o : Option Life) → lived start s past e l ≡ o → After (λ m. is_gone start.place.limits m ≡ false → is_final (status m).0 ≡ false) l o
+        by_lived None at = (sound_of start past s l ok is).unfinished
+        by_lived (Some m) at = (sound_of start (e ∷ past) s m ok (life-next start past e s ∙ rw (befell-born start past e s l is, alive, at) refl)).unfinished
 
-    by_gone : (c : Bool) → is_gone start.place.limits l ≡ c → Open start.place.limits (or_before (if c then None else lived start s past e l) (Some l)) → Unfinished start.place.limits (or_before (if c then None else lived start s past e l) (Some l))
-    by_gone true g k = h
-    by_gone false g k = by_lived g k
-
-unfinished_born : (start : Start) (past : List Event) (e : Event) (o : Option Life) → birth_at start past e ≡ o → Unfinished start.place.limits o
-unfinished_born start past e None is = tt
-unfinished_born start past e (Some l) is = let b = birth_of_some start past e l is in subst (λ (x : Life). Unfinished start.place.limits (Some x)) (sym b.is) (λ g. refl)
-
-unfinished : (start : Start) (past : List Event) (s : ℕ) → Ranges start.place.limits → Unfinished start.place.limits (life start past s)
-unfolding befell
-unfinished start [] s ok = unfold births life in tt
-unfinished start (e ∷ past) s ok =
-    subst (Unfinished start.place.limits) (sym (life-next start past e s))
-    (unfinished_after start s past e (s == births start past + 1) (birth_at start past e) (life start past s)
-    (λ m is alive. (sound_of start (e ∷ past) s m ok (life-next start past e s ∙ is)).unfinished alive)
-    (unfinished_born start past e (birth_at start past e) refl) (unfinished start past s ok))
+unfinished : (start : Start) (past : List Event) (s : ℕ) (l : Life) → Ranges start.place.limits → life start past s ≡ Some l → Unfinished start.place.limits l
+unfinished start past s l ok is =
+    each_life start (λ past s l. Unfinished start.place.limits l)
+    (λ past e l begins. subst (Unfinished start.place.limits) (sym (birth_of_some start past e l begins).is) (λ g. refl))
+    (λ past e s l at h alive. unfinished_on start s past e l ok at h alive)
+    (λ past e s l h gone. h)
+    past s l is
 
 pub transfer_law : TransferLaw
 transfer_law start past s l ok is alive =
-    status-is l ∙ ap (λ (o : Option Status). unwrap_or o (last_status trying (words l))) (sym (subst (Unfinished start.place.limits) is (unfinished start past s (ranges start.place.limits ok.limits)) alive))
+    status-is l ∙ ap (λ (o : Option Status). unwrap_or o (last_status trying (words l))) (sym (unfinished start past s l (ranges start.place.limits ok.limits) is alive))

@@ -10,8 +10,8 @@ use Rattle.notifier_model.specs.Start.{StartBy}
 use Rattle.notifier_model.specs.Requests.{key_of_request}
 use Rattle.life.specs.Past.{is_new, with_key}
 use Rattle.life.specs.Life.{Life, is_gone}
-use Rattle.life.specs.Lives.{may_hear, life}
-use Rattle.life.specs.Own.{is_born_here, is_own}
+use Rattle.life.specs.Lives.{may_hear, life, is_born_at}
+use Rattle.life.specs.Own.{is_own}
 
 -- ---- keys (RFC 3261 section 17.2.3)
 
@@ -50,7 +50,7 @@ module _ {maps : Maps} where
   -- does the event matter to it as a request: as its birth, or as one of its own that it is open to?
   unfoldable pub matters : StartBy maps → ℕ → Request → List Event → Event → Bool
   matters start serial x past e =
-      is_born_here start serial past e || (is_own start serial x past e && is_open_to start.place.limits (life start past serial) e)
+      is_born_at start serial past e || (is_own start serial x past e && is_open_to start.place.limits (life start past serial) e)
 
   -- Each request that matters to it names no transaction, or one that no request before it names. A request that comes again
   -- doesn't matter, so whoever retransmits does no harm.

@@ -34,11 +34,12 @@ AloneLaw = (start other : Start) (serial : ℕ) (x : Request) (past : List Event
 
 -- The same of what goes out: all NOTIFYs that this notifier sends with its tag are those of its own events alone.
 abbrev pub OutsLaw : Type 0
-OutsLaw = (start other : Start) (serial : ℕ) (x : Request) (es : List Event) → IsStart start → serial < 2 ^ 64 →
-    born_of start serial (newest_first es) ≡ Some x → IsLike start other x → are_apart start serial x (newest_first es) ≡ true →
-    AreNotifies (tag_of start.place serial)
-    (notices other 1 (renamed (tag_of start.place serial) (tag_of other.place 1) (own start serial x (newest_first es))))
-    (notifies_with (tag_of start.place serial) (outs start es))
+OutsLaw = (start other : Start) (serial : ℕ) (x : Request) (es : List Event) →
+    let past : List Event = newest_first es in
+    let tag : List ℕ = tag_of start.place serial in
+    IsStart start → serial < 2 ^ 64 →
+    born_of start serial past ≡ Some x → IsLike start other x → are_apart start serial x past ≡ true →
+    AreNotifies tag (notices other 1 (renamed tag (tag_of other.place 1) (own start serial x past))) (notifies_with tag (outs start es))
 
 -- ---- requests that come again
 

@@ -31,8 +31,8 @@ unfoldable pub notifies_with : List ℕ → List Out → List Out
 notifies_with tag [] = []
 notifies_with tag (Answer to bytes ∷ more) = notifies_with tag more
 notifies_with tag (Begins other refer_to ∷ more) = notifies_with tag more
-notifies_with tag (Notify other number terminated to bytes ∷ more) =
-    if bytes_eq other tag then Notify other number terminated to bytes ∷ notifies_with tag more else notifies_with tag more
+notifies_with tag (Notify to number terminated other bytes ∷ more) =
+    if bytes_eq other tag then Notify to number terminated other bytes ∷ notifies_with tag more else notifies_with tag more
 
 -- This out is the NOTIFY of this notice: it goes to the notice's address, and its bytes are the text of a NOTIFY with this
 -- local tag and the notice's number, state and body.
@@ -42,7 +42,7 @@ pub record IsNotify (tag : List ℕ) (notice : Notification) (out : Out) : Type 
   pub number : text.number ≡ notice.number
   pub state : text.state ≡ notice.state
   pub body : text.body ≡ notice.body
-  pub out_is : out ≡ Notify tag notice.number (is_last notice.state) notice.to (notify_text text)
+  pub out_is : out ≡ Notify notice.to notice.number (is_last notice.state) tag (notify_text text)
 
 -- one for one, in order
 abbrev pub AreNotifies : List ℕ → List Notification → List Out → Type 0
@@ -57,7 +57,8 @@ AreNotifies tag (notice ∷ notices) (out ∷ more) = IsNotify tag notice out ×
 -- bound leaves none out.
 abbrev pub LifeLaw : Type 0
 LifeLaw = (start : Start) (serial : ℕ) (es : List Event) → IsStart start → serial < 2 ^ 64 →
-    AreNotifies (tag_of start.place serial) (notices start serial (newest_first es)) (notifies_with (tag_of start.place serial) (outs start es))
+    let tag : List ℕ = tag_of start.place serial in
+    AreNotifies tag (notices start serial (newest_first es)) (notifies_with tag (outs start es))
 
 -- the same of the records that the NOTIFYs are written from, as one equation
 abbrev pub NoticesLaw : Type 0
@@ -76,8 +77,8 @@ abbrev pub AreOfLives : Start → List Event → List Out → Type 0
 AreOfLives start es [] = Unit {0}
 AreOfLives start es (Answer to bytes ∷ more) = AreOfLives start es more
 AreOfLives start es (Begins tag refer_to ∷ more) = AreOfLives start es more
-AreOfLives start es (Notify tag number terminated to bytes ∷ more) =
-    IsOfALife start es (Notify tag number terminated to bytes) × AreOfLives start es more
+AreOfLives start es (Notify to number terminated tag bytes ∷ more) =
+    IsOfALife start es (Notify to number terminated tag bytes) × AreOfLives start es more
 
 -- no NOTIFY goes out that no life asks for
 abbrev pub NoOtherLaw : Type 0

@@ -70,26 +70,33 @@ cseqs (Then t deed l) = cseqs l
 unfoldable pub is_above : Life → ℕ → Bool
 is_above l cseq = list_all (λ heard. nat_lt heard cseq) (cseqs l)
 
--- Is this request, heard by the subscription that was born of x, accepted? A SUBSCRIBE with the package and `id` of x, which
--- asks for no time or for enough.
-unfoldable pub is_accepted : Limits → Request → Request → Bool
-is_accepted limits x r = is_none (unheard limits (event_of x) r)
+-- Does it accept this request? A SUBSCRIBE with its own package and `id`, which asks for no time or for enough.
+abbrev pub accepts : Limits → Life → Request → Bool
+accepts limits l r = is_none (unheard limits (event_of_life l) r)
 
--- is this a grant: accepted, and asked more than 0?
-abbrev pub is_grant : Limits → Request → Request → Bool
-is_grant limits x r = is_accepted limits x r && nat_lt 0 (asked limits r)
+-- does this request grant it time: it accepts it, and more than 0 is asked for?
+abbrev pub grants : Limits → Life → Request → Bool
+grants limits l r = accepts limits l r && nat_lt 0 (asked limits r)
 
--- where its NOTIFYs go: the source of the last accepted request, the birth included
+-- the last request that it accepted, the birth included
+abbrev pub last_accepted : Limits → Life → Hearing
+last_accepted limits l = last_heard (accepts limits l) l
+
+-- the last request that granted it time, the birth included
+abbrev pub last_grant : Limits → Life → Hearing
+last_grant limits l = last_heard (grants limits l) l
+
+-- where its NOTIFYs go: the source of the last request that it accepted
 unfoldable pub address : Limits → Life → Addr
-address limits l = (last_heard (is_accepted limits (birth l)) l).source
+address limits l = (last_accepted limits l).source
 
 -- the moment of a grant plus the time granted then
 abbrev pub end_of : Limits → Hearing → ℕ
 end_of limits grant = grant.moment + granted limits grant.request
 
--- until when it lasts: by the last grant, the birth included
+-- until when it lasts
 unfoldable pub end_of_grant : Limits → Life → ℕ
-end_of_grant limits l = end_of limits (last_heard (is_grant limits (birth l)) l)
+end_of_grant limits l = end_of limits (last_grant limits l)
 
 -- how far its transfer has come: the last word of it since the birth, else `100 Trying` (RFC 3515 section 2.4.5)
 unfoldable pub status : Life → ℕ × List ℕ
@@ -108,7 +115,7 @@ is_news p before = not ((p.code == before.0) && bytes_eq p.reason before.1)
 -- that nobody watches doesn't (RFC 4488).
 unfoldable pub is_touched : Limits → Life → Bool
 is_touched limits (Born t source r) = not (is_unwatched r)
-is_touched limits (Then t (Heard source r) l) = is_accepted limits (birth l) r
+is_touched limits (Then t (Heard source r) l) = accepts limits l r
 is_touched limits (Then t MailChanged l) = true
 is_touched limits (Then t (Progressed p) l) = is_news p (status l)
 is_touched limits (Then t Due l) = true

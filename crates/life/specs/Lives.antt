@@ -1,7 +1,5 @@
--- Which subscriptions there are after a list of events, and the life of each. Serials are given in the order of births, from
--- 1. That depends on how many live, so births and lives are defined together; `Sentences` says of each what it comes to.
-use Rattle.std.specs.Prelude.{ℕ, zero, suc, ◌+◌, Bool, true, false, not, ◌&&◌, List, [], ◌∷◌, is_none, is_some, if◌then◌else◌, nat_le, ◌==◌, Some, None, codes, bytes_eq, Option, option_map}
-use Rattle.sip_text.specs.declared.address.Addr.{Addr}
+-- The lives of all subscriptions after a list of events, in the order of their births. `Sentences` says what that comes to.
+use Rattle.std.specs.Prelude.{ℕ, zero, suc, ◌+◌, Bool, true, false, not, ◌&&◌, List, [], ◌∷◌, ◌++◌, length, count_by, slice_get, is_none, is_some, if◌then◌else◌, nat_le, ◌==◌, Some, None, codes, bytes_eq, Option, option_map, option_and_then, option_to_list, unwrap_or}
 use Rattle.sip_read.specs.declared.message.Request.{Request}
 use Rattle.sip_read.specs.declared.message.Response.{Response}
 use Rattle.package.specs.Content.{Content, OfMail, OfStatus, Maps, is_final, mail_package}
@@ -14,7 +12,7 @@ use Rattle.notifier_model.specs.Fields.{or_empty, same_text}
 use Rattle.notifier_model.specs.Start.{StartBy, tag_of}
 use Rattle.notifier_model.specs.Requests.{event_of, is_refer, user_part, misfit, is_full}
 use Rattle.subscription.specs.Table.{is_tag, refuses}
-use Rattle.life.specs.Life.{Deed, Answered, Born, Disowned, Due, Heard, Life, Lost, MailChanged, Progressed, Stopped, Then, birth, end_of_grant, is_above, is_gone, is_overdue, number, one_if}
+use Rattle.life.specs.Life.{Deed, Answered, Born, Disowned, Due, Heard, Life, Lost, MailChanged, Progressed, Stopped, Then, birth, end_of_grant, is_above, is_gone, is_overdue, number}
 use Rattle.life.specs.Past.{content, fits, is_fresh, now}
 
 -- ---- words
@@ -23,11 +21,6 @@ use Rattle.life.specs.Past.{content, fits, is_fresh, now}
 abbrev pub when : {A : Type 0} → Bool → A → Option A
 when true a = Some a
 when false a = None
-
--- the new life, if there is one
-abbrev pub or_before : Option Life → Option Life → Option Life
-or_before None before = before
-or_before (Some l) before = Some l
 
 -- the same counts of each class, or the same status
 abbrev pub same_content : Option Content → Option Content → Bool
@@ -113,66 +106,68 @@ module _ {maps : Maps} where
 
 -- ---- births
 
-unfoldable pub is_alive : Limits → Option Life → Bool
-is_alive limits None = false
-is_alive limits (Some l) = not (is_gone limits l)
-
--- how many of the serials from 1 to n live
-unfoldable pub count_alive : Limits → (ℕ → Option Life) → ℕ → ℕ
-count_alive limits life zero = 0
-count_alive limits life (suc n) = count_alive limits life n + one_if (is_alive limits (life (suc n)))
+-- how many of these live
+unfoldable pub count_alive : Limits → List Life → ℕ
+count_alive limits lives = count_by (λ l. not (is_gone limits l)) lives
 
 module _ {maps : Maps} where
-  -- Is a subscription born of this request, which has no To tag, when so many were born before and these are their lives? It
-  -- fits, and there is a serial for it and, if it needs one, a place.
-  unfoldable pub is_birth : StartBy maps → List Event → ℕ → (ℕ → Option Life) → Request → Bool
-  is_birth start past births life r =
-      fits start past r && not (is_full start.place.limits (births + 1) (count_alive start.place.limits life births) r)
-
-  unfoldable pub birth_of : StartBy maps → List Event → ℕ → (ℕ → Option Life) → Addr → Request → Option (List ℕ) → Option Life
-  birth_of start past births life source r None = when (is_birth start past births life r) (Born (now past) source r)
-  birth_of start past births life source r (Some tag) = None
+  -- Is a subscription born of this request, beside these? It has no To tag, it fits, and there is a serial for it and, if it
+  -- needs one, a place.
+  unfoldable pub is_birth : StartBy maps → List Event → List Life → Request → Bool
+  is_birth start past lives r =
+      is_none r.head.to.tag
+      && (fits start past r && not (is_full start.place.limits (length lives + 1) (count_alive start.place.limits lives) r))
 
   -- the life that begins at this event, if one does
-  unfoldable pub birth_here : StartBy maps → List Event → ℕ → (ℕ → Option Life) → Event → Option Life
-  birth_here start past births life (Comes source r) = birth_of start past births life source r r.head.to.tag
-  birth_here start past births life (Replies r) = None
-  birth_here start past births life (Mails m) = None
-  birth_here start past births life (Progresses p) = None
-  birth_here start past births life (Ticks t) = None
-  birth_here start past births life Shuts = None
+  unfoldable pub begun : StartBy maps → List Event → List Life → Event → Option Life
+  begun start past lives (Comes source r) = when (is_birth start past lives r) (Born (now past) source r)
+  begun start past lives (Replies r) = None
+  begun start past lives (Mails m) = None
+  begun start past lives (Progresses p) = None
+  begun start past lives (Ticks t) = None
+  begun start past lives Shuts = None
 
   -- ---- lives
 
-  -- What befalls the subscription with this serial, by whether the serial is the next one, the life that begins here if one
-  -- does, and its own life before: its birth, then whatever the event is to it, and once it is gone nothing.
-  unfoldable pub befalls : StartBy maps → ℕ → List Event → Event → Bool → Option Life → Option Life → Option Life
-  befalls start serial past e true begun None = begun
-  befalls start serial past e false begun None = None
-  befalls start serial past e is_next begun (Some l) = if is_gone start.place.limits l then None else lived start serial past e l
+  -- what befalls a life at this event: once it is gone, nothing
+  unfoldable pub befalls : StartBy maps → ℕ → List Event → Event → Life → Option Life
+  befalls start serial past e l = if is_gone start.place.limits l then None else lived start serial past e l
 
-  -- its life after the event, by its life before
-  unfoldable pub lives_on : StartBy maps → ℕ → List Event → Event → Bool → Option Life → Option Life → Option Life
-  lives_on start serial past e is_next begun before = or_before (befalls start serial past e is_next begun before) before
+  -- each life goes on: the first has this serial, the next the next
+  unfoldable pub go_on : StartBy maps → List Event → Event → ℕ → List Life → List Life
+  go_on start past e serial [] = []
+  go_on start past e serial (l ∷ lives) = unwrap_or (befalls start serial past e l) l ∷ go_on start past e (serial + 1) lives
 
-  unfoldable mutual
-    -- how many were born so far
-    pub births : StartBy maps → List Event → ℕ
-    births start [] = 0
-    births start (e ∷ past) = births start past + one_if (is_some (birth_here start past (births start past) (life start past) e))
+  -- the lives after one event more: each goes on, and one may begin
+  unfoldable pub after : StartBy maps → List Event → Event → List Life → List Life
+  after start past e lives = go_on start past e 1 lives ++ option_to_list (begun start past lives e)
 
-    -- the life so far of the subscription with this serial, if it was born
-    pub life : StartBy maps → List Event → ℕ → Option Life
-    life start [] serial = None
-    life start (e ∷ past) serial =
-        lives_on start serial past e (serial == births start past + 1)
-        (birth_here start past (births start past) (life start past) e) (life start past serial)
+  -- all lives so far, in the order of their births
+  unfoldable pub lives : StartBy maps → List Event → List Life
+  lives start [] = []
+  lives start (e ∷ past) = after start past e (lives start past)
+
+  -- ---- by serial
+
+  -- how many were born so far
+  unfoldable pub births : StartBy maps → List Event → ℕ
+  births start past = length (lives start past)
+
+  -- the life so far of the subscription with this serial, if it was born: the first has serial 1
+  unfoldable pub life : StartBy maps → List Event → ℕ → Option Life
+  life start past zero = None
+  life start past (suc n) = slice_get (lives start past) n
 
   -- the life that begins at this event
   unfoldable pub birth_at : StartBy maps → List Event → Event → Option Life
-  birth_at start past e = birth_here start past (births start past) (life start past) e
+  birth_at start past e = begun start past (lives start past) e
 
-  -- what befalls the subscription with this serial at this event
+  -- is the subscription with this serial born at this event?
+  unfoldable pub is_born_at : StartBy maps → ℕ → List Event → Event → Bool
+  is_born_at start serial past e = serial == births start past + 1 && is_some (birth_at start past e)
+
+  -- what befalls the subscription with this serial at this event: its birth, or what the event is to its life
   unfoldable pub befell : StartBy maps → List Event → Event → ℕ → Option Life
   befell start past e serial =
-      befalls start serial past e (serial == births start past + 1) (birth_at start past e) (life start past serial)
+      if serial == births start past + 1 then birth_at start past e
+      else option_and_then (befalls start serial past e) (life start past serial)

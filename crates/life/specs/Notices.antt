@@ -23,23 +23,23 @@ phase limits moment l (Some reason) = Terminated reason
 module _ {maps : Maps} where
   -- all that its resource holds after these events (RFC 3842 section 5, RFC 3515 section 2.4.5)
   unfoldable pub body : StartBy maps → List Event → Life → List ℕ
-  body start es l =
+  body start past l =
       if is_refer (birth l) then status_body (status l).0 (status l).1
-      else body_of_held (content start es (event_of_life l).package (user_part (birth l).uri))
+      else body_of_held (content start past (event_of_life l).package (user_part (birth l).uri))
 
   -- number, state, body, and where it goes
   unfoldable pub notice_of : StartBy maps → List Event → Life → Notification
-  notice_of start es l = record {
+  notice_of start past l = record {
     number = number start.place.limits l;
-    state = state_of (phase start.place.limits (now es) l (terminated start.place.limits l));
-    body = body start es l;
+    state = state_of (phase start.place.limits (now past) l (terminated start.place.limits l));
+    body = body start past l;
     to = address start.place.limits l;
   }
 
   -- the NOTIFY at an event, by what befell the subscription there
   unfoldable pub notices_at : StartBy maps → List Event → Option Life → List Notification
-  notices_at start es None = []
-  notices_at start es (Some l) = if is_touched start.place.limits l then notice_of start es l ∷ [] else []
+  notices_at start past None = []
+  notices_at start past (Some l) = if is_touched start.place.limits l then notice_of start past l ∷ [] else []
 
   -- the NOTIFYs of the subscription with this serial, oldest first: one at each event that touched it
   unfoldable pub notices : StartBy maps → ℕ → List Event → List Notification

@@ -1,20 +1,16 @@
 -- The events of one subscription alone: the one that it was born of, and all that concern it (`concerns` in `Lives`).
-use Rattle.std.specs.Prelude.{ℕ, ◌+◌, Bool, ◌&&◌, ◌||◌, List, [], ◌∷◌, is_some, if◌then◌else◌, ◌==◌, Option, option_map}
+use Rattle.std.specs.Prelude.{ℕ, Bool, ◌||◌, List, [], ◌∷◌, if◌then◌else◌, Option, option_map}
 use Rattle.sip_read.specs.declared.message.Request.{Request}
 use Rattle.package.specs.Content.{Maps}
 use Rattle.notifier_model.specs.declared.event.Event.{Event}
 use Rattle.notifier_model.specs.Start.{StartBy, tag_of}
 use Rattle.life.specs.Life.{birth}
-use Rattle.life.specs.Lives.{births, concerns, life, birth_at}
+use Rattle.life.specs.Lives.{concerns, is_born_at, life}
 
 module _ {maps : Maps} where
-  -- is the subscription with this serial born at this event?
-  unfoldable pub is_born_here : StartBy maps → ℕ → List Event → Event → Bool
-  is_born_here start serial past e = serial == births start past + 1 && is_some (birth_at start past e)
-
   -- is the event its own: does it concern it, or is it its birth?
   unfoldable pub is_own : StartBy maps → ℕ → Request → List Event → Event → Bool
-  is_own start serial x past e = concerns (tag_of start.place serial) x e || is_born_here start serial past e
+  is_own start serial x past e = concerns (tag_of start.place serial) x e || is_born_at start serial past e
 
   -- its own events, newest first
   unfoldable pub own : StartBy maps → ℕ → Request → List Event → List Event
@@ -23,4 +19,4 @@ module _ {maps : Maps} where
 
   -- the request that it was born of, among these events
   unfoldable pub born_of : StartBy maps → ℕ → List Event → Option Request
-  born_of start serial es = option_map birth (life start es serial)
+  born_of start serial past = option_map birth (life start past serial)

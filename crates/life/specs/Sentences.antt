@@ -17,8 +17,8 @@ use Rattle.notifier_model.specs.Start.{Start, tag_of, last_moment}
 use Rattle.notifier_model.specs.Requests.{is_ack, is_refer, same_key, key_of_request, granted, asks_nothing, is_unwatched}
 use Rattle.notifier_model.specs.declared.row.Key.{Key}
 use Rattle.std.specs.List.{list_all, list_any}
-use Rattle.life.specs.Life.{Answered, Born, Deed, Heard, Life, Progressed, Then, address, birth, cseqs, end_of_grant, ended, is_accepted, is_gone, is_grant, is_overdue, is_touched, number, one_if, status, terminated, unanswered}
-use Rattle.life.specs.Lives.{befell, birth_at, births, count_alive, life}
+use Rattle.life.specs.Life.{Answered, Born, Deed, Heard, Life, Progressed, Then, address, birth, cseqs, end_of_grant, ended, accepts, is_gone, grants, is_overdue, is_touched, number, one_if, status, terminated, unanswered}
+use Rattle.life.specs.Lives.{befell, birth_at, births, count_alive, is_born_at, life, lives}
 use Rattle.life.specs.Past.{fits, is_fresh, last_counts, mail_content, now, same_class}
 use Rattle.life.specs.Notices.{notices}
 use Rattle.life.specs.Laws.{IsStart}
@@ -96,11 +96,7 @@ pub record IsBirth (start : Start) (past : List Event) (r : Request) : Type 0 wh
   pub fits : fits start past r ≡ true
   pub no_tag : r.head.to.tag ≡ None
   pub serial : births start past + 1 ≤ start.place.limits.serials
-  pub place : ((asks_nothing start.place.limits r || is_unwatched r) ≡ true) ⊎ (count_alive start.place.limits (life start past) (births start past) < start.place.limits.table)
-
--- is the subscription with this serial born at this event?
-abbrev pub is_born_at : Start → ℕ → List Event → Event → Bool
-is_born_at start serial past e = serial == births start past + 1 && is_some (birth_at start past e)
+  pub place : ((asks_nothing start.place.limits r || is_unwatched r) ≡ true) ⊎ (count_alive start.place.limits (lives start past) < start.place.limits.table)
 
 pub record AreBirths (start : Start) (past : List Event) : Type 0 where
   -- where a request makes a birth
@@ -112,6 +108,17 @@ pub record AreBirths (start : Start) (past : List Event) : Type 0 where
 
 abbrev pub BirthsLaw : Type 0
 BirthsLaw = (start : Start) (past : List Event) → AreBirths start past
+
+-- ---- After an event a life is what befell it there, else what it was before.
+
+-- the new life, if there is one
+abbrev pub or_before : Option Life → Option Life → Option Life
+or_before None before = before
+or_before (Some l) before = Some l
+
+abbrev pub GoesOnLaw : Type 0
+GoesOnLaw = (start : Start) (past : List Event) (e : Event) (serial : ℕ) →
+    life start (e ∷ past) serial ≡ or_before (befell start past e serial) (life start past serial)
 
 -- ---- It is gone once something makes it gone, and stays so: it was terminated, a 481 came, a NOTIFY stayed unanswered, or
 -- nobody watches it. Then no NOTIFY follows.
@@ -162,10 +169,10 @@ is_hearing (Heard source r) = true
 is_hearing _ = false
 
 pub record IsMoved (limits : Limits) (moment : ℕ) (l : Life) : Type 0 where
-  pub to_source : (source : Addr) (r : Request) → is_accepted limits (birth l) r ≡ true → address limits (Then moment (Heard source r) l) ≡ source
-  pub not_refused : (source : Addr) (r : Request) → is_accepted limits (birth l) r ≡ false → address limits (Then moment (Heard source r) l) ≡ address limits l
-  pub granted_anew : (source : Addr) (r : Request) → is_grant limits (birth l) r ≡ true → end_of_grant limits (Then moment (Heard source r) l) ≡ moment + granted limits r
-  pub not_granted : (source : Addr) (r : Request) → is_grant limits (birth l) r ≡ false → end_of_grant limits (Then moment (Heard source r) l) ≡ end_of_grant limits l
+  pub to_source : (source : Addr) (r : Request) → accepts limits l r ≡ true → address limits (Then moment (Heard source r) l) ≡ source
+  pub not_refused : (source : Addr) (r : Request) → accepts limits l r ≡ false → address limits (Then moment (Heard source r) l) ≡ address limits l
+  pub granted_anew : (source : Addr) (r : Request) → grants limits l r ≡ true → end_of_grant limits (Then moment (Heard source r) l) ≡ moment + granted limits r
+  pub not_granted : (source : Addr) (r : Request) → grants limits l r ≡ false → end_of_grant limits (Then moment (Heard source r) l) ≡ end_of_grant limits l
   pub by_nothing_else : (deed : Deed) → is_hearing deed ≡ false → (address limits (Then moment deed l) ≡ address limits l) × (end_of_grant limits (Then moment deed l) ≡ end_of_grant limits l)
 
 abbrev pub MovedLaw : Type 0

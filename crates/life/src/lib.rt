@@ -19,6 +19,7 @@ ghost use Rattle.life.specs.Sentences.{
   ContentsLaw,
   FreshLaw,
   BirthsLaw,
+  GoesOnLaw,
   GoneLaw,
   SilentLaw,
   TouchedLaw,
@@ -85,6 +86,11 @@ pub fn fresh()
 /// transfer that nobody watches, a place. Births are counted, and a subscription has a life from its birth on.
 pub fn born()
     ensures { BirthsLaw }
+{}
+
+/// After an event the life of a subscription is what befell it there, else what it was before.
+pub fn goes_on()
+    ensures { GoesOnLaw }
 {}
 
 /// A request in a dialog is never answered 503, but where a kept answer comes again: a full table keeps out nobody who is
