@@ -127,7 +127,7 @@ module _ {maps : Maps} (place : Place) (boxes : List (SeenBy maps)) (clock : ℕ
   pub cause_same : (cause : Cause) → KeepsTopic (rule_of place boxes clock cause)
   cause_same (Answer response) = answered_same response.now
   cause_same (Refused serial r) = counted_same serial r.now
-  cause_same (Renewal serial source r) = renewed_same serial source r.now
+  cause_same (Renewal serial came) = renewed_same serial came.now.source came.now.request.now
   cause_same (Change name resource is_over) = watcher_same name.now resource.now is_over
   cause_same Time = times_out_same
   cause_same Stop = stops_same
@@ -135,7 +135,7 @@ module _ {maps : Maps} (place : Place) (boxes : List (SeenBy maps)) (clock : ℕ
   cause_keeps : (cause : Cause) → Keeps (rule_of place boxes clock cause)
   cause_keeps (Answer response) = answered_keeps response.now
   cause_keeps (Refused serial r) = counted_keeps serial r.now
-  cause_keeps (Renewal serial source r) = renewed_keeps place boxes clock serial source r.now
+  cause_keeps (Renewal serial came) = renewed_keeps place boxes clock serial came.now.source came.now.request.now
   cause_keeps (Change name resource is_over) = watcher_keeps place boxes clock name.now resource.now is_over
   cause_keeps Time = due_keeps place boxes clock
   cause_keeps Stop = stops_keeps place boxes clock
@@ -151,7 +151,7 @@ module _ {maps : Maps} (place : Place) (boxes : List (SeenBy maps)) (clock : ℕ
   still_tellable : (cause : Cause) (row : Row) → CanTell clock cause row → IfSome (rule_of place boxes clock cause row).row (CanTell clock cause)
   still_tellable (Answer response) row h = any_row (answered response.now row).row
   still_tellable (Refused serial r) row h = any_row (only serial (counted r.now) row).row
-  still_tellable (Renewal serial source r) row h = any_row (only serial (renewed place boxes clock source r.now) row).row
+  still_tellable (Renewal serial came) row h = any_row (only serial (renewed place boxes clock came.now.source came.now.request.now) row).row
   still_tellable (Change name resource is_over) row h = watcher_lives place boxes clock name.now resource.now is_over row h
   still_tellable Time row h = due_in_order place boxes clock row h
   still_tellable Stop row h = any_row (stops place boxes clock row).row

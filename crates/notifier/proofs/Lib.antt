@@ -1,5 +1,6 @@
 pub mod FirstBox
 pub mod Fitting
+pub mod Verdicts
 pub mod Births
 pub mod FirstTurns
 pub mod RowLists

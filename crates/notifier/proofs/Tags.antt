@@ -1,40 +1,23 @@
 -- The serial that stands in a local tag.
-use Rattle.std.proofs.Common.{◌≡◌, ◌≢◌, ◌∙◌, refl, ℕ, ◌+◌, ◌%◌, ◌<◌, ◌^◌, List, [], ◌∷◌, ◌++◌, Option, Bor, arith, decimal, All}
-use Rattle.std.proofs.lemmas.Fmt.{decimal_by_steps}
-use Rattle.std.proofs.lemmas.List.Elements.{All-nil, All-cons, All-push, All-get_or}
-use Rattle.std.proofs.lemmas.Str.Pattern.{IsSplitOnceResult, split_after}
-use Rattle.std.specs.Option.{MatchOption}
-use Rattle.hex.specs.Hex.{encode_lower}
+use Rattle.std.proofs.Common.{◌≡◌, ℕ, ◌<◌, ◌^◌, Option, Some, true, List, ap, subst, sym}
+use Rattle.std.specs.Prelude.{◌↔◌}
 use Rattle.notifier_model.specs.declared.place.Place.{Place}
+use Rattle.notifier_model.specs.declared.homes.tag.TagNumbers.{TagNumbers}
 use Rattle.notifier_model.specs.Start.{tag_of}
-use Rattle.notifier_model.specs.Tag.{local_tag, tag_bytes}
+use Rattle.notifier_model.specs.Home.{names_serial}
+use Rattle.notifier_model.proofs.HomeFacts.{serial_own}
 
-abbrev NoDash : List ℕ → Type 0
-NoDash bs = All (λ b. b ≢ 45) bs
+-- what is read of a tag of its own
+pub own_numbers : (worker : ℕ) (tag : List ℕ) (read : Option TagNumbers) → worker < 2 ^ 32
+    → ((w s : ℕ) → w < 2 ^ 32 → s < 2 ^ 32 → (names_serial w s tag ≡ true) ↔ (read ≡ Some (record { worker = w; serial = Some s })))
+    → (place : Place) (own : ℕ) → place.worker ≡ worker → own < 2 ^ 32 → tag ≡ tag_of place own → read ≡ Some (record { worker = worker; serial = Some own })
+own_numbers worker tag read few tells place own same small is =
+    (tells worker own few small).0
+    (subst (λ (w : ℕ). names_serial w own tag ≡ true) same (subst (λ (t : List ℕ). names_serial place.worker own t ≡ true) (sym is) (serial_own place own)))
 
-no_dash : (n : ℕ) → n < 2 ^ 64 → NoDash (decimal n)
-no_dash n h =
-    decimal_by_steps (λ m ds. NoDash ds) (λ m l. All-cons (λ b. b ≢ 45) (48 + m) [] (omega arith) (All-nil (λ b. b ≢ 45))) (λ m ds g all. All-push (λ b. b ≢ 45) ds (48 + m % 10) all (omega arith)) n h
-
--- what stands behind the first dash
-abbrev pub behind : Place → ℕ → List ℕ
-behind place serial = decimal serial ++ 45 ∷ encode_lower (tag_bytes place.seed place.worker serial)
-
-tag_is : (place : Place) (serial : ℕ) → tag_of place serial ≡ (119 ∷ decimal place.worker) ++ 45 ∷ behind place serial
-unfolding local_tag
-tag_is place serial = refl
-
-abbrev Cut : Type 0
-Cut = Option (Bor (List ℕ) × Bor (List ℕ))
-
-pub first_cut : (place : Place) (serial : ℕ) → place.worker < 2 ^ 32 → (bs : List ℕ) (r : Cut) → IsSplitOnceResult 45 bs r → bs ≡ tag_of place serial
-    → MatchOption r ⊥ (λ x. (x.0.now ≡ 119 ∷ decimal place.worker) × (x.1.now ≡ behind place serial))
-first_cut place serial fits bs r h e =
-    split_after 45 bs (119 ∷ decimal place.worker) (behind place serial) r h (omega arith) (e ∙ tag_is place serial)
-    (λ i l. All-get_or (λ b. b ≢ 45) (119 ∷ decimal place.worker) i 0 l (All-cons (λ b. b ≢ 45) 119 (decimal place.worker) (omega arith) (no_dash place.worker (omega arith))))
-
-pub second_cut : (place : Place) (serial : ℕ) → serial < 2 ^ 32 → (bs : List ℕ) (r : Cut) → IsSplitOnceResult 45 bs r → bs ≡ behind place serial
-    → MatchOption r ⊥ (λ x. (x.0.now ≡ decimal serial) × (x.1.now ≡ encode_lower (tag_bytes place.seed place.worker serial)))
-second_cut place serial fits bs r h e =
-    split_after 45 bs (decimal serial) (encode_lower (tag_bytes place.seed place.worker serial)) r h (omega arith) e
-    (λ i l. All-get_or (λ b. b ≢ 45) (decimal serial) i 0 l (no_dash serial (omega arith)))
+-- a tag that was read so
+pub read_so : (numbers : TagNumbers) (worker own : ℕ) → Some numbers ≡ Some (record { worker = worker; serial = Some own }) → (numbers.worker ≡ worker) × (numbers.serial ≡ Some own)
+read_so numbers worker own e =
+    let the : TagNumbers = record { worker = worker; serial = Some own } in
+    let same : numbers ≡ the = cc in
+    (ap (λ (t : TagNumbers). t.worker) same, ap (λ (t : TagNumbers). t.serial) same)

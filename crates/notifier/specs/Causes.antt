@@ -12,7 +12,7 @@ module _ {maps : Maps} where
   abbrev pub rule_of : Place → List (SeenBy maps) → ℕ → Cause → Row → Told
   rule_of place boxes clock (Response response) = answered response.now
   rule_of place boxes clock (Refused serial r) = only serial (counted r.now)
-  rule_of place boxes clock (Renewal serial source r) = only serial (renewed place boxes clock source r.now)
+  rule_of place boxes clock (Renewal serial came) = only serial (renewed place boxes clock came.now.source came.now.request.now)
   rule_of place boxes clock (Change name resource is_over) = tells_watcher place boxes clock name.now resource.now is_over
   rule_of place boxes clock Time = times_out place boxes clock
   rule_of place boxes clock Stop = stops place boxes clock
@@ -21,7 +21,7 @@ module _ {maps : Maps} where
 abbrev pub CanTell : ℕ → Cause → Row → Type 0
 CanTell clock (Response response) row = Unit {0}
 CanTell clock (Refused serial r) row = Unit {0}
-CanTell clock (Renewal serial source r) row = Unit {0}
+CanTell clock (Renewal serial came) row = Unit {0}
 CanTell clock (Change name resource is_over) row = IsLive clock row
 CanTell clock Time row = AreInOrder row.unanswered
 CanTell clock Stop row = Unit {0}

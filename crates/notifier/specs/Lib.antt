@@ -9,6 +9,7 @@ pub mod Causes
 pub mod Tellers
 pub mod Ledger
 pub mod Incoming
+pub mod Verdicts
 pub mod Standing
 pub mod Held
 pub mod Errors

@@ -10,15 +10,15 @@ ghost use Rattle.notifier_model.specs.Limits.{Limits as LimitsSeen};
 ghost use Rattle.notifier_model.specs.Requests.{is_strange as is_strange_word};
 ghost use Rattle.notifier.specs.Transactions.{key_of};
 
-use crate::incoming::Incoming;
+use crate::incoming::{Incoming, Pending, is_strange};
 use crate::store::kept::KeptAnswers;
 use crate::tag::refusal_tag;
-use crate::verdict::request::{granted, is_refer, is_strange, is_unwatched};
 use notifier_model::event::Out;
 use notifier_model::limits::Limits;
 use notifier_model::place::Place;
 use notifier_model::refusal::Refusal;
 use package::Package;
+use sip_read::Addr;
 use sip_text::{NoMemory, Octets, Text};
 use sip_write::{Answer, Status, write_response};
 use std::alloc::Global;
@@ -48,7 +48,7 @@ pub fn renewal_answer(
         tag: None,
         record_routes: &[],
         contact: Some(place.me),
-        expires: Some(granted(&place.limits, request)),
+        expires: Some(incoming.granted(&place.limits)),
         min_expires: None,
         allow: None,
         allow_events: None,
@@ -69,11 +69,10 @@ pub fn birth_answer<'a>(
         bytes ≡ answer_text (spec.birth_answer place.now incoming.now.source incoming.now.request.now tag.now)) }
 {
     let request = incoming.request;
-    let by_refer = is_refer(request);
     let answer = Answer {
         head: &request.head,
         source: incoming.source,
-        status: if by_refer {
+        status: if incoming.refers {
             Status::Accepted
         } else {
             Status::Ok
@@ -81,16 +80,16 @@ pub fn birth_answer<'a>(
         tag: Some(tag.as_str()),
         record_routes: request.record_routes.as_slice(),
         contact: Some(place.me),
-        expires: if by_refer {
+        expires: if incoming.refers {
             None
         } else {
-            Some(granted(&place.limits, request))
+            Some(incoming.granted(&place.limits))
         },
         min_expires: None,
         allow: None,
         allow_events: None,
         unsupported: None,
-        without_subscription: is_unwatched(request),
+        without_subscription: incoming.is_unwatched(),
     };
     answer_bytes(alloc, &answer)
 }
@@ -227,28 +226,38 @@ pub fn refusal_answer<P: Package>(
     refusal_bytes(alloc, place, incoming, refused, &words)
 }
 
-pub fn copy_bytes(alloc: Global, bytes: &Octets) -> Result<Octets, NoMemory>
+fn copy_bytes(alloc: Global, bytes: &Octets) -> Result<Octets, NoMemory>
     ensures { IfOk result (λ b. b ≡ bytes.now) }
 {
     let bytes = Vec::from_slice(alloc, bytes.as_slice())?;
     Ok(Octets::new(bytes))
 }
 
+/// Answers a retransmission with these bytes.
+pub fn repeat(alloc: Global, to: Addr, bytes: &Octets) -> Result<Vec<Out>, NoMemory>
+    ensures { IfOk result (λ outs. outs.items ≡ Out.Answer to bytes.now ∷ []) }
+{
+    let bytes = copy_bytes(alloc, bytes)?;
+    let mut outs = Vec::new(alloc);
+    outs.push(Out::Answer { to, bytes })?;
+    Ok(outs)
+}
+
 /// Answers a request, and keeps the answer where the request names a transaction.
 pub fn respond(
     alloc: Global,
     ring: &mut KeptAnswers,
-    incoming: Incoming<'_>,
+    pending: Pending<'_>,
     bytes: Octets,
 ) -> Result<Vec<Out>, NoMemory>
     ensures ring { OnOk result ((limits : LimitsSeen) → ring.old.capacity ≡ limits.kept
         → ring.new ≡ buffer
-        (spec.ring_with limits ring.old.items (option_map key_of incoming.entry.transaction) bytes) ring.old.capacity) }
-    ensures outs { IfOk result (λ outs. outs.items ≡ Out.Answer incoming.entry.source bytes ∷ []) }
+        (spec.ring_with limits ring.old.items (option_map key_of pending.entry.transaction) bytes) ring.old.capacity) }
+    ensures outs { IfOk result (λ outs. outs.items ≡ Out.Answer pending.entry.incoming.now.source bytes ∷ []) }
 {
     let copy = copy_bytes(alloc, &bytes)?;
-    let to = incoming.source;
-    ring.keep(alloc, incoming.transaction, copy)?;
+    let to = pending.incoming.source;
+    ring.keep(alloc, pending.transaction, copy)?;
     let mut outs = Vec::new(alloc);
     outs.push(Out::Answer { to, bytes })?;
     Ok(outs)

@@ -20,17 +20,15 @@ pub mod birth;
 use crate::answer::{birth_answer, respond};
 use crate::boxes::tell_first;
 use crate::create::birth::{First, Newborn, value_or_empty};
-use crate::incoming::Incoming;
+use crate::incoming::{Incoming, Pending};
 use crate::store::Ledger;
 use crate::store::kept::KeptAnswers;
 use crate::sweep::rule::push_some;
 use crate::tag::local_tag;
-use crate::verdict::request::is_refer;
 use notifier_model::birth::Birth;
 use notifier_model::event::Out;
 use notifier_model::place::Place;
 use package::{Change, Package};
-use sip_read::Request;
 use sip_text::{NoMemory, Text};
 use std::alloc::Global;
 
@@ -59,13 +57,19 @@ fn forget_ended<P: Package>(
 }
 
 /// The transfer of a REFER may start.
-fn start(alloc: Global, tag: Text, request: &Request, outs: &mut Vec<Out>) -> Result<(), NoMemory>
-    ensures { OnOk result (outs.new.items ≡ outs.old.items ++ map out_of (spec.first_word tag request.now)) }
+fn start(
+    alloc: Global,
+    tag: Text,
+    incoming: &Incoming<'_>,
+    outs: &mut Vec<Out>,
+) -> Result<(), NoMemory>
+    ensures { OnOk result (outs.new.items
+        ≡ outs.old.items ++ map out_of (spec.first_word tag incoming.now.request.now)) }
 {
-    if !is_refer(request) {
+    if !incoming.refers {
         return Ok(());
     }
-    let refer_to = Text::of(alloc, value_or_empty(&request.refer_to))?;
+    let refer_to = Text::of(alloc, value_or_empty(&incoming.request.refer_to))?;
     outs.push(Out::Start { tag, refer_to })?;
     Ok(())
 }
@@ -75,19 +79,20 @@ fn answer_birth(
     alloc: Global,
     place: &Place,
     ring: &mut KeptAnswers,
-    incoming: Incoming<'_>,
+    pending: Pending<'_>,
     tag: &Text,
 ) -> Result<Vec<Out>, NoMemory>
     requires { ring.old.capacity ≡ place.now.limits.kept }
-    ensures ring { OnOk result (ring.new ≡ buffer (ring_with place.now.limits ring.old.items
-        (option_map key_of incoming.entry.transaction)
-        (answer_text (birth_text place.now incoming.entry.source incoming.entry.request.now tag.now)))
-        ring.old.capacity) }
-    ensures outs { IfOk result (λ outs. outs.items ≡ Out.Answer incoming.entry.source
-        (answer_text (birth_text place.now incoming.entry.source incoming.entry.request.now tag.now)) ∷ []) }
+    ensures ring { let came = pending.entry.incoming.now in
+        OnOk result (ring.new ≡ buffer (ring_with place.now.limits ring.old.items
+        (option_map key_of pending.entry.transaction)
+        (answer_text (birth_text place.now came.source came.request.now tag.now))) ring.old.capacity) }
+    ensures outs { let came = pending.entry.incoming.now in
+        IfOk result (λ outs. outs.items ≡ Out.Answer came.source
+        (answer_text (birth_text place.now came.source came.request.now tag.now)) ∷ []) }
 {
-    let bytes = birth_answer(alloc, place, &incoming, tag)?;
-    respond(alloc, ring, incoming, bytes)
+    let bytes = birth_answer(alloc, place, pending.incoming, tag)?;
+    respond(alloc, ring, pending, bytes)
 }
 
 impl<P: Package> Ledger<P> {
@@ -121,31 +126,33 @@ impl<P: Package> Ledger<P> {
         &mut self,
         alloc: Global,
         place: &Place,
-        incoming: Incoming<'_>,
+        pending: Pending<'_>,
         newborn: &Newborn,
     ) -> Result<Vec<Out>, NoMemory>
-        requires fits { requests.misfit incoming.request.now ≡ None }
-        requires kind { newborn.now.kind ≡ requests.birth_of place.now.limits incoming.request.now }
+        requires fits { requests.misfit pending.incoming.now.request.now ≡ None }
+        requires kind { newborn.now.kind ≡ requests.birth_of place.now.limits pending.incoming.now.request.now }
         requires sound { IsSound place.now self.old }
         requires serial { newborn.now.serial ≡ self.old.next }
         requires tag { newborn.now.tag ≡ tag_of place.now self.old.next }
         requires room { self.old.next ≤ place.now.limits.serials }
-        ensures book { OnOk result (book_of P.seen self.new ≡ (spec.born_with place.now (book_of P.seen self.old)
-            incoming.entry.source incoming.entry.request.now newborn.now.kind newborn.now.tag
+        ensures book { let came = pending.entry.incoming.now in
+            OnOk result (book_of P.seen self.new ≡ (spec.born_with place.now (book_of P.seen self.old)
+            came.source came.request.now newborn.now.kind newborn.now.tag
             (first_told_of place.now
             (spec.first_boxes (map P.seen self.old.boxes.items) newborn.now.tag newborn.now.kind)
-            self.old.clock incoming.entry.source incoming.entry.request.now newborn.now)).book) }
-        ensures outs { IfOk result (λ outs. outs.items ≡ map out_of (Answers incoming.entry.source
-            (answer_text (birth_text place.now incoming.entry.source incoming.entry.request.now newborn.now.tag))
+            self.old.clock came.source came.request.now newborn.now)).book) }
+        ensures outs { let came = pending.entry.incoming.now in
+            IfOk result (λ outs. outs.items ≡ map out_of (Answers came.source
+            (answer_text (birth_text place.now came.source came.request.now newborn.now.tag))
             ∷ (first_told_of place.now
             (spec.first_boxes (map P.seen self.old.boxes.items) newborn.now.tag newborn.now.kind)
-            self.old.clock incoming.entry.source incoming.entry.request.now newborn.now).notifies)) }
+            self.old.clock came.source came.request.now newborn.now).notifies)) }
         ensures sound { OnOk result (IsSound place.now self.new) }
     {
         place.limits.are_in_range();
-        let (source, request) = (incoming.source, incoming.request);
-        let mut outs = answer_birth(alloc, place, &mut self.ring, incoming, &newborn.tag)?;
-        let first = self.establish(alloc, place, source, request, newborn)?;
+        let incoming = pending.incoming;
+        let mut outs = answer_birth(alloc, place, &mut self.ring, pending, &newborn.tag)?;
+        let first = self.establish(alloc, place, incoming, newborn)?;
         self.take_in(alloc, newborn, first, &mut outs)?;
         self.next += 1;
         Ok(outs)
@@ -156,24 +163,24 @@ impl<P: Package> Ledger<P> {
         &mut self,
         alloc: Global,
         place: &Place,
-        incoming: Incoming<'_>,
+        pending: Pending<'_>,
         kind: Birth,
     ) -> Result<Vec<Out>, NoMemory>
-        requires fits { requests.misfit incoming.request.now ≡ None }
-        requires kind { kind ≡ requests.birth_of place.now.limits incoming.request.now }
+        requires fits { requests.misfit pending.incoming.now.request.now ≡ None }
+        requires kind { kind ≡ requests.birth_of place.now.limits pending.incoming.now.request.now }
         requires sound { IsSound place.now self.old }
         requires room { self.old.next ≤ place.now.limits.serials }
         ensures step { IfOk result (λ outs.
-            Serves P.seen place.now self.old incoming.entry (spec.Born kind) self.new outs.items) }
+            Serves P.seen place.now self.old pending.entry (spec.Born kind) self.new outs.items) }
         ensures sound { OnOk result (IsSound place.now self.new) }
     {
         place.limits.are_in_range();
-        let request = incoming.request;
+        let incoming = pending.incoming;
         let serial = self.next as u32;
         let tag = local_tag(alloc, place, serial)?;
         let newborn = Newborn { kind, serial, tag };
-        let mut outs = self.bear_with(alloc, place, incoming, &newborn)?;
-        start(alloc, newborn.tag, request, &mut outs)?;
+        let mut outs = self.bear_with(alloc, place, pending, &newborn)?;
+        start(alloc, newborn.tag, incoming, &mut outs)?;
         Ok(outs)
     }
 }

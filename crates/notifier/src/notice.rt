@@ -4,8 +4,6 @@
 ghost use Rattle.std.specs.Prelude.{◌≡◌, IfOk};
 ghost use Rattle.event_headers.specs.Values.{StateValue as State};
 ghost use Rattle.subscription.specs.Written.{state_of};
-ghost use Rattle.sip_write.specs.Notify as layout;
-ghost use Rattle.sip_write.specs.Views.{notify_view};
 ghost use Rattle.notifier_model.specs.Out.{Notifies, out_of, is_last as is_last_state};
 ghost use Rattle.notifier_model.specs.Rows as spec;
 ghost use Rattle.notifier.specs.Tellers.{boxes_of};
@@ -33,14 +31,6 @@ fn state_value(alloc: Global, phase: Phase) -> Result<StateValue, NoMemory>
     }
 }
 
-fn notify_bytes(alloc: Global, text: &NotifyText<'_>) -> Result<Octets, NoMemory>
-    ensures { IfOk result (λ bytes. bytes ≡ layout.notify_text (notify_view text.now)) }
-{
-    let mut bytes = Vec::new(alloc);
-    write_notify(alloc, text, &mut bytes)?;
-    Ok(Octets::new(bytes))
-}
-
 /// Whether a NOTIFY of this phase is the last.
 fn is_last(phase: Phase) -> bool
     ensures { result ≡ is_last_state (state_of phase) }
@@ -52,18 +42,20 @@ fn is_last(phase: Phase) -> bool
 }
 
 impl<P: Package> Teller<'_, P> {
-    /// The bytes of the NOTIFY that tells of a subscription.
-    fn notice_bytes(
+    /// The NOTIFY that tells of a subscription, to this address.
+    pub fn notice_out(
         &self,
         alloc: Global,
+        to: Addr,
         usage: &Usage,
         want: &Want,
         notice: Notice,
-    ) -> Result<Octets, NoMemory>
-        ensures { IfOk result (λ bytes. bytes ≡ layout.notify_text
-            (spec.notify self.now.place.now (boxes_of P.seen self.now) usage.now want.now notice)) }
+    ) -> Result<Out, NoMemory>
+        ensures { IfOk result (λ out. out ≡ out_of (Notifies to
+            (spec.notify self.now.place.now (boxes_of P.seen self.now) usage.now want.now notice))) }
     {
         let package = want.event.package();
+        let tag = usage.local_tag.copy(alloc)?;
         let body = body_of(alloc, self.boxes, package, want.resource.as_str())?;
         let state = state_value(alloc, notice.phase)?;
         let text = NotifyText {
@@ -80,30 +72,14 @@ impl<P: Package> Teller<'_, P> {
             content_type: type_of(self.boxes, package),
             body: body.as_slice(),
         };
-        notify_bytes(alloc, &text)
-    }
-
-    /// The NOTIFY that tells of a subscription.
-    pub fn notice_out(
-        &self,
-        alloc: Global,
-        to: Addr,
-        usage: &Usage,
-        want: &Want,
-        notice: Notice,
-    ) -> Result<Out, NoMemory>
-        ensures { IfOk result (λ out. out
-            ≡ out_of (Notifies to
-            (spec.notify self.now.place.now (boxes_of P.seen self.now) usage.now want.now notice))) }
-    {
-        let bytes = self.notice_bytes(alloc, usage, want, notice)?;
-        let tag = usage.local_tag.copy(alloc)?;
+        let mut bytes = Vec::new(alloc);
+        write_notify(alloc, &text, &mut bytes)?;
         Ok(Out::Notify {
             tag,
             number: notice.number,
             terminated: is_last(notice.phase),
             to,
-            bytes,
+            bytes: Octets::new(bytes),
         })
     }
 }

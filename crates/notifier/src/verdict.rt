@@ -1,95 +1,138 @@
-//! What to do with a request: [`request`] tests it, [`placing`] asks the packages, and `serve`, at the end, goes through the
-//! cases in their order.
-#![tactic(auto, unfolding(notifier_model::specs::Book::nothing, notifier_model::specs::Book::unless, notifier_model::specs::Book::outside, notifier_model::specs::Book::by_to_tag, notifier_model::specs::Book::by_kept, notifier_model::specs::Book::verdict, notifier_model::specs::Book::served, notifier_model::specs::Out::out_of))]
+//! What to do with a request: `verdict` goes through the cases in their order, and `serve` does what it says.
+#![tactic(auto, unfolding(notifier_model::specs::Book::nothing, notifier_model::specs::Book::unless, notifier_model::specs::Book::unless_denied, notifier_model::specs::Book::in_dialog, notifier_model::specs::Book::outside, notifier_model::specs::Book::by_to_tag, notifier_model::specs::Book::by_kept, notifier_model::specs::Book::verdict, notifier_model::specs::Book::served, notifier_model::specs::Rows::is_dialog, notifier_model::specs::Out::out_of))]
 
-ghost use Rattle.std.specs.Prelude.{◌≡◌, IfOk, OnOk, None};
+ghost use Rattle.std.specs.Prelude.{◌≡◌, ◌^◌, All, option_map, find, IfOk, OnOk};
 ghost use Rattle.notifier_model.specs.Book as spec;
-ghost use Rattle.notifier.specs.Incoming.{Serves};
+ghost use Rattle.notifier_model.specs.Fields as fields;
+ghost use Rattle.notifier_model.specs.Rows as rows;
 ghost use Rattle.notifier.specs.Ledger.{book_of, IsStep, IsSound};
-ghost use Rattle.notifier_model.specs.Requests as requests;
+ghost use Rattle.notifier.specs.Sound.{IsOwn};
+ghost use Rattle.notifier.specs.Stored.{rows_of, IsIndexed};
+ghost use Rattle.notifier.specs.Verdicts.{verdict_of};
 
-pub mod placing;
-pub mod request;
-
-use crate::answer::copy_bytes;
-use crate::incoming::Incoming;
+use crate::answer::repeat;
+use crate::incoming::{Incoming, Pending};
 use crate::store::Ledger;
-use crate::verdict::placing::misplaced;
-use crate::verdict::request::{birth_of, is_ack, is_full, misfit, transaction_of};
+use crate::store::rows::Rows;
+use crate::store::transaction::Transaction;
+use crate::sweep::touched::serial_in;
+use notifier_model::birth::Birth;
 use notifier_model::event::Out;
+use notifier_model::limits::Limits;
 use notifier_model::place::Place;
 use notifier_model::refusal::Refusal;
+use notifier_model::row::Row;
 use package::Package;
 use sip_read::{Addr, Request};
-use sip_text::NoMemory;
+use sip_text::{NoMemory, Octets, Text};
 use std::alloc::Global;
 
+/// What to do with a request (RFC 6665 section 4.2.1).
+#[derive(Clone, Copy)]
+pub enum Verdict<'a> {
+    /// An ACK has no answer (RFC 3261 section 17).
+    Silent,
+    /// A retransmission gets the kept answer (RFC 3261 section 17.2.2).
+    Repeated(&'a Octets),
+    /// It is refused for this cause.
+    Refused(Refusal),
+    /// It is refused in the dialog of the row with this serial, and that dialog has heard its CSeq (RFC 3261 section 12.2.2).
+    Denied(u32, Refusal),
+    /// A SUBSCRIBE is accepted in the dialog of the row with this serial (RFC 6665 section 4.2.1.4).
+    Renewed(u32),
+    /// It makes a dialog, and this (RFC 6665 section 4.2.1.1, RFC 3515 section 2.4.2).
+    Born(Birth),
+}
+
+/// The tag, or the empty text.
+pub fn tag_or_empty(tag: &Option<Text>) -> &str
+    ensures { result.now ≡ fields.or_empty tag.now }
+{
+    match tag {
+        Some(tag) => tag.as_str(),
+        None => "",
+    }
+}
+
+fn is_dialog(request: &Request, tag: &Text, row: &Row) -> bool
+    ensures { result ≡ rows.is_dialog request.now tag.now row.now }
+{
+    let usage = row.sub.usage();
+    usage.call_id.is(request.head.call_id.as_str())
+        && usage.local_tag.is(tag.as_str())
+        && usage.remote_tag.is(tag_or_empty(&request.head.from.tag))
+}
+
+/// The row of the dialog of a request with this To tag.
+fn find_dialog<'a>(place: &Place, live: &'a Rows, request: &Request, tag: &Text) -> Option<&'a Row>
+    requires indexed { IsIndexed live.now }
+    requires own { All (IsOwn place.now (2 ^ 32)) (rows_of live.now) }
+    ensures { option_map (λ row. row.now) result ≡ find (rows.is_dialog request.now tag.now) (rows_of live.now) }
+{
+    let row = live.row(serial_in(place.worker, tag.as_str())?)?;
+    if is_dialog(request, tag, row) {
+        Some(row)
+    } else {
+        None
+    }
+}
+
 impl<P: Package> Ledger<P> {
+    /// A request with this To tag (RFC 3261 section 12.2.2).
+    fn in_dialog(&self, place: &Place, incoming: &Incoming<'_>, tag: &Text) -> Verdict<'_>
+        requires { IsSound place.now self.now }
+        ensures { verdict_of result ≡ spec.in_dialog place.now.limits incoming.now.request.now
+            (find (rows.is_dialog incoming.now.request.now tag.now) (rows_of self.now.rows)) }
+    {
+        let Some(row) = find_dialog(place, &self.rows, incoming.request, tag) else {
+            return Verdict::Refused(Refusal::NoDialog);
+        };
+        if incoming.request.head.cseq <= row.last_cseq {
+            return Verdict::Refused(Refusal::OldCseq);
+        }
+        match incoming.unheard(&place.limits, &row.sub.want().event) {
+            Some(cause) => Verdict::Denied(row.serial, cause),
+            None => Verdict::Renewed(row.serial),
+        }
+    }
+
     /// A request without a To tag.
-    fn serve_outside(
-        &mut self,
-        alloc: Global,
-        place: &Place,
-        incoming: Incoming<'_>,
-    ) -> Result<Vec<Out>, NoMemory>
-        requires fits { requests.misfit incoming.request.now ≡ None }
-        requires sound { IsSound place.now self.old }
-        ensures step { IfOk result (λ outs. Serves P.seen place.now self.old incoming.entry
-            (spec.outside place.now.limits (book_of P.seen self.old) incoming.entry.request.now) self.new outs.items) }
-        ensures sound { OnOk result (IsSound place.now self.new) }
+    fn outside(&self, limits: &Limits, incoming: &Incoming<'_>) -> Verdict<'_>
+        requires { IsIndexed self.now.rows }
+        ensures { verdict_of result ≡ spec.outside limits.now (book_of P.seen self.now) incoming.now.request.now }
     {
-        let request = incoming.request;
-        if let Some(cause) = misplaced(&place.limits, &self.boxes, request) {
-            return self.refuse(alloc, place, incoming, cause);
+        if let Some(cause) = incoming.misplaced(limits, &self.boxes) {
+            return Verdict::Refused(cause);
         }
-        if is_full(&place.limits, self.next, self.rows.len(), request) {
-            return self.refuse(alloc, place, incoming, Refusal::Full);
+        if incoming.is_full(limits, self.next, self.rows.len()) {
+            return Verdict::Refused(Refusal::Full);
         }
-        let kind = birth_of(&place.limits, request);
-        self.bear(alloc, place, incoming, kind)
+        Verdict::Born(incoming.birth(limits))
     }
 
-    /// A request that fits, by its To tag.
-    fn serve_fitting(
-        &mut self,
-        alloc: Global,
-        place: &Place,
-        incoming: Incoming<'_>,
-    ) -> Result<Vec<Out>, NoMemory>
-        requires fits { requests.misfit incoming.request.now ≡ None }
-        requires sound { IsSound place.now self.old }
-        ensures step { IfOk result (λ outs. Serves P.seen place.now self.old incoming.entry
-            (spec.by_to_tag place.now.limits (book_of P.seen self.old) incoming.entry.request.now
-            incoming.entry.request.now.head.to.tag) self.new outs.items) }
-        ensures sound { OnOk result (IsSound place.now self.new) }
+    /// What to do with a request: the first case that applies (RFC 6665 section 4.2.1).
+    fn verdict(&self, place: &Place, pending: &Pending<'_>) -> Verdict<'_>
+        requires { IsSound place.now self.now }
+        ensures { verdict_of result
+            ≡ spec.verdict place.now.limits (book_of P.seen self.now) pending.now.incoming.now.request.now }
     {
-        let request = incoming.request;
-        match &request.head.to.tag {
-            None => self.serve_outside(alloc, place, incoming),
-            Some(tag) => self.serve_in_dialog(alloc, place, incoming, tag),
+        let incoming = pending.incoming;
+        if incoming.is_ack() {
+            return Verdict::Silent;
+        }
+        if let Some(bytes) = self.ring.answer_to(&pending.transaction) {
+            return Verdict::Repeated(bytes);
+        }
+        if let Some(cause) = incoming.misfit() {
+            return Verdict::Refused(cause);
+        }
+        match &incoming.request.head.to.tag {
+            None => self.outside(&place.limits, incoming),
+            Some(tag) => self.in_dialog(place, incoming, tag),
         }
     }
 
-    /// A request that is no retransmission.
-    fn serve_new(
-        &mut self,
-        alloc: Global,
-        place: &Place,
-        incoming: Incoming<'_>,
-    ) -> Result<Vec<Out>, NoMemory>
-        requires sound { IsSound place.now self.old }
-        ensures step { IfOk result (λ outs. Serves P.seen place.now self.old incoming.entry
-            (spec.by_kept place.now.limits (book_of P.seen self.old) incoming.entry.request.now None)
-            self.new outs.items) }
-        ensures sound { OnOk result (IsSound place.now self.new) }
-    {
-        match misfit(incoming.request) {
-            Some(cause) => self.refuse(alloc, place, incoming, cause),
-            None => self.serve_fitting(alloc, place, incoming),
-        }
-    }
-
-    /// A request, of which a retransmission is answered from the ring.
+    /// A request: what is to be done with it is done.
     pub fn serve(
         &mut self,
         alloc: Global,
@@ -103,21 +146,19 @@ impl<P: Package> Ledger<P> {
             (book_of P.seen self.new) outs.items) }
         ensures sound { OnOk result (IsSound place.now self.new) }
     {
-        let mut outs = Vec::new(alloc);
-        if is_ack(request) {
-            return Ok(outs);
-        }
-        let transaction = transaction_of(alloc, request)?;
-        if let Some(bytes) = self.ring.answer_to(&transaction) {
-            let bytes = copy_bytes(alloc, bytes)?;
-            outs.push(Out::Answer { to: source, bytes })?;
-            return Ok(outs);
-        }
-        let incoming = Incoming {
-            source,
-            request,
+        let transaction = Transaction::of(alloc, request)?;
+        let incoming = Incoming::new(source, request);
+        let pending = Pending {
+            incoming: &incoming,
             transaction,
         };
-        self.serve_new(alloc, place, incoming)
+        match self.verdict(place, &pending) {
+            Verdict::Silent => Ok(Vec::new(alloc)),
+            Verdict::Repeated(bytes) => repeat(alloc, source, bytes),
+            Verdict::Refused(cause) => self.refuse(alloc, place, pending, cause),
+            Verdict::Denied(serial, cause) => self.deny(alloc, place, pending, serial, cause),
+            Verdict::Renewed(serial) => self.renew(alloc, place, pending, serial),
+            Verdict::Born(kind) => self.bear(alloc, place, pending, kind),
+        }
     }
 }

@@ -1,8 +1,7 @@
 //! Requests that make a dialog (RFC 3261 section 12.1.1).
 #![tactic(auto, unfolding(notifier_model::specs::Book::new_usage, notifier_model::specs::Book::new_want, notifier_model::specs::Book::first_step, notifier_model::specs::Book::first_boxes, notifier_model::specs::Book::first_told, notifier_model::specs::Book::new_row, notifier_model::specs::Rows::goes, notifier_model::specs::Rows::turned, notifier_model::specs::Requests::event_of))]
 
-ghost use Rattle.std.specs.Prelude.{false, ◌≡◌, ◌≤◌, ◌<◌, ◌^◌, map, if◌then◌else◌, IfOk, OnOk, option_to_list, None};
-ghost use Rattle.subscription.specs.Table as table;
+ghost use Rattle.std.specs.Prelude.{◌≡◌, ◌≤◌, ◌<◌, ◌^◌, map, if◌then◌else◌, IfOk, OnOk, option_to_list, None};
 ghost use Rattle.notifier_model.specs.Book as spec;
 ghost use Rattle.notifier_model.specs.Fields as fields;
 ghost use Rattle.notifier.specs.Incoming.{first_told_of};
@@ -13,19 +12,18 @@ ghost use Rattle.notifier.specs.Tellers.{boxes_of};
 ghost use Rattle.notifier.specs.Told.{row_after, out_after, want_after};
 
 use crate::boxes::tell_first;
-use crate::in_dialog::tag_or_empty;
+use crate::incoming::Incoming;
 use crate::store::Ledger;
 use crate::sweep::rules::After;
 use crate::teller::Teller;
-use crate::verdict::request::{granted, is_refer};
+use crate::verdict::tag_or_empty;
 use event_headers::EventValue;
 use notifier_model::birth::Birth;
 use notifier_model::event::Out;
 use notifier_model::place::Place;
 use notifier_model::row::Row;
-use notifier_model::uri::user_part;
 use package::{Change, Package};
-use sip_read::{Addr, Request};
+use sip_read::Request;
 use sip_text::{Field, NoMemory, Text, Values};
 use std::alloc::Global;
 use subscription::{Step, Sub, Usage, Want};
@@ -117,25 +115,25 @@ fn new_usage(alloc: Global, tag: &Text, request: &Request) -> Result<Usage, NoMe
 }
 
 /// The event of a request that fits: a SUBSCRIBE has one, and a REFER makes its own (RFC 3515 section 2.4.6).
-fn event_of(alloc: Global, request: &Request) -> Result<EventValue, NoMemory>
-    requires fits { requests.misfit request.now ≡ None }
-    ensures { IfOk result (λ event. event ≡ requests.event_of request.now) }
+fn event_of(alloc: Global, incoming: &Incoming<'_>) -> Result<EventValue, NoMemory>
+    requires fits { requests.misfit incoming.now.request.now ≡ None }
+    ensures { IfOk result (λ event. event ≡ requests.event_of incoming.now.request.now) }
 {
-    match &request.event {
-        Field::Value(event) if !is_refer(request) => event.copy(alloc),
-        _ => EventValue::numbered(alloc, "refer", request.head.cseq),
+    match &incoming.request.event {
+        Field::Value(event) if !incoming.refers => event.copy(alloc),
+        _ => EventValue::numbered(alloc, "refer", incoming.request.head.cseq),
     }
 }
 
 /// What it watches: a mailbox, or the tag of a transfer.
-fn resource_of(alloc: Global, tag: &Text, request: &Request) -> Result<Text, NoMemory>
-    ensures { IfOk result (λ resource. resource
-        ≡ (if requests.is_refer request.now then tag.now else requests.user_part request.now.uri)) }
+fn resource_of(alloc: Global, tag: &Text, incoming: &Incoming<'_>) -> Result<Text, NoMemory>
+    ensures { IfOk result (λ resource. resource ≡ (if requests.is_refer incoming.now.request.now then tag.now
+        else requests.user_part incoming.now.request.now.uri)) }
 {
-    if is_refer(request) {
+    if incoming.refers {
         tag.copy(alloc)
     } else {
-        Text::of(alloc, user_part(request.uri.as_str()))
+        Text::of(alloc, incoming.user)
     }
 }
 
@@ -143,106 +141,81 @@ fn new_want(
     alloc: Global,
     place: &Place,
     tag: &Text,
-    source: Addr,
-    request: &Request,
+    incoming: &Incoming<'_>,
 ) -> Result<Want, NoMemory>
-    requires fits { requests.misfit request.now ≡ None }
-    ensures want { IfOk result (λ want. want ≡ spec.new_want place.now tag.now source request.now) }
+    requires fits { requests.misfit incoming.now.request.now ≡ None }
+    ensures want { IfOk result (λ want.
+        want ≡ spec.new_want place.now tag.now incoming.now.source incoming.now.request.now) }
     ensures some_number { IfOk result (λ want. 1 ≤ want.max_cseq) }
 {
-    let event = event_of(alloc, request)?;
-    let resource = resource_of(alloc, tag, request)?;
+    let event = event_of(alloc, incoming)?;
+    let resource = resource_of(alloc, tag, incoming)?;
     Ok(Want {
         event,
         resource,
-        to: source,
+        to: incoming.source,
         max_cseq: place.limits.max_cseq(),
     })
 }
 
 impl<P: Package> Teller<'_, P> {
-    /// A subscription that is accepted for the time granted.
-    fn first_accepted(&self, usage: Usage, want: Want, request: &Request) -> Step
-        requires number { 1 ≤ want.max_cseq }
-        requires clock { self.now.clock < 2 ^ 63 }
-        requires asks { requests.asks_nothing self.now.place.now.limits request.now ≡ false }
-        ensures { result
-            ≡ table.accept usage want self.now.clock (requests.granted self.now.place.now.limits request.now) }
-    {
-        Sub::accept(
-            usage,
-            want,
-            self.clock,
-            granted(&self.place.limits, request),
-        )
-    }
-
-    /// How the subscription begins, if there is one.
-    fn first_step(&self, usage: Usage, want: Want, request: &Request, kind: Birth) -> Option<Step>
-        requires number { 1 ≤ want.max_cseq }
-        requires clock { self.now.clock < 2 ^ 63 }
-        requires kind { kind ≡ requests.birth_of self.now.place.now.limits request.now }
-        ensures { result ≡ spec.first_step self.now.place.now.limits self.now.clock usage want request.now kind }
-    {
-        match kind {
-            Birth::Fetch => {
-                let (usage, want, notice) = Sub::fetch(usage, want);
-                Some(Step::Over(usage, want, notice))
-            }
-            Birth::Unwatched => None,
-            Birth::Watch => Some(self.first_accepted(usage, want, request)),
-            Birth::Transfer => Some(self.first_accepted(usage, want, request)),
-        }
-    }
-
-    /// The same of the dialog that a request makes, and of what it asks for.
-    fn begun(
+    /// How the subscription of a request begins, if there is one.
+    fn first_step(
         &self,
         alloc: Global,
-        source: Addr,
-        request: &Request,
+        incoming: &Incoming<'_>,
         newborn: &Newborn,
     ) -> Result<Option<Step>, NoMemory>
         requires clock { self.now.clock < 2 ^ 63 }
-        requires fits { requests.misfit request.now ≡ None }
-        requires kind { newborn.now.kind ≡ requests.birth_of self.now.place.now.limits request.now }
+        requires fits { requests.misfit incoming.now.request.now ≡ None }
+        requires kind { newborn.now.kind ≡ requests.birth_of self.now.place.now.limits incoming.now.request.now }
         ensures { IfOk result (λ next. next ≡ spec.first_step self.now.place.now.limits self.now.clock
-            (spec.new_usage newborn.now.tag request.now)
-            (spec.new_want self.now.place.now newborn.now.tag source request.now) request.now newborn.now.kind) }
+            (spec.new_usage newborn.now.tag incoming.now.request.now)
+            (spec.new_want self.now.place.now newborn.now.tag incoming.now.source incoming.now.request.now)
+            incoming.now.request.now newborn.now.kind) }
     {
-        let want = new_want(alloc, self.place, &newborn.tag, source, request)?;
-        let usage = new_usage(alloc, &newborn.tag, request)?;
-        Ok(self.first_step(usage, want, request, newborn.kind))
+        let want = new_want(alloc, self.place, &newborn.tag, incoming)?;
+        let usage = new_usage(alloc, &newborn.tag, incoming.request)?;
+        let seconds = incoming.granted(&self.place.limits);
+        match newborn.kind {
+            Birth::Watch => Ok(Some(Sub::accept(usage, want, self.clock, seconds))),
+            Birth::Fetch => {
+                let (usage, want, notice) = Sub::fetch(usage, want);
+                Ok(Some(Step::Over(usage, want, notice)))
+            }
+            Birth::Transfer => Ok(Some(Sub::accept(usage, want, self.clock, seconds))),
+            Birth::Unwatched => Ok(None),
+        }
     }
 
     /// The new row, if one stays after the first step, and the NOTIFY of that step.
     fn first_turned(
         &self,
         alloc: Global,
-        source: Addr,
-        request: &Request,
+        incoming: &Incoming<'_>,
         serial: u32,
         next: Step,
     ) -> Result<First, NoMemory>
         ensures row { IfOk result (λ first. first.row ≡ (rows.turned self.now.place.now (boxes_of P.seen self.now)
-            self.now.clock source (want_after next) (spec.new_row serial request.now) next).row) }
+            self.now.clock incoming.now.source (want_after next) (spec.new_row serial incoming.now.request.now)
+            next).row) }
         ensures out { IfOk result (λ first. option_to_list first.out ≡ map out_of (rows.turned self.now.place.now
-            (boxes_of P.seen self.now) self.now.clock source (want_after next) (spec.new_row serial request.now)
-            next).notifies) }
+            (boxes_of P.seen self.now) self.now.clock incoming.now.source (want_after next)
+            (spec.new_row serial incoming.now.request.now) next).notifies) }
     {
         match next {
             Step::Live(sub, notice) => {
                 let row = Row {
                     serial,
                     sub,
-                    last_cseq: request.head.cseq,
+                    last_cseq: incoming.request.head.cseq,
                     unanswered: Values::new(Vec::new(alloc)),
                 };
-                let after = self.goes_on(alloc, source, row, notice)?;
+                let after = self.goes_on(alloc, incoming.source, row, notice)?;
                 Ok(First::new(after))
             }
             Step::Over(usage, want, notice) => {
-                let after = self.finishes(alloc, source, usage, want, notice)?;
+                let after = self.finishes(alloc, incoming.source, usage, want, notice)?;
                 Ok(First::new(after))
             }
         }
@@ -252,22 +225,22 @@ impl<P: Package> Teller<'_, P> {
     fn first_told(
         &self,
         alloc: Global,
-        source: Addr,
-        request: &Request,
+        incoming: &Incoming<'_>,
         newborn: &Newborn,
     ) -> Result<First, NoMemory>
         requires clock { self.now.clock < 2 ^ 63 }
-        requires fits { requests.misfit request.now ≡ None }
-        requires kind { newborn.now.kind ≡ requests.birth_of self.now.place.now.limits request.now }
-        ensures row { IfOk result (λ first. first.row ≡ (first_told_of self.now.place.now
-            (boxes_of P.seen self.now) self.now.clock source request.now newborn.now).row) }
+        requires fits { requests.misfit incoming.now.request.now ≡ None }
+        requires kind { newborn.now.kind ≡ requests.birth_of self.now.place.now.limits incoming.now.request.now }
+        ensures row { IfOk result (λ first. first.row ≡ (first_told_of self.now.place.now (boxes_of P.seen self.now)
+            self.now.clock incoming.now.source incoming.now.request.now newborn.now).row) }
         ensures out { IfOk result (λ first. option_to_list first.out ≡ map out_of (first_told_of self.now.place.now
-            (boxes_of P.seen self.now) self.now.clock source request.now newborn.now).notifies) }
+            (boxes_of P.seen self.now) self.now.clock incoming.now.source incoming.now.request.now
+            newborn.now).notifies) }
     {
-        let begun = self.begun(alloc, source, request, newborn)?;
+        let begun = self.first_step(alloc, incoming, newborn)?;
         match begun {
             None => Ok(First::nothing()),
-            Some(next) => self.first_turned(alloc, source, request, newborn.serial, next),
+            Some(next) => self.first_turned(alloc, incoming, newborn.serial, next),
         }
     }
 }
@@ -295,21 +268,20 @@ impl<P: Package> Ledger<P> {
         &mut self,
         alloc: Global,
         place: &Place,
-        source: Addr,
-        request: &Request,
+        incoming: &Incoming<'_>,
         newborn: &Newborn,
     ) -> Result<First, NoMemory>
         requires clock { self.old.clock < 2 ^ 63 }
-        requires fits { requests.misfit request.now ≡ None }
-        requires kind { newborn.now.kind ≡ requests.birth_of place.now.limits request.now }
+        requires fits { requests.misfit incoming.now.request.now ≡ None }
+        requires kind { newborn.now.kind ≡ requests.birth_of place.now.limits incoming.now.request.now }
         ensures boxes { OnOk result (map P.seen self.new.boxes.items
             ≡ spec.first_boxes (map P.seen self.old.boxes.items) newborn.now.tag newborn.now.kind) }
         ensures row { IfOk result (λ first. first.row ≡ (first_told_of place.now
             (spec.first_boxes (map P.seen self.old.boxes.items) newborn.now.tag newborn.now.kind) self.old.clock
-            source request.now newborn.now).row) }
+            incoming.now.source incoming.now.request.now newborn.now).row) }
         ensures out { IfOk result (λ first. option_to_list first.out ≡ map out_of (first_told_of place.now
             (spec.first_boxes (map P.seen self.old.boxes.items) newborn.now.tag newborn.now.kind) self.old.clock
-            source request.now newborn.now).notifies) }
+            incoming.now.source incoming.now.request.now newborn.now).notifies) }
         ensures same { OnOk result ((self.new.clock ≡ self.old.clock) × (self.new.next ≡ self.old.next)
             × (self.new.rows ≡ self.old.rows) × (self.new.ring ≡ self.old.ring)) }
     {
@@ -319,6 +291,6 @@ impl<P: Package> Ledger<P> {
             boxes: &self.boxes,
             clock: self.clock,
         };
-        teller.first_told(alloc, source, request, newborn)
+        teller.first_told(alloc, incoming, newborn)
     }
 }

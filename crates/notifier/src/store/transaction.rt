@@ -1,9 +1,12 @@
 //! What names a transaction, as texts by which its kept answer is found.
+#![tactic(auto, unfolding(notifier_model::specs::Requests::key_of_request))]
 
-ghost use Rattle.std.specs.Prelude.{◌≡◌, IfOk};
+ghost use Rattle.std.specs.Prelude.{◌≡◌, option_map, IfOk};
+ghost use Rattle.notifier_model.specs.Requests.{key_of_request};
 ghost use Rattle.notifier.specs.Transactions.{key_of};
 
 use notifier_model::row::Key;
+use sip_read::Request;
 use sip_text::{NoMemory, Text};
 use std::alloc::Global;
 
@@ -16,24 +19,25 @@ pub struct Transaction {
 }
 
 impl Transaction {
-    /// Texts of its own with these characters.
-    pub fn of(
-        alloc: Global,
-        branch: &Text,
-        sent_by: &Text,
-        method: &Text,
-    ) -> Result<Transaction, NoMemory>
-        ensures { IfOk result (λ named.
-            key_of named ≡ record { branch = branch.now; sent_by = sent_by.now; method = method.now }) }
+    /// What names the transaction of a request, if anything does: a branch with the magic cookie (RFC 3261 section 17.2.3).
+    pub fn of(alloc: Global, request: &Request) -> Result<Option<Transaction>, NoMemory>
+        ensures { IfOk result (λ named. option_map key_of named ≡ key_of_request request.now) }
     {
+        let top = &request.head.top;
+        let Some(branch) = &top.branch else {
+            return Ok(None);
+        };
+        if !branch.as_str().as_bytes().starts_with(b"z9hG4bK") {
+            return Ok(None);
+        }
         let branch = String::from_str(alloc, branch.as_str())?;
-        let sent_by = String::from_str(alloc, sent_by.as_str())?;
-        let method = String::from_str(alloc, method.as_str())?;
-        Ok(Transaction {
+        let sent_by = String::from_str(alloc, top.sent_by.as_str())?;
+        let method = String::from_str(alloc, request.method.as_str())?;
+        Ok(Some(Transaction {
             branch,
             sent_by,
             method,
-        })
+        }))
     }
 
     /// The texts of this key. It takes no memory.

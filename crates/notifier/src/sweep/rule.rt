@@ -11,6 +11,7 @@ ghost use Rattle.notifier.specs.Stored.{rows_of, row_at, IsIndexed, Turns};
 ghost use Rattle.notifier.specs.Tellers.{rule_by};
 ghost use Rattle.notifier.specs.Told.{IsTold};
 
+use crate::incoming::Incoming;
 use crate::store::rows::Rows;
 use crate::store::timers::alarm;
 use crate::sweep::rules::{After, count, take_answer};
@@ -18,7 +19,7 @@ use crate::teller::Teller;
 use notifier_model::event::Out;
 use notifier_model::row::Row;
 use package::Package;
-use sip_read::{Addr, Request, Response};
+use sip_read::{Request, Response};
 use sip_text::{NoMemory, Text};
 use std::alloc::Global;
 
@@ -29,8 +30,8 @@ pub enum Cause<'a> {
     Response(&'a Response),
     /// A request was denied in the dialog of the row with this serial.
     Refused(u32, &'a Request),
-    /// A SUBSCRIBE came from this address in the dialog of the row with this serial.
-    Renewal(u32, Addr, &'a Request),
+    /// A SUBSCRIBE was accepted in the dialog of the row with this serial.
+    Renewal(u32, &'a Incoming<'a>),
     /// A resource of a package has changed, and may be over for good.
     Change(&'a str, &'a str, bool),
     /// Time has gone on.
@@ -78,9 +79,7 @@ impl<P: Package> Teller<'_, P> {
         match cause {
             Cause::Response(response) => Ok(take_answer(response, row)),
             Cause::Refused(serial, request) => Ok(count(*serial, request, row)),
-            Cause::Renewal(serial, source, request) => {
-                self.renew(alloc, *serial, *source, request, row)
-            }
+            Cause::Renewal(serial, incoming) => self.renew(alloc, *serial, incoming, row),
             Cause::Change(name, resource, is_over) => {
                 self.tell_watcher(alloc, name, resource, *is_over, row)
             }

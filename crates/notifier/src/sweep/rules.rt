@@ -10,8 +10,8 @@ ghost use Rattle.notifier.specs.Sound.{IsLive};
 ghost use Rattle.notifier.specs.Tellers.{boxes_of};
 ghost use Rattle.notifier.specs.Told.{IsTold, gone_from};
 
+use crate::incoming::Incoming;
 use crate::teller::Teller;
-use crate::verdict::request::{asks_nothing, granted};
 use notifier_model::event::Out;
 use notifier_model::row::{Row, Unanswered};
 use package::Package;
@@ -276,42 +276,36 @@ impl<P: Package> Teller<'_, P> {
     fn renewed_sub(
         &self,
         alloc: Global,
-        source: Addr,
-        request: &Request,
+        incoming: &Incoming<'_>,
         sub: Sub,
     ) -> Result<Step, NoMemory>
         requires { self.now.clock < 2 ^ 63 }
         ensures { IfOk result (λ next. next
-            ≡ spec.renewed_sub self.now.place.now self.now.clock source request.now sub) }
+            ≡ spec.renewed_sub self.now.place.now self.now.clock incoming.now.source incoming.now.request.now sub) }
     {
-        if asks_nothing(&self.place.limits, request) {
+        if incoming.asks_nothing(&self.place.limits) {
             let (usage, want, notice) = sub.end(Reason::Timeout);
             return Ok(Step::Over(usage, want, notice));
         }
-        let target = target_of(alloc, &request.contact)?;
+        let target = target_of(alloc, &incoming.request.contact)?;
         Ok(sub.refresh(
-            request.head.cseq,
+            incoming.request.head.cseq,
             target,
-            source,
+            incoming.source,
             self.clock,
-            granted(&self.place.limits, request),
+            incoming.granted(&self.place.limits),
         ))
     }
 
     /// A SUBSCRIBE in its dialog renews a row, or ends it.
-    fn renew_row(
-        &self,
-        alloc: Global,
-        source: Addr,
-        request: &Request,
-        row: Row,
-    ) -> Result<After, NoMemory>
+    fn renew_row(&self, alloc: Global, incoming: &Incoming<'_>, row: Row) -> Result<After, NoMemory>
         requires { self.now.clock < 2 ^ 63 }
         ensures { IfOk result (λ after. IsTold
-            (spec.renewed self.now.place.now (boxes_of P.seen self.now) self.now.clock source request.now) row after) }
+            (spec.renewed self.now.place.now (boxes_of P.seen self.now) self.now.clock
+            incoming.now.source incoming.now.request.now) row after) }
     {
-        let last_cseq = request.head.cseq;
-        let next = self.renewed_sub(alloc, source, request, row.sub)?;
+        let last_cseq = incoming.request.head.cseq;
+        let next = self.renewed_sub(alloc, incoming, row.sub)?;
         match next {
             Step::Live(sub, notice) => {
                 let row = Row {
@@ -319,9 +313,11 @@ impl<P: Package> Teller<'_, P> {
                     last_cseq,
                     ..row
                 };
-                self.goes_on(alloc, source, row, notice)
+                self.goes_on(alloc, incoming.source, row, notice)
             }
-            Step::Over(usage, want, notice) => self.finishes(alloc, source, usage, want, notice),
+            Step::Over(usage, want, notice) => {
+                self.finishes(alloc, incoming.source, usage, want, notice)
+            }
         }
     }
 
@@ -330,18 +326,18 @@ impl<P: Package> Teller<'_, P> {
         &self,
         alloc: Global,
         wanted: u32,
-        source: Addr,
-        request: &Request,
+        incoming: &Incoming<'_>,
         row: Row,
     ) -> Result<After, NoMemory>
         requires { self.now.clock < 2 ^ 63 }
         ensures { IfOk result (λ after. IsTold
             (spec.only wanted
-            (spec.renewed self.now.place.now (boxes_of P.seen self.now) self.now.clock source request.now)) row after) }
+            (spec.renewed self.now.place.now (boxes_of P.seen self.now) self.now.clock
+            incoming.now.source incoming.now.request.now)) row after) }
     {
         if row.serial != wanted {
             return Ok(After::Stays(row, None));
         }
-        self.renew_row(alloc, source, request, row)
+        self.renew_row(alloc, incoming, row)
     }
 }

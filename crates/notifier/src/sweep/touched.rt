@@ -1,7 +1,7 @@
 //! Which rows a cause may change. All others stay, whatever they are.
 #![tactic(auto)]
 
-ghost use Rattle.std.specs.Prelude.{◌≡◌, ◌<◌, ◌^◌, ◌++◌, ℕ, List, codes, decimal, All, IfOk, Some, option_to_list};
+ghost use Rattle.std.specs.Prelude.{◌≡◌, ◌<◌, ◌^◌, ℕ, List, All, IfOk, Some, option_to_list};
 ghost use Rattle.package.specs.Content.{Seen};
 ghost use Rattle.notifier_model.specs.declared.place.Place.{Place as AnyPlace};
 ghost use Rattle.notifier.specs.Among.{Cover, RiseFrom};
@@ -11,28 +11,21 @@ ghost use Rattle.notifier.specs.Stored.{rows_of, Gives, IsIndexed};
 
 use crate::store::rows::Rows;
 use crate::sweep::rule::Cause;
+use notifier_model::homes::TagNumbers;
 use sip_read::Response;
 use sip_text::NoMemory;
 use std::alloc::Global;
-
-/// The number of the worker that stands before the first dash of a local tag.
-fn worker_in(front: &str) -> Option<u32>
-    ensures { (worker : ℕ) → worker < 2 ^ 32 → front.now ≡ codes "w" ++ decimal worker → result ≡ Some worker }
-{
-    let digits = front.strip_prefix('w')?;
-    digits.parse().ok()
-}
 
 /// The serial that stands in a local tag of this worker.
 pub fn serial_in(worker: u32, tag: &str) -> Option<u32>
     ensures { Gives worker tag.now result }
 {
-    let (front, rest) = tag.split_once('-')?;
-    let (serial, _) = rest.split_once('-')?;
-    if worker_in(front)? != worker {
-        return None;
+    let numbers = TagNumbers::read(tag)?;
+    if numbers.worker == worker {
+        numbers.serial
+    } else {
+        None
     }
-    serial.parse().ok()
 }
 
 /// The serial of the row whose NOTIFY a response answers, by its From tag.
@@ -75,7 +68,7 @@ pub fn touched(
     match cause {
         Cause::Response(response) => one_serial(alloc, answered_serial(worker, response)),
         Cause::Refused(serial, _) => one_serial(alloc, Some(*serial)),
-        Cause::Renewal(serial, _, _) => one_serial(alloc, Some(*serial)),
+        Cause::Renewal(serial, _) => one_serial(alloc, Some(*serial)),
         Cause::Change(name, resource, _) => rows.watchers_of(alloc, name, resource),
         Cause::Time => rows.timed_out(alloc, clock),
         Cause::Stop => rows.serials(alloc),

@@ -20,7 +20,7 @@ pub take_in-requires-clause-last : goal.take_in-requires-clause-last
 take_in-requires-clause-last g c = λ κs lives.
     let next = c.args.self.now.next in
     let rows = rows_of c.args.self.now.rows in
-    let keeps = born_keeps c.args.place.now (first_boxes (map g.P.Package.seen c.args.self.now.boxes.items) c.args.newborn.now.tag c.args.newborn.now.kind) c.args.self.now.clock c.args.newborn.now.serial c.args.newborn.now.tag c.args.incoming.source c.args.incoming.request.now c.args.newborn.now.kind in
+    let keeps = born_keeps c.args.place.now (first_boxes (map g.P.Package.seen c.args.self.now.boxes.items) c.args.newborn.now.tag c.args.newborn.now.kind) c.args.self.now.clock c.args.newborn.now.serial c.args.newborn.now.tag c.args.pending.incoming.now.source c.args.pending.incoming.now.request.now c.args.newborn.now.kind in
     let still : IfSome c.in_ok-first.first.row (IsStill c.args.newborn.now.serial c.args.newborn.now.tag) = subst (λ o. IfSome o (IsStill c.args.newborn.now.serial c.args.newborn.now.tag)) (sym c.in_ok-first.ensures.row) keeps in
     subst (λ l. IfSome c.in_ok-first.first.row (λ row. All (λ r. r.serial < row.serial) (rows_of l))) (sym c.in_ok-first.ensures.same.2)
     (some_weaker (IsStill c.args.newborn.now.serial c.args.newborn.now.tag) (λ row. All (λ r. r.serial < row.serial) rows) c.in_ok-first.first.row still
@@ -30,8 +30,8 @@ pub returns-clause-book : goal.returns-clause-book
 returns-clause-book g c =
     let place = c.args.place.now in
     let before = c.args.self.now in
-    let source = c.args.incoming.source in
-    let r = c.args.incoming.request.now in
+    let source = c.args.pending.incoming.now.source in
+    let r = c.args.pending.incoming.now.request.now in
     let tag = c.args.newborn.now.tag in
     let kind = c.args.newborn.now.kind in
     let boxes = first_boxes (map g.P.Package.seen before.boxes.items) tag kind in
@@ -43,14 +43,14 @@ returns-clause-book g c =
     (c.in_ok-take_in.ensures.boxes ∙ ap (forgetting (first_gone tag kind (is_none c.in_ok-first.first.row))) c.in_ok-first.ensures.boxes
     ∙ ap (λ o. forgetting (first_gone tag kind (is_none o)) boxes) c.in_ok-first.ensures.row)
     (ap (λ b. b.items) (c.in_ok-take_in.ensures.same.2 ∙ c.in_ok-first.ensures.same.3 ∙ c.in_ok-outs.ensures.ring)
-    ∙ ap (λ k. ring_with place.limits before.ring.items k (answer_text (birth_answer place source r tag))) c.args.incoming.named)
+    ∙ ap (λ k. ring_with place.limits before.ring.items k (answer_text (birth_answer place source r tag))) c.args.pending.named)
 
 pub returns-clause-outs : goal.returns-clause-outs
 unfolding out_of
 returns-clause-outs g c =
-    let bytes = answer_text (birth_answer c.args.place.now c.args.incoming.source c.args.incoming.request.now c.args.newborn.now.tag) in
+    let bytes = answer_text (birth_answer c.args.place.now c.args.pending.incoming.now.source c.args.pending.incoming.now.request.now c.args.newborn.now.tag) in
     c.in_ok-take_in.ensures.outs ∙ ap (λ l. l ++ option_to_list c.in_ok-first.first.out) c.in_ok-outs.ensures.outs
-    ∙ ap (λ l. Answer c.args.incoming.source bytes ∷ l) c.in_ok-first.ensures.out
+    ∙ ap (λ l. Answer c.args.pending.incoming.now.source bytes ∷ l) c.in_ok-first.ensures.out
 
 pub returns-clause-sound : goal.returns-clause-sound
 returns-clause-sound g c =
@@ -60,9 +60,9 @@ returns-clause-sound g c =
     let next = before.next in
     let boxes = first_boxes (map g.P.Package.seen before.boxes.items) c.args.newborn.now.tag c.args.newborn.now.kind in
     let row = c.in_ok-first.first.row in
-    let lives = born_lives c.args.place.now boxes before.clock c.args.newborn.now.serial c.args.newborn.now.tag c.args.incoming.source c.args.incoming.request.now c.args.newborn.now.kind limits c.requires.kind in
+    let lives = born_lives c.args.place.now boxes before.clock c.args.newborn.now.serial c.args.newborn.now.tag c.args.pending.incoming.now.source c.args.pending.incoming.now.request.now c.args.newborn.now.kind limits c.requires.kind in
     let live : IfSome row (IsLive before.clock) = subst (λ o. IfSome o (IsLive before.clock)) (sym c.in_ok-first.ensures.row) lives in
-    let keeps = born_keeps c.args.place.now boxes before.clock c.args.newborn.now.serial c.args.newborn.now.tag c.args.incoming.source c.args.incoming.request.now c.args.newborn.now.kind in
+    let keeps = born_keeps c.args.place.now boxes before.clock c.args.newborn.now.serial c.args.newborn.now.tag c.args.pending.incoming.now.source c.args.pending.incoming.now.request.now c.args.newborn.now.kind in
     let still : IfSome row (IsStill c.args.newborn.now.serial c.args.newborn.now.tag) = subst (λ o. IfSome o (IsStill c.args.newborn.now.serial c.args.newborn.now.tag)) (sym c.in_ok-first.ensures.row) keeps in
     let own : IfSome row (IsStill next (tag_of c.args.place.now next)) =
     subst (λ n. IfSome row (IsStill n (tag_of c.args.place.now next))) c.requires.serial (subst (λ t. IfSome row (IsStill c.args.newborn.now.serial t)) c.requires.tag still) in

@@ -12,13 +12,13 @@ pub returns-clause-step : goal.returns-clause-step
 unfolding served accepted keeping
 returns-clause-step g c =
     let first = c.in_ok-outs.ensures in
-    from_book (λ b. only c.args.serial (renewed c.args.place.now b.boxes b.clock c.args.incoming.source c.args.incoming.request.now)) _ (book_of g.P.Package.seen c.answer_renewal.new.self) _
+    from_book (λ b. only c.args.serial (renewed c.args.place.now b.boxes b.clock c.args.pending.incoming.now.source c.args.pending.incoming.now.request.now)) _ (book_of g.P.Package.seen c.answer_renewal.new.self) _
     (book_of g.P.Package.seen c.all_rows.new.self) c.all_rows.new.outs.items first.book (c.in_ok-all_rows.ensures.step _ first.outs)
 
 pub returns-clause-sound : goal.returns-clause-sound
 returns-clause-sound g c =
     sound_told c.args.place.now c.answer_renewal.new.self c.all_rows.new.self
-    (only c.args.serial (renewed c.args.place.now (map g.P.Package.seen c.answer_renewal.new.self.boxes.items) c.answer_renewal.new.self.clock c.args.incoming.source c.args.incoming.request.now))
-    (λ row h. renewed_lives c.args.place.now (map g.P.Package.seen c.answer_renewal.new.self.boxes.items) c.answer_renewal.new.self.clock c.args.serial c.args.incoming.source c.args.incoming.request.now row c.in_ok-outs.ensures.limits h)
-    (renewed_keeps c.args.place.now (map g.P.Package.seen c.answer_renewal.new.self.boxes.items) c.answer_renewal.new.self.clock c.args.serial c.args.incoming.source c.args.incoming.request.now)
+    (only c.args.serial (renewed c.args.place.now (map g.P.Package.seen c.answer_renewal.new.self.boxes.items) c.answer_renewal.new.self.clock c.args.pending.incoming.now.source c.args.pending.incoming.now.request.now))
+    (λ row h. renewed_lives c.args.place.now (map g.P.Package.seen c.answer_renewal.new.self.boxes.items) c.answer_renewal.new.self.clock c.args.serial c.args.pending.incoming.now.source c.args.pending.incoming.now.request.now row c.in_ok-outs.ensures.limits h)
+    (renewed_keeps c.args.place.now (map g.P.Package.seen c.answer_renewal.new.self.boxes.items) c.answer_renewal.new.self.clock c.args.serial c.args.pending.incoming.now.source c.args.pending.incoming.now.request.now)
     c.in_ok-outs.ensures.sound c.in_ok-all_rows.ensures.rows c.in_ok-all_rows.ensures.indexed c.in_ok-all_rows.ensures.same

@@ -33,10 +33,10 @@ pub returns-in-Renewal-clause-covers : goal.returns-in-Renewal-clause-covers
 returns-in-Renewal-clause-covers c =
     if_ok c.one_serial-in-Renewal.result c.one_serial-in-Renewal.ensures.items (λ serials items place boxes worker own.
     let rows = rows_of c.args.rows.now in
-    let e : Renewal c.in-Renewal.serial c.in-Renewal.field-1 c.in-Renewal.field-2 ≡ c.args.cause.now = cc in
+    let e : Renewal c.in-Renewal.serial c.in-Renewal.field-1 ≡ c.args.cause.now = cc in
     subst (λ k. Cover serials.items (rule_of place boxes c.args.clock k) rows) e
-    (subst (λ l. Cover l (rule_of place boxes c.args.clock (Renewal c.in-Renewal.serial c.in-Renewal.field-1 c.in-Renewal.field-2)) rows) (sym items)
-    (only_covers c.in-Renewal.serial (renewed place boxes c.args.clock c.in-Renewal.field-1 c.in-Renewal.field-2.now) rows)))
+    (subst (λ l. Cover l (rule_of place boxes c.args.clock (Renewal c.in-Renewal.serial c.in-Renewal.field-1)) rows) (sym items)
+    (only_covers c.in-Renewal.serial (renewed place boxes c.args.clock c.in-Renewal.field-1.now.source c.in-Renewal.field-1.now.request.now) rows)))
 
 pub returns-in-Change-clause-covers : goal.returns-in-Change-clause-covers
 returns-in-Change-clause-covers c =

@@ -1,9 +1,9 @@
 use Rattle.notifier.proofs.Births.{watch_asks, transfer_asks}
 use Rattle.notifier.proofs.teller.Teller.first_step.Goals as goal
 
-pub first_accepted-requires-clause-asks : goal.first_accepted-requires-clause-asks
-first_accepted-requires-clause-asks g c = λ κs lives. watch_asks c.args.self.now.place.now.limits c.args.request.now (cc)
+pub accept-requires-clause-some_time : goal.accept-requires-clause-some_time
+accept-requires-clause-some_time g c = c.granted-seconds.ensures.some_time (watch_asks c.args.self.now.place.now.limits c.args.incoming.now.request.now (cc))
 
-pub first_accepted-requires-in-Transfer-clause-asks :
-    goal.first_accepted-requires-in-Transfer-clause-asks
-first_accepted-requires-in-Transfer-clause-asks g c = λ κs lives. transfer_asks c.args.self.now.place.now.limits c.args.request.now (cc)
+pub accept-requires-in-Transfer-clause-some_time :
+    goal.accept-requires-in-Transfer-clause-some_time
+accept-requires-in-Transfer-clause-some_time g c = c.granted-seconds.ensures.some_time (transfer_asks c.args.self.now.place.now.limits c.args.incoming.now.request.now (cc))

@@ -8,12 +8,12 @@ pub returns-in-Live : goal.returns-in-Live
 returns-in-Live g c =
     let place = c.args.self.now.place.now in
     let boxes = map g.P.Package.seen c.args.self.now.boxes.now.items in
-    if_is (IsTold (renewed place boxes c.args.self.now.clock c.args.source c.args.request.now) c.args.row) c.goes_on.result _ c.goes_on.ensures
-    (renewal_stays place boxes c.args.self.now.clock c.args.row c.args.source c.args.request.now c.in_ok-next.next c.in-Live.sub c.in-Live.notice c.in_ok-next.ensures c.in-Live.is)
+    if_is (IsTold (renewed place boxes c.args.self.now.clock c.args.incoming.now.source c.args.incoming.now.request.now) c.args.row) c.goes_on.result _ c.goes_on.ensures
+    (renewal_stays place boxes c.args.self.now.clock c.args.row c.args.incoming.now.source c.args.incoming.now.request.now c.in_ok-next.next c.in-Live.sub c.in-Live.notice c.in_ok-next.ensures c.in-Live.is)
 
 pub returns-in-Over : goal.returns-in-Over
 returns-in-Over g c =
     let place = c.args.self.now.place.now in
     let boxes = map g.P.Package.seen c.args.self.now.boxes.now.items in
-    if_is (IsTold (renewed place boxes c.args.self.now.clock c.args.source c.args.request.now) c.args.row) c.finishes.result _ c.finishes.ensures
-    (renewal_goes place boxes c.args.self.now.clock c.args.row c.args.source c.args.request.now c.in_ok-next.next c.in-Over.usage c.in-Over.want c.in-Over.notice c.in_ok-next.ensures c.in-Over.is)
+    if_is (IsTold (renewed place boxes c.args.self.now.clock c.args.incoming.now.source c.args.incoming.now.request.now) c.args.row) c.finishes.result _ c.finishes.ensures
+    (renewal_goes place boxes c.args.self.now.clock c.args.row c.args.incoming.now.source c.args.incoming.now.request.now c.in_ok-next.next c.in-Over.usage c.in-Over.want c.in-Over.notice c.in_ok-next.ensures c.in-Over.is)

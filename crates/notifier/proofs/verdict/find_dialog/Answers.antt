@@ -2,7 +2,7 @@ use Rattle.std.proofs.Common.{◌≡◌, ◌∙◌, sym, ap, subst, Some, None, 
 use Rattle.std.specs.Option.{option_map}
 use Rattle.notifier.specs.Stored.{Gives}
 use Rattle.notifier.proofs.Dialogs.{no_serial, no_row, its_row, other_row}
-use Rattle.notifier.proofs.in_dialog.find_dialog.Goals as goal
+use Rattle.notifier.proofs.verdict.find_dialog.Goals as goal
 
 pub returns-in_err-serial_in : goal.returns-in_err-serial_in
 returns-in_err-serial_in c =
