@@ -29,7 +29,7 @@ use Rattle.service.specs.Sending.{Act, Put, Noted, Repeated, GaveUp, fate_of, fa
 
 -- ---- two parts of what it did
 
-state_append : (a b : List Call) (s : State) → state_after (a ++ b) s ≡ state_after b (state_after a s)
+pub state_append : (a b : List Call) (s : State) → state_after (a ++ b) s ≡ state_after b (state_after a s)
 state_append [] b s = refl
 state_append (c ∷ a) b s = state_append a b (after c s)
 
@@ -105,7 +105,7 @@ put_failures : (now : ℕ) (o : Out) (f : Fate) → failures (Put now o f ∷ []
 put_failures now o Sent = refl
 put_failures now o Started = refl
 put_failures now (out.Answer to octets) Failed = refl
-put_failures now (out.Notify tag number terminated to octets) Failed = refl
+put_failures now (out.Notify to number terminated tag octets) Failed = refl
 put_failures now (out.Start tag refer_to) Failed = refl
 
 pub does_put : (now : ℕ) (o : Out) (f : Fate) (s t : State) (v w : WireSeen) → Grows v.taken w.taken (sent_datagrams (one o f))

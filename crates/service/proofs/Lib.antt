@@ -4,6 +4,7 @@ pub mod Closed
 pub mod Acts
 pub mod Repeats
 pub mod Rowing
+pub mod Keeping
 pub mod Ran
 pub mod Faults
 pub mod Deafness

@@ -3,18 +3,17 @@ use Rattle.std.proofs.Common.{◌≡◌, ◌≤◌, inl, inr, ◌⊎◌, ℕ, tr
 use Rattle.std.specs.List.{filter, AllByRecursion}
 use Rattle.std.proofs.lemmas.List.{append-nil}
 use Rattle.std.proofs.lemmas.List.Elements.{filter-append}
-use Rattle.admission.specs.declared.network.Network.{Network}
 use Rattle.transport.specs.declared.datagram.Datagram.{Datagram}
 use Rattle.transport.specs.Wires.{Grows}
 use Rattle.feeds.proofs.Telling.{grows_none, grows_more, grows_same}
 use Rattle.control_lines.specs.declared.answer.Answer.TheVariants as answer
 use Rattle.control_lines.specs.Lines.{answer_text}
 use Rattle.service.specs.declared.lines.Done.TheVariants as did
-use Rattle.service.specs.Taken.{Line, Replies, Offers, datagrams_of, is_line, IsRefused, AreAnswered, AreRefused}
+use Rattle.service.specs.Taken.{Hearing, Line, Replies, Offers, datagrams_of, is_line, IsRefused, AreAnswered, AreRefused}
 use Rattle.service.proofs.Taking.{all_more, came_more, answered_more}
 
-pub refusing_none : (networks : List Network) (given taken : Option (List Datagram)) (failures : ℕ) → AreRefused networks given given taken taken failures failures
-refusing_none networks given taken failures = record {
+pub refusing_none : (hearing : Hearing) (given taken : Option (List Datagram)) (failures : ℕ) → AreRefused hearing given given taken taken failures failures
+refusing_none hearing given taken failures = record {
   came = [];
   gave = grows_none given;
   log = [];
@@ -23,43 +22,43 @@ refusing_none networks given taken failures = record {
   answered = record { taken = grows_none taken; counted = refl };
 }
 
-one_line : (networks : List Network) (d : Datagram) → is_line networks d ≡ true → filter (is_line networks) (d ∷ []) ≡ d ∷ []
-one_line networks d is = rw is refl
+one_line : (hearing : Hearing) (d : Datagram) → is_line hearing d ≡ true → filter (is_line hearing) (d ∷ []) ≡ d ∷ []
+one_line hearing d is = rw is refl
 
-no_line : (networks : List Network) (d : Datagram) → is_line networks d ≡ false → filter (is_line networks) (d ∷ []) ≡ []
-no_line networks d is = rw is refl
+no_line : (hearing : Hearing) (d : Datagram) → is_line hearing d ≡ false → filter (is_line hearing) (d ∷ []) ≡ []
+no_line hearing d is = rw is refl
 
-module _ {networks : List Network} {given given' taken taken' : Option (List Datagram)} {failures failures' : ℕ} (was : AreRefused networks given given' taken taken' failures failures')
+module _ {hearing : Hearing} {given given' taken taken' : Option (List Datagram)} {failures failures' : ℕ} (was : AreRefused hearing given given' taken taken' failures failures')
     (after : Option (List Datagram)) (d : Datagram) (gave : Grows given' after (d ∷ [])) where
-  pub refusing_blank : is_line networks d ≡ false → AreRefused networks given after taken taken' failures failures'
+  pub refusing_blank : is_line hearing d ≡ false → AreRefused hearing given after taken taken' failures failures'
   refusing_blank blank = record {
     came = was.came ++ d ∷ [];
     gave = grows_more given given' after was.came (d ∷ []) was.gave gave;
     log = was.log;
-    lines = was.lines ∙ sym (filter-append (is_line networks) was.came (d ∷ []) ∙ ap (λ l. filter (is_line networks) was.came ++ l) (no_line networks d blank) ∙ append-nil (filter (is_line networks) was.came));
+    lines = was.lines ∙ sym (filter-append (is_line hearing) was.came (d ∷ []) ∙ ap (λ l. filter (is_line hearing) was.came ++ l) (no_line hearing d blank) ∙ append-nil (filter (is_line hearing) was.came));
     each = was.each;
     answered = was.answered;
   }
 
-  replied : (reply : Option (List ℕ)) (after' : Option (List Datagram)) (more : ℕ) → is_line networks d ≡ true
-      → (reply ≡ Some (answer_text answer.Closed)) ⊎ (reply ≡ None) → Replies true d.peer reply taken' after' failures' more → AreRefused networks given after taken after' failures more
+  replied : (reply : Option (List ℕ)) (after' : Option (List Datagram)) (more : ℕ) → is_line hearing d ≡ true
+      → (reply ≡ Some (answer_text answer.Closed)) ⊎ (reply ≡ None) → Replies true d.peer reply taken' after' failures' more → AreRefused hearing given after taken after' failures more
   replied reply after' more is may replies =
       let line : Line = record { came = d; event = None; done = did.Answered answer.Closed; is_kept = false; reply = reply } in record {
         came = was.came ++ d ∷ [];
         gave = grows_more given given' after was.came (d ∷ []) was.gave gave;
         log = was.log ++ line ∷ [];
-        lines = came_more was.log (line ∷ []) ∙ ap (λ l. l ++ d ∷ []) was.lines ∙ sym (filter-append (is_line networks) was.came (d ∷ []) ∙ ap (λ l. filter (is_line networks) was.came ++ l) (one_line networks d is));
+        lines = came_more was.log (line ∷ []) ∙ ap (λ l. l ++ d ∷ []) was.lines ∙ sym (filter-append (is_line hearing) was.came (d ∷ []) ∙ ap (λ l. filter (is_line hearing) was.came ++ l) (one_line hearing d is));
         each = all_more IsRefused was.log (line ∷ []) was.each ((refl, may), tt);
         answered = answered_more was.log d None (did.Answered answer.Closed) false taken taken' after' failures failures' more was.answered reply replies;
       }
 
-  pub refusing_more : (after' : Option (List Datagram)) (more : ℕ) → is_line networks d ≡ true
-      → Offers d.peer (answer_text answer.Closed) taken' after' failures' more → AreRefused networks given after taken after' failures more
+  pub refusing_more : (after' : Option (List Datagram)) (more : ℕ) → is_line hearing d ≡ true
+      → Offers d.peer (answer_text answer.Closed) taken' after' failures' more → AreRefused hearing given after taken after' failures more
   refusing_more after' more is offers =
       ⊎_elim (λ k. replied (Some (answer_text answer.Closed)) after' more is (inl refl) k) (λ k. replied None after' more is (inr refl) k) offers
 
-pub refusing_silent : {networks : List Network} {given given' taken taken' : Option (List Datagram)} {failures failures' : ℕ} → AreRefused networks given given' taken taken' failures failures'
-    → (after : Option (List Datagram)) → Grows given' after [] → AreRefused networks given after taken taken' failures failures'
+pub refusing_silent : {hearing : Hearing} {given given' taken taken' : Option (List Datagram)} {failures failures' : ℕ} → AreRefused hearing given given' taken taken' failures failures'
+    → (after : Option (List Datagram)) → Grows given' after [] → AreRefused hearing given after taken taken' failures failures'
 refusing_silent {given = given} {given' = given'} was after none = record {
   came = was.came;
   gave = grows_same given given' after was.came was.gave none;

@@ -54,9 +54,9 @@ found (act ∷ acts) earlier call since e = found_at act acts (call_of act) refl
 
 -- a NOTIFY that is kept was put
 put_is : (act : Act) (t : Open) → call_of act ≡ Some (keeping t)
-    → (terminated : Bool) × (fate : Fate) × (act ≡ Put t.first (out.Notify t.tag t.number terminated t.to t.bytes) fate)
+    → (terminated : Bool) × (fate : Fate) × (act ≡ Put t.first (out.Notify t.to t.number terminated t.tag t.bytes) fate)
 put_is (Put now (out.Answer to octets) fate) t e = absurd cc
-put_is (Put now (out.Notify tag number terminated to octets) fate) t e = (terminated, fate, cc)
+put_is (Put now (out.Notify to number terminated tag octets) fate) t e = (terminated, fate, cc)
 put_is (Put now (out.Start tag refer_to) fate) t e = absurd cc
 put_is (Noted tag number status) t e = absurd cc
 put_is (Repeated now sent fails) t e = absurd cc
@@ -67,7 +67,7 @@ unended : (tag : List ℕ) (number : ℕ) (acts : List Act) → AllByRecursion (
     → AllByRecursion (λ act. ends_it tag number act ≡ false) acts
 unended tag number [] none = tt
 unended tag number (Put now (out.Answer to octets) fate ∷ acts) none = (refl, unended tag number acts none)
-unended tag number (Put now (out.Notify other n terminated to octets) fate ∷ acts) none = (refl, unended tag number acts none.1)
+unended tag number (Put now (out.Notify to n terminated other octets) fate ∷ acts) none = (refl, unended tag number acts none.1)
 unended tag number (Put now (out.Start other refer_to) fate ∷ acts) none = (refl, unended tag number acts none)
 unended tag number (Noted other n status ∷ acts) none = (none.0, unended tag number acts none.1)
 unended tag number (Repeated now sent fails ∷ acts) none = (refl, unended tag number acts none.1)
@@ -87,7 +87,7 @@ each_repeat_is limit before after now sent fails asked =
     let order = each_repeat limit (calls before) now t here.0.1 in
     let f = found before order.earlier (keeping t) order.since order.split in
     let put = put_is f.act t f.is in
-    let P : Datagram → Type 0 = λ d. before ≡ f.before ++ Put t.first (out.Notify t.tag t.number put.0 d.peer d.octets) put.1 ∷ f.after in
+    let P : Datagram → Type 0 = λ d. before ≡ f.before ++ Put t.first (out.Notify d.peer t.number put.0 t.tag d.octets) put.1 ∷ f.after in
     let C : List Call → Type 0 = λ l. AllByRecursion (λ call. is_end t.tag t.number call ≡ false) l in
     let long = half_a_second (times t.tag t.number order.since (state_after (order.earlier ++ keeping t ∷ []) (empty limit))) in
     let waited = order.waited in record {

@@ -70,19 +70,19 @@ rowed_from limit s acts rows rows' rowed none = let P : State → Type 0 = λ u.
 -- ---- an out
 
 module _ (now : ℕ) (o : Out) (tag : List ℕ) (number : ℕ) (terminated : Bool) (to : Addr) (octets : List ℕ) (rows rows' : List Row)
-    (is : o ≡ out.Notify tag number terminated to octets) where
-  seen_as : IsSeen now (out.Notify tag number terminated to octets) rows rows' → IsSeen now o rows rows'
+    (is : o ≡ out.Notify to number terminated tag octets) where
+  seen_as : IsSeen now (out.Notify to number terminated tag octets) rows rows' → IsSeen now o rows rows'
   seen_as seen = let P : Out → Type 0 = λ x. IsSeen now x rows rows' in subst P (sym is) seen
 
   pub seen_last : terminated ≡ true → rows' ≡ without tag rows → IsSeen now o rows rows'
   seen_last last gone = seen_as (step terminated last) where
-    step : (b : Bool) → b ≡ true → IsSeen now (out.Notify tag number b to octets) rows rows'
+    step : (b : Bool) → b ≡ true → IsSeen now (out.Notify to number b tag octets) rows rows'
     step true e = gone
     step false e = absurd cc
 
   seen_on : terminated ≡ false → (rows' ≡ after_notify now tag number to octets rows) ⊎ ((begins tag number rows ≡ true) × (rows' ≡ rows)) → IsSeen now o rows rows'
   seen_on on either = seen_as (step terminated on) where
-    step : (b : Bool) → b ≡ false → IsSeen now (out.Notify tag number b to octets) rows rows'
+    step : (b : Bool) → b ≡ false → IsSeen now (out.Notify to number b tag octets) rows rows'
     step false e = either
     step true e = absurd cc
 

@@ -162,11 +162,11 @@ module _ {desk at : DeskSeen} {old now : PortSeats} {given given' taken taken' :
   module _ (at' : DeskSeen) where
     with_event : is_near at d.peer ≡ true → (x : Done) (e : Event) (k : Bool) (rows' : List Row) → end_after x ≡ None → kept_answer at.kept.items (token d.octets) ≡ None
         → Means at.rows (line d.octets) (Some e) x → MayReply at' x reply → Replies (gets_answer x) d.peer reply taken' after' failures' more
-        → at' ≡ record { workers = at.workers; networks = at.networks; rows = rows'; kept = kept_with k (token d.octets) x at.kept } → rows' ≡ told_by e at.rows
+        → at' ≡ record { workers = at.workers; hearing = at.hearing; rows = rows'; kept = kept_with k (token d.octets) x at.kept } → rows' ≡ told_by e at.rows
         → Sends now (e ∷ []) next → Taking desk at' old next given after taken after' failures more
     with_event near x e k rows' on new meant may replied knows rows sent =
         let l : Line = record { came = d; event = Some e; done = x; is_kept = k; reply = reply } in
-        let K : List Row → DeskSeen = λ rs. record { workers = at.workers; networks = at.networks; rows = rs; kept = kept_with k (token d.octets) x at.kept } in record {
+        let K : List Row → DeskSeen = λ rs. record { workers = at.workers; hearing = at.hearing; rows = rs; kept = kept_with k (token d.octets) x at.kept } in record {
           log = was.log ++ l ∷ [];
           book = book_more (Some e) x k at' (knows ∙ ap K rows) (inr (near, inr (new, meant))) may replied;
           on = all_more (λ (y : Line). end_after y.done ≡ None) was.log (l ∷ []) was.on (on, tt);
@@ -176,11 +176,11 @@ module _ {desk at : DeskSeen} {old now : PortSeats} {given given' taken taken' :
 
     without : is_near at d.peer ≡ true → (x : Done) (k : Bool) (rows' : List Row) → end_after x ≡ None → kept_answer at.kept.items (token d.octets) ≡ None
         → Means at.rows (line d.octets) None x → MayReply at' x reply → Replies (gets_answer x) d.peer reply taken' after' failures' more
-        → at' ≡ record { workers = at.workers; networks = at.networks; rows = rows'; kept = kept_with k (token d.octets) x at.kept } → Stays at.rows rows' now next
+        → at' ≡ record { workers = at.workers; hearing = at.hearing; rows = rows'; kept = kept_with k (token d.octets) x at.kept } → Stays at.rows rows' now next
         → Taking desk at' old next given after taken after' failures more
     without near x k rows' on new meant may replied knows stays =
         let l : Line = record { came = d; event = None; done = x; is_kept = k; reply = reply } in
-        let K : List Row → DeskSeen = λ rs. record { workers = at.workers; networks = at.networks; rows = rs; kept = kept_with k (token d.octets) x at.kept } in record {
+        let K : List Row → DeskSeen = λ rs. record { workers = at.workers; hearing = at.hearing; rows = rs; kept = kept_with k (token d.octets) x at.kept } in record {
           log = was.log ++ l ∷ [];
           book = book_more None x k at' (knows ∙ ap K stays.0) (inr (near, inr (new, meant))) may replied;
           on = all_more (λ (y : Line). end_after y.done ≡ None) was.log (l ∷ []) was.on (on, tt);
@@ -211,7 +211,7 @@ module _ {desk at : DeskSeen} {old now : PortSeats} {given given' taken taken' :
         }
 
     news : is_near at d.peer ≡ true → (x : Done) → kept_answer at.kept.items (token d.octets) ≡ None → (k : Bool) (rows' : List Row)
-        → at' ≡ record { workers = at.workers; networks = at.networks; rows = rows'; kept = kept_with k (token d.octets) x at.kept }
+        → at' ≡ record { workers = at.workers; hearing = at.hearing; rows = rows'; kept = kept_with k (token d.octets) x at.kept }
         → IsDone (line d.octets) at.rows rows' now next x → MayReply at' x reply → Replies (gets_answer x) d.peer reply taken' after' failures' more
         → end_after x ≡ None → Taking desk at' old next given after taken after' failures more
     news near (did.Answered answer.Done) new k rows' knows is may replied on = with_event near (did.Answered answer.Done) is.0 k rows' refl new (is.0, refl, is.1) may replied knows is.2 is.3
@@ -238,13 +238,13 @@ module _ {desk at : DeskSeen} {old now : PortSeats} {given given' taken taken' :
         ⊎_elim (λ a. again h.0 x a on may replied) (λ n. news h.0 x n.0 n.1 n.2 n.3 n.4 may replied on) h.1)
         is
 
-  taken_close : is_near at d.peer ≡ true → (k : Bool) (rows' : List Row) (at' : DeskSeen) → at' ≡ record { workers = at.workers; networks = at.networks; rows = rows'; kept = kept_with k (token d.octets) did.Closing at.kept }
+  taken_close : is_near at d.peer ≡ true → (k : Bool) (rows' : List Row) (at' : DeskSeen) → at' ≡ record { workers = at.workers; hearing = at.hearing; rows = rows'; kept = kept_with k (token d.octets) did.Closing at.kept }
       → kept_answer at.kept.items (token d.octets) ≡ None → IsDone (line d.octets) at.rows rows' now next did.Closing
       → MayReply at' did.Closing reply → Replies true d.peer reply taken' after' failures' more
       → (log : List Line) × Grows given after (datagrams_of log) × AreTaken desk log old next ends.Done × AreAnswered log taken after' failures more
   taken_close near k rows' at' knows new is may replied =
       let l : Line = record { came = d; event = None; done = did.Closing; is_kept = k; reply = reply } in
-      let K : List Row → DeskSeen = λ rs. record { workers = at.workers; networks = at.networks; rows = rs; kept = kept_with k (token d.octets) did.Closing at.kept } in
+      let K : List Row → DeskSeen = λ rs. record { workers = at.workers; hearing = at.hearing; rows = rs; kept = kept_with k (token d.octets) did.Closing at.kept } in
       let book = book_more None did.Closing k at' (knows ∙ ap K is.1.0) (inr (near, inr (new, (refl, is.0)))) may replied in
       let last : EndsWith did.Closing (was.log ++ l ∷ []) = record { before = was.log; last = l; whole = refl; on = was.on; is = refl } in (
         was.log ++ l ∷ [],
@@ -253,13 +253,13 @@ module _ {desk at : DeskSeen} {old now : PortSeats} {given given' taken taken' :
         book.answered,
       )
 
-  taken_gone : is_near at d.peer ≡ true → (k : Bool) (rows' : List Row) (at' : DeskSeen) → at' ≡ record { workers = at.workers; networks = at.networks; rows = rows'; kept = kept_with k (token d.octets) did.Gone at.kept }
+  taken_gone : is_near at d.peer ≡ true → (k : Bool) (rows' : List Row) (at' : DeskSeen) → at' ≡ record { workers = at.workers; hearing = at.hearing; rows = rows'; kept = kept_with k (token d.octets) did.Gone at.kept }
       → kept_answer at.kept.items (token d.octets) ≡ None → IsDone (line d.octets) at.rows rows' now next did.Gone
       → MayReply at' did.Gone reply → Replies true d.peer reply taken' after' failures' more
       → (log : List Line) × Grows given after (datagrams_of log) × AreTaken desk log old next ends.Gone × AreAnswered log taken after' failures more
   taken_gone near k rows' at' knows new is may replied =
       let l : Line = record { came = d; event = Some is.0; done = did.Gone; is_kept = k; reply = reply } in
-      let K : List Row → DeskSeen = λ rs. record { workers = at.workers; networks = at.networks; rows = rs; kept = kept_with k (token d.octets) did.Gone at.kept } in
+      let K : List Row → DeskSeen = λ rs. record { workers = at.workers; hearing = at.hearing; rows = rs; kept = kept_with k (token d.octets) did.Gone at.kept } in
       let book = book_more (Some is.0) did.Gone k at' (knows ∙ ap K is.2) (inr (near, inr (new, (is.0, refl, is.1)))) may replied in (
         was.log ++ l ∷ [],
         book.came_are,
@@ -272,7 +272,7 @@ module _ {desk at : DeskSeen} {old now : PortSeats} {given given' taken taken' :
       )
 
   last_news : is_near at d.peer ≡ true → (x : Done) (end : FeedEnd) (k : Bool) (rows' : List Row) (at' : DeskSeen)
-      → at' ≡ record { workers = at.workers; networks = at.networks; rows = rows'; kept = kept_with k (token d.octets) x at.kept } → end_after x ≡ Some end → kept_answer at.kept.items (token d.octets) ≡ None
+      → at' ≡ record { workers = at.workers; hearing = at.hearing; rows = rows'; kept = kept_with k (token d.octets) x at.kept } → end_after x ≡ Some end → kept_answer at.kept.items (token d.octets) ≡ None
       → IsDone (line d.octets) at.rows rows' now next x → MayReply at' x reply → Replies (gets_answer x) d.peer reply taken' after' failures' more
       → (log : List Line) × Grows given after (datagrams_of log) × AreTaken desk log old next end × AreAnswered log taken after' failures more
   last_news near (did.Answered a) end k rows' at' knows e new is may replied = absurd cc

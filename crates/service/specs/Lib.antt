@@ -3,6 +3,7 @@ pub mod Listening
 pub mod Noted
 pub mod Sending
 pub mod Watched
+pub mod Keeping
 pub mod Told
 pub mod Served
 pub mod Admitted

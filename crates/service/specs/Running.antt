@@ -65,7 +65,7 @@ pub record IsFresh (o : Opening) (workers : ℕ) (desk : DeskSeen) : Type 0 wher
   pub first : AreFirst o.mailboxes o.changes desk.rows
   pub unkept : desk.kept ≡ buffer [] KEPT
   pub workers_are : desk.workers ≡ max 1 workers
-  pub networks_are : desk.networks ≡ o.networks
+  pub networks_are : desk.hearing.networks ≡ o.networks
 
 abbrev pub SendsLinesOf : DeskSeen → FeedEnd → PortSeats → PortSeats → Type 0
 SendsLinesOf desk end old new = (log : List Line) × AreTaken desk log old new end

@@ -140,7 +140,7 @@ pub record IsOfNotify (before : List Act) (now : ℕ) (sent : Datagram) : Type 0
   pub number : ℕ
   pub terminated : Bool
   pub fate : Fate
-  pub split : before ≡ earlier ++ Put first (out.Notify tag number terminated sent.peer sent.octets) fate ∷ since
+  pub split : before ≡ earlier ++ Put first (out.Notify sent.peer number terminated tag sent.octets) fate ∷ since
   pub unanswered : AllByRecursion (λ act. ends_it tag number act ≡ false) since
   pub waited : first + 500 ≤ now
   pub in_time : now < first + 32000

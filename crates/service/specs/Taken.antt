@@ -1,7 +1,7 @@
 -- What a service does with control lines, and what it answers.
-use Rattle.std.specs.Prelude.{◌≡◌, ◌≤◌, ◌+◌, ◌&&◌, ◌||◌, not, ℕ, Bool, true, false, List, [], ◌∷◌, ◌++◌, length, map, ◌⊎◌, Option, Some, None, String, string_bytes, if◌then◌else◌}
+use Rattle.std.specs.Prelude.{◌≡◌, ◌≤◌, ◌+◌, ◌&&◌, ◌||◌, ◌==◌, not, ℕ, Bool, true, false, List, [], ◌∷◌, ◌++◌, length, map, ◌⊎◌, Option, Some, None, String, string_bytes, if◌then◌else◌}
 use Rattle.std.specs.Int.NonZero.{non_zero_u32_get}
-use Rattle.std.specs.List.{filter, filter_map, fold, AllByRecursion}
+use Rattle.std.specs.List.{filter, filter_map, fold, list_any, AllByRecursion}
 use Rattle.std.specs.Option.{option_map_or}
 use Rattle.std.specs.declared.alloc.Global.{Global}
 use Rattle.circular_buffer.specs.Buffer.{Buffer}
@@ -35,19 +35,28 @@ use Rattle.control_lines.specs.Told.{Row, place, told, AreUntold}
 use Rattle.watchers.specs.declared.inquiry.Inquiry.{Inquiry}
 use Rattle.service.specs.Told.{IsReport, IsShown, IsInquiry, IsWatched, dumped}
 use Rattle.service.specs.declared.lines.Done.{Done}
+use Rattle.service.specs.declared.operators.Operators.{Operators}
 use Rattle.service.specs.declared.lines.Done.TheVariants as did
 use Rattle.service.specs.declared.lines.ControlDesk.{ControlDesk}
 
--- what a desk knows: how many workers the service has, the networks whose lines are heard, what its mailboxes were last told, and the
--- answers to the last lines with a token
+-- whose lines are heard: the addresses of the service's own sockets, and the networks that are named
+pub record Hearing : Type 0 where
+  pub own : List Addr
+  pub networks : List Network
+
+abbrev pub operators_in : Operators → Hearing
+operators_in o = record { own = o.own; networks = o.networks.items }
+
+-- what a desk knows: how many workers the service has, whose lines are heard, what its mailboxes were last told, and the answers to the
+-- last lines with a token
 pub record DeskSeen : Type 0 where
   pub workers : ℕ
-  pub networks : List Network
+  pub hearing : Hearing
   pub rows : List Row
   pub kept : Buffer Kept
 
 abbrev pub seen : {W : Type 0} → ControlDesk W → DeskSeen
-seen d = record { workers = non_zero_u32_get d.workers; networks = d.networks.items; rows = d.told; kept = d.kept }
+seen d = record { workers = non_zero_u32_get d.workers; hearing = operators_in d.operators; rows = d.told; kept = d.kept }
 
 -- ---- whose lines are heard
 
@@ -55,12 +64,32 @@ seen d = record { workers = non_zero_u32_get d.workers; networks = d.networks.it
 abbrev pub loopback : Network
 loopback = record { ip = 127 ∷ 0 ∷ 0 ∷ 0 ∷ []; length = 8 }
 
--- lines of this machine are heard always, and those from elsewhere where they come from one of the networks, or none is named
-abbrev pub is_heard : List Network → List ℕ → Bool
-is_heard networks ip = names_none networks || (contains loopback ip || is_one_of networks ip)
+-- this address alone
+abbrev pub alone : List ℕ → Network
+alone ip = record { ip = ip; length = 32 }
+
+-- where a socket sends from that is bound to this address: 0.0.0.0 reaches this machine from 127.0.0.0/8
+abbrev pub network_at : List ℕ → Network
+network_at ip = if contains (alone (0 ∷ 0 ∷ 0 ∷ 0 ∷ [])) ip then loopback else alone ip
+
+-- a socket that is bound to this address sent it
+abbrev pub is_from : Addr → Addr → Bool
+is_from bound source = (bound.port == source.port) && contains (network_at bound.ip) source.ip
+
+-- it came from a socket of the service itself
+abbrev pub is_own : List Addr → Addr → Bool
+is_own own source = list_any (λ bound. is_from bound source) own
+
+-- those of this machine are named always, and all are where none is
+abbrev pub is_named : List Network → List ℕ → Bool
+is_named networks ip = names_none networks || (contains loopback ip || is_one_of networks ip)
+
+-- a line is heard that the service didn't send itself, from this machine or one of the networks, or from anywhere where none is named
+abbrev pub is_heard : Hearing → Addr → Bool
+is_heard h source = not (is_own h.own source) && is_named h.networks source.ip
 
 abbrev pub is_near : DeskSeen → Addr → Bool
-is_near desk source = is_heard desk.networks source.ip
+is_near desk source = is_heard desk.hearing source
 
 -- ---- what the mailboxes were told before any line came
 
@@ -189,7 +218,7 @@ abbrev pub IsNews : List ℕ → DeskSeen → DeskSeen → PortSeats → PortSea
 IsNews octets desk desk' old new d =
     (kept_answer desk.kept.items (token octets) ≡ None)
     × (is_kept : Bool) × (rows' : List Row)
-    × (desk' ≡ record { workers = desk.workers; networks = desk.networks; rows = rows'; kept = kept_with is_kept (token octets) d desk.kept })
+    × (desk' ≡ record { workers = desk.workers; hearing = desk.hearing; rows = rows'; kept = kept_with is_kept (token octets) d desk.kept })
     × IsDone (line octets) desk.rows rows' old new d
 
 -- it came from elsewhere than lines are heard from, and nothing was done with it
@@ -309,7 +338,7 @@ rows_after (Some e) rows = told_by e rows
 abbrev pub desk_after : Line → DeskSeen → DeskSeen
 desk_after l desk = record {
   workers = desk.workers;
-  networks = desk.networks;
+  hearing = desk.hearing;
   rows = rows_after l.event desk.rows;
   kept = kept_with l.is_kept (token l.came.octets) l.done desk.kept;
 }
@@ -415,8 +444,8 @@ abbrev pub is_due : List ℕ → Bool
 is_due octets = has_octets octets && not (is_answer octets)
 
 -- and come from where lines are heard
-abbrev pub is_line : List Network → Datagram → Bool
-is_line networks d = is_heard networks d.peer.ip && is_due d.octets
+abbrev pub is_line : Hearing → Datagram → Bool
+is_line hearing d = is_heard hearing d.peer && is_due d.octets
 
 -- it was answered `closed`, or the wire failed at it
 abbrev pub IsRefused : Line → Type 0
@@ -424,21 +453,26 @@ IsRefused l = (l.done ≡ did.Answered answer.Closed) × ((l.reply ≡ Some (ans
 
 -- what came until all was sent out, or until nothing could come any more: each from where lines are heard that isn't empty and no answer
 -- itself was answered `closed`, or the other wire failed at it, and nothing else was sent
-pub record AreRefused (networks : List Network) (given given' taken taken' : Option (List Datagram)) (failures failures' : ℕ) : Type 0 where
+pub record AreRefused (hearing : Hearing) (given given' taken taken' : Option (List Datagram)) (failures failures' : ℕ) : Type 0 where
   pub came : List Datagram
   pub gave : Grows given given' came
   pub log : List Line
-  pub lines : datagrams_of log ≡ filter (is_line networks) came
+  pub lines : datagrams_of log ≡ filter (is_line hearing) came
   pub each : AllByRecursion IsRefused log
   pub answered : AreAnswered log taken taken' failures failures'
 
--- ---- what that says of lines from elsewhere
+-- ---- what that says of lines from elsewhere, and of those that the service sent itself
 
--- a line from elsewhere than lines are heard from tells nothing, and gets no answer
-abbrev pub IsSilent : List Network → Line → Type 0
-IsSilent networks l = is_heard networks l.came.peer.ip ≡ false → (l.event ≡ None) × (l.reply ≡ None)
+-- it tells nothing, and gets no answer
+abbrev pub IsSilent : Line → Type 0
+IsSilent l = (l.event ≡ None) × (l.reply ≡ None)
 
 abbrev pub EachForeignIsSilent : Type 0
 EachForeignIsSilent =
     (desk : DeskSeen) (log : List Line) (old new : PortSeats) (end : FeedEnd)
-    → AreTaken desk log old new end → AllByRecursion (IsSilent desk.networks) log
+    → AreTaken desk log old new end → AllByRecursion (λ (l : Line). is_named desk.hearing.networks l.came.peer.ip ≡ false → IsSilent l) log
+
+abbrev pub EachOwnIsSilent : Type 0
+EachOwnIsSilent =
+    (desk : DeskSeen) (log : List Line) (old new : PortSeats) (end : FeedEnd)
+    → AreTaken desk log old new end → AllByRecursion (λ (l : Line). is_own desk.hearing.own l.came.peer ≡ true → IsSilent l) log

@@ -16,8 +16,8 @@ use Rattle.service.specs.Sending.{Act, Put, Noted, Repeated, GaveUp, call_of}
 -- An out was put. The row of a subscription goes with its last NOTIFY, and begins with its first one, unless room or memory is wanting
 abbrev pub IsSeen : ℕ → Out → List Row → List Row → Type 0
 IsSeen now (out.Answer to octets) rows rows' = rows' ≡ rows
-IsSeen now (out.Notify tag number true to octets) rows rows' = rows' ≡ without tag rows
-IsSeen now (out.Notify tag number false to octets) rows rows' =
+IsSeen now (out.Notify to number true tag octets) rows rows' = rows' ≡ without tag rows
+IsSeen now (out.Notify to number false tag octets) rows rows' =
     (rows' ≡ after_notify now tag number to octets rows) ⊎ ((begins tag number rows ≡ true) × (rows' ≡ rows))
 IsSeen now (out.Start tag refer_to) rows rows' = rows' ≡ rows
 

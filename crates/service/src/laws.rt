@@ -2,7 +2,7 @@
 
 ghost use Rattle.service.specs.Admitted.{EachIsVouched, OpenHearsAll};
 ghost use Rattle.service.specs.Sending.{EachRepeatIsOfANotify};
-ghost use Rattle.service.specs.Taken.{EachForeignIsSilent};
+ghost use Rattle.service.specs.Taken.{EachForeignIsSilent, EachOwnIsSilent};
 
 /// What is sent again is the datagram of a NOTIFY that was put before, half a second before at least and less than 32 seconds before
 /// (RFC 3261 section 17.1.2.2), and no answer that ends it was noted since.
@@ -21,7 +21,9 @@ pub fn open_hears_all()
     ensures { OpenHearsAll }
 {}
 
-/// Where networks are named, a control line from none of them, nor from this machine, tells nothing and gets no answer.
+/// A control line that a socket of the service itself sent tells nothing and gets no answer. Where networks are named, nor does one from
+/// none of them that isn't from this machine.
 pub fn each_foreign_is_silent()
-    ensures { EachForeignIsSilent }
+    ensures foreign { EachForeignIsSilent }
+    ensures own { EachOwnIsSilent }
 {}

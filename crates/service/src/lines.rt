@@ -8,11 +8,11 @@ ghost use Rattle.control_lines.specs.Lines.{answer_text};
 ghost use Rattle.control_lines.specs.declared.question.Question.TheVariants as questions;
 ghost use Rattle.service.specs.declared.lines.Done.TheVariants as did;
 ghost use Rattle.service.specs.Taken as spec;
-ghost use Rattle.service.specs.Taken.{Line, IsSent, IsChanged, IsDone, IsFound, IsTaken, Offers, IsAnswered, AreFirst, datagrams_of, AreTaken, AreAnswered, AreRefused, seen};
+ghost use Rattle.service.specs.Taken.{Line, IsSent, IsChanged, IsDone, IsFound, IsTaken, Offers, IsAnswered, AreFirst, datagrams_of, AreTaken, AreAnswered, AreRefused, operators_in, seen};
 ghost use Rattle.service.specs.Listening.{IsDeafAsTold, is_fault};
 
 use crate::listening::{FaultLog, receive};
-use crate::operators::{is_heard, tell_each};
+use crate::operators::{Operators, tell_each};
 use crate::reports::{counters, dumped, inquiry, shown, watched};
 use crate::shared::{Counter, Shared};
 use admission::Network;
@@ -243,24 +243,26 @@ pub struct ControlDesk<W> {
     pub going: W,
     pub told: ToldCounts,
     pub kept: KeptAnswers,
-    /// The networks whose lines are heard, beside this machine's: all are, where there is none.
-    pub networks: Vec<Network>,
+    /// Whose lines are heard.
+    pub operators: Operators,
     /// How many workers the service has.
     pub workers: NonZeroU32,
 }
 
 impl<W: Drop> ControlDesk<W> {
-    /// One at this port, of a service with so many workers. It took no line yet.
+    /// One at this port, of a service with so many workers, whose sockets have these addresses. It took no line yet.
     pub(crate) fn at(
         alloc: Global,
         port: ControlPort<W>,
+        own: [Addr; 2],
         workers: u32,
     ) -> Result<ControlDesk<W>, NoMemory>
         ensures coming { IfOk result (λ d. d.coming ≡ port.coming) }
         ensures first { IfOk result (λ d. AreFirst port.mailboxes.items port.changes.items d.told) }
         ensures unkept { IfOk result (λ d. d.kept ≡ buffer [] KEPT) }
         ensures workers { IfOk result (λ d. non_zero_u32_get d.workers ≡ max 1 workers) }
-        ensures networks { IfOk result (λ d. d.networks ≡ port.networks) }
+        ensures networks { IfOk result (λ d. d.operators.networks ≡ port.networks) }
+        ensures own { IfOk result (λ d. d.operators.own ≡ own) }
     {
         let ControlPort {
             coming,
@@ -280,7 +282,7 @@ impl<W: Drop> ControlDesk<W> {
             going,
             told,
             kept,
-            networks,
+            operators: Operators { own, networks },
             workers,
         })
     }
@@ -291,7 +293,7 @@ impl<W: Wire> ControlDesk<W> {
     fn hears(&self, source: Addr) -> bool
         ensures { result ≡ spec.is_near (seen self.now) source }
     {
-        is_heard(&self.networks, source.ip)
+        self.operators.hear(source)
     }
 
     /// Sends this answer.
@@ -452,7 +454,7 @@ impl<W: Ear> ControlDesk<W> {
 
     /// Whether a datagram that comes while the service closes gets an answer: its source is heard, and it is some bytes and no answer.
     fn owes(&self, source: Addr, octets: &[u8]) -> bool
-        ensures { result ≡ spec.is_line self.now.networks.items (datagram source octets.now) }
+        ensures { result ≡ spec.is_line (operators_in self.now.operators) (datagram source octets.now) }
     {
         self.hears(source) && is_due(octets)
     }
@@ -460,7 +462,7 @@ impl<W: Ear> ControlDesk<W> {
     /// Answers `closed` to whoever is heard and asks, until all was sent out or the wire is deaf: true then. An empty datagram is not
     /// answered, nor is an answer.
     pub fn refuse_lines<R: Wait + Clock + Eprint>(&mut self, rt: &R, shared: &Shared) -> bool
-        ensures refused { AreRefused self.old.networks.items (W.given self.old.coming) (W.given self.new.coming)
+        ensures refused { AreRefused (operators_in self.old.operators) (W.given self.old.coming) (W.given self.new.coming)
             (W.taken self.old.going) (W.taken self.new.going)
             (W.failures self.old.going) (W.failures self.new.going) }
         ensures coming { Grows (W.taken self.old.coming) (W.taken self.new.coming) [] }

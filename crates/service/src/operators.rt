@@ -2,11 +2,12 @@
 ghost use Rattle.std.specs.Prelude.{◌≡◌};
 ghost use Rattle.admission.specs.Verdicts as verdicts;
 ghost use Rattle.service.specs.Taken as spec;
-ghost use Rattle.service.specs.Taken.{told_of};
+ghost use Rattle.service.specs.Taken.{told_of, operators_in};
 
 use admission::Network;
 use control_lines::ToldCounts;
 use package::Change;
+use sip_text::Addr;
 
 /// This machine: 127.0.0.0/8 (RFC 1122 section 3.2.1.3).
 fn loopback() -> Network
@@ -25,12 +26,62 @@ fn is_one_of(networks: &[Network], ip: [u8; 4]) -> bool
     networks.iter().any(|network| network.contains(ip))
 }
 
-/// Whether control lines from this address are heard: those of this machine are, and those from one of the networks, or all, where none
-/// is named.
-pub(crate) fn is_heard(networks: &[Network], ip: [u8; 4]) -> bool
-    ensures { result ≡ spec.is_heard networks.now ip }
+/// This address alone.
+fn alone(ip: [u8; 4]) -> Network
+    ensures { result ≡ spec.alone ip }
 {
-    networks.is_empty() || loopback().contains(ip) || is_one_of(networks, ip)
+    Network { ip, length: 32 }
+}
+
+/// Where a socket sends from that is bound to this address: 0.0.0.0 reaches this machine from 127.0.0.0/8.
+fn network_at(ip: [u8; 4]) -> Network
+    ensures { result ≡ spec.network_at ip }
+{
+    if alone([0, 0, 0, 0]).contains(ip) {
+        loopback()
+    } else {
+        alone(ip)
+    }
+}
+
+/// Whether what came from this source was sent by a socket that is bound to this address.
+fn is_from(bound: Addr, source: Addr) -> bool
+    ensures { result ≡ spec.is_from bound source }
+{
+    bound.port == source.port && network_at(bound.ip).contains(source.ip)
+}
+
+/// Whose control lines are heard.
+#[derive(Drop)]
+pub struct Operators {
+    /// The addresses of the service's own sockets, whose datagrams are no lines.
+    pub own: [Addr; 2],
+    /// The networks whose lines are heard, beside this machine's: all are, where there is none.
+    pub networks: Vec<Network>,
+}
+
+impl Operators {
+    /// Whether it came from a socket of the service itself.
+    fn is_own(&self, source: Addr) -> bool
+        ensures { result ≡ spec.is_own self.now.own source }
+    {
+        self.own.iter().any(|bound| is_from(*bound, source))
+    }
+
+    /// Whether an address is one of those that are named, or this machine's, or none is named.
+    fn names(&self, ip: [u8; 4]) -> bool
+        ensures { result ≡ spec.is_named self.now.networks.items ip }
+    {
+        self.networks.is_empty() || loopback().contains(ip) || is_one_of(&self.networks, ip)
+    }
+
+    /// Whether control lines from this address are heard: those of this machine are, and those from one of the networks, or all, where none
+    /// is named. None is that the service sends itself: so it never answers its own answers, or those of its other socket.
+    pub(crate) fn hear(&self, source: Addr) -> bool
+        ensures { result ≡ spec.is_heard (operators_in self.now) source }
+    {
+        !self.is_own(source) && self.names(source.ip)
+    }
 }
 
 /// A mailbox was told what this change says of it, if it says something.

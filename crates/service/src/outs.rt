@@ -9,7 +9,7 @@ ghost use Rattle.transactions.specs.Machine.{empty};
 ghost use Rattle.service.specs.Sending.{Act, IsSentOut, fates};
 ghost use Rattle.service.specs.Watched.{AreRowed};
 
-use crate::request_log::log_answer;
+use crate::put::Put;
 use crate::sending::{Waiting, Watch};
 use crate::shared::{Counter, Shared};
 use crossbeam_utils::sync::Parker;
@@ -26,43 +26,11 @@ use transport::{Sink, Wire};
 /// How many milliseconds the thread sleeps at most where nothing is posted, unless a worker wakes it: answers come meanwhile.
 const NAP: u64 = 20;
 
-/// The same where no answer is waited for.
-const QUIET_NAP: u64 = 100;
+/// The same where no answer is waited for: a worker that posts wakes the thread, and so does a question.
+const QUIET_NAP: u64 = 1000;
 
 /// The same where NOTIFYs are due again that may not leave yet.
 const PACED_NAP: u64 = 1;
-
-/// What an out counts as.
-fn counter_for(out: &Out, fate: Fate) -> Counter {
-    match fate {
-        Fate::Failed => Counter::Failed,
-        Fate::Started => Counter::Start,
-        Fate::Sent => match out {
-            Out::Notify { .. } => Counter::Notify,
-            Out::Answer { .. } | Out::Start { .. } => Counter::Answer,
-        },
-    }
-}
-
-/// Counts what became of an out. A transfer whose START line was not written is to fail.
-fn count<R: Wait>(rt: &R, shared: &Shared, out: &Out, fate: Fate) {
-    if let (Out::Start { tag, .. }, Fate::Failed) = (out, fate) {
-        shared.count(Counter::StartDropped);
-        shared.lost_starts.put(rt, tag);
-    }
-    if let Out::Notify {
-        number,
-        terminated,
-        ..
-    } = out
-    {
-        shared.count_notice(*number, *terminated);
-    }
-    if let (Out::Answer { bytes, .. }, Fate::Sent) = (out, fate) {
-        shared.count_status(bytes.as_slice());
-    }
-    shared.count(counter_for(out, fate));
-}
 
 /// Notes why an out was not sent, where the system says so.
 fn note_error<W: Wire>(shared: &Shared, wire: &W, out: &Out, fate: Fate) {
@@ -71,15 +39,6 @@ fn note_error<W: Wire>(shared: &Shared, wire: &W, out: &Out, fate: Fate) {
             shared.note_send_error(wire.send_error());
         }
         _ => {}
-    }
-}
-
-/// Says to whom an answer goes, where the operator wants to know of each.
-fn log<R: Eprint>(rt: &R, shared: &Shared, out: &Out) {
-    if let Out::Answer { to, bytes } = out {
-        if shared.logs_requests() {
-            log_answer(rt, *to, bytes.as_slice());
-        }
     }
 }
 
@@ -147,6 +106,7 @@ pub(crate) fn send_outs<R: Wait + Clock + Files + Eprint, W: Wire, F: Write>(
 )
     requires workers { outgoing.old.workers ≡ outgoing.old.taker.workers }
     requires none { outgoing.old.taker.got ≡ [] }
+    requires none_put { outgoing.old.waiting.burst.items ≡ [] }
     // Each out that was taken is sent, written or failed, in order, and nothing else is sent or written but NOTIFYs again, as
     // their transactions ask for it. Where the writer never failed, what it took is flushed. The rows of live subscriptions are what
     // was sent and noted makes of them.
@@ -169,6 +129,7 @@ pub(crate) fn send_outs<R: Wait + Clock + Files + Eprint, W: Wire, F: Write>(
     for _ in rt.forever() {
         watch.look(rt, shared);
         if watch.is_over(left, outgoing.waiting.len()) {
+            outgoing.waiting.settle(rt, shared);
             shared.count_lost(outgoing.waiting.len());
             return;
         }
@@ -183,13 +144,13 @@ pub(crate) fn send_outs<R: Wait + Clock + Files + Eprint, W: Wire, F: Write>(
             Some(Posted::Out(_, out)) => {
                 let fate = put_out(rt, &mut exit.wire, &mut exit.sink, &out);
                 note_error(shared, &exit.wire, &out, fate);
-                count(rt, shared, &out, fate);
-                log(rt, shared, &out);
-                outgoing.waiting.keep(rt, watch.now(), out, shared);
+                let now = watch.now();
+                outgoing.waiting.put(rt, Put { now, out, fate }, shared);
                 watch.count_out();
             }
             None => {
                 watch.pause(has_more);
+                outgoing.waiting.settle_few(rt, shared);
                 outgoing.rest(rt, &watch);
             }
         }

@@ -211,7 +211,8 @@ fn wind_up<R: Threads + Wait + Clock + Files + Eprint, W: Wire, F: Write>(
     begun: Begun,
     exit: &mut Exit<W, F>,
 )
-    requires { (start : ℕ → Start) × (ports : List PortSeats) × IsNew start ports running }
+    requires new { (start : ℕ → Start) × (ports : List PortSeats) × IsNew start ports running }
+    requires none_put { running.outgoing.waiting.burst.items ≡ [] }
     ensures { (start : ℕ → Start) (ports : List PortSeats) (repeats : ℕ) → IsNew start ports running → NoneWaits repeats running
         → Leaves start running.outgoing.workers repeats
         (record { taken = W.taken exit.old.wire; failures = W.failures exit.old.wire })
@@ -274,6 +275,7 @@ fn serve_to_end<R: Threads + Wait + Clock + Files + Eprint, W: Wire, F: Write>(
     exit: &mut Exit<W, F>,
 ) -> Outcome
     requires new { (start : ℕ → Start) × (lent : List PortSeats) × IsNew start lent running × AreLent lent feeders }
+    requires none_put { running.outgoing.waiting.burst.items ≡ [] }
     requires errands { (phones : SipDesk UdpWire) × (desk : ControlDesk UdpWire) × AreErrands phones desk feeders }
     requires room { (vec_len ports ≡ 0) × (3 ≤ vec_capacity ports) }
     ensures faults { (phones : SipDesk UdpWire) (desk : ControlDesk UdpWire) → AreErrands phones desk feeders
@@ -331,6 +333,7 @@ where
     F: Write,
     requires some { 0 < running.outgoing.workers }
     requires new { (start : ℕ → Start) × IsNew start ports.items running }
+    requires none_put { running.outgoing.waiting.burst.items ≡ [] }
     ensures served { IfOk result (λ o. (start : ℕ → Start) (repeats : ℕ) → IsNew start ports.items running
         → NoneWaits repeats running → (opened : Opening) → IsFresh opened running.outgoing.workers (seen ears.desk)
         → Runs start running.outgoing.workers repeats opened ears.sip.admission
@@ -394,21 +397,22 @@ pub(crate) struct Ready {
     pub(crate) sending: Sending,
 }
 
-/// No NOTIFY waits, and so many may. There is room for so many rows. It is told how many each source has, where it may have so many only.
+/// No NOTIFY waits, and so many may. So many rows may be. It is told how many each source has, where it may have so many only.
 fn new_waiting(
     alloc: Global,
     repeats: u32,
     rows: u32,
     per_source: Option<u32>,
 ) -> Result<Waiting, NoMemory>
-    ensures { IfOk result (λ w. w.transactions ≡ empty repeats) }
+    ensures none { IfOk result (λ w. w.transactions ≡ empty repeats) }
+    ensures none_put { IfOk result (λ w. w.burst.items ≡ []) }
 {
     let transactions = Transactions::new(alloc, repeats)?;
-    let rows = Watchers::new(alloc, rows)?;
-    Ok(Waiting::new(transactions, rows, repeats, per_source))
+    let rows = Watchers::new(alloc, rows);
+    Waiting::new(alloc, transactions, rows, repeats, per_source)
 }
 
-/// What it listens with, of a service with so many workers. It took no line yet.
+/// What it listens with, of a service with so many workers. It took no line yet, and hears none that one of its two sockets sends.
 fn new_ears(
     alloc: Global,
     workers: u32,
@@ -418,8 +422,10 @@ fn new_ears(
     ensures sip { IfOk result (λ e. e.sip ≡ sip) }
     ensures coming { IfOk result (λ e. e.desk.coming ≡ desk.coming) }
     ensures fresh { IfOk result (λ e. IsFresh (opening desk) workers (seen e.desk)) }
+    ensures own { IfOk result (λ e. e.desk.operators.own ≡ sip.coming.local ∷ desk.coming.local ∷ []) }
 {
-    let desk = ControlDesk::at(alloc, desk, workers)?;
+    let own = [sip.coming.local(), desk.coming.local()];
+    let desk = ControlDesk::at(alloc, desk, own, workers)?;
     Ok(Ears { sip, desk })
 }
 
@@ -430,6 +436,7 @@ fn make_ready(alloc: Global, workers: u32, work: Work) -> Result<Ready, NoMemory
     ensures coming { IfOk result (λ r. r.ears.desk.coming ≡ work.desk.coming) }
     ensures fresh { IfOk result (λ r. IsFresh (opening work.desk) workers (seen r.ears.desk)) }
     ensures none { IfOk result (λ r. r.sending.waiting.transactions ≡ empty work.repeats) }
+    ensures none_put { IfOk result (λ r. r.sending.waiting.burst.items ≡ []) }
 {
     let rows = work.setup.limits.table().saturating_mul(workers);
     let per_source = work.sip.admission.per_source;

@@ -1,24 +1,32 @@
 //! The NOTIFYs that nobody has answered yet, sent again (RFC 3261 section 17.1.2).
-ghost use Rattle.std.specs.Prelude.{◌≡◌, ◌<◌, ◌^◌, List, [], map, true};
+ghost use Rattle.std.specs.Prelude.{◌≡◌, ◌<◌, ◌^◌, List, [], ◌∷◌, ◌++◌, map, true, IfOk};
 ghost use Rattle.service.specs.Watched.{IsSeen, AreRowed, noted_rows};
 ghost use Rattle.transport.specs.Wires.{Grows};
+ghost use Rattle.transactions.specs.Machine.{State};
 ghost use Rattle.transactions.specs.Runs.{state_after};
+ghost use Rattle.watchers.specs.Rows.{Row};
+ghost use Rattle.service.specs.Keeping.{act_of, AreKept, Tends};
 ghost use Rattle.service.specs.Sending.{Act, Does, fates, kept_after, sent_again};
 ghost use Rattle.service.specs.Taken.{failures_then};
 ghost use Rattle.service.specs.Noted.{answer_of};
 ghost use Rattle.service.specs.declared.notes.Note.{Note};
 
+use crate::fates::{count, log};
 use crate::notes::Note;
+use crate::put::Put;
 use crate::shared::{Counter, LAST_MOMENT, Shared};
+use circular_buffer::HeapCircularBuffer;
 use notifier_model::{NotifyOut, Out};
+use sip_text::NoMemory;
+use std::alloc::Global;
 use std::rt::{Clock, Files};
 use std::sync::Wait;
 use transactions::{Open, Transactions};
 use transport::Wire;
 use watchers::Watchers;
 
-/// How many notes are taken between two looks at what is due and what was posted.
-const NOTES_AT_ONCE: u32 = 16;
+/// How many notes are taken between two looks at what is due and what was posted: as many as outs are sent between two looks at notes.
+const NOTES_AT_ONCE: u32 = OUTS_AT_ONCE;
 
 /// The status of an answer that says that the dialog or its usage is gone (RFC 3261 section 12.2.1.2).
 const GONE: u16 = 481;
@@ -27,8 +35,14 @@ const GONE: u16 = 481;
 /// socket by which they come, and what the workers post never waits behind them.
 const PACE: u32 = 8;
 
-/// How many outs that follow one another are sent between two looks at the clock, the notes and what is due.
-const OUTS_AT_ONCE: u32 = 16;
+/// How many outs that follow one another are sent between two looks at the clock.
+const OUTS_A_LOOK: u32 = 16;
+
+/// How many outs that follow one another are sent between two looks at the notes and what is due. They are kept behind the last of them.
+const OUTS_AT_ONCE: u32 = 512;
+
+/// How many outs are kept as soon as no further one is posted. Behind more the thread waits a little: the worker may not be through yet.
+const FEW: usize = 4;
 
 /// How often nothing may be posted before the thread looks at all of that again, and sleeps.
 const TURNS: u32 = 8;
@@ -46,7 +60,7 @@ pub(crate) struct Watch {
     moment: u64,
     /// How many NOTIFYs may be sent again in it.
     repeats: u32,
-    /// How many outs followed one another since that look.
+    /// How many outs followed one another since the last look at the notes.
     outs: u32,
     /// How many turns there were in a row in which nothing was done.
     idle: u32,
@@ -83,7 +97,6 @@ impl Watch {
 
     /// Nothing was posted in this turn. Where more is to be done all the same, the next turn goes on with it.
     pub(crate) fn pause(&mut self, has_more: bool) {
-        self.outs = 0;
         self.idle = if has_more {
             0
         } else {
@@ -96,24 +109,24 @@ impl Watch {
         self.idle < TURNS
     }
 
-    /// Whether outs follow one another, and few since the last look at the clock: so a change to many phones costs few looks.
-    fn is_sending(&self) -> bool {
-        0 < self.outs && self.outs < OUTS_AT_ONCE
+    /// Whether only what is posted counts in this turn: outs follow one another, and not too many yet, or the next one may be posted soon.
+    /// So neither a change to many phones nor a short wait costs much.
+    pub(crate) fn is_busy(&self) -> bool {
+        let is_first = self.outs == 0 && self.idle == 0;
+        !is_first && self.outs < OUTS_AT_ONCE && self.is_awake()
     }
 
-    /// Whether only what is posted counts in this turn: outs follow one another, or the next one may be posted soon. So neither a
-    /// change to many phones nor a short wait costs much.
-    pub(crate) fn is_busy(&self) -> bool {
-        self.is_sending() || (0 < self.idle && self.is_awake())
+    /// The notes and what is due are looked at in this turn.
+    fn begin_look(&mut self) {
+        self.outs = 0;
     }
 
     /// Looks at the clock, unless outs follow one another: an out that comes behind a wait is of a moment of its own. Where the clock
     /// can't be read no answer is waited for.
     pub(crate) fn look<R: Clock + Files>(&mut self, rt: &R, shared: &Shared) {
-        if self.is_sending() {
+        if self.idle == 0 && self.outs % OUTS_A_LOOK != 0 {
             return;
         }
-        self.outs = 0;
         match shared.moment(rt) {
             Some(moment) if moment > self.moment => {
                 if self.moment == 0 || self.moment / SECOND < moment / SECOND {
@@ -197,6 +210,8 @@ fn send_again<R: Wait, W: Wire>(rt: &R, wire: &mut W, due: &Open, shared: &Share
 pub(crate) struct Waiting {
     pub(crate) transactions: Transactions,
     pub(crate) watchers: Watchers,
+    /// The last outs, which are still to be kept.
+    pub(crate) burst: HeapCircularBuffer<Put>,
     /// Whether each NOTIFY is sent once, by the operator's word.
     is_off: bool,
     /// Whether it is told how many subscriptions a source has.
@@ -208,28 +223,32 @@ impl Waiting {
     /// None, with room for so many. Where there is room for none each NOTIFY is sent once. Where each source may have so many subscriptions
     /// only, it is told how many it has.
     pub(crate) fn new(
+        alloc: Global,
         transactions: Transactions,
         watchers: Watchers,
         room: u32,
         per_source: Option<u32>,
-    ) -> Waiting
-        ensures { result.transactions ≡ transactions }
+    ) -> Result<Waiting, NoMemory>
+        ensures transactions { IfOk result (λ w. w.transactions ≡ transactions) }
+        ensures none { IfOk result (λ w. w.burst.items ≡ []) }
     {
-        Waiting {
+        let burst = HeapCircularBuffer::with_capacity(alloc, OUTS_AT_ONCE as usize)?;
+        Ok(Waiting {
             transactions,
             watchers,
+            burst,
             is_off: room == 0,
             counts_sources: per_source.is_some(),
             given_up: GivenUp {
                 count: 0,
                 told: None,
             },
-        }
+        })
     }
 
-    /// How many there are.
+    /// How many there are at most.
     pub(crate) fn len(&self) -> usize {
-        self.transactions.len()
+        self.transactions.len().saturating_add(self.burst.len())
     }
 
     /// Whose subscription begins or ends with this out, if one does.
@@ -277,6 +296,7 @@ impl Waiting {
         requires in_range { now < 2 ^ 63 }
         ensures seen { IsSeen now out.now self.old.watchers.rows self.new.watchers.rows }
         ensures transactions { self.new.transactions ≡ self.old.transactions }
+        ensures burst { self.new.burst ≡ self.old.burst }
     {
         let Out::Notify {
             tag,
@@ -302,12 +322,15 @@ impl Waiting {
         }
     }
 
-    /// Keeps a NOTIFY that was sent at this moment, or at which the wire failed. Any other out is dropped.
-    pub(crate) fn keep<R: Wait>(&mut self, rt: &R, now: u64, out: Out, shared: &Shared)
-        requires in_range { now < 2 ^ 63 }
-        ensures kept { self.new.transactions ≡ kept_after now out self.old.transactions }
-        ensures seen { IsSeen now out self.old.watchers.rows self.new.watchers.rows }
+    /// Counts and tells what became of an out. A NOTIFY is kept, any other out is dropped.
+    fn keep<R: Wait + Eprint>(&mut self, rt: &R, put: Put, shared: &Shared)
+        ensures kept { self.new.transactions ≡ kept_after put.now put.out self.old.transactions }
+        ensures seen { IsSeen put.now put.out self.old.watchers.rows self.new.watchers.rows }
+        ensures burst { self.new.burst ≡ self.old.burst }
     {
+        let Put { now, out, fate } = put;
+        count(rt, shared, &out, fate);
+        log(rt, shared, &out);
         let ended = self.changed_source(&out);
         self.watch(now, &out);
         let begun = self.changed_source(&out);
@@ -330,11 +353,42 @@ impl Waiting {
         }
     }
 
+    /// Keeps the outs of the burst, in their order.
+    pub(crate) fn settle<R: Wait + Eprint>(&mut self, rt: &R, shared: &Shared)
+        ensures kept { (s : State) (rows : List Row) (acts : List Act) → AreKept s rows acts self.old → AreKept s rows acts self.new }
+        ensures none { self.new.burst.items ≡ [] }
+    {
+        while let Some(put) = self.burst.pop_front() {
+            self.keep(rt, put, shared);
+        }
+    }
+
+    /// The same where they are few.
+    pub(crate) fn settle_few<R: Wait + Eprint>(&mut self, rt: &R, shared: &Shared)
+        ensures kept { (s : State) (rows : List Row) (acts : List Act) → AreKept s rows acts self.old → AreKept s rows acts self.new }
+    {
+        if self.burst.len() < FEW {
+            self.settle(rt, shared);
+        }
+    }
+
+    /// An out was put. It is kept behind those that follow it closely.
+    pub(crate) fn put<R: Wait + Eprint>(&mut self, rt: &R, put: Put, shared: &Shared)
+        ensures put { (s : State) (rows : List Row) (acts : List Act) → AreKept s rows acts self.old
+            → AreKept s rows (acts ++ act_of put ∷ []) self.new }
+    {
+        if let Err(put) = self.burst.try_push_back(put) {
+            self.settle(rt, shared);
+            self.keep(rt, put, shared);
+        }
+    }
+
     /// Takes notes of answers, a few at a time, and counts those that say that a subscription is gone. True where more may wait.
     fn take_notes<R: Wait>(&mut self, rt: &R, shared: &Shared) -> bool
         ensures noted { (taken : List Note)
             × (self.new.transactions ≡ state_after (map answer_of taken) self.old.transactions)
             × (self.new.watchers.rows ≡ noted_rows taken self.old.watchers.rows) }
+        ensures burst { self.new.burst ≡ self.old.burst }
     {
         for _ in 0..NOTES_AT_ONCE {
             let Some(note) = shared.notes.take(rt) else {
@@ -368,6 +422,7 @@ impl Waiting {
             (record { taken = W.taken wire.new; failures = W.failures wire.new })
             × AreRowed self.old.transactions acts self.old.watchers.rows self.new.watchers.rows }
         ensures given { Grows (W.given wire.old) (W.given wire.new) [] }
+        ensures burst { self.new.burst ≡ self.old.burst }
     {
         let Some(due) = self.transactions.due(now) else {
             return false;
@@ -396,16 +451,16 @@ impl Waiting {
         watch: &mut Watch,
         shared: &Shared,
     ) -> bool
-        ensures does { (acts : List Act) × (fates acts ≡ [])
-            × Does acts self.old.transactions self.new.transactions
+        ensures does { (more : List Act) × Tends more self.old self.new
             (record { taken = W.taken wire.old; failures = W.failures wire.old })
-            (record { taken = W.taken wire.new; failures = W.failures wire.new })
-            × AreRowed self.old.transactions acts self.old.watchers.rows self.new.watchers.rows }
+            (record { taken = W.taken wire.new; failures = W.failures wire.new }) }
         ensures given { Grows (W.given wire.old) (W.given wire.new) [] }
     {
         if watch.is_busy() {
             return false;
         }
+        watch.begin_look();
+        self.settle(rt, shared);
         if self.take_notes(rt, shared) {
             return true;
         }

@@ -185,7 +185,7 @@ impl Shared {
         let notes = Notes::new(alloc)?;
         let lost_starts = LostStarts::new(alloc)?;
         let window = Window::new(alloc)?;
-        let sources = Mutex::new(Counts::new(alloc, 0)?);
+        let sources = Mutex::new(Counts::new(alloc));
         Ok(Shared {
             began,
             alloc,
@@ -369,7 +369,11 @@ impl Shared {
 
     /// So many subscriptions live: each has a row.
     pub(crate) fn set_live(&self, count: usize) {
-        self.live.store(count as u64, Ordering::SeqCst);
+        let count = count as u64;
+        // Most often as many as before: a look costs less than to write it.
+        if self.live.load(Ordering::SeqCst) != count {
+            self.live.store(count, Ordering::SeqCst);
+        }
     }
 
     /// How many live subscriptions this source has, as the thread that sends told it last.

@@ -1,7 +1,8 @@
 -- The seats of the places and of the heads.
-use Rattle.std.proofs.Common.{◌≡◌, ◌≢◌, ◌∙◌, sym, ap, refl, inl, inr, ℕ, ◌+◌, ◌<◌, ◌≤◌, Bool, true, false, ◌&&◌, Option, Some, None, List, arith, if◌then◌else◌}
+use Rattle.std.proofs.Common.{◌≡◌, ◌≢◌, ◌∙◌, sym, ap, refl, inl, inr, ℕ, ◌+◌, ◌/◌, ◌<◌, ◌≤◌, Bool, true, false, ◌&&◌, Option, Some, None, List, arith, if◌then◌else◌}
 use Rattle.std.specs.Prelude.{nat_le}
 use Rattle.std.proofs.lemmas.Nat.{mod_below}
+use Rattle.std.proofs.Math.Nat.{div-le_self}
 use Rattle.std.proofs.lemmas.Bool.{and_parts, and_from}
 use Rattle.std.proofs.lemmas.Bool.Decides.{nat_tests}
 use Rattle.transactions.specs.declared.open.Open.{Open}
@@ -16,7 +17,7 @@ abbrev pub IsHead : ℕ → ℕ → Type 0
 IsHead size node = (size ≤ node) × (node ≤ size + size)
 
 pub head_is : (size digest : ℕ) → IsHead size (head size digest)
-head_is size digest = let low = mod_below digest (size + 1) (omega arith) in (omega arith, omega (arith, low))
+head_is size digest = let low = mod_below digest (size / 4 + 1) (omega arith) in let few = div-le_self size 4 in (omega arith, omega (arith, low, few))
 
 pub name_is_head : (size : ℕ) (tag : List ℕ) (number : ℕ) → IsHead size (name_head size tag number)
 unfolding name_head

@@ -1,5 +1,6 @@
--- Rings of places. A node below `size` is a place, and the size + 1 nodes from there on are the heads of rings.
-use Rattle.std.specs.Prelude.{ℕ, ◌+◌, ◌*◌, ◌%◌, ◌^◌, List, fold, bit_xor}
+-- Rings of places. A node below `size` is a place, and the size + 1 nodes from there on are the heads of rings. The first quarter of
+-- these is used.
+use Rattle.std.specs.Prelude.{ℕ, ◌+◌, ◌*◌, ◌/◌, ◌%◌, ◌^◌, List, fold, bit_xor}
 use Rattle.transactions.specs.declared.places.TheConstants.{BASIS, PRIME}
 
 abbrev pub stirred : ℕ → ℕ → ℕ
@@ -10,7 +11,7 @@ unfoldable pub digest : ℕ → List ℕ → ℕ
 digest start text = fold stirred start text
 
 abbrev pub head : ℕ → ℕ → ℕ
-head size digest = size + digest % (size + 1)
+head size digest = size + digest % (size / 4 + 1)
 
 -- the head for a tag and a number
 unfoldable pub name_head : ℕ → List ℕ → ℕ → ℕ

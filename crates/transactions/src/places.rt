@@ -27,12 +27,13 @@ fn digest(start: u64, text: &str) -> u64
     sum
 }
 
-/// The head of a digest, where the heads follow so many places.
+/// The head of a digest, where the heads follow so many places. A quarter as many are used: so few lie near one another in memory, and a
+/// ring has four at a time where all places are taken.
 fn head(places: usize, digest: u64) -> usize
     requires fits { places + places + 1 < 2 ^ 64 }
     ensures { result ≡ seen.head places digest }
 {
-    places + (digest % (places as u64 + 1)) as usize
+    places + (digest % (places as u64 / 4 + 1)) as usize
 }
 
 /// The head of the ring for a tag and a number.

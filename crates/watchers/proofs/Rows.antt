@@ -1,6 +1,6 @@
 -- The rows that a map has.
 use Rattle.std.proofs.Common.{◌≡◌, ℕ, zero, suc, ◌+◌, ◌-◌, ◌<◌, List, [], ◌∷◌, ◌++◌, Bool, true, false, cond, not, Option, Some, None, option_map, refl, sym, ap, ◌∙◌, subst, length, map, take, string_bytes, String, slice_get}
-use Rattle.std.specs.Prelude.{nat_lt, is_some, slice_set, slice_index_or, position}
+use Rattle.std.specs.Prelude.{nat_lt, nat_le, is_some, slice_set, slice_index_or, position, if◌then◌else◌}
 use Rattle.std.specs.Str.{bytes_eq}
 use Rattle.std.specs.List.{position_or_len, swap_remove}
 use Rattle.std.specs.Option.{option_map_or}
@@ -9,7 +9,7 @@ use Rattle.std.proofs.lemmas.List.{map-set}
 use Rattle.std.specs.declared.alloc.Global.{Global}
 use Rattle.indexmap.specs.IndexMap.{insert_entry, swap_remove_entry, swap_remove_by}
 use Rattle.watchers.specs.declared.row.Watcher.{Watcher}
-use Rattle.watchers.specs.Rows.{Row, rows_in, found, changed, without}
+use Rattle.watchers.specs.Rows.{Row, rows_in, found, changed, without, answered, was_sent}
 
 abbrev pub Entry : Type 0
 Entry = String Global × Watcher
@@ -98,6 +98,37 @@ module _ (tag : List ℕ) where
     step : (o o' : Option ℕ) → o ≡ o' → rows_in (option_map_or (λ i. swap_remove (e ∷ es) i e) o (e ∷ es)) ≡ option_map_or (λ i. swap_remove (rows_in (e ∷ es)) i (row_of e)) o' (rows_in (e ∷ es))
     step None o' k = ap (λ (x : Option ℕ). option_map_or (λ i. swap_remove (rows_in (e ∷ es)) i (row_of e)) x (rows_in (e ∷ es))) k
     step (Some i) o' k = swap_rows (e ∷ es) i e ∙ ap (λ (x : Option ℕ). option_map_or (λ j. swap_remove (rows_in (e ∷ es)) j (row_of e)) x (rows_in (e ∷ es))) k
+
+-- ---- an answer came
+
+-- what an answer makes of a row: one to what never went out changes nothing
+abbrev pub if_sent : ℕ → Watcher → Watcher
+if_sent number w = if nat_le number w.sent then answered number w else w
+
+pub same_source : (number : ℕ) (w : Watcher) → (if_sent number w).source ≡ w.source
+same_source number w = at (nat_le number w.sent) where
+  at : (b : Bool) → (cond b (answered number w) w).source ≡ w.source
+  at true = refl
+  at false = refl
+
+pub answered_if : (tag : List ℕ) (number : ℕ) (rows : List Row)
+    → changed tag (if_sent number) rows ≡ (if not (was_sent tag number rows) then rows else changed tag (answered number) rows)
+answered_if tag number [] = refl
+answered_if tag number (row ∷ rows) = step (bytes_eq tag row.0) (answered_if tag number rows) where
+  here : (s : Bool) → (row.0, cond s (answered number row.1) row.1) ∷ rows ≡ cond (not s) (row ∷ rows) ((row.0, answered number row.1) ∷ rows)
+  here true = refl
+  here false = refl
+
+  there : (s : Bool) → row ∷ cond (not s) rows (changed tag (answered number) rows) ≡ cond (not s) (row ∷ rows) (row ∷ changed tag (answered number) rows)
+  there true = refl
+  there false = refl
+
+  step : (b : Bool) → changed tag (if_sent number) rows ≡ cond (not (was_sent tag number rows)) rows (changed tag (answered number) rows)
+      → cond b ((row.0, if_sent number row.1) ∷ rows) (row ∷ changed tag (if_sent number) rows)
+      ≡ cond (not (option_map_or (λ (w : Watcher). nat_le number w.sent) (cond b (Some row.1) (found tag rows)) false)) (row ∷ rows)
+      (cond b ((row.0, answered number row.1) ∷ rows) (row ∷ changed tag (answered number) rows))
+  step true rest = here (nat_le number row.1.sent)
+  step false rest = ap (λ (r : List Row). row ∷ r) rest ∙ there (was_sent tag number rows)
 
 -- ---- one comes
 

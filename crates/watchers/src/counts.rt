@@ -1,11 +1,11 @@
 //! How many rows each source has.
-ghost use Rattle.std.specs.Prelude.{◌≡◌, ◌<◌, ◌==◌, ℕ, [], if◌then◌else◌, IfOk, OnOk, OnErr, IsOk};
+ghost use Rattle.std.specs.Prelude.{◌≡◌, ◌<◌, ◌==◌, ℕ, [], if◌then◌else◌, OnOk, OnErr, IsOk};
 ghost use Rattle.watchers.specs.Notifies as spec;
 ghost use Rattle.watchers.specs.Tallies.{tally};
 
 use crate::watchers::Full;
 use indexmap::IndexMap;
-use sip_text::{Addr, NoMemory};
+use sip_text::Addr;
 use std::alloc::Global;
 use std::marker::Model;
 
@@ -32,12 +32,13 @@ impl Model for Counts {
 }
 
 impl Counts {
-    /// No source has any. There is room for so many that have.
-    pub fn new(alloc: Global, sources: usize) -> Result<Counts, NoMemory>
-        ensures { IfOk result (λ c. c ≡ []) }
+    /// No source has any.
+    pub fn new(alloc: Global) -> Counts
+        ensures { result ≡ [] }
     {
-        let counts = IndexMap::with_capacity(alloc, sources)?;
-        Ok(Counts { counts })
+        Counts {
+            counts: IndexMap::new(alloc),
+        }
     }
 
     /// How much this source has.

@@ -5,8 +5,8 @@
 //! some of the rows as lines, and looks at a bounded number of them, so that whoever sends can go on soon. [`Watchers::rows_from`] tells
 //! how many of them one source asked for.
 //!
-//! It sends nothing, reads no clock and starts no thread. [`Watchers::new`] makes the room for the rows. A call costs about the same
-//! however many rows there are.
+//! It sends nothing, reads no clock and starts no thread. Memory is taken as rows begin; a call costs about the
+//! same however many there are, but that now and then all move to more room.
 //!
 //! Begin with [`Watchers`], then `specs/Rows`: what the calls make of the rows, `specs/Notifies`: what a NOTIFY tells, `specs/Pages`:
 //! what a page is, and `specs/Tallies`: how many rows a source has.

@@ -1,5 +1,5 @@
 //! What is known of a live subscription.
-ghost use Rattle.std.specs.Prelude.{◌≡◌};
+ghost use Rattle.std.specs.Prelude.{◌≡◌, nat_le, if◌then◌else◌};
 ghost use Rattle.watchers.specs.Rows as spec;
 
 use sip_text::{Addr, Text};
@@ -35,10 +35,12 @@ impl Watcher {
         self.until = until;
     }
 
-    /// The NOTIFY with this number was answered.
+    /// The NOTIFY with this number was answered, if it went out.
     pub(crate) fn answer(&mut self, number: u32)
-        ensures { self.new ≡ spec.answered number self.old }
+        ensures { self.new ≡ (if nat_le number self.old.sent then spec.answered number self.old else self.old) }
     {
-        self.answered = self.answered.max(number);
+        if number <= self.sent {
+            self.answered = self.answered.max(number);
+        }
     }
 }

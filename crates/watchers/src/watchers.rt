@@ -1,5 +1,5 @@
 //! The rows of the live subscriptions, each found by its tag.
-ghost use Rattle.std.specs.Prelude.{◌≡◌, ◌<◌, ◌^◌, ℕ, true, false, [], ◌∷◌, ◌++◌, nat_lt, is_some, length, option_map, string_bytes, IfOk, OnOk, OnErr, IsErr, slice_get};
+ghost use Rattle.std.specs.Prelude.{◌≡◌, ◌<◌, ◌^◌, ℕ, true, false, [], ◌∷◌, ◌++◌, nat_lt, not, is_some, length, option_map, string_bytes, if◌then◌else◌, OnOk, OnErr, IsErr, slice_get};
 ghost use Rattle.watchers.specs.Rows as spec;
 ghost use Rattle.watchers.specs.Notifies.{first_row};
 ghost use Rattle.watchers.specs.Rows.{rows_in};
@@ -9,7 +9,7 @@ use crate::counts::Counts;
 use crate::notify::{first_row, until};
 use crate::row::Watcher;
 use indexmap::IndexMap;
-use sip_text::{Addr, NoMemory, Text};
+use sip_text::Addr;
 use std::alloc::Global;
 use std::marker::Model;
 use thiserror::Error;
@@ -64,9 +64,10 @@ fn renew_in(rows: &mut IndexMap<String, Watcher>, tag: &str, number: u32, to: Ad
     watcher.renew(number, to, until);
 }
 
-/// The NOTIFY with this number was answered.
+/// The NOTIFY with this number was answered, if it went out.
 fn answer_in(rows: &mut IndexMap<String, Watcher>, tag: &str, number: u32)
-    ensures answered { rows_in rows.new.entries ≡ spec.changed tag.now (spec.answered number) (rows_in rows.old.entries) }
+    ensures answered { rows_in rows.new.entries ≡ (if not (spec.was_sent tag.now number (rows_in rows.old.entries))
+        then rows_in rows.old.entries else spec.changed tag.now (spec.answered number) (rows_in rows.old.entries)) }
     ensures sources { (k : ℕ) → rows_from (rows_in rows.new.entries) k ≡ rows_from (rows_in rows.old.entries) k }
 {
     let Some(watcher) = rows.get_mut(tag) else {
@@ -120,6 +121,18 @@ fn end_in(rows: &mut IndexMap<String, Watcher>, counts: &mut Counts, tag: &str)
     };
 }
 
+/// The row of a subscription goes, if a NOTIFY with this number went out in it.
+fn end_sent(rows: &mut IndexMap<String, Watcher>, counts: &mut Counts, tag: &str, number: u32)
+    requires counted { AreCounted (rows_in rows.old.entries) counts.old }
+    ensures rows { rows_in rows.new.entries ≡ (if not (spec.was_sent tag.now number (rows_in rows.old.entries))
+        then rows_in rows.old.entries else spec.without tag.now (rows_in rows.old.entries)) }
+    ensures counted { AreCounted (rows_in rows.new.entries) counts.new }
+{
+    if was_sent(rows, tag, number) {
+        end_in(rows, counts, tag);
+    }
+}
+
 /// The live subscriptions. Contracts see how many there may be, and the list of their rows, each behind its tag.
 #[derive(Drop)]
 pub struct Watchers {
@@ -141,19 +154,16 @@ impl Model for Watchers {
 }
 
 impl Watchers {
-    /// None, with room for so many.
-    pub fn new(alloc: Global, limit: u32) -> Result<Watchers, NoMemory>
-        ensures { IfOk result (λ w. w ≡ record { limit = limit; rows = [] }) }
+    /// None, and so many may be. Memory is taken as rows begin.
+    pub fn new(alloc: Global, limit: u32) -> Watchers
+        ensures { result ≡ record { limit = limit; rows = [] } }
     {
-        let limit = limit as usize;
-        let rows = IndexMap::with_capacity(alloc, limit)?;
-        let counts = Counts::new(alloc, limit)?;
-        Ok(Watchers {
+        Watchers {
             alloc,
-            rows,
-            counts,
-            limit,
-        })
+            rows: IndexMap::new(alloc),
+            counts: Counts::new(alloc),
+            limit: limit as usize,
+        }
     }
 
     /// By which its texts are made.
@@ -252,11 +262,11 @@ impl Watchers {
         ensures rows { self.new.rows ≡ spec.answered_rows tag.now number status self.old.rows }
         ensures limit { self.new.limit ≡ self.old.limit }
     {
-        if status < FINAL || !was_sent(&self.rows, tag, number) {
+        if status < FINAL {
             return;
         }
         if status == GONE {
-            end_in(&mut self.rows, &mut self.counts, tag);
+            end_sent(&mut self.rows, &mut self.counts, tag, number);
         } else {
             answer_in(&mut self.rows, tag, number);
         }

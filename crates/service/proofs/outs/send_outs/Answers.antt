@@ -1,10 +1,12 @@
-use Rattle.std.proofs.Common.{◌-◌, [], ◌++◌, ◌∷◌, arith, refl, inl}
+use Rattle.std.proofs.Common.{◌-◌, [], ◌++◌, ◌∷◌, map, arith, refl, ap, sym, inl}
 use Rattle.queues.proofs.Ended.{ended_none}
 use Rattle.feeds.specs.Emitted.{counted}
 use Rattle.feeds.proofs.Emitting.{running_first, running_end, running_done, took_as}
 use Rattle.service.specs.Sending.{Put}
 use Rattle.service.proofs.Acts.{does_none, does_more, does_put, running_on, running_as, running_put, without_after, sent_out, flushed_on, flushed_put}
-use Rattle.service.proofs.Rowing.{rowed_put, rowed_more, rowed_from}
+use Rattle.service.specs.Keeping.{act_of}
+use Rattle.service.proofs.Rowing.{rowed_from}
+use Rattle.service.proofs.Keeping.{state_put, settled_rows}
 use Rattle.service.proofs.outs.send_outs.Goals as goal
 
 pub loop-init : goal.loop-init
@@ -15,17 +17,18 @@ loop-init g c = record {
   running = running_first c.args.outgoing.now.taker c.args.outgoing.now.workers _ _ _ c.requires.workers (ended_none _ _ c.requires.none);
   does = does_none c.args.outgoing.now.waiting.transactions _;
   flushed = λ none. inl refl;
-  rowed = refl;
+  kept = record { kept = []; all = sym (ap (λ l. map act_of l) c.requires.none_put); open_now = refl; rowed = refl };
 }
 
 pub returns-then-is_over-clause-sent : goal.returns-then-is_over-clause-sent
 returns-then-is_over-clause-sent g c = λ limit none.
-    let at = c.loop.invariant in (
+    let at = c.loop.invariant in let last = c.settle.ensures in (
       at.acts,
       at.report,
       sent_out at.running at.does none,
       at.flushed,
-      rowed_from limit c.args.outgoing.now.waiting.transactions at.acts c.args.outgoing.now.waiting.watchers.rows c.loop.outgoing.waiting.watchers.rows at.rowed none,
+      rowed_from limit c.args.outgoing.now.waiting.transactions at.acts c.args.outgoing.now.waiting.watchers.rows c.settle.new.self.watchers.rows
+          (settled_rows (last.kept _ _ _ at.kept) last.none) none,
     )
 
 pub returns-then-is_over-clause-ended : goal.returns-then-is_over-clause-ended
@@ -38,29 +41,29 @@ loop-preserved-in-Some-Ended g c =
       acts = was.acts ++ more.0;
       report = was.report;
       without = was.without;
-      running = running_end (running_on was.acts was.running more.0 _ more.1 tended.given) c.next_posted.new.taker (c.loop.left - 1) _
+      running = running_end (running_on was.acts was.running more.0 _ more.1.no_outs tended.given) c.next_posted.new.taker (c.loop.left - 1) _
           (took_as _ _ _ _ at.field-0-is at.ensures.next) (omega (arith, some));
-      does = does_more was.does more.2;
-      flushed = flushed_on (λ s. s.is_flushed) _ _ was.acts was.flushed more.0 more.1;
-      rowed = rowed_more was.acts more.0 _ _ _ _ _ was.does.open_now was.rowed more.3;
+      does = does_more was.does (more.1.does _ _ was.acts was.kept);
+      flushed = flushed_on (λ s. s.is_flushed) _ _ was.acts was.flushed more.0 more.1.no_outs;
+      kept = more.1.kept _ _ was.acts was.kept;
     }
 
 pub loop-preserved-in-Some-Out : goal.loop-preserved-in-Some-Out
 loop-preserved-in-Some-Out g c =
     let was = c.loop.invariant in let at = c.in-Some-Out in let tended = c.tend-has_more.ensures in let more = tended.does in
-    let put = c.put_out-fate.ensures in let fate = c.put_out-fate.result in let now = c.now.result in record {
+    let put = c.put_out-fate.ensures in let fate = c.put_out-fate.result in let now = c.now-now.result in record {
       acts = (was.acts ++ more.0) ++ Put now at.out fate ∷ [];
       report = counted was.report fate;
       without = without_after was.without at.out fate;
-      running = running_put (was.acts ++ more.0) (running_on was.acts was.running more.0 _ more.1 tended.given) now c.next_posted.new.taker _ at.out fate
+      running = running_put (was.acts ++ more.0) (running_on was.acts was.running more.0 _ more.1.no_outs tended.given) now c.next_posted.new.taker _ at.out fate
           (g.W.Wire.given c.put_out-fate.new.wire)
           (record { contents = g.F.Write.contents c.put_out-fate.new.sink.writer; failures = c.put_out-fate.new.sink.failures })
           (took_as _ _ _ _ at.field-0-is at.ensures.next) put.fate put.given put.failures put.writes;
-      does = does_more (does_more was.does more.2) (does_put now at.out fate _ _ _ _ put.taken put.wire_failures c.keep.ensures.kept);
-      flushed = flushed_put (λ s. s.is_flushed) _ _ (was.acts ++ more.0) (flushed_on (λ s. s.is_flushed) _ _ was.acts was.flushed more.0 more.1)
+      does = does_more (does_more was.does (more.1.does _ _ was.acts was.kept))
+          (does_put now at.out fate _ _ _ _ put.taken put.wire_failures (state_put (was.acts ++ more.0) now at.out fate _));
+      flushed = flushed_put (λ s. s.is_flushed) _ _ (was.acts ++ more.0) (flushed_on (λ s. s.is_flushed) _ _ was.acts was.flushed more.0 more.1.no_outs)
           c.put_out-fate.new.sink now at.out fate put.fate put.flushed put.stays;
-      rowed = rowed_more (was.acts ++ more.0) (Put now at.out fate ∷ []) _ _ _ _ _ (does_more was.does more.2).open_now
-          (rowed_more was.acts more.0 _ _ _ _ _ was.does.open_now was.rowed more.3) (rowed_put now at.out fate _ _ c.keep.ensures.seen);
+      kept = c.put.ensures.put _ _ (was.acts ++ more.0) (more.1.kept _ _ was.acts was.kept);
     }
 
 pub loop-preserved : goal.loop-preserved
@@ -69,8 +72,8 @@ loop-preserved g c =
       acts = was.acts ++ more.0;
       report = was.report;
       without = was.without;
-      running = running_on was.acts (running_as was.acts was.running c.next_posted.new.taker c.in-None-next_posted.ensures.none) more.0 _ more.1 tended.given;
-      does = does_more was.does more.2;
-      flushed = flushed_on (λ s. s.is_flushed) _ _ was.acts was.flushed more.0 more.1;
-      rowed = rowed_more was.acts more.0 _ _ _ _ _ was.does.open_now was.rowed more.3;
+      running = running_on was.acts (running_as was.acts was.running c.next_posted.new.taker c.in-None-next_posted.ensures.none) more.0 _ more.1.no_outs tended.given;
+      does = does_more was.does (more.1.does _ _ was.acts was.kept);
+      flushed = flushed_on (λ s. s.is_flushed) _ _ was.acts was.flushed more.0 more.1.no_outs;
+      kept = c.settle_few.ensures.kept _ _ (was.acts ++ more.0) (more.1.kept _ _ was.acts was.kept);
     }

@@ -2,8 +2,9 @@ use Rattle.std.proofs.Common.{◌≡◌, ◌⊎◌, ℕ, List, true}
 use Rattle.feeds.specs.declared.sending.EmitReport.{EmitReport}
 use Rattle.feeds.specs.Emitted.{WireSeen, count, fails_to_start}
 use Rattle.feeds.proofs.Emitting.{Running}
-use Rattle.service.specs.Sending.{Act, fates, Does}
-use Rattle.service.specs.Watched.{AreRowed}
+use Rattle.transactions.specs.Runs.{state_after}
+use Rattle.service.specs.Sending.{Act, calls, fates, Does}
+use Rattle.service.specs.Keeping.{AreKept}
 use Rattle.service.proofs.outs.send_outs.Given as goal
 
 abbrev pub invariant-loop : goal.invariant-loop
@@ -16,9 +17,9 @@ invariant-loop g l = record {
       without
       (record { contents = g.F.Write.contents l.fn.exit.sink.writer; failures = l.fn.exit.sink.failures })
       (record { contents = g.F.Write.contents l.exit.sink.writer; failures = l.exit.sink.failures }) report;
-  does : Does acts l.fn.outgoing.waiting.transactions l.outgoing.waiting.transactions
+  does : Does acts l.fn.outgoing.waiting.transactions (state_after (calls acts) l.fn.outgoing.waiting.transactions)
       (record { taken = g.W.Wire.taken l.fn.exit.wire; failures = g.W.Wire.failures l.fn.exit.wire })
       (record { taken = g.W.Wire.taken l.exit.wire; failures = g.W.Wire.failures l.exit.wire });
-  rowed : AreRowed l.fn.outgoing.waiting.transactions acts l.fn.outgoing.waiting.watchers.rows l.outgoing.waiting.watchers.rows;
+  kept : AreKept l.fn.outgoing.waiting.transactions l.fn.outgoing.waiting.watchers.rows acts l.outgoing.waiting;
   flushed : count fails_to_start (fates acts) ≡ 0 → (l.exit.sink ≡ l.fn.exit.sink) ⊎ (l.exit.sink.is_flushed ≡ true);
 }

@@ -17,6 +17,10 @@ serve-requires-clause-new g c κs within =
       c.in_ok-running.ensures.started held,
     )
 
+pub serve-requires-clause-none_put : goal.serve-requires-clause-none_put
+serve-requires-clause-none_put g c κs within =
+    ap (λ waiting. waiting.burst.items) c.in_ok-running.ensures.waiting ∙ c.in_ok-setup.ensures.none_put
+
 pub returns-clause-runs : goal.returns-clause-runs
 returns-clause-runs g c =
     let made = c.in_ok-setup.ensures in let run = c.in_ok-running.ensures in

@@ -14,8 +14,8 @@ serve_to_end-requires-clause-new g c = (c.requires.new.0, c.args.ports.items, c.
 pub serve_to_end-requires-clause-errands : goal.serve_to_end-requires-clause-errands
 serve_to_end-requires-clause-errands g c = (c.args.ears.sip, c.args.ears.desk, c.in-Ok.ensures.errands)
 
-pub wind_up-requires : goal.wind_up-requires
-wind_up-requires g c = (c.requires.new.0, c.args.ports.items, c.requires.new.1)
+pub wind_up-requires-clause-new : goal.wind_up-requires-clause-new
+wind_up-requires-clause-new g c = (c.requires.new.0, c.args.ports.items, c.requires.new.1)
 
 pub returns-in-Ok-clause-served : goal.returns-in-Ok-clause-served
 returns-in-Ok-clause-served g c =

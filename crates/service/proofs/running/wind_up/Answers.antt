@@ -5,13 +5,13 @@ use Rattle.service.proofs.Ran.{leaves}
 use Rattle.service.proofs.running.wind_up.Goals as goal
 
 pub send_outs-requires-clause-workers : goal.send_outs-requires-clause-workers
-send_outs-requires-clause-workers g c = sym (taker_workers c.requires.2)
+send_outs-requires-clause-workers g c = sym (taker_workers c.requires.new.2)
 
 pub send_outs-requires-clause-none : goal.send_outs-requires-clause-none
-send_outs-requires-clause-none g c = taker_new c.requires.2
+send_outs-requires-clause-none g c = taker_new c.requires.new.2
 
 pub join-report-requires-clause-ended : goal.join-report-requires-clause-ended
-join-report-requires-clause-ended g c = started_end c.requires.2 c.send_outs.new.outgoing.taker c.send_outs.ensures.outbox c.send_outs.ensures.ended
+join-report-requires-clause-ended g c = started_end c.requires.new.2 c.send_outs.new.outgoing.taker c.send_outs.ensures.outbox c.send_outs.ensures.ended
 
 pub returns : goal.returns
 returns g c = λ start ports repeats is none.

@@ -1,5 +1,5 @@
 use Rattle.std.proofs.Common.{◌≡◌, ◌∙◌, ◌∷◌, [], refl, sym, subst, take, false, true}
-use Rattle.service.specs.Taken.{DeskSeen, is_line}
+use Rattle.service.specs.Taken.{DeskSeen, is_line, operators_in}
 use Rattle.transport.specs.Wires.{Grows, datagram}
 use Rattle.feeds.proofs.Telling.{grows_none, grows_same}
 use Rattle.service.proofs.Deafness.{deaf_same, deaf_after}
@@ -13,7 +13,7 @@ loop-init g c = record {
   coming = grows_none (g.W.Wire.taken c.args.self.now.coming);
   deaf = deaf_same (g.W.Ear.misses c.args.self.now.coming);
   going = grows_none (g.W.Wire.given c.args.self.now.going);
-  refusing = refusing_none c.args.self.now.networks.items (g.W.Wire.given c.args.self.now.coming) (g.W.Wire.taken c.args.self.now.going) (g.W.Wire.failures c.args.self.now.going);
+  refusing = refusing_none (operators_in c.args.self.now.operators) (g.W.Wire.given c.args.self.now.coming) (g.W.Wire.taken c.args.self.now.going) (g.W.Wire.failures c.args.self.now.going);
 }
 
 pub returns-then-is_finished-clause-refused : goal.returns-then-is_finished-clause-refused
@@ -44,7 +44,7 @@ loop-preserved-then-owes g c =
       deaf = rw c.say.ensures.coming (deaf_after false false (g.W.Ear.misses c.args.self.now.coming) (g.W.Ear.misses c.loop.self.coming) (g.W.Ear.misses c.receive.new.wire) at.deaf c.in-Ok.ensures.deaf);
       going = grows_same (g.W.Wire.given c.args.self.now.going) (g.W.Wire.given c.loop.self.going) (g.W.Wire.given c.say.new.self.going) _ at.going c.say.ensures.given;
       refusing = refusing_more at.refusing after came gave (g.W.Wire.taken c.say.new.self.going) (g.W.Wire.failures c.say.new.self.going)
-          (subst (λ (desk : DeskSeen). is_line desk.networks came ≡ true) at.seen (sym c.owes.ensures ∙ c.if-owes.true)) c.say.ensures.offered;
+          (subst (λ (desk : DeskSeen). is_line desk.hearing came ≡ true) at.seen (sym c.owes.ensures ∙ c.if-owes.true)) c.say.ensures.offered;
     }
 
 pub loop-preserved : goal.loop-preserved
@@ -57,7 +57,7 @@ loop-preserved g c =
       deaf = deaf_after false false (g.W.Ear.misses c.args.self.now.coming) (g.W.Ear.misses c.loop.self.coming) (g.W.Ear.misses c.receive.new.wire) at.deaf c.in-Ok.ensures.deaf;
       going = at.going;
       refusing = refusing_blank at.refusing (g.W.Wire.given c.receive.new.wire) came first
-          (subst (λ (desk : DeskSeen). is_line desk.networks came ≡ false) at.seen (sym c.owes.ensures ∙ c.if-owes.false));
+          (subst (λ (desk : DeskSeen). is_line desk.hearing came ≡ false) at.seen (sym c.owes.ensures ∙ c.if-owes.false));
     }
 
 pub returns-in_default-clause-deaf : goal.returns-in_default-clause-deaf

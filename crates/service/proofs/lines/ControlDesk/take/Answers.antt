@@ -21,7 +21,7 @@ returns-clause-done g c =
     let d = c.take_line-done.result in
     let rows = c.take_line-done.new.told in
     let none : kept_answer desk.kept.items (token c.args.octets.now) ≡ None = ap (kept_answer desk.kept.items) (sym c.cut_token-token.ensures.token) ∙ sym c.answer_to.ensures ∙ c.in_default.is in
-    let K : Buffer Kept → DeskSeen = λ k. record { workers = desk.workers; networks = desk.networks; rows = rows; kept = k } in
+    let K : Buffer Kept → DeskSeen = λ k. record { workers = desk.workers; hearing = desk.hearing; rows = rows; kept = k } in
     inr (
       sym c.hears.ensures ∙ c.if-not-hears.false,
       inr (

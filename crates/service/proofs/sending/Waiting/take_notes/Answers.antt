@@ -9,4 +9,5 @@ loop-preserved g c =
       taken = was.taken ++ n ∷ [];
       noted = noted_more was.taken n _ _ _ was.noted (rw c.as_str.ensures at c.answer.ensures);
       rows = rows_noted_more was.taken n _ _ _ was.rows (rw c.as_str-in-loop.ensures at c.answer-in-loop.ensures.rows);
+      burst = was.burst;
     }

@@ -10,4 +10,5 @@ invariant-loop g l = record {
   taken : List Note;
   noted : l.self.transactions ≡ state_after (map answer_of taken) l.fn.self.transactions;
   rows : l.self.watchers.rows ≡ noted_rows taken l.fn.self.watchers.rows;
+  burst : l.self.burst ≡ l.fn.self.burst;
 }
