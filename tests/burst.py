@@ -1,10 +1,14 @@
 """Bursts: as many changes as the service takes, told to many watchers at once, without a network between them that would keep
-anything apart; and changes behind a network that loses a tenth of all."""
+anything apart; changes behind a network that loses a tenth of all; and more requests than an inbox has places, while its worker
+stands still."""
 
+import contextlib
+import ctypes
+import os
 import time
 
-from phone import PATIENCE
-from service import Service
+from phone import PATIENCE, open_socket
+from service import SUBSCRIBE, Service, counters_become
 from suite import same
 from watchers import Crowd, Feeder, Network, Watcher
 
@@ -14,6 +18,16 @@ CHANGES = 20
 # What is lost of each direction, and how many watchers are behind it.
 LOSS = 0.1
 FAR_WATCHERS = 20
+
+# How many events an inbox holds, with the ticks that come meanwhile. So many requests are surely in it, so many follow at once, some of
+# which wait in the socket's buffer as any system has it, and so many are sent before it is looked whether they were taken.
+INBOX, SURE, MORE, CHUNK = 1024, 960, 160, 64
+
+# Seconds in which the thread that hears takes what it may.
+PAUSE = 0.5
+
+# The requests of ptrace(2), and what waits for a thread as for a process.
+SEIZE, INTERRUPT, DETACH, ALL = 0x4206, 0x4207, 17, 0x40000000
 
 
 def told_at_once(service):
@@ -59,6 +73,49 @@ def a_lossy_network(program, folder):
         same("whether something was lost", True, network.lost > 0)
 
 
+@contextlib.contextmanager
+def held(thread):
+    """Has a thread of a program that this one started stand still, while the others go on."""
+    trace = ctypes.CDLL(None, use_errno=True).ptrace
+    trace.restype, trace.argtypes = ctypes.c_long, [ctypes.c_long, ctypes.c_long, ctypes.c_void_p, ctypes.c_void_p]
+    for request in (SEIZE, INTERRUPT):
+        if trace(request, thread, None, None):
+            raise OSError(ctypes.get_errno(), f"ptrace {request}")
+    os.waitpid(thread, ALL)
+    try:
+        yield
+    finally:
+        trace(DETACH, thread, None, None)
+
+
+def request(number):
+    """The first request of a dialog of its own."""
+    return SUBSCRIBE.replace(b"Call-ID: c1", b"Call-ID: c%d" % number).replace(b"z9hG4bKa1", b"z9hG4bKa%d" % number)
+
+
+def a_worker_stands_still(program, folder):
+    """As many requests come as its inbox holds, and then some that wait in the socket's buffer. None is lost."""
+    count = SURE + MORE
+    with Service(program, "--workers", "1", "--linger", "0", "--keep-subscriptions", "alice") as service, service.operator() as operator:
+        operator.counters()
+        _sender, worker, *_others = sorted(int(thread) for thread in os.listdir(f"/proc/{service.running.process.pid}/task"))
+        with open_socket(("127.0.0.1", service.sip)) as phone:
+            with held(worker):
+                for number in range(1, SURE + 1):
+                    phone.send(request(number))
+                    if number % CHUNK == 0:
+                        counters_become(operator, lambda: {"datagrams": str(number)})
+                for number in range(SURE + 1, count + 1):
+                    phone.send(request(number))
+                time.sleep(PAUSE)
+                told = operator.counters()
+                same("how many were answered meanwhile", "0", told["answers"])
+                same("whether some wait in the socket's buffer", True, SURE < int(told["datagrams"]) <= INBOX + 1 < count)
+            counters_become(operator, lambda: {"datagrams": str(count), "events": str(count), "answers_200": str(count)})
+        service.close()
+
+
 def checks():
     yield "a burst: 20 changes at once to 60 watchers", a_burst
     yield "a network that loses a tenth of all", a_lossy_network
+    yield "more requests than an inbox holds, while its worker stands still", a_worker_stands_still

@@ -49,7 +49,7 @@ TABLE, FEW, SPARE, RESERVED = 2048, 8, 1 << 19, 1 << 40
 # So many outgrow each bound.
 MANY = 6000
 
-# So many may live at a worker: the service keeps room for a row of each from its start, within what a checked allocation may take.
+# So many may live at a worker.
 MOST = 3000
 
 

@@ -5,6 +5,7 @@ again, byte for byte, since it wasn't answered soon enough, gets the same answer
 
 import re
 import socket
+import time
 
 from suite import same, shown
 
@@ -13,6 +14,9 @@ REPEATED = ("Via: ", "From: ", "To: ", "Call-ID: ", "CSeq: ")
 
 # Seconds that a phone waits for a datagram.
 PATIENCE = 60
+
+# Seconds within which an out that went out is counted.
+MOMENT = 0.1
 
 # Bytes that a phone's socket keeps, as far as the system grants them.
 ROOM = 1 << 22
@@ -290,7 +294,8 @@ class Operator:
         same(f"the answer to {line}", answer, self.ask(line))
 
     def counters(self):
-        """What STATUS says, each counter by its name."""
+        """What STATUS says, each counter by its name. An out counts just after it went out, so a moment passes first."""
+        time.sleep(MOMENT)
         first, *lines = self.ask("STATUS").splitlines()
         same("the first line of STATUS", "ok", first)
         return dict(line.split(" ", 1) for line in lines)

@@ -5,6 +5,7 @@ import os
 import re
 import signal
 import socket
+import struct
 import subprocess
 import time
 
@@ -258,6 +259,30 @@ def services_fall_silent(program, folder):
         other.close()
 
 
+def forged(source, target, octets):
+    """An IPv4 packet (RFC 791, RFC 768) with a datagram to this port of 127.0.0.1 that seems to come from that one."""
+    udp = struct.pack("!HHHH", source, target, 8 + len(octets), 0) + octets
+    here = socket.inet_aton("127.0.0.1")
+    return struct.pack("!BBHHHBBH4s4s", 0x45, 0, 20 + len(udp), 0, 0, 64, socket.IPPROTO_UDP, 0, here, here) + udp
+
+
+def a_service_hears_no_line_of_its_own(program, folder):
+    """A line that seems to come from a socket of the service itself is dropped and counted: else it would answer itself. Who may not
+    send such a packet tries nothing."""
+    with Service(program, "alice") as service, service.operator() as operator:
+        try:
+            raw = socket.socket(socket.AF_INET, socket.SOCK_RAW, socket.IPPROTO_RAW)
+        except PermissionError:
+            service.close()
+            return
+        with raw:
+            for source in (service.control, service.sip):
+                raw.sendto(forged(source, service.control, b"STATUS"), ("127.0.0.1", 0))
+        counters_become(operator, lambda: {"control_foreign": "2", "datagrams": "0"})
+        operator.tell("MAIL alice voice 1 0 0 0")
+        service.close()
+
+
 def lines_wait_for_a_stalled_service(program, folder):
     """Two lines are sent again and again while the service stands still. Each is done once, in the order in which they came first."""
     first, second = "@0123456789abcdef MAIL alice voice 1 0 0 0", "@fedcba9876543210 MAIL alice voice 2 0 0 0"
@@ -472,10 +497,13 @@ def nobody_reads_its_output(program, folder):
         for _ in range(count):
             phone.begin("REFER", "refer;id=1", (f"Refer-To: <{target}>",))
             tags.append(wait_for(lambda message: message.first == "SIP/2.0 202 Accepted").tag("To"))
-        while len(failed) < int(operator.counters()["starts_dropped"]):
-            hear()
-        told = operator.counters()
+        told, until = operator.counters(), time.monotonic() + PATIENCE
+        while int(told["starts"]) + int(told["starts_dropped"]) < count and time.monotonic() < until:
+            time.sleep(0.02)
+            told = operator.counters()
         same("how many were written or dropped", str(count), str(int(told["starts"]) + int(told["starts_dropped"])))
+        while len(failed) < int(told["starts_dropped"]):
+            hear()
         same("whether some were written, and some dropped", True, told["starts"] != "0" and told["starts_dropped"] != "0")
         with service.phone("alice") as other:
             other.leave(other.subscribe(), NO_MESSAGES)
@@ -693,6 +721,7 @@ def checks():
     yield "serve: DUMP tells all counts, page by page, and tell follows", all_counts_are_dumped
     yield "serve: a line with a token is done once", a_repeat_is_no_news
     yield "serve: two services that hear each other fall silent", services_fall_silent
+    yield "serve: a line that its own socket sent is dropped", a_service_hears_no_line_of_its_own
     yield "serve: two lines under way at a service that stands still are done once each", lines_wait_for_a_stalled_service
     yield "serve: STATUS as one JSON object", status_is_an_object
     yield "serve: WATCHERS tells how far each phone was told, and how far it answered", who_watches_is_told
