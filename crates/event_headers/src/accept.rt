@@ -31,40 +31,6 @@ fn pair_at(text: &[u8]) -> Option<(WrittenRange<'_>, &[u8])>
     Some((WrittenRange { main, sub }, rest))
 }
 
-impl<'a> Element<'a> for WrittenRange<'a> {
-    ghost use Rattle.event_headers.specs.Values.{Range};
-
-    ghost Seen = { Range };
-
-    ghost use Rattle.event_headers.specs.HeaderViews.{range_seen};
-    ghost use Rattle.event_headers.specs.HeaderReading.{range_at};
-
-    ghost seen = { range_seen };
-
-    ghost found = { range_at };
-
-    #[tactic(auto, unfolding(crate::specs::HeaderReading::range_at))]
-    fn at(alloc: Global, text: &'a [u8]) -> Result<Option<(Self, &'a [u8])>, NoMemory> {
-        let Some((range, rest)) = pair_at(text) else {
-            return Ok(None);
-        };
-        let Some((_, rest)) = some_of(alloc, rest)? else {
-            return Ok(None);
-        };
-        Ok(Some((range, rest)))
-    }
-}
-
-/// The ranges that the whole text is.
-fn ranges_of(alloc: Global, text: &[u8]) -> Result<Option<Vec<WrittenRange<'_>>>, NoMemory>
-    ensures { Gives (λ v. map range_seen v.items) result (ranges_of text.now) }
-{
-    if text.is_empty() {
-        return Ok(Some(Vec::new(alloc)));
-    }
-    elements_of::<WrittenRange>(alloc, text)
-}
-
 /// The range with texts of its own, in small letters.
 fn range_of(alloc: Global, written: WrittenRange<'_>) -> Result<Range, NoMemory>
     ensures { IfOk result (λ r. r ≡ range_seen written.entry) }
@@ -74,25 +40,48 @@ fn range_of(alloc: Global, written: WrittenRange<'_>) -> Result<Range, NoMemory>
     Ok(Range::of(main, sub))
 }
 
-fn owned(alloc: Global, written: &[WrittenRange<'_>]) -> Result<Vec<Range>, NoMemory>
-    ensures { IfOk result (λ v. v.items ≡ map range_seen written.now) }
-{
-    let mut ranges = Vec::with_capacity(alloc, written.len())?;
-    for range in written {
-        ranges.push(range_of(alloc, *range)?)?;
+impl<'a> Element<'a> for Range {
+    ghost use Rattle.event_headers.specs.Values as values;
+
+    ghost Seen = { values.Range };
+
+    ghost use Rattle.event_headers.specs.HeaderReading.{range_at};
+
+    ghost seen = { λ r. r };
+
+    ghost found = { range_at };
+
+    #[tactic(auto, unfolding(crate::specs::HeaderReading::range_at))]
+    fn at(alloc: Global, text: &'a [u8]) -> Result<Option<(Self, &'a [u8])>, NoMemory> {
+        let Some((written, rest)) = pair_at(text) else {
+            return Ok(None);
+        };
+        let Some((_, rest)) = some_of(alloc, rest)? else {
+            return Ok(None);
+        };
+        let range = range_of(alloc, written)?;
+        Ok(Some((range, rest)))
     }
-    Ok(ranges)
+}
+
+/// The ranges that the whole text is.
+fn ranges_of(alloc: Global, text: &[u8]) -> Result<Option<Vec<Range>>, NoMemory>
+    ensures { Gives (λ v. v.items) result (ranges_of text.now) }
+{
+    if text.is_empty() {
+        return Ok(Some(Vec::new(alloc)));
+    }
+    elements_of::<Range>(alloc, text)
 }
 
 /// What the text says as an Accept value.
 fn accept(alloc: Global, text: &[u8]) -> Result<Values<Range>, HeaderError>
     ensures { Answers result (outcome ranges_fit (accept_of text.now)) }
 {
-    let Some(written) = ranges_of(alloc, trim(text))? else {
-        return Err(HeaderError::Grammar);
-    };
-    let ranges = owned(alloc, written.as_slice())?;
-    Ok(Values::new(ranges))
+    match ranges_of(alloc, trim(text))? {
+        Some(ranges) => Ok(Values::new(ranges)),
+        None => Err(HeaderError::Grammar),
+    }
 }
 
 /// Reads the value of an Accept header. Outer SP and HT are allowed; parameters are dropped. The empty value has no range.

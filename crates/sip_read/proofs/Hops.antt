@@ -11,7 +11,7 @@ use Rattle.sip_text.specs.Bytes.{is_in, is_space}
 use Rattle.sip_text.specs.Reading.{◌>>=◌, span_at, after_byte, after_spaces, text_of, some_of, word_at}
 use Rattle.sip_text.specs.Grammar.{Parameter, has_name, AreSpaces, IsWord, Stops, IsParameter, IsAssigned, AreParameters}
 use Rattle.sip_read.specs.Vias.{Hop, is_bare_rport, value_of_first, branch_of, IsSlashed, IsProtocol, IsHop}
-use Rattle.sip_read.specs.ViasComputed.{taken, slashed_at, protocol_at, some_text_of, Marks, marks_of, marks_at, hop_at}
+use Rattle.sip_read.specs.ViasComputed.{taken, slashed_at, version_at, protocol_at, some_text_of, Marks, marks_of, marks_at, hop_at}
 use Rattle.sip_text.proofs.Pieces.{bind_some, some_is, and_both, span_takes, span_again, spaces_taken, spaces_again, byte_taken, NoSpace, not_of_space, stops_at_spaces, word_stops_spaces}
 use Rattle.sip_text.proofs.Utf8.{text_taken, text_again, text_after_ascii, token_small, space_small, split_text, is_wide}
 use Rattle.sip_text.proofs.Groups.{group_takes, group_again, Ends}
@@ -79,14 +79,14 @@ record TakesProtocol (t r : List ℕ) : Type 0 where
   whole : t ≡ text ++ r
 
 protocol_takes : (t r : List ℕ) → protocol_at t ≡ Some r → TakesProtocol t r
-unfolding protocol_at
+unfolding protocol_at version_at
 protocol_takes t r e =
-    let b = bind_some (slashed_at (codes "SIP") t) (λ a. slashed_at (codes "2.0") a >>= λ b. span_at (is_in class.Token) b >>= λ w. span_at (is_in class.Space) w.1 >>= λ g. Some g.1) r e in
-    let d = bind_some (slashed_at (codes "2.0") b.0) (λ b. span_at (is_in class.Token) b >>= λ w. span_at (is_in class.Space) w.1 >>= λ g. Some g.1) r b.2 in
+    let d = bind_some (version_at t) (λ b. span_at (is_in class.Token) b >>= λ w. span_at (is_in class.Space) w.1 >>= λ g. Some g.1) r e in
+    let b = bind_some (slashed_at (codes "SIP") t) (λ a. slashed_at (codes "2.0") a) d.0 d.1 in
     let f = bind_some (span_at (is_in class.Token) d.0) (λ w. span_at (is_in class.Space) w.1 >>= λ g. Some g.1) r d.2 in
     let g = bind_some (span_at (is_in class.Space) f.0.1) (λ g. Some g.1) r f.2 in
     let one = slashed_takes (codes "SIP") t b.0 b.1 in
-    let two = slashed_takes (codes "2.0") b.0 d.0 d.1 in
+    let two = slashed_takes (codes "2.0") b.0 d.0 b.2 in
     let w = span_takes class.Token d.0 f.0.0 f.0.1 f.1 in
     let s = span_takes class.Space f.0.1 g.0.0 g.0.1 g.1 in
     let parts : t ≡ (one.text ++ (two.text ++ (f.0.0 ++ g.0.0))) ++ g.0.1 =
@@ -97,12 +97,17 @@ protocol_takes t r e =
       is = record { first = one.text; second = two.text; transport = f.0.0; gap = g.0.0; sip = one.is; version = two.is; is_transport = w.1; spaces = s.1; whole = refl };
     }
 
+-- the name and the version without a space
+pub plain_version : (t rest : List ℕ) → t ≡ codes "SIP/2.0/" ++ rest → version_at t ≡ Some (after_spaces rest)
+unfolding version_at slashed_at span_at
+plain_version t rest e = rw e refl
+
 spaces_stop_token : (x r : List ℕ) → IsWord class.Space x → Stops (is_in class.Token) (x ++ r)
 spaces_stop_token [] r w = absurd (w.1 refl)
 spaces_stop_token (z ∷ x) r w = not_of_space (is_in class.Token) token z (and_both (is_space z) (list_all is_space x) w.0).0
 
 protocol_again : (text rest : List ℕ) → IsProtocol text → Stops is_space rest → protocol_at (text ++ rest) ≡ Some rest
-unfolding protocol_at
+unfolding protocol_at version_at
 protocol_again text rest h stops =
     let at : text ++ rest ≡ h.first ++ (h.second ++ (h.transport ++ (h.gap ++ rest))) = rw h.whole (simp append_assoc) in
     rw (

@@ -19,11 +19,16 @@ slashed_at word t = do
   rest ← after_byte (byte "/") (after_spaces name.1)
   if str_eq_ignore_ascii_case name.0 word then Some (after_spaces rest) else None
 
+-- what follows the name and the version of SIP
+unfoldable pub version_at : List ℕ → Option (List ℕ)
+version_at t = do
+  a ← slashed_at (codes "SIP") t
+  slashed_at (codes "2.0") a
+
 -- what follows the protocol
 unfoldable pub protocol_at : List ℕ → Option (List ℕ)
 protocol_at t = do
-  a ← slashed_at (codes "SIP") t
-  b ← slashed_at (codes "2.0") a
+  b ← version_at t
   transport ← span_at (is_in class.Token) b
   gap ← span_at (is_in class.Space) transport.1
   Some gap.1

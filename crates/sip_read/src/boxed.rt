@@ -20,7 +20,8 @@ impl<T> Model for Boxed<T> {
 }
 
 impl<T: Drop> Boxed<T> {
-    /// The value, in memory of its own. Where there is none it is dropped.
+    /// The value, in memory of its own. Where there is none it is dropped. Put into its callers, it copies the value once.
+    #[inline(always)]
     pub fn new(alloc: Global, value: T) -> Result<Boxed<T>, NoMemory>
         ensures value { IfOk result (λ b. b ≡ value) }
     {

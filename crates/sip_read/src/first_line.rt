@@ -1,5 +1,6 @@
 //! The first line of a message: a request line or a status line (RFC 3261 sections 7.1 and 7.2).
-ghost use Rattle.std.specs.Prelude.{◌<◌};
+ghost use Rattle.std.specs.Prelude.{◌≡◌, ◌<◌, codes};
+ghost use Rattle.std.specs.Str.{str_eq_ignore_ascii_case};
 ghost use Rattle.sip_text.specs.Bytes.{Finds};
 ghost use Rattle.sip_read.specs.FirstLineComputed.{request_line, version_at, status_line, first_at};
 ghost use Rattle.sip_read.specs.Views.{first, first_pair};
@@ -14,6 +15,16 @@ pub enum First<'a> {
     Status { code: u16, reason: &'a str },
 }
 
+/// Whether it is the version of SIP. Case is ignored, and capitals are compared first: almost all write them.
+fn is_version(word: &[u8]) -> bool
+    ensures { result ≡ str_eq_ignore_ascii_case word.now (codes "SIP/2.0") }
+{
+    match word {
+        b"SIP/2.0" => true,
+        _ => word.eq_ignore_ascii_case(b"SIP/2.0"),
+    }
+}
+
 /// The request line that the line is.
 #[tactic(auto, unfolding(crate::specs::FirstLineComputed::request_line))]
 fn request_line(line: &[u8]) -> Option<First<'_>>
@@ -22,7 +33,7 @@ fn request_line(line: &[u8]) -> Option<First<'_>>
     let (method, rest) = word_at(Class::Token, line)?;
     let (uri, rest) = word_at(Class::Uri, after_byte(b' ', rest)?)?;
     let version = after_byte(b' ', rest)?;
-    if version.eq_ignore_ascii_case(b"SIP/2.0") {
+    if is_version(version) {
         Some(First::Request { method, uri })
     } else {
         None

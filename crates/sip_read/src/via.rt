@@ -3,7 +3,7 @@ ghost use Rattle.std.specs.Prelude.{◌≡◌, ◌-◌, option_map, IfOk};
 ghost use Rattle.sip_text.specs.Bytes.{Finds};
 ghost use Rattle.sip_text.specs.Views.{view};
 ghost use Rattle.sip_read.specs.Vias.{via_of};
-ghost use Rattle.sip_read.specs.ViasComputed.{taken, slashed_at, protocol_at, marks_with, marks_at, some_text_of, hop_at};
+ghost use Rattle.sip_read.specs.ViasComputed.{taken, slashed_at, version_at, protocol_at, marks_with, marks_at, some_text_of, hop_at};
 ghost use Rattle.sip_read.specs.Views.{hop, marks};
 
 use crate::message::Via;
@@ -58,13 +58,24 @@ fn slashed_at<'a>(word: &[u8], text: &'a [u8]) -> Option<&'a [u8]>
     }
 }
 
+/// What follows the name and the version of SIP, and the spaces around the slashes. Almost all write none: that is looked at first.
+#[tactic(auto, unfolding(crate::specs::ViasComputed::slashed_at, crate::specs::ViasComputed::version_at))]
+fn version_at(text: &[u8]) -> Option<&[u8]>
+    ensures { Finds (λ x. x.now) result (version_at text.now) }
+{
+    if let Some(rest) = text.strip_prefix(b"SIP/2.0/") {
+        return Some(skip_spaces(rest));
+    }
+    let rest = slashed_at(b"SIP", text)?;
+    slashed_at(b"2.0", rest)
+}
+
 /// What follows the protocol.
 #[tactic(auto, unfolding(crate::specs::ViasComputed::protocol_at))]
 fn protocol_at(text: &[u8]) -> Option<&[u8]>
     ensures { Finds (λ x. x.now) result (protocol_at text.now) }
 {
-    let rest = slashed_at(b"SIP", text)?;
-    let rest = slashed_at(b"2.0", rest)?;
+    let rest = version_at(text)?;
     let (_, rest) = span_at(Class::Token, rest)?;
     let (_, rest) = span_at(Class::Space, rest)?;
     Some(rest)
