@@ -1,6 +1,7 @@
 //! What comes of a datagram.
-ghost use Rattle.std.specs.Prelude.{◌≡◌, ◌⊎◌, option_map, IfOk, OnOk, OnErr};
+ghost use Rattle.std.specs.Prelude.{◌≡◌, ◌⊎◌, true, option_map, IfOk, OnOk, OnErr};
 ghost use Rattle.admission.specs.declared.judging.Arrival.{Arrival as ArrivalSeen};
+ghost use Rattle.admission.specs.declared.judging.Reading.TheVariants as reading;
 ghost use Rattle.admission.specs.declared.judging.Verdict.TheVariants as verdict;
 ghost use Rattle.admission.specs.Verdicts as spec;
 ghost use Rattle.admission.specs.Verdicts.{Judges, IsFree, IsSeated, behind};
@@ -146,6 +147,7 @@ impl Admission {
         ensures behind { OnOk result (self.new ≡ behind self.old arrival.entry) }
         ensures err { OnErr result (self.new ≡ self.old) }
         ensures wanting { OnErr result (self.old.rates ≡ None → ⊥) }
+        ensures counted { OnErr result (spec.is_counted arrival.entry.reading ≡ true) }
     {
         match &mut self.rates {
             Some(rates) if is_counted(arrival.reading) => {
@@ -169,6 +171,7 @@ impl Admission {
     fn seat(&self, alloc: Global, arrival: Arrival<'_>) -> Result<Verdict, NoMemory>
         ensures seated { IfOk result (IsSeated self.now arrival.entry) }
         ensures wanting { OnErr result (self.now.per_source ≡ None → ⊥) }
+        ensures newcomer { OnErr result (spec.newcomer arrival.entry.reading ≡ None → ⊥) }
     {
         if !self.is_full(arrival.live) {
             return Ok(Verdict::Allowed);
@@ -190,6 +193,7 @@ impl Admission {
         ensures concluded { IfOk result (spec.IsConcluded self.now arrival.entry) }
         ensures free { IfOk result (λ v. IsFree self.now arrival.entry → IsSeated self.now arrival.entry verdict.Allowed → v ≡ verdict.Allowed) }
         ensures wanting { OnErr result (self.now.authentication ≡ None → self.now.per_source ≡ None → ⊥) }
+        ensures answers { OnErr result (arrival.entry.reading ≡ reading.Response → ⊥) }
     {
         let (Some(authentication), Some(request)) = (&self.authentication, asked(arrival.reading))
         else {
@@ -219,6 +223,9 @@ impl Admission {
         ensures err { OnErr result ((self.new ≡ self.old) ⊎ (self.new ≡ spec.after self.old arrival.entry)) }
         // Where it asks nothing it needs no memory.
         ensures wanting { OnErr result (spec.IsOpen self.old → ⊥) }
+        // Nor where its source isn't heard, or it is an answer.
+        ensures foreign { OnErr result (spec.hears self.old arrival.entry.source.ip ≡ true) }
+        ensures answers { OnErr result (arrival.entry.reading ≡ reading.Response → ⊥) }
     {
         if !self.hears(arrival.source.ip) {
             return Ok(Verdict::Foreign);

@@ -1,5 +1,5 @@
 //! The buckets of all sources.
-ghost use Rattle.std.specs.Prelude.{◌≡◌, IfOk, OnOk, OnErr};
+ghost use Rattle.std.specs.Prelude.{◌≡◌, true, IfOk, OnOk, OnErr};
 ghost use Rattle.std.specs.NonZero.{non_zero_usize_get};
 ghost use Rattle.admission.specs.Table as spec;
 ghost use Rattle.admission.specs.Table.{empty, after};
@@ -48,6 +48,8 @@ impl Rates {
         ensures verdict { IfOk result (λ r. r ≡ spec.is_let self.old source now) }
         ensures after { OnOk result (self.new ≡ after self.old source now) }
         ensures err { OnErr result (self.new ≡ self.old) }
+        // A source that finds no place is refused without memory.
+        ensures wanting { OnErr result (spec.has_room self.old source now ≡ true) }
     {
         let bucket = self.buckets.peek(&source).copied();
         if bucket.is_none() && !self.has_place(now) {

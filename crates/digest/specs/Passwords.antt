@@ -101,14 +101,15 @@ abbrev pub Takes : Passwords → List ℕ → Passwords → Type 0
 Takes old line new =
     ((is_blank line ≡ true) × IsSame old new) ⊎ ((a : Algorithm) × (e : Entry) × MayFollow old line a e × Adds old a e new)
 
--- why it takes no line
+-- why it takes no line: the first of these in this order that is so, or memory ran out
 abbrev pub IsWrong : Passwords → List ℕ → ℕ → PasswordsError → Type 0
 IsWrong old line number error.NoMemory = Unit {0}
 IsWrong old line number (error.Form n) = (n ≡ number) × (is_blank line ≡ false) × (read_entry line ≡ None)
 IsWrong old line number (error.Hash n) =
     (n ≡ number) × (is_blank line ≡ false) × ((e : Entry) × (read_entry line ≡ Some e) × (hash_kind e.hash ≡ None))
 IsWrong old line number (error.Realm n) =
-    (n ≡ number) × (is_blank line ≡ false) × ((e : Entry) × (read_entry line ≡ Some e) × ¬ (IsOfRealm old e.realm))
+    (n ≡ number) × (is_blank line ≡ false)
+    × ((e : Entry) × (read_entry line ≡ Some e) × IsSome (hash_kind e.hash) × ¬ (IsOfRealm old e.realm))
 IsWrong old line number (error.Twice n) =
     (n ≡ number) × (is_blank line ≡ false)
-    × ((a : Algorithm) × (e : Entry) × (read_entry line ≡ Some e) × (hash_kind e.hash ≡ Some a) × IsSome (known old a e.user))
+    × ((a : Algorithm) × (e : Entry) × (read_entry line ≡ Some e) × (hash_kind e.hash ≡ Some a) × IsOfRealm old e.realm × IsSome (known old a e.user))

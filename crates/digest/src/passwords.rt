@@ -13,7 +13,7 @@ use sip_text::{NoMemory, Text, cut_at, text_of};
 use std::alloc::Global;
 use thiserror::Error;
 
-/// Why a line of a password file is refused. Each names the line's number.
+/// Why a line of a password file is refused: the first of these that is so. Each names the line's number.
 #[derive(Clone, Copy, Debug, PartialEq, Eq, Error)]
 pub enum PasswordsError {
     /// A growth was refused.

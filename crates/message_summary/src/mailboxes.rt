@@ -1,10 +1,10 @@
 //! A set of mailboxes as an event package.
-ghost use Rattle.std.specs.Prelude.{◌≡◌, IfOk, IsSome};
+ghost use Rattle.std.specs.Prelude.{◌≡◌, IfOk, IsOk, OnErr, IsSome, IsTrue};
 ghost use Rattle.indexmap.specs.IndexMap.{get_by_text};
 ghost use Rattle.package.specs.Content.{finite_maps, OfMail, contents_of, held, with_held, mail_package};
 ghost use Rattle.package.specs.Changes as spec;
-ghost use Rattle.package.specs.Changes.{mail_at};
-ghost use Rattle.package.specs.Closings.{counted};
+ghost use Rattle.package.specs.Changes.{mail_at, change_of, is_forget};
+ghost use Rattle.package.specs.Closings.{counted, new_ending};
 ghost use Rattle.message_summary.specs.Mailboxes.{mail_type, first_contents, new_mailboxes};
 
 use crate::body::write_body;
@@ -27,7 +27,8 @@ impl Mailboxes {
         names: Vec<String>,
         cell: Arc<ClosingCell>,
     ) -> Result<Mailboxes, NoMemory>
-        ensures { IfOk result (λ m. ⟦<Mailboxes as Package>⟧.seen m ≡ new_mailboxes names.items) }
+        ensures seen { IfOk result (λ m. ⟦<Mailboxes as Package>⟧.seen m ≡ new_mailboxes names.items) }
+        ensures ending { IfOk result (λ m. m.ending ≡ new_ending mail_package cell.value) }
     {
         let ending = Ending::new(alloc, "message-summary", cell)?;
         let mailboxes = unset_mailboxes(alloc, names)?;
@@ -113,7 +114,13 @@ impl Package for Mailboxes {
         self.mailboxes.contains_key(resource)
     }
 
-    fn change(&mut self, _alloc: Global, change: &Change) -> Result<Outcome, NoMemory> {
+    fn change(&mut self, _alloc: Global, change: &Change) -> Result<Outcome, NoMemory>
+        ensures ok { IfOk result (λ outcome. (outcome, ⟦<Mailboxes as Package>⟧.seen self.new)
+            ≡ change_of (⟦<Mailboxes as Package>⟧.seen self.old) change.now) }
+        ensures err { OnErr result (⟦<Mailboxes as Package>⟧.seen self.new ≡ ⟦<Mailboxes as Package>⟧.seen self.old) }
+        ensures forget { IsTrue (is_forget change.now) → IsOk result }
+        ensures counted { IfOk result (λ outcome. self.new.ending ≡ counted outcome self.old.ending) }
+    {
         match change {
             Change::Mail(mail) => Ok(self.take_in(mail)),
             _ => Ok(Outcome::Unknown),

@@ -1,7 +1,8 @@
 //! What a package leaves behind when it is dropped.
 ghost use Rattle.std.specs.Prelude.{◌≡◌, ◌-◌, min, Some, IfOk, MatchResult};
+ghost use Rattle.once_cell.specs.Once.{cell_name};
 ghost use Rattle.package.specs.Closings as spec;
-ghost use Rattle.package.specs.Closings.{counted};
+ghost use Rattle.package.specs.Closings.{counted, new_ending};
 
 use crate::change::Outcome;
 use once_cell::race::{Note, OnceBox};
@@ -45,11 +46,12 @@ impl ClosingCell {
         self.cell.get()
     }
 
-    /// Offers a Closing: Ok where the cell took it, and from then on it keeps this one; else it comes back. It takes no
+    /// Offers a Closing: Ok where this cell took it, and from then on it keeps this one; else it comes back. It takes no
     /// memory.
     pub fn offer(&self, closing: Box<Closing>) -> Result<ClosingNote, Box<Closing>>
-        ensures { MatchResult result (λ taken. taken.note.known ≡ Some closing.value)
+        ensures kept { MatchResult result (λ taken. taken.note.known ≡ Some closing.value)
             (λ back. back.value ≡ closing.value) }
+        ensures cell { IfOk result (λ taken. taken.note.cell ≡ cell_name self.now.cell) }
     {
         let mut note = self.cell.note();
         match self.cell.set_as(closing, &mut note) {
@@ -69,13 +71,13 @@ pub struct Ending {
 impl Model for Ending {
     ghost Value = { spec.Ending };
 
-    ghost view = { λ e. record { event = e.closing.value.event; changes = e.closing.value.changes } };
+    ghost view = { λ e. record { event = e.closing.value.event; changes = e.closing.value.changes; cell = cell_name e.cell.value.cell } };
 }
 
 impl Ending {
-    /// The ending of a package of this name that answered no change yet.
+    /// The ending of a package of this name that answered no change yet. Its Closing goes to this cell.
     pub fn new(alloc: Global, event: &str, cell: Arc<ClosingCell>) -> Result<Ending, NoMemory>
-        ensures { IfOk result (λ ending. ending ≡ record { event = event.now; changes = 0 }) }
+        ensures { IfOk result (λ ending. ending ≡ new_ending event.now cell.value) }
     {
         let event = Text::of(alloc, event)?;
         let closing = Box::new(
@@ -100,12 +102,13 @@ impl Ending {
 
     /// Offers the Closing of a package that holds so many resources now. It takes no memory.
     pub fn offer(self, resources: u64) -> Result<ClosingNote, Box<Closing>>
-        ensures { let closing : Closing = record {
+        ensures kept { let closing : Closing = record {
           event = self.event;
           resources = resources;
           changes = self.changes;
         } in
             MatchResult result (λ taken. taken.note.known ≡ Some closing) (λ back. back.value ≡ closing) }
+        ensures cell { IfOk result (λ taken. taken.note.cell ≡ self.cell) }
     {
         let Ending { cell, mut closing } = self;
         closing.resources = resources;

@@ -2,8 +2,8 @@
 ghost use Rattle.std.specs.Prelude.{◌≡◌, IfOk, IsOk, OnErr, IsSome, IsTrue};
 ghost use Rattle.indexmap.specs.IndexMap.{get_by_text};
 ghost use Rattle.package.specs.Content.{finite_maps, contents_of, held, with_held, refer_package};
-ghost use Rattle.package.specs.Changes.{begin_at, step_at, forget_at, is_forget};
-ghost use Rattle.package.specs.Closings.{counted};
+ghost use Rattle.package.specs.Changes.{begin_at, step_at, forget_at, change_of, is_forget};
+ghost use Rattle.package.specs.Closings.{counted, new_ending};
 ghost use Rattle.refer.specs.Transfers.{refer_type, new_transfers, content_of, transfer_change};
 
 use crate::body::write_body;
@@ -23,7 +23,8 @@ pub struct Transfers {
 impl Transfers {
     /// Holds nothing. Its Closing goes to this cell.
     pub fn new(alloc: Global, cell: Arc<ClosingCell>) -> Result<Transfers, NoMemory>
-        ensures { IfOk result (λ t. ⟦<Transfers as Package>⟧.seen t ≡ new_transfers) }
+        ensures seen { IfOk result (λ t. ⟦<Transfers as Package>⟧.seen t ≡ new_transfers) }
+        ensures ending { IfOk result (λ t. t.ending ≡ new_ending refer_package cell.value) }
     {
         let ending = Ending::new(alloc, "refer", cell)?;
         Ok(Transfers {
@@ -41,6 +42,7 @@ impl Transfers {
             (contents_of content_of self.new.transfers.entries ≡ contents_of content_of self.old.transfers.entries) }
         ensures forget { IsTrue (is_forget change.now) → IsOk result }
         ensures counted { IfOk result (λ outcome. self.new.ending ≡ counted outcome self.old.ending) }
+        ensures uncounted { OnErr result (self.new.ending ≡ self.old.ending) }
     {
         let outcome = match change {
             Change::Mail(_) => Outcome::Unknown,
@@ -139,7 +141,14 @@ impl Package for Transfers {
         self.transfers.contains_key(resource)
     }
 
-    fn change(&mut self, alloc: Global, change: &Change) -> Result<Outcome, NoMemory> {
+    fn change(&mut self, alloc: Global, change: &Change) -> Result<Outcome, NoMemory>
+        ensures ok { IfOk result (λ outcome. (outcome, ⟦<Transfers as Package>⟧.seen self.new)
+            ≡ change_of (⟦<Transfers as Package>⟧.seen self.old) change.now) }
+        ensures err { OnErr result (⟦<Transfers as Package>⟧.seen self.new ≡ ⟦<Transfers as Package>⟧.seen self.old) }
+        ensures forget { IsTrue (is_forget change.now) → IsOk result }
+        ensures counted { IfOk result (λ outcome. self.new.ending ≡ counted outcome self.old.ending) }
+        ensures uncounted { OnErr result (self.new.ending ≡ self.old.ending) }
+    {
         self.take_in(alloc, change)
     }
 

@@ -1,5 +1,5 @@
 -- Wires over one socket.
-use Rattle.std.specs.Prelude.{◌≡◌, ◌≢◌, ℕ, max, Bool, ◌||◌, [], ◌∷◌}
+use Rattle.std.specs.Prelude.{◌≡◌, ◌≢◌, ℕ, max, Bool, ◌||◌, [], ◌∷◌, None}
 use Rattle.sip_text.specs.declared.address.Addr.{Addr}
 use Rattle.transport.specs.Devices.{one_more}
 use Rattle.transport.specs.Ears.{Misses, no_misses}
@@ -16,6 +16,7 @@ misses w = record { row = w.row; most = w.most; lost = w.is_lost }
 pub record IsUnfailed (w : UdpWire) : Type 0 where
   pub failures : w.failures ≡ 0
   pub misses : misses w ≡ no_misses
+  pub unsent : w.send_error ≡ None
 
 -- two wires on one address: the one that was asked for, where port 0 stands for a port of the machine's choice. Neither has
 -- failed yet

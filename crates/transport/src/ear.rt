@@ -1,5 +1,7 @@
 //! Wires that look up while they wait.
-ghost use Rattle.std.specs.Prelude.{◌≡◌, ◌≤◌, [], length, Option, None, IfOk, IfSome};
+ghost use Rattle.std.specs.Prelude.{◌≡◌, ◌≤◌, [], length, Option, None, IfOk, IfSome, option_map};
+ghost use Rattle.std.specs.Int.{w32, cast_unsigned};
+ghost use Rattle.std.specs.IoError.{raw_os_error};
 ghost use Rattle.sip_text.specs.declared.address.Addr.{Addr};
 ghost use Rattle.transport.specs.Devices.{failures_after};
 ghost use Rattle.transport.specs.Ears.{GivesInTime, Misses, is_lost, misses_after};
@@ -26,6 +28,8 @@ pub struct ReceiveFault {
 }
 
 impl From<io::Error> for ReceiveFault {
+    ghost from_gives = { λ error fault. fault.number ≡ option_map (cast_unsigned w32) (raw_os_error error) };
+
     fn from(error: io::Error) -> ReceiveFault {
         ReceiveFault {
             number: error.raw_os_error().map(i32::cast_unsigned),

@@ -1,5 +1,5 @@
 //! Wires in memory, for tests.
-ghost use Rattle.std.specs.Prelude.{◌≡◌, ◌≤◌, ◌++◌, ◌∷◌, ◌||◌, [], false, length, max, reverse, Some, MatchResult};
+ghost use Rattle.std.specs.Prelude.{◌≡◌, ◌≤◌, ◌++◌, ◌∷◌, ◌||◌, [], false, length, max, reverse, None, Some, MatchResult};
 ghost use Rattle.transport.specs.Devices.{one_more};
 ghost use Rattle.transport.specs.Ears.{is_lost};
 ghost use Rattle.transport.specs.Wires.{datagram};
@@ -61,6 +61,9 @@ impl MemoryWire {
         ensures row { result.row ≡ 0 }
         ensures most { result.most ≡ 0 }
         ensures lost { result.is_lost ≡ false }
+        ensures receives { result.receives ≡ None }
+        ensures sends { result.sends ≡ None }
+        ensures silences { result.silences ≡ None }
     {
         coming.reverse();
         MemoryWire {
@@ -83,6 +86,7 @@ impl MemoryWire {
         ensures given { self.new.given ≡ self.old.given }
         ensures taken { self.new.taken ≡ self.old.taken }
         ensures failures { self.new.failures ≡ self.old.failures }
+        ensures set { self.new ≡ record self.old { receives = Some after } }
     {
         self.receives = Some(after);
     }
@@ -92,6 +96,7 @@ impl MemoryWire {
         ensures given { self.new.given ≡ self.old.given }
         ensures taken { self.new.taken ≡ self.old.taken }
         ensures failures { self.new.failures ≡ self.old.failures }
+        ensures set { self.new ≡ record self.old { sends = Some after } }
     {
         self.sends = Some(after);
     }
@@ -101,6 +106,7 @@ impl MemoryWire {
         ensures given { self.new.given ≡ self.old.given }
         ensures taken { self.new.taken ≡ self.old.taken }
         ensures failures { self.new.failures ≡ self.old.failures }
+        ensures set { self.new ≡ record self.old { silences = Some after } }
     {
         self.silences = Some(after);
     }

@@ -44,7 +44,10 @@ pub fn system_addr(addr: Addr) -> SocketAddr
 }
 
 /// The system's address as one of IPv4. A socket of IPv4 has no other.
-fn addr_of(addr: SocketAddr) -> Result<Addr, WireFault> {
+fn addr_of(addr: SocketAddr) -> Result<Addr, WireFault>
+    ensures ip { IfOk result (λ own. IsV4And (socket_ip addr) (λ ip. ipv4_octets ip ≡ own.ip)) }
+    ensures port { IfOk result (λ own. own.port ≡ socket_port addr) }
+{
     match addr.ip() {
         IpAddr::V4(ip) => Ok(Addr {
             ip: ip.octets(),

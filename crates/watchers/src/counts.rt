@@ -56,6 +56,7 @@ impl Counts {
         ensures set { OnOk result ((k : ℕ) → tally self.new k ≡ (if source == k then count else tally self.old k)) }
         ensures unchanged { OnErr result (self.new ≡ self.old) }
         ensures succeeds { 0 < tally self.old source → IsOk result }
+        ensures removes { count ≡ 0 → IsOk result }
     {
         if count == 0 {
             let gone = self.counts.swap_remove(&source);
