@@ -11,7 +11,7 @@ use Rattle.subscription.specs.declared.notify.Reason.{Reason}
 use Rattle.subscription.specs.declared.terms.Usage.{Usage}
 use Rattle.subscription.specs.declared.terms.Want.{Want}
 use Rattle.subscription.specs.State.{State}
-use Rattle.subscription.specs.Table.{told, changed, refresh, end, over}
+use Rattle.subscription.specs.Table.{told, changed, refresh, end}
 use Rattle.notifier_model.specs.declared.place.Place.{Place}
 use Rattle.package.specs.Content.{Maps, SeenBy}
 use Rattle.notifier_model.specs.declared.row.Row.{Row}

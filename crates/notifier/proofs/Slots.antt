@@ -1,20 +1,21 @@
 -- What the slots of a ring say, when an answer comes and when one goes.
-use Rattle.std.proofs.Common.{◌≡◌, ◌∙◌, sym, ap, refl, subst, arith, ℕ, suc, ◌+◌, ◌-◌, ◌<◌, ◌≤◌, Bool, true, false, cond, List, [], ◌∷◌, ◌++◌, length, find, take, Option, Some, None, option_map, slice_get, ◌&&◌, string_bytes}
-use Rattle.std.specs.Str.{bytes_eq}
+use Rattle.std.proofs.Common.{◌≡◌, ◌∙◌, sym, ap, refl, subst, arith, ℕ, suc, ◌+◌, ◌-◌, ◌<◌, ◌≤◌, Bool, true, false, cond, List, [], ◌∷◌, ◌++◌, length, find, take, drop, Option, Some, None, option_map, slice_get, string_bytes}
+use Rattle.std.specs.Bool.{Decides}
 use Rattle.std.specs.BTreeMap.{BTreeMap, is_at}
-use Rattle.std.proofs.lemmas.Bool.{and_parts}
-use Rattle.std.proofs.lemmas.List.{take_all, take_more, length-take, length-take-le}
+use Rattle.std.proofs.lemmas.List.{take_all, take_more, length-take, length-take-le, length-drop, take-append-drop}
 use Rattle.std.proofs.lemmas.Option.{get_or_from_slice_get}
 use Rattle.circular_buffer.specs.Buffer.{Buffer, buffer}
 use Rattle.std.proofs.lemmas.Slice.Eq.{bytes_eq-Decides}
-use Rattle.std.proofs.lemmas.Bool.Decides.{nat_tests}
+use Rattle.std.proofs.lemmas.Bool.Decides.{nat_tests, Decides-and, Decides-eqb, Decides-like, same_from_decides}
 use Rattle.notifier_model.specs.declared.row.Key.{Key}
 use Rattle.notifier_model.specs.declared.row.Kept.{Kept}
 use Rattle.notifier.specs.declared.store.transaction.Transaction.{Transaction}
 use Rattle.notifier.specs.contracts.store.transaction.TransactionPartialEq.TheImpl as equality
 use Rattle.notifier.specs.contracts.store.transaction.TransactionOrd.TheImpl as order
 use Rattle.notifier.specs.contracts.store.transaction.TransactionOrd.TheImpl.Laws.{matches_eq-law}
+use Rattle.notifier_model.specs.Requests.{same_key}
 use Rattle.notifier_model.specs.Answers.{has_key}
+use Rattle.notifier.specs.Keys.{parted}
 use Rattle.notifier.specs.Transactions.{key_of}
 use Rattle.notifier.specs.Slots.{after, slot_at, answers, place_of, slot_in, IsIndexed}
 
@@ -48,24 +49,56 @@ length_init xs some = omega (arith, some, length-take-le (length xs - 1) xs (ome
 
 -- ---- equal transactions
 
+-- the parts of a key are those of its text
+rejoined : (b s : ℕ) (xs : List ℕ) → (parted b s xs).branch ++ ((parted b s xs).sent_by ++ (parted b s xs).method) ≡ xs
+rejoined b s xs = ap (λ l. take b xs ++ l) (take-append-drop s (drop b xs)) ∙ take-append-drop b xs
+
+branch_length : (b s : ℕ) (xs : List ℕ) → b + s ≤ length xs → length (take b xs) ≡ b
+branch_length b s xs h = length-take-le b xs (omega (arith, h))
+
+sent_by_length : (b s : ℕ) (xs : List ℕ) → b + s ≤ length xs → length (take s (drop b xs)) ≡ s
+sent_by_length b s xs h = let rest = length-drop b xs in length-take-le s (drop b xs) (omega (arith, h, rest))
+
+abbrev SameParts : Key → Key → Type 0
+SameParts k l = (k.branch ≡ l.branch) × ((k.sent_by ≡ l.sent_by) × (k.method ≡ l.method))
+
+abbrev SameText : Transaction → Transaction → Type 0
+SameText t u = (string_bytes t.texts ≡ string_bytes u.texts) × ((t.branch ≡ u.branch) × (t.sent_by ≡ u.sent_by))
+
+-- the parts say the text, and where each ends
+by_parts : (t u : Transaction) → SameParts (key_of t) (key_of u) → SameText t u
+by_parts t u h =
+    let xs = string_bytes t.texts in
+    let ys = string_bytes u.texts in
+    let whole : xs ≡ ys = sym (rejoined t.branch t.sent_by xs) ∙ (λ i. h.0 i ++ (h.1.0 i ++ h.1.1 i)) ∙ rejoined u.branch u.sent_by ys in
+    let branch : t.branch ≡ u.branch = sym (branch_length t.branch t.sent_by xs t.within) ∙ ap length h.0 ∙ branch_length u.branch u.sent_by ys u.within in
+    let sent_by : t.sent_by ≡ u.sent_by = sym (sent_by_length t.branch t.sent_by xs t.within) ∙ ap length h.1.0 ∙ sent_by_length u.branch u.sent_by ys u.within in
+    (whole, (branch, sent_by))
+
+by_text : (t u : Transaction) → SameText t u → SameParts (key_of t) (key_of u)
+by_text t u h = (
+  (λ i. take (h.1.0 i) (h.0 i)),
+  ((λ i. take (h.1.1 i) (drop (h.1.0 i) (h.0 i))), (λ i. drop (h.1.1 i) (drop (h.1.0 i) (h.0 i)))),
+)
+
+text_decides : (t u : Transaction) → Decides ((equality.ghosts).eq t u) (SameText t u)
+text_decides t u =
+    Decides-and _ _ (bytes_eq-Decides (string_bytes t.texts) (string_bytes u.texts))
+    (Decides-and _ _ (Decides-eqb t.branch u.branch) (Decides-eqb t.sent_by u.sent_by))
+
+parts_decides : (k l : Key) → Decides (same_key k l) (SameParts k l)
+parts_decides k l =
+    Decides-and _ _ (bytes_eq-Decides k.branch l.branch)
+    (Decides-and _ _ (bytes_eq-Decides k.sent_by l.sent_by) (bytes_eq-Decides k.method l.method))
+
 pub same_answers : (t u : Transaction) (kept : Kept) → kept.key ≡ key_of t → answers u kept ≡ (equality.ghosts).eq t u
-same_answers t u kept is = rw is refl
+same_answers t u kept is =
+    ap (λ (k : Key). same_key k (key_of u)) is
+    ∙ same_from_decides _ _ (Decides-like _ (by_parts t u) (by_text t u) (parts_decides (key_of t) (key_of u))) (text_decides t u)
 
 -- an equal transaction has the same texts
 pub same_keys : (t u : Transaction) → (equality.ghosts).eq t u ≡ true → key_of u ≡ key_of t
-same_keys t u e =
-    let first = and_parts (bytes_eq (string_bytes t.branch) (string_bytes u.branch)) (bytes_eq (string_bytes t.sent_by) (string_bytes u.sent_by) && bytes_eq (string_bytes t.method) (string_bytes u.method)) e in
-    let rest = and_parts (bytes_eq (string_bytes t.sent_by) (string_bytes u.sent_by)) (bytes_eq (string_bytes t.method) (string_bytes u.method)) first.1 in
-    let branch : string_bytes t.branch ≡ string_bytes u.branch = is_same (string_bytes t.branch) (string_bytes u.branch) first.0 in
-    let sent_by : string_bytes t.sent_by ≡ string_bytes u.sent_by = is_same (string_bytes t.sent_by) (string_bytes u.sent_by) rest.0 in
-    let method : string_bytes t.method ≡ string_bytes u.method = is_same (string_bytes t.method) (string_bytes u.method) rest.1 in
-    key_with (sym branch) (sym sent_by) (sym method)
-  where
-    is_same : (xs ys : List ℕ) → bytes_eq xs ys ≡ true → xs ≡ ys
-    is_same xs ys e = (bytes_eq-Decides xs ys).0 e
-
-    key_with : {a b c d f g : List ℕ} → a ≡ b → c ≡ d → f ≡ g → ◌≡◌ {A = Key} (record { branch = a; sent_by = c; method = f }) (record { branch = b; sent_by = d; method = g })
-    key_with p q r = λ i. record { branch = p i; sent_by = q i; method = r i }
+same_keys t u e = let same = (text_decides t u).0 e in sym (λ i. parted (same.1.0 i) (same.1.1 i) (same.0 i))
 
 -- one that stands neither before nor behind it in the order is equal to it
 same_place_in_order : (t q : Transaction) → is_at ((order.ghosts).cmp t) q ≡ (equality.ghosts).eq t q
@@ -73,10 +106,7 @@ same_place_in_order t q = sym (matches_eq-law t q)
 
 -- a transaction is equal to itself
 itself : (t : Transaction) → (equality.ghosts).eq t t ≡ true
-itself t = rw (same (string_bytes t.branch), same (string_bytes t.sent_by), same (string_bytes t.method)) refl
-  where
-    same : (xs : List ℕ) → bytes_eq xs xs ≡ true
-    same xs = (bytes_eq-Decides xs xs).1 refl
+itself t = (text_decides t t).1 (refl, (refl, refl))
 
 -- ---- places
 

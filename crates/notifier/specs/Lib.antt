@@ -1,3 +1,4 @@
+pub mod Keys
 pub mod Transactions
 pub mod Slots
 pub mod Watchers

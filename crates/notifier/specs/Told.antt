@@ -39,6 +39,15 @@ abbrev pub transfer_after : After → Option (List ℕ)
 transfer_after (Stays row out) = None
 transfer_after (Goes gone out) = gone.transfer
 
+-- the row and the NOTIFY of what is told first, if anything is
+abbrev pub first_row : Option After → Option Row
+first_row None = None
+first_row (Some after) = row_after after
+
+abbrev pub first_out : Option After → Option Out
+first_out None = None
+first_out (Some after) = out_after after
+
 -- a row that goes says what it watched
 abbrev pub Names : List ℕ × List ℕ → After → Type 0
 Names watch (Stays row out) = Unit {0}

@@ -31,6 +31,27 @@ fn answer_bytes(alloc: Global, answer: &Answer<'_>) -> Result<Octets, NoMemory>
     Ok(Octets::new(bytes))
 }
 
+/// An answer without any of the optional lines. A To without a tag gets this one.
+fn bare_answer<'a>(incoming: &Incoming<'a>, status: Status, tag: Option<&'a str>) -> Answer<'a>
+    ensures { answer_view result ≡ spec.bare_answer incoming.now.source incoming.now.request.now
+        (option_map (λ t. t.now) tag.entry) status }
+{
+    Answer {
+        head: &incoming.request.head,
+        source: incoming.source,
+        status,
+        tag,
+        record_routes: &[],
+        contact: None,
+        expires: None,
+        min_expires: None,
+        allow: None,
+        allow_events: None,
+        unsupported: None,
+        without_subscription: false,
+    }
+}
+
 /// The 200 to a SUBSCRIBE in a dialog.
 pub fn renewal_answer(
     alloc: Global,
@@ -40,56 +61,39 @@ pub fn renewal_answer(
     ensures { IfOk result (λ bytes.
         bytes ≡ answer_text (spec.renewal_answer place.now incoming.now.source incoming.now.request.now)) }
 {
-    let request = incoming.request;
     let answer = Answer {
-        head: &request.head,
-        source: incoming.source,
-        status: Status::Ok,
-        tag: None,
-        record_routes: &[],
         contact: Some(place.me),
         expires: Some(incoming.granted(&place.limits)),
-        min_expires: None,
-        allow: None,
-        allow_events: None,
-        unsupported: None,
-        without_subscription: false,
+        ..bare_answer(incoming, Status::Ok, None)
     };
     answer_bytes(alloc, &answer)
 }
 
 /// The 200 or 202 that makes a dialog with this local tag.
-pub fn birth_answer<'a>(
+pub fn birth_answer(
     alloc: Global,
     place: &Place,
-    incoming: &Incoming<'a>,
-    tag: &'a Text,
+    incoming: &Incoming<'_>,
+    tag: &Text,
 ) -> Result<Octets, NoMemory>
     ensures { IfOk result (λ bytes.
         bytes ≡ answer_text (spec.birth_answer place.now incoming.now.source incoming.now.request.now tag.now)) }
 {
-    let request = incoming.request;
+    let status = if incoming.refers {
+        Status::Accepted
+    } else {
+        Status::Ok
+    };
     let answer = Answer {
-        head: &request.head,
-        source: incoming.source,
-        status: if incoming.refers {
-            Status::Accepted
-        } else {
-            Status::Ok
-        },
-        tag: Some(tag.as_str()),
-        record_routes: request.record_routes.as_slice(),
+        record_routes: incoming.request.record_routes.as_slice(),
         contact: Some(place.me),
         expires: if incoming.refers {
             None
         } else {
             Some(incoming.granted(&place.limits))
         },
-        min_expires: None,
-        allow: None,
-        allow_events: None,
-        unsupported: None,
         without_subscription: incoming.is_unwatched(),
+        ..bare_answer(incoming, status, Some(tag.as_str()))
     };
     answer_bytes(alloc, &answer)
 }
@@ -106,7 +110,7 @@ fn push_strange<'a>(words: &mut Vec<&'a str>, word: &'a Text) -> Result<(), NoMe
 }
 
 /// The required extensions that aren't understood.
-fn strange_of(alloc: Global, required: &[Text]) -> Result<Vec<&str>, NoMemory>
+fn strange_words(alloc: Global, required: &[Text]) -> Result<Vec<&str>, NoMemory>
     ensures { IfOk result (λ words. map (λ w. w.now) words.items ≡ filter is_strange_word required.now) }
 {
     let mut words = Vec::new(alloc);
@@ -116,7 +120,7 @@ fn strange_of(alloc: Global, required: &[Text]) -> Result<Vec<&str>, NoMemory>
     Ok(words)
 }
 
-fn names_of<P: Package>(alloc: Global, boxes: &Vec<P>) -> Result<Vec<&str>, NoMemory>
+fn package_names<P: Package>(alloc: Global, boxes: &Vec<P>) -> Result<Vec<&str>, NoMemory>
     ensures { IfOk result (λ names. map (λ n. n.now) names.items ≡ spec.names_of (map P.seen boxes.now.items)) }
 {
     let mut names = Vec::with_capacity(alloc, boxes.len())?;
@@ -126,7 +130,7 @@ fn names_of<P: Package>(alloc: Global, boxes: &Vec<P>) -> Result<Vec<&str>, NoMe
     Ok(names)
 }
 
-fn min_expires_of(limits: &Limits, refused: Refusal) -> Option<u32>
+fn min_expires(limits: &Limits, refused: Refusal) -> Option<u32>
     ensures { result ≡ spec.min_expires_of limits.now refused }
 {
     match refused {
@@ -135,7 +139,7 @@ fn min_expires_of(limits: &Limits, refused: Refusal) -> Option<u32>
     }
 }
 
-fn allow_of(refused: Refusal) -> Option<&'static [&'static str]>
+fn allow(refused: Refusal) -> Option<&'static [&'static str]>
     ensures { option_map (λ names. map (λ n. n.now) names.now) result ≡ spec.allow_of refused }
 {
     match refused {
@@ -144,7 +148,7 @@ fn allow_of(refused: Refusal) -> Option<&'static [&'static str]>
     }
 }
 
-fn allow_events_of<'a>(names: &'a [&'a str], refused: Refusal) -> Option<&'a [&'a str]>
+fn allow_events<'a>(names: &'a [&'a str], refused: Refusal) -> Option<&'a [&'a str]>
     ensures { option_map (λ texts. map (λ n. n.now) texts.now) result
         ≡ spec.allow_events_of (map (λ n. n.now) names.now) refused }
 {
@@ -154,7 +158,7 @@ fn allow_events_of<'a>(names: &'a [&'a str], refused: Refusal) -> Option<&'a [&'
     }
 }
 
-fn unsupported_of<'a>(words: &'a [&'a str], refused: Refusal) -> Option<&'a [&'a str]>
+fn unsupported<'a>(words: &'a [&'a str], refused: Refusal) -> Option<&'a [&'a str]>
     ensures { option_map (λ texts. map (λ n. n.now) texts.now) result
         ≡ spec.unsupported_of (map (λ n. n.now) words.now) refused }
 {
@@ -187,18 +191,11 @@ fn refusal_bytes(
         incoming.now.source incoming.now.request.now refused)) }
 {
     let answer = Answer {
-        head: &incoming.request.head,
-        source: incoming.source,
-        status: refused.status(),
-        tag: Some(words.tag),
-        record_routes: &[],
-        contact: None,
-        expires: None,
-        min_expires: min_expires_of(&place.limits, refused),
-        allow: allow_of(refused),
-        allow_events: allow_events_of(words.names, refused),
-        unsupported: unsupported_of(words.strange, refused),
-        without_subscription: false,
+        min_expires: min_expires(&place.limits, refused),
+        allow: allow(refused),
+        allow_events: allow_events(words.names, refused),
+        unsupported: unsupported(words.strange, refused),
+        ..bare_answer(incoming, refused.status(), Some(words.tag))
     };
     answer_bytes(alloc, &answer)
 }
@@ -216,8 +213,8 @@ pub fn refusal_answer<P: Package>(
         incoming.now.source incoming.now.request.now refused)) }
 {
     let tag = refusal_tag(alloc, place.worker)?;
-    let names = names_of(alloc, boxes)?;
-    let strange = strange_of(alloc, incoming.request.require.as_slice())?;
+    let names = package_names(alloc, boxes)?;
+    let strange = strange_words(alloc, incoming.request.require.as_slice())?;
     let words = Words {
         tag: tag.as_str(),
         names: names.as_slice(),
@@ -226,18 +223,11 @@ pub fn refusal_answer<P: Package>(
     refusal_bytes(alloc, place, incoming, refused, &words)
 }
 
-fn copy_bytes(alloc: Global, bytes: &Octets) -> Result<Octets, NoMemory>
-    ensures { IfOk result (λ b. b ≡ bytes.now) }
-{
-    let bytes = Vec::from_slice(alloc, bytes.as_slice())?;
-    Ok(Octets::new(bytes))
-}
-
 /// Answers a retransmission with these bytes.
 pub fn repeat(alloc: Global, to: Addr, bytes: &Octets) -> Result<Vec<Out>, NoMemory>
     ensures { IfOk result (λ outs. outs.items ≡ Out.Answer to bytes.now ∷ []) }
 {
-    let bytes = copy_bytes(alloc, bytes)?;
+    let bytes = Octets::new(Vec::from_slice(alloc, bytes.as_slice())?);
     let mut outs = Vec::new(alloc);
     outs.push(Out::Answer { to, bytes })?;
     Ok(outs)
@@ -255,7 +245,7 @@ pub fn respond(
         (spec.ring_with limits ring.old.items (option_map key_of pending.entry.transaction) bytes) ring.old.capacity) }
     ensures outs { IfOk result (λ outs. outs.items ≡ Out.Answer pending.entry.incoming.now.source bytes ∷ []) }
 {
-    let copy = copy_bytes(alloc, &bytes)?;
+    let copy = Octets::new(Vec::from_slice(alloc, bytes.as_slice())?);
     let to = pending.incoming.source;
     ring.keep(alloc, pending.transaction, copy)?;
     let mut outs = Vec::new(alloc);

@@ -56,27 +56,26 @@ pub fn tell_first<P: Package>(
     Ok(())
 }
 
-/// The body that shows what the first box of the name holds of the resource.
-pub fn body_of<P: Package>(
+/// The body that shows what this box holds of the resource.
+pub fn body<P: Package>(
     alloc: Global,
-    boxes: &Vec<P>,
-    name: &str,
+    found: Option<&P>,
     resource: &str,
 ) -> Result<Vec<u8>, NoMemory>
     ensures { IfOk result (λ v. v.items
-        ≡ body_of_held (spec.content_in (map P.seen boxes.now.items) name.now resource.now)) }
+        ≡ body_of_held (spec.held_by resource.now (option_map (λ b. P.seen b.now) found.entry))) }
 {
-    match first_box(boxes, name) {
+    match found {
         None => Ok(Vec::new(alloc)),
         Some(found) => Ok(found.body(alloc, resource)?.unwrap_or(Vec::new(alloc))),
     }
 }
 
-/// The content type of the first box of the name.
-pub fn type_of<'a, P: Package>(boxes: &'a Vec<P>, name: &str) -> &'a str
-    ensures { result.now ≡ spec.type_of (spec.first_box name.now (map P.seen boxes.now.items)) }
+/// The content type of this box.
+pub fn content_type<'a, P: Package>(found: Option<&'a P>) -> &'a str
+    ensures { result.now ≡ spec.type_of (option_map (λ b. P.seen b.now) found.entry) }
 {
-    match first_box(boxes, name) {
+    match found {
         None => "",
         Some(found) => found.content_type(),
     }

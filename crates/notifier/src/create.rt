@@ -1,30 +1,28 @@
 //! A request that makes a dialog, as a step of a ledger: [`birth`] makes its row and tells of it first.
 #![tactic(auto, unfolding(notifier_model::specs::Book::keeping, notifier_model::specs::Book::born, notifier_model::specs::Book::born_with, notifier_model::specs::Book::served, notifier_model::specs::Book::first_gone, notifier_model::specs::Book::first_word, notifier_model::specs::Rows::forgetting, notifier_model::specs::Out::out_of))]
 
-ghost use Rattle.std.specs.Prelude.{◌≡◌, ◌≤◌, ◌<◌, ◌++◌, ◌∷◌, [], map, All, IfOk, IfSome, OnOk, None, is_none, option_map, option_to_list};
-ghost use Rattle.circular_buffer.specs.Buffer.{buffer};
-ghost use Rattle.sip_write.specs.Answer.{answer_text};
-ghost use Rattle.notifier_model.specs.Answers.{birth_answer as birth_text, ring_with};
+ghost use Rattle.std.specs.Prelude.{◌≡◌, ◌≤◌, ◌<◌, ◌+◌, ◌++◌, true, map, All, IfOk, IfSome, OnOk, None, is_none, option_to_list};
 ghost use Rattle.notifier_model.specs.Book as spec;
 ghost use Rattle.notifier.specs.Incoming.{Serves, first_told_of};
 ghost use Rattle.notifier.specs.Ledger.{book_of, IsSound};
-ghost use Rattle.notifier_model.specs.Out.{Answers, out_of};
+ghost use Rattle.notifier_model.specs.Out.{out_of};
 ghost use Rattle.notifier_model.specs.Requests as requests;
 ghost use Rattle.notifier_model.specs.Rows as rows;
 ghost use Rattle.notifier_model.specs.Start.{tag_of};
 ghost use Rattle.notifier.specs.Stored.{rows_of, IsIndexed};
-ghost use Rattle.notifier.specs.Transactions.{key_of};
+ghost use Rattle.notifier.specs.Told.{first_row, first_out};
 
 pub mod birth;
 
 use crate::answer::{birth_answer, respond};
 use crate::boxes::tell_first;
-use crate::create::birth::{First, Newborn, value_or_empty};
+use crate::create::birth::{Newborn, begin, value_or_empty};
 use crate::incoming::{Incoming, Pending};
 use crate::store::Ledger;
-use crate::store::kept::KeptAnswers;
 use crate::sweep::rule::push_some;
+use crate::sweep::rules::After;
 use crate::tag::local_tag;
+use crate::teller::Teller;
 use notifier_model::birth::Birth;
 use notifier_model::event::Out;
 use notifier_model::place::Place;
@@ -38,18 +36,12 @@ fn forget_ended<P: Package>(
     boxes: &mut Vec<P>,
     tag: &Text,
     kind: Birth,
-    ends: bool,
 ) -> Result<(), NoMemory>
     ensures { OnOk result (map P.seen boxes.new.items
-        ≡ rows.forgetting (spec.first_gone tag.now kind ends) (map P.seen boxes.old.items)) }
+        ≡ rows.forgetting (spec.first_gone tag.now kind true) (map P.seen boxes.old.items)) }
 {
     match kind {
-        Birth::Transfer => {
-            if ends {
-                tell_first(alloc, boxes, Change::Forget(tag.copy(alloc)?))?;
-            }
-            Ok(())
-        }
+        Birth::Transfer => tell_first(alloc, boxes, Change::Forget(tag.copy(alloc)?)),
         Birth::Watch => Ok(()),
         Birth::Fetch => Ok(()),
         Birth::Unwatched => Ok(()),
@@ -63,36 +55,13 @@ fn start(
     incoming: &Incoming<'_>,
     outs: &mut Vec<Out>,
 ) -> Result<(), NoMemory>
+    requires { requests.is_refer incoming.now.request.now ≡ true }
     ensures { OnOk result (outs.new.items
         ≡ outs.old.items ++ map out_of (spec.first_word tag incoming.now.request.now)) }
 {
-    if !incoming.refers {
-        return Ok(());
-    }
     let refer_to = Text::of(alloc, value_or_empty(&incoming.request.refer_to))?;
     outs.push(Out::Start { tag, refer_to })?;
     Ok(())
-}
-
-/// Answers a request that makes a dialog with this local tag, and keeps the answer.
-fn answer_birth(
-    alloc: Global,
-    place: &Place,
-    ring: &mut KeptAnswers,
-    pending: Pending<'_>,
-    tag: &Text,
-) -> Result<Vec<Out>, NoMemory>
-    requires { ring.old.capacity ≡ place.now.limits.kept }
-    ensures ring { let came = pending.entry.incoming.now in
-        OnOk result (ring.new ≡ buffer (ring_with place.now.limits ring.old.items
-        (option_map key_of pending.entry.transaction)
-        (answer_text (birth_text place.now came.source came.request.now tag.now))) ring.old.capacity) }
-    ensures outs { let came = pending.entry.incoming.now in
-        IfOk result (λ outs. outs.items ≡ Out.Answer came.source
-        (answer_text (birth_text place.now came.source came.request.now tag.now)) ∷ []) }
-{
-    let bytes = birth_answer(alloc, place, pending.incoming, tag)?;
-    respond(alloc, ring, pending, bytes)
 }
 
 impl<P: Package> Ledger<P> {
@@ -101,61 +70,75 @@ impl<P: Package> Ledger<P> {
         &mut self,
         alloc: Global,
         newborn: &Newborn,
-        first: First,
+        first: Option<After>,
         outs: &mut Vec<Out>,
     ) -> Result<(), NoMemory>
         requires indexed { IsIndexed self.old.rows }
-        requires last { IfSome first.row (λ row. All (λ r. r.serial < row.serial) (rows_of self.old.rows)) }
-        ensures rows { OnOk result (rows_of self.new.rows ≡ rows_of self.old.rows ++ option_to_list first.row) }
+        requires last { IfSome (first_row first) (λ row. All (λ r. r.serial < row.serial) (rows_of self.old.rows)) }
+        ensures rows { OnOk result (rows_of self.new.rows ≡ rows_of self.old.rows ++ option_to_list (first_row first)) }
         ensures indexed { OnOk result (IsIndexed self.new.rows) }
         ensures boxes { OnOk result (map P.seen self.new.boxes.items ≡ rows.forgetting
-            (spec.first_gone newborn.now.tag newborn.now.kind (is_none first.row)) (map P.seen self.old.boxes.items)) }
-        ensures outs { OnOk result (outs.new.items ≡ outs.old.items ++ option_to_list first.out) }
+            (spec.first_gone newborn.now.tag newborn.now.kind (is_none (first_row first)))
+            (map P.seen self.old.boxes.items)) }
+        ensures outs { OnOk result (outs.new.items ≡ outs.old.items ++ option_to_list (first_out first)) }
         ensures same { OnOk result ((self.new.clock ≡ self.old.clock) × (self.new.next ≡ self.old.next)
             × (self.new.ring ≡ self.old.ring)) }
     {
-        let First { row, out } = first;
-        let ends = row.is_none();
-        push_some(outs, out)?;
-        self.rows.push_some(alloc, row)?;
-        forget_ended(alloc, &mut self.boxes, &newborn.tag, newborn.kind, ends)
+        match first {
+            None => forget_ended(alloc, &mut self.boxes, &newborn.tag, newborn.kind),
+            Some(After::Stays(row, out)) => {
+                push_some(outs, out)?;
+                self.rows.push(alloc, row)
+            }
+            Some(After::Goes(_, out)) => {
+                push_some(outs, out)?;
+                forget_ended(alloc, &mut self.boxes, &newborn.tag, newborn.kind)
+            }
+        }
     }
 
-    /// A request that makes this subscription, but for the word that its transfer may start.
-    fn bear_with(
+    /// A transfer that is watched begins. The new subscription is told first, and its row, if one stays, goes to the others.
+    fn establish(
         &mut self,
         alloc: Global,
         place: &Place,
-        pending: Pending<'_>,
+        incoming: &Incoming<'_>,
         newborn: &Newborn,
-    ) -> Result<Vec<Out>, NoMemory>
-        requires fits { requests.misfit pending.incoming.now.request.now ≡ None }
-        requires kind { newborn.now.kind ≡ requests.birth_of place.now.limits pending.incoming.now.request.now }
+        outs: &mut Vec<Out>,
+    ) -> Result<(), NoMemory>
+        requires fits { requests.misfit incoming.now.request.now ≡ None }
+        requires kind { newborn.now.kind ≡ requests.birth_of place.now.limits incoming.now.request.now }
         requires sound { IsSound place.now self.old }
         requires serial { newborn.now.serial ≡ self.old.next }
         requires tag { newborn.now.tag ≡ tag_of place.now self.old.next }
         requires room { self.old.next ≤ place.now.limits.serials }
-        ensures book { let came = pending.entry.incoming.now in
-            OnOk result (book_of P.seen self.new ≡ (spec.born_with place.now (book_of P.seen self.old)
-            came.source came.request.now newborn.now.kind newborn.now.tag
+        ensures rows { OnOk result (rows_of self.new.rows ≡ rows_of self.old.rows ++ option_to_list
             (first_told_of place.now
-            (spec.first_boxes (map P.seen self.old.boxes.items) newborn.now.tag newborn.now.kind)
-            self.old.clock came.source came.request.now newborn.now)).book) }
-        ensures outs { let came = pending.entry.incoming.now in
-            IfOk result (λ outs. outs.items ≡ map out_of (Answers came.source
-            (answer_text (birth_text place.now came.source came.request.now newborn.now.tag))
-            ∷ (first_told_of place.now
-            (spec.first_boxes (map P.seen self.old.boxes.items) newborn.now.tag newborn.now.kind)
-            self.old.clock came.source came.request.now newborn.now).notifies)) }
+            (spec.first_boxes (map P.seen self.old.boxes.items) newborn.now.tag newborn.now.kind) self.old.clock
+            incoming.now.source incoming.now.request.now newborn.now).row) }
+        ensures boxes { OnOk result (map P.seen self.new.boxes.items ≡ rows.forgetting
+            (spec.first_gone newborn.now.tag newborn.now.kind (is_none (first_told_of place.now
+            (spec.first_boxes (map P.seen self.old.boxes.items) newborn.now.tag newborn.now.kind) self.old.clock
+            incoming.now.source incoming.now.request.now newborn.now).row))
+            (spec.first_boxes (map P.seen self.old.boxes.items) newborn.now.tag newborn.now.kind)) }
+        ensures outs { OnOk result (outs.new.items ≡ outs.old.items ++ map out_of (first_told_of place.now
+            (spec.first_boxes (map P.seen self.old.boxes.items) newborn.now.tag newborn.now.kind) self.old.clock
+            incoming.now.source incoming.now.request.now newborn.now).notifies) }
+        ensures same { OnOk result ((self.new.clock ≡ self.old.clock) × (self.new.next ≡ self.old.next + 1)
+            × (self.new.ring ≡ self.old.ring)) }
         ensures sound { OnOk result (IsSound place.now self.new) }
     {
         place.limits.are_in_range();
-        let incoming = pending.incoming;
-        let mut outs = answer_birth(alloc, place, &mut self.ring, pending, &newborn.tag)?;
-        let first = self.establish(alloc, place, incoming, newborn)?;
-        self.take_in(alloc, newborn, first, &mut outs)?;
+        begin(alloc, &mut self.boxes, &newborn.tag, newborn.kind)?;
+        let teller = Teller {
+            place,
+            boxes: &self.boxes,
+            clock: self.clock,
+        };
+        let first = teller.first_told(alloc, incoming, newborn)?;
+        self.take_in(alloc, newborn, first, outs)?;
         self.next += 1;
-        Ok(outs)
+        Ok(())
     }
 
     /// A request that makes a dialog.
@@ -178,8 +161,13 @@ impl<P: Package> Ledger<P> {
         let incoming = pending.incoming;
         let serial = self.next as u32;
         let tag = local_tag(alloc, place, serial)?;
+        let bytes = birth_answer(alloc, place, incoming, &tag)?;
+        let mut outs = respond(alloc, &mut self.ring, pending, bytes)?;
         let newborn = Newborn { kind, serial, tag };
-        let mut outs = self.bear_with(alloc, place, pending, &newborn)?;
+        self.establish(alloc, place, incoming, &newborn, &mut outs)?;
+        if !incoming.refers {
+            return Ok(outs);
+        }
         start(alloc, newborn.tag, incoming, &mut outs)?;
         Ok(outs)
     }

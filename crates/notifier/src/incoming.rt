@@ -50,7 +50,7 @@ pub struct Pending<'a> {
 }
 
 /// The package that a request is for, by whether it is a REFER.
-fn package_of(request: &Request, refers: bool) -> &str
+fn wanted_package(request: &Request, refers: bool) -> &str
     requires { refers ≡ spec.is_refer request.now }
     ensures { result.now ≡ (spec.event_of request.now).package }
 {
@@ -146,7 +146,7 @@ impl<'a> Incoming<'a> {
             request,
             subscribes: request.method.is("SUBSCRIBE"),
             refers,
-            package: package_of(request, refers),
+            package: wanted_package(request, refers),
             user: user_part(request.uri.as_str()),
         }
     }
@@ -262,7 +262,7 @@ impl<'a> Incoming<'a> {
     }
 
     /// Whether it is a SUBSCRIBE for this event.
-    fn is_for(&self, event: &EventValue) -> bool
+    fn has_event(&self, event: &EventValue) -> bool
         ensures { spec.is_refer self.now.request.now ≡ false
             → result ≡ fields.same_event (spec.event_of self.now.request.now) event.now }
     {
@@ -278,7 +278,7 @@ impl<'a> Incoming<'a> {
     {
         if self.refers {
             Some(Refusal::ReferInDialog)
-        } else if !self.is_for(event) {
+        } else if !self.has_event(event) {
             Some(Refusal::OtherEvent)
         } else if self.is_too_brief(limits) {
             Some(Refusal::TooBrief)
@@ -288,7 +288,7 @@ impl<'a> Incoming<'a> {
     }
 
     /// Why its package refuses it, if so.
-    fn misplaced_in<P: Package>(&self, limits: &Limits, found: &P) -> Option<Refusal>
+    fn refused_there<P: Package>(&self, limits: &Limits, found: &P) -> Option<Refusal>
         ensures { result ≡ spec.misplaced_at limits.now self.now.request.now (Some (P.seen found.now)) }
     {
         if self.refers {
@@ -312,7 +312,7 @@ impl<'a> Incoming<'a> {
     {
         match first_box(boxes, self.package) {
             None => Some(Refusal::NoPackage),
-            Some(found) => self.misplaced_in(limits, found),
+            Some(found) => self.refused_there(limits, found),
         }
     }
 

@@ -4,11 +4,11 @@
 ghost use Rattle.std.specs.Prelude.{◌≡◌, IfOk};
 ghost use Rattle.event_headers.specs.Values.{StateValue as State};
 ghost use Rattle.subscription.specs.Written.{state_of};
-ghost use Rattle.notifier_model.specs.Out.{Notifies, out_of, is_last as is_last_state};
+ghost use Rattle.notifier_model.specs.Out.{Notifies, out_of};
 ghost use Rattle.notifier_model.specs.Rows as spec;
 ghost use Rattle.notifier.specs.Tellers.{boxes_of};
 
-use crate::boxes::{body_of, type_of};
+use crate::boxes::{body, content_type, first_box};
 use crate::teller::Teller;
 use event_headers::StateValue;
 use notifier_model::event::Out;
@@ -31,16 +31,6 @@ fn state_value(alloc: Global, phase: Phase) -> Result<StateValue, NoMemory>
     }
 }
 
-/// Whether a NOTIFY of this phase is the last.
-fn is_last(phase: Phase) -> bool
-    ensures { result ≡ is_last_state (state_of phase) }
-{
-    match phase {
-        Phase::Active(_) => false,
-        Phase::Terminated(_) => true,
-    }
-}
-
 impl<P: Package> Teller<'_, P> {
     /// The NOTIFY that tells of a subscription, to this address.
     pub fn notice_out(
@@ -56,7 +46,8 @@ impl<P: Package> Teller<'_, P> {
     {
         let package = want.event.package();
         let tag = usage.local_tag.copy(alloc)?;
-        let body = body_of(alloc, self.boxes, package, want.resource.as_str())?;
+        let found = first_box(self.boxes, package);
+        let body = body(alloc, found, want.resource.as_str())?;
         let state = state_value(alloc, notice.phase)?;
         let text = NotifyText {
             target: usage.target.as_str(),
@@ -69,7 +60,7 @@ impl<P: Package> Teller<'_, P> {
             number: notice.number,
             event: &want.event,
             state: &state,
-            content_type: type_of(self.boxes, package),
+            content_type: content_type(found),
             body: body.as_slice(),
         };
         let mut bytes = Vec::new(alloc);
@@ -77,7 +68,7 @@ impl<P: Package> Teller<'_, P> {
         Ok(Out::Notify {
             tag,
             number: notice.number,
-            terminated: is_last(notice.phase),
+            terminated: matches!(notice.phase, Phase::Terminated(_)),
             to,
             bytes: Octets::new(bytes),
         })

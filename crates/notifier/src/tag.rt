@@ -2,6 +2,7 @@
 #![tactic(auto, unfolding(notifier_model::specs::Tag::local_tag, notifier_model::specs::Tag::refusal_tag))]
 
 ghost use Rattle.std.specs.Prelude.{◌≡◌, ◌≤◌, IfOk};
+ghost use Rattle.hex.specs.Hex.{encode_lower};
 ghost use Rattle.notifier_model.specs.Start.{tag_of};
 ghost use Rattle.notifier_model.specs.Tag.{tag_bytes, refusal_tag as refusal_tag_of};
 
@@ -11,6 +12,9 @@ use rand_core::SeedableRng;
 use rand_core::utils::NextWord;
 use sip_text::{NoMemory, Text};
 use std::alloc::Global;
+
+/// How long a local tag is at most: two numbers of ten digits, sixteen digits, and what stands between.
+const LONGEST_TAG: usize = 39;
 
 /// The bytes whose digits stand in the tag.
 fn tag_bytes(place: &Place, serial: u32) -> [u8; 8]
@@ -25,15 +29,27 @@ fn tag_bytes(place: &Place, serial: u32) -> [u8; 8]
     [a, b, c, d, e, f, g, h]
 }
 
+/// The digits of the tag.
+fn tag_digits(place: &Place, serial: u32) -> [u8; 16]
+    requires { 1 ≤ serial }
+    ensures { result ≡ encode_lower (tag_bytes place.now.seed place.now.worker serial) }
+{
+    let mut digits = [0; 16];
+    // Each of the eight bytes has two digits, so there is room for all.
+    let _ = hex::encode_to_slice(tag_bytes(place, serial), &mut digits);
+    digits
+}
+
 /// The local tag of the subscription with this serial.
 pub fn local_tag(alloc: Global, place: &Place, serial: u32) -> Result<Text, NoMemory>
     requires { 1 ≤ serial }
     ensures { IfOk result (λ tag. tag ≡ tag_of place.now serial) }
 {
-    let digits = hex::encode(alloc, tag_bytes(place, serial))?;
-    let digits = digits.as_str();
+    let digits = tag_digits(place, serial);
+    let digits = str::from_utf8(&digits).unwrap_or("");
     let worker = place.worker;
-    let tag = format!(in alloc; "w{worker}-{serial}-{digits}")?;
+    let mut tag = String::with_capacity(alloc, LONGEST_TAG)?;
+    write!(tag, "w{worker}-{serial}-{digits}")?;
     Ok(Text::new(tag))
 }
 

@@ -15,7 +15,7 @@ use crate::incoming::{Incoming, Pending};
 use crate::store::Ledger;
 use crate::store::rows::Rows;
 use crate::store::transaction::Transaction;
-use crate::sweep::touched::serial_in;
+use crate::sweep::touched::own_serial;
 use notifier_model::birth::Birth;
 use notifier_model::event::Out;
 use notifier_model::limits::Limits;
@@ -69,7 +69,7 @@ fn find_dialog<'a>(place: &Place, live: &'a Rows, request: &Request, tag: &Text)
     requires own { All (IsOwn place.now (2 ^ 32)) (rows_of live.now) }
     ensures { option_map (λ row. row.now) result ≡ find (rows.is_dialog request.now tag.now) (rows_of live.now) }
 {
-    let row = live.row(serial_in(place.worker, tag.as_str())?)?;
+    let row = live.row(own_serial(place.worker, tag.as_str())?)?;
     if is_dialog(request, tag, row) {
         Some(row)
     } else {

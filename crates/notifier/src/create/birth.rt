@@ -1,7 +1,7 @@
 //! Requests that make a dialog (RFC 3261 section 12.1.1).
 #![tactic(auto, unfolding(notifier_model::specs::Book::new_usage, notifier_model::specs::Book::new_want, notifier_model::specs::Book::first_step, notifier_model::specs::Book::first_boxes, notifier_model::specs::Book::first_told, notifier_model::specs::Book::new_row, notifier_model::specs::Rows::goes, notifier_model::specs::Rows::turned, notifier_model::specs::Requests::event_of))]
 
-ghost use Rattle.std.specs.Prelude.{◌≡◌, ◌≤◌, ◌<◌, ◌^◌, map, if◌then◌else◌, IfOk, OnOk, option_to_list, None};
+ghost use Rattle.std.specs.Prelude.{◌≡◌, ◌≤◌, ◌<◌, ◌^◌, map, IfOk, OnOk, option_to_list, None};
 ghost use Rattle.notifier_model.specs.Book as spec;
 ghost use Rattle.notifier_model.specs.Fields as fields;
 ghost use Rattle.notifier.specs.Incoming.{first_told_of};
@@ -9,17 +9,15 @@ ghost use Rattle.notifier_model.specs.Out.{out_of};
 ghost use Rattle.notifier_model.specs.Requests as requests;
 ghost use Rattle.notifier_model.specs.Rows as rows;
 ghost use Rattle.notifier.specs.Tellers.{boxes_of};
-ghost use Rattle.notifier.specs.Told.{row_after, out_after, want_after};
+ghost use Rattle.notifier.specs.Told.{first_row, first_out};
 
 use crate::boxes::tell_first;
 use crate::incoming::Incoming;
-use crate::store::Ledger;
 use crate::sweep::rules::After;
 use crate::teller::Teller;
 use crate::verdict::tag_or_empty;
 use event_headers::EventValue;
 use notifier_model::birth::Birth;
-use notifier_model::event::Out;
 use notifier_model::place::Place;
 use notifier_model::row::Row;
 use package::{Change, Package};
@@ -34,40 +32,6 @@ pub struct Newborn {
     pub kind: Birth,
     pub serial: u32,
     pub tag: Text,
-}
-
-/// What is told first of what a request makes.
-#[derive(Drop)]
-pub struct First {
-    /// The new row, if one stays.
-    pub row: Option<Row>,
-    /// Its first NOTIFY, if there is one.
-    pub out: Option<Out>,
-}
-
-impl First {
-    /// Nothing is told, and no row stays.
-    fn nothing() -> First
-        ensures { result ≡ record { row = None; out = None } }
-    {
-        First {
-            row: None,
-            out: None,
-        }
-    }
-
-    /// The same of a row that was told.
-    fn new(after: After) -> First
-        ensures { result ≡ record { row = row_after after; out = out_after after } }
-    {
-        match after {
-            After::Stays(row, out) => First {
-                row: Some(row),
-                out,
-            },
-            After::Goes(_, out) => First { row: None, out },
-        }
-    }
 }
 
 fn copy_texts(alloc: Global, texts: &[Text]) -> Result<Values<Text>, NoMemory>
@@ -115,7 +79,7 @@ fn new_usage(alloc: Global, tag: &Text, request: &Request) -> Result<Usage, NoMe
 }
 
 /// The event of a request that fits: a SUBSCRIBE has one, and a REFER makes its own (RFC 3515 section 2.4.6).
-fn event_of(alloc: Global, incoming: &Incoming<'_>) -> Result<EventValue, NoMemory>
+fn event(alloc: Global, incoming: &Incoming<'_>) -> Result<EventValue, NoMemory>
     requires fits { requests.misfit incoming.now.request.now ≡ None }
     ensures { IfOk result (λ event. event ≡ requests.event_of incoming.now.request.now) }
 {
@@ -125,18 +89,7 @@ fn event_of(alloc: Global, incoming: &Incoming<'_>) -> Result<EventValue, NoMemo
     }
 }
 
-/// What it watches: a mailbox, or the tag of a transfer.
-fn resource_of(alloc: Global, tag: &Text, incoming: &Incoming<'_>) -> Result<Text, NoMemory>
-    ensures { IfOk result (λ resource. resource ≡ (if requests.is_refer incoming.now.request.now then tag.now
-        else requests.user_part incoming.now.request.now.uri)) }
-{
-    if incoming.refers {
-        tag.copy(alloc)
-    } else {
-        Text::of(alloc, incoming.user)
-    }
-}
-
+/// What the subscription of a request that fits is about: a mailbox, or the tag of a transfer.
 fn new_want(
     alloc: Global,
     place: &Place,
@@ -148,8 +101,13 @@ fn new_want(
         want ≡ spec.new_want place.now tag.now incoming.now.source incoming.now.request.now) }
     ensures some_number { IfOk result (λ want. 1 ≤ want.max_cseq) }
 {
-    let event = event_of(alloc, incoming)?;
-    let resource = resource_of(alloc, tag, incoming)?;
+    let event = event(alloc, incoming)?;
+    let resource = if incoming.refers {
+        tag.as_str()
+    } else {
+        incoming.user
+    };
+    let resource = Text::of(alloc, resource)?;
     Ok(Want {
         event,
         resource,
@@ -188,65 +146,47 @@ impl<P: Package> Teller<'_, P> {
         }
     }
 
-    /// The new row, if one stays after the first step, and the NOTIFY of that step.
-    fn first_turned(
+    /// What is told first, if anything is: the new row, if one stays, and its first NOTIFY.
+    pub fn first_told(
         &self,
         alloc: Global,
         incoming: &Incoming<'_>,
-        serial: u32,
-        next: Step,
-    ) -> Result<First, NoMemory>
-        ensures row { IfOk result (λ first. first.row ≡ (rows.turned self.now.place.now (boxes_of P.seen self.now)
-            self.now.clock incoming.now.source (want_after next) (spec.new_row serial incoming.now.request.now)
-            next).row) }
-        ensures out { IfOk result (λ first. option_to_list first.out ≡ map out_of (rows.turned self.now.place.now
-            (boxes_of P.seen self.now) self.now.clock incoming.now.source (want_after next)
-            (spec.new_row serial incoming.now.request.now) next).notifies) }
+        newborn: &Newborn,
+    ) -> Result<Option<After>, NoMemory>
+        requires clock { self.now.clock < 2 ^ 63 }
+        requires fits { requests.misfit incoming.now.request.now ≡ None }
+        requires kind { newborn.now.kind ≡ requests.birth_of self.now.place.now.limits incoming.now.request.now }
+        ensures row { IfOk result (λ first. first_row first ≡ (first_told_of self.now.place.now (boxes_of P.seen self.now)
+            self.now.clock incoming.now.source incoming.now.request.now newborn.now).row) }
+        ensures out { IfOk result (λ first. option_to_list (first_out first) ≡ map out_of (first_told_of self.now.place.now
+            (boxes_of P.seen self.now) self.now.clock incoming.now.source incoming.now.request.now
+            newborn.now).notifies) }
     {
+        let begun = self.first_step(alloc, incoming, newborn)?;
+        let Some(next) = begun else {
+            return Ok(None);
+        };
         match next {
             Step::Live(sub, notice) => {
                 let row = Row {
-                    serial,
+                    serial: newborn.serial,
                     sub,
                     last_cseq: incoming.request.head.cseq,
                     unanswered: Values::new(Vec::new(alloc)),
                 };
                 let after = self.goes_on(alloc, incoming.source, row, notice)?;
-                Ok(First::new(after))
+                Ok(Some(after))
             }
             Step::Over(usage, want, notice) => {
                 let after = self.finishes(alloc, incoming.source, usage, want, notice)?;
-                Ok(First::new(after))
+                Ok(Some(after))
             }
-        }
-    }
-
-    /// The new row, if one stays, and its first NOTIFY, if there is one.
-    fn first_told(
-        &self,
-        alloc: Global,
-        incoming: &Incoming<'_>,
-        newborn: &Newborn,
-    ) -> Result<First, NoMemory>
-        requires clock { self.now.clock < 2 ^ 63 }
-        requires fits { requests.misfit incoming.now.request.now ≡ None }
-        requires kind { newborn.now.kind ≡ requests.birth_of self.now.place.now.limits incoming.now.request.now }
-        ensures row { IfOk result (λ first. first.row ≡ (first_told_of self.now.place.now (boxes_of P.seen self.now)
-            self.now.clock incoming.now.source incoming.now.request.now newborn.now).row) }
-        ensures out { IfOk result (λ first. option_to_list first.out ≡ map out_of (first_told_of self.now.place.now
-            (boxes_of P.seen self.now) self.now.clock incoming.now.source incoming.now.request.now
-            newborn.now).notifies) }
-    {
-        let begun = self.first_step(alloc, incoming, newborn)?;
-        match begun {
-            None => Ok(First::nothing()),
-            Some(next) => self.first_turned(alloc, incoming, newborn.serial, next),
         }
     }
 }
 
 /// A transfer that is watched begins.
-fn begin<P: Package>(
+pub fn begin<P: Package>(
     alloc: Global,
     boxes: &mut Vec<P>,
     tag: &Text,
@@ -259,38 +199,5 @@ fn begin<P: Package>(
         Birth::Watch => Ok(()),
         Birth::Fetch => Ok(()),
         Birth::Unwatched => Ok(()),
-    }
-}
-
-impl<P: Package> Ledger<P> {
-    /// A transfer that is watched begins. Then the new row, if one stays, and its first NOTIFY, if there is one.
-    pub fn establish(
-        &mut self,
-        alloc: Global,
-        place: &Place,
-        incoming: &Incoming<'_>,
-        newborn: &Newborn,
-    ) -> Result<First, NoMemory>
-        requires clock { self.old.clock < 2 ^ 63 }
-        requires fits { requests.misfit incoming.now.request.now ≡ None }
-        requires kind { newborn.now.kind ≡ requests.birth_of place.now.limits incoming.now.request.now }
-        ensures boxes { OnOk result (map P.seen self.new.boxes.items
-            ≡ spec.first_boxes (map P.seen self.old.boxes.items) newborn.now.tag newborn.now.kind) }
-        ensures row { IfOk result (λ first. first.row ≡ (first_told_of place.now
-            (spec.first_boxes (map P.seen self.old.boxes.items) newborn.now.tag newborn.now.kind) self.old.clock
-            incoming.now.source incoming.now.request.now newborn.now).row) }
-        ensures out { IfOk result (λ first. option_to_list first.out ≡ map out_of (first_told_of place.now
-            (spec.first_boxes (map P.seen self.old.boxes.items) newborn.now.tag newborn.now.kind) self.old.clock
-            incoming.now.source incoming.now.request.now newborn.now).notifies) }
-        ensures same { OnOk result ((self.new.clock ≡ self.old.clock) × (self.new.next ≡ self.old.next)
-            × (self.new.rows ≡ self.old.rows) × (self.new.ring ≡ self.old.ring)) }
-    {
-        begin(alloc, &mut self.boxes, &newborn.tag, newborn.kind)?;
-        let teller = Teller {
-            place,
-            boxes: &self.boxes,
-            clock: self.clock,
-        };
-        teller.first_told(alloc, incoming, newborn)
     }
 }

@@ -10,7 +10,6 @@ ghost use Rattle.notifier.specs.Transactions.{key_of};
 
 use crate::store::transaction::Transaction;
 use circular_buffer::HeapCircularBuffer;
-use notifier_model::row::Kept;
 use sip_text::{NoMemory, Octets};
 use std::alloc::Global;
 use std::collections::BTreeMap;
@@ -25,7 +24,7 @@ fn after(room: usize, slot: usize) -> usize
 }
 
 /// The place of the answer in this slot, where the newest one is in that slot.
-fn place_at(room: usize, newest: usize, slot: usize) -> usize
+fn place(room: usize, newest: usize, slot: usize) -> usize
     requires within { newest < room }
     requires fits { room < 2 ^ 63 }
     ensures { (place : ℕ) → place < room → slot ≡ slots.slot_at room newest place → result ≡ place }
@@ -37,12 +36,45 @@ fn place_at(room: usize, newest: usize, slot: usize) -> usize
     }
 }
 
+/// An answer that is kept. Contracts see it under the key that its transaction stands for.
+#[derive(Drop)]
+struct KeptAnswer {
+    transaction: Transaction,
+    bytes: Octets,
+}
+
+impl Model for KeptAnswer {
+    ghost use Rattle.notifier_model.specs.declared.row.Kept.{Kept};
+    ghost use Rattle.notifier.specs.Transactions.{key_of};
+
+    ghost Value = { Kept };
+
+    ghost view = { λ a. record { key = key_of a.transaction; bytes = a.bytes } };
+}
+
+impl KeptAnswer {
+    /// The bytes of the answer.
+    fn bytes(&self) -> &Octets
+        ensures { result.now ≡ self.now.bytes }
+    {
+        &self.bytes
+    }
+
+    /// What names its transaction.
+    fn into_transaction(self) -> Transaction
+        ensures { key_of result ≡ self.key }
+    {
+        let KeptAnswer { transaction, .. } = self;
+        transaction
+    }
+}
+
 /// The answers that are kept, newest first, each found by its transaction through a map. When there is no room the
 /// oldest goes. The map is ordered, since strangers choose what names a transaction: no choice of theirs makes a look-up long.
 #[derive(Drop)]
 pub struct KeptAnswers {
     /// Newest first.
-    ring: HeapCircularBuffer<Kept>,
+    ring: HeapCircularBuffer<KeptAnswer>,
     /// The slot of the newest answer to each transaction.
     slots: BTreeMap<Transaction, usize>,
     /// The slot of the newest answer of all.
@@ -73,7 +105,7 @@ fn leads_to(index: &BTreeMap<Transaction, usize>, transaction: &Transaction, slo
 
 /// Lets the oldest answer go, if there is no room.
 fn make_room(
-    ring: &mut HeapCircularBuffer<Kept>,
+    ring: &mut HeapCircularBuffer<KeptAnswer>,
     index: &mut BTreeMap<Transaction, usize>,
     newest: usize,
 )
@@ -87,7 +119,7 @@ fn make_room(
     let Some(oldest) = ring.pop_back() else {
         return;
     };
-    let transaction = Transaction::of_key(oldest.key);
+    let transaction = oldest.into_transaction();
     let slot = after(ring.capacity(), newest);
     if leads_to(index, &transaction, slot) {
         index.remove(&transaction);
@@ -108,49 +140,22 @@ impl KeptAnswers {
         })
     }
 
-    /// The newest answer to this transaction.
-    fn answer_with(&self, transaction: &Transaction) -> Option<&Kept>
-        ensures { option_map (λ kept. kept.now) result ≡ find (slots.answers transaction.now) self.now.items }
-    {
-        let slot = *self.slots.get(transaction)?;
-        self.ring
-            .get(place_at(self.ring.capacity(), self.newest, slot))
-    }
-
-    /// The kept answer to a request of this transaction, if it has one.
+    /// The newest answer to a request of this transaction, if one is kept.
     pub fn answer_to(&self, transaction: &Option<Transaction>) -> Option<&Octets>
         ensures { option_map (λ bytes. bytes.now) result
             ≡ spec.kept_answer self.now.items (option_map key_of transaction.now) }
     {
-        match transaction {
-            None => None,
-            Some(transaction) => match self.answer_with(transaction) {
-                None => None,
-                Some(kept) => Some(&kept.bytes),
-            },
-        }
+        let Some(transaction) = transaction else {
+            return None;
+        };
+        let slot = *self.slots.get(transaction)?;
+        let kept = self
+            .ring
+            .get(place(self.ring.capacity(), self.newest, slot))?;
+        Some(kept.bytes())
     }
 
-    /// Keeps an answer to a request of this transaction. The oldest goes when there is no room.
-    fn keep_of(
-        &mut self,
-        alloc: Global,
-        transaction: Transaction,
-        bytes: Octets,
-    ) -> Result<(), NoMemory>
-        ensures { OnOk result (self.new
-            ≡ slots.with_newest self.old (record { key = key_of transaction; bytes = bytes })) }
-    {
-        let key = transaction.key(alloc)?;
-        make_room(&mut self.ring, &mut self.slots, self.newest);
-        let slot = after(self.ring.capacity(), self.newest);
-        self.slots.insert(transaction, slot)?;
-        self.newest = slot;
-        self.ring.push_front(Kept { key, bytes });
-        Ok(())
-    }
-
-    /// Keeps an answer to a request of this transaction, if it has one.
+    /// Keeps an answer to a request of this transaction, if it has one. The oldest goes when there is no room.
     pub fn keep(
         &mut self,
         alloc: Global,
@@ -161,9 +166,15 @@ impl KeptAnswers {
             → self.new ≡ buffer
             (spec.ring_with limits self.old.items (option_map key_of transaction) bytes) self.old.capacity) }
     {
-        match transaction {
-            None => Ok(()),
-            Some(transaction) => self.keep_of(alloc, transaction, bytes),
-        }
+        let Some(transaction) = transaction else {
+            return Ok(());
+        };
+        let named = transaction.copy(alloc)?;
+        make_room(&mut self.ring, &mut self.slots, self.newest);
+        let slot = after(self.ring.capacity(), self.newest);
+        self.slots.insert(named, slot)?;
+        self.newest = slot;
+        self.ring.push_front(KeptAnswer { transaction, bytes });
+        Ok(())
     }
 }

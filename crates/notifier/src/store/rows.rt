@@ -1,6 +1,6 @@
 //! The live subscriptions under keys, with what leads to them: serials, timers, and what they watch.
 
-ghost use Rattle.std.specs.Prelude.{◌≡◌, ◌<◌, ◌==◌, ◌&&◌, ◌++◌, ◌∷◌, [], ◌↔◌, ◌^◌, ℕ, List, length, false, if◌then◌else◌, All, IfOk, IfSome, OnOk, IsTrue, is_some, option_to_list, Some, None};
+ghost use Rattle.std.specs.Prelude.{◌≡◌, ◌<◌, ◌==◌, ◌&&◌, ◌++◌, ◌∷◌, [], ◌↔◌, ◌^◌, ℕ, List, length, false, if◌then◌else◌, All, IfOk, OnOk, IsTrue, is_some, Some, None};
 ghost use Rattle.std.specs.BTreeMap as tree;
 ghost use Rattle.std.specs.BTreeSet as sorted;
 ghost use Rattle.std.specs.Option.{option_copied};
@@ -15,9 +15,13 @@ use crate::store::watchers::Watchers;
 use notifier_model::row::Row;
 use sip_text::NoMemory;
 use slab::Slab;
+use smallvec::SmallVec;
 use std::alloc::Global;
 use std::collections::{BTreeMap, BTreeSet};
 use subscription::Want;
+
+/// Serials of rows. Four of them take no memory: a change has few watchers mostly, an answer and a renewal have one row.
+pub type Serials = SmallVec<u32, 4>;
 
 /// The live subscriptions. Contracts see them as the list of the rows by rising serial.
 #[derive(Drop)]
@@ -64,7 +68,7 @@ impl Rows {
     }
 
     /// A new row, whose serial is above all others.
-    fn push(&mut self, alloc: Global, row: Row) -> Result<(), NoMemory>
+    pub fn push(&mut self, alloc: Global, row: Row) -> Result<(), NoMemory>
         requires indexed { IsIndexed self.old }
         requires last { All (λ r. r.serial < row.serial) (rows_of self.old) }
         ensures rows { OnOk result (rows_of self.new ≡ rows_of self.old ++ row ∷ []) }
@@ -77,19 +81,6 @@ impl Rows {
         self.order.insert(serial, key)?;
         self.timers.insert((moment, serial))?;
         Ok(())
-    }
-
-    /// A new row, if there is one. Its serial is above all others.
-    pub fn push_some(&mut self, alloc: Global, row: Option<Row>) -> Result<(), NoMemory>
-        requires indexed { IsIndexed self.old }
-        requires last { IfSome row (λ new. All (λ r. r.serial < new.serial) (rows_of self.old)) }
-        ensures rows { OnOk result (rows_of self.new ≡ rows_of self.old ++ option_to_list row) }
-        ensures indexed { OnOk result (IsIndexed self.new) }
-    {
-        match row {
-            None => Ok(()),
-            Some(row) => self.push(alloc, row),
-        }
     }
 
     /// A row that was told stands under its serial again, and its timer moves from this second.
@@ -126,7 +117,7 @@ impl Rows {
     }
 
     /// The serials of all rows, rising.
-    pub fn serials(&self, alloc: Global) -> Result<Vec<u32>, NoMemory>
+    pub fn serials(&self, alloc: Global) -> Result<Serials, NoMemory>
         requires { IsIndexed self.now }
         ensures rise { IfOk result (λ v. RiseFrom 0 v.items) }
         ensures all { IfOk result (λ v. (s : ℕ) → IsTrue (is_some (row_at self.now s)) → IsTrue (has s v.items)) }
@@ -136,7 +127,7 @@ impl Rows {
     }
 
     /// The serials of the rows that time may have ended by this moment, rising.
-    pub fn timed_out(&self, alloc: Global, clock: u64) -> Result<Vec<u32>, NoMemory>
+    pub fn timed_out(&self, alloc: Global, clock: u64) -> Result<Serials, NoMemory>
         requires indexed { IsIndexed self.now }
         requires fits { clock < 2 ^ 63 }
         ensures rise { IfOk result (λ v. RiseFrom 0 v.items) }
@@ -148,18 +139,13 @@ impl Rows {
     }
 
     /// The serials of those who watch a resource of the package with this name, rising.
-    pub fn watchers_of(
-        &self,
-        alloc: Global,
-        name: &str,
-        resource: &str,
-    ) -> Result<Vec<u32>, NoMemory>
+    pub fn watching(&self, alloc: Global, name: &str, resource: &str) -> Result<Serials, NoMemory>
         requires { IsIndexed self.now }
         ensures rise { IfOk result (λ v. RiseFrom 0 v.items) }
         ensures all { IfOk result (λ v. (s : ℕ) → has s v.items ≡ is_watched self.now.watchers name.now resource.now s) }
     {
         let Some(set) = self.watchers.get(name, resource) else {
-            return Ok(Vec::new(alloc));
+            return Ok(SmallVec::new(alloc));
         };
         let serials = set.iter().copied().collect(alloc)?;
         Ok(serials)

@@ -1,27 +1,30 @@
-//! What names a transaction, as texts by which its kept answer is found.
+//! What names a transaction, as one text by which its kept answer is found.
 #![tactic(auto, unfolding(notifier_model::specs::Requests::key_of_request))]
 
-ghost use Rattle.std.specs.Prelude.{◌≡◌, option_map, IfOk};
+ghost use Rattle.std.specs.Prelude.{◌≡◌, ◌+◌, ◌≤◌, length, string_bytes, option_map, IfOk};
 ghost use Rattle.notifier_model.specs.Requests.{key_of_request};
-ghost use Rattle.notifier.specs.Transactions.{key_of};
+ghost use Rattle.notifier.specs.Keys.{parted};
 
-use notifier_model::row::Key;
 use sip_read::Request;
-use sip_text::{NoMemory, Text};
+use sip_text::NoMemory;
 use std::alloc::Global;
 
-/// The texts of a key.
+/// The texts of a key in one: the branch, the sent-by and the method.
 #[derive(PartialEq, Eq, PartialOrd, Ord, Drop)]
 pub struct Transaction {
-    branch: String,
-    sent_by: String,
-    method: String,
+    texts: String,
+    /// How many bytes the branch has.
+    branch: usize,
+    /// How many bytes the sent-by has.
+    sent_by: usize,
+    ghost within: { branch + sent_by ≤ length (string_bytes texts) },
 }
 
 impl Transaction {
     /// What names the transaction of a request, if anything does: a branch with the magic cookie (RFC 3261 section 17.2.3).
     pub fn of(alloc: Global, request: &Request) -> Result<Option<Transaction>, NoMemory>
-        ensures { IfOk result (λ named. option_map key_of named ≡ key_of_request request.now) }
+        ensures { IfOk result (λ named. option_map (λ t. parted t.branch t.sent_by (string_bytes t.texts)) named
+            ≡ key_of_request request.now) }
     {
         let top = &request.head.top;
         let Some(branch) = &top.branch else {
@@ -30,38 +33,34 @@ impl Transaction {
         if !branch.as_str().as_bytes().starts_with(b"z9hG4bK") {
             return Ok(None);
         }
-        let branch = String::from_str(alloc, branch.as_str())?;
-        let sent_by = String::from_str(alloc, top.sent_by.as_str())?;
-        let method = String::from_str(alloc, request.method.as_str())?;
+        let branch = branch.as_str();
+        let sent_by = top.sent_by.as_str();
+        let method = request.method.as_str();
+        let room = branch
+            .len()
+            .saturating_add(sent_by.len())
+            .saturating_add(method.len());
+        let mut texts = String::with_capacity(alloc, room)?;
+        texts.push_str(branch)?;
+        texts.push_str(sent_by)?;
+        texts.push_str(method)?;
         Ok(Some(Transaction {
-            branch,
-            sent_by,
-            method,
+            texts,
+            branch: branch.len(),
+            sent_by: sent_by.len(),
         }))
     }
 
-    /// The texts of this key. It takes no memory.
-    pub fn of_key(key: Key) -> Transaction
-        ensures { key_of result ≡ key }
+    /// Another with the same texts.
+    pub fn copy(&self, alloc: Global) -> Result<Transaction, NoMemory>
+        ensures { IfOk result (λ t. parted t.branch t.sent_by (string_bytes t.texts)
+            ≡ parted self.now.branch self.now.sent_by (string_bytes self.now.texts)) }
     {
-        Transaction {
-            branch: key.branch.into_string(),
-            sent_by: key.sent_by.into_string(),
-            method: key.method.into_string(),
-        }
-    }
-
-    /// A key with these texts.
-    pub fn key(&self, alloc: Global) -> Result<Key, NoMemory>
-        ensures { IfOk result (λ key. key ≡ key_of self.now) }
-    {
-        let branch = Text::of(alloc, self.branch.as_str())?;
-        let sent_by = Text::of(alloc, self.sent_by.as_str())?;
-        let method = Text::of(alloc, self.method.as_str())?;
-        Ok(Key {
-            branch,
-            sent_by,
-            method,
+        let texts = String::from_str(alloc, self.texts.as_str())?;
+        Ok(Transaction {
+            texts,
+            branch: self.branch,
+            sent_by: self.sent_by,
         })
     }
 }

@@ -88,7 +88,7 @@ impl<P: Package> Teller<'_, P> {
         }
     }
 
-    /// Tells the row with this serial, and moves what leads to it.
+    /// Tells the row with this serial, and moves what leads to it. All others stay.
     fn turn(
         &self,
         alloc: Global,
@@ -132,31 +132,6 @@ impl<P: Package> Teller<'_, P> {
         }
     }
 
-    /// Tells the row with this serial: all others stay.
-    fn tell_one(
-        &self,
-        alloc: Global,
-        cause: &Cause<'_>,
-        rows: &mut Rows,
-        serial: u32,
-    ) -> Result<Word, NoMemory>
-        requires clock { self.now.clock < 2 ^ 63 }
-        requires indexed { IsIndexed rows.old }
-        requires live { All (CanTell self.now.clock cause.now) (rows_of rows.old) }
-        ensures rows { OnOk result (rows_of rows.new
-            ≡ spec.left (spec.only serial (rule_by P.seen self.now cause.now))
-            (rows_of rows.old)) }
-        ensures indexed { OnOk result (IsIndexed rows.new) }
-        ensures out { IfOk result (λ word. option_to_list word.out
-            ≡ map out_of (spec.said (spec.only serial (rule_by P.seen self.now cause.now))
-            (rows_of rows.old))) }
-        ensures gone { IfOk result (λ word. option_to_list word.gone
-            ≡ spec.gone (spec.only serial (rule_by P.seen self.now cause.now))
-            (rows_of rows.old)) }
-    {
-        self.turn(alloc, cause, rows, serial)
-    }
-
     /// Tells the rows with these serials. The NOTIFYs go behind the outs that are there, and the tags of the transfers
     /// that go come back.
     pub fn tell_each(
@@ -184,7 +159,7 @@ impl<P: Package> Teller<'_, P> {
     {
         let mut tags = Vec::new(alloc);
         for serial in serials {
-            let word = self.tell_one(alloc, cause, rows, *serial)?;
+            let word = self.turn(alloc, cause, rows, *serial)?;
             push_some(outs, word.out)?;
             push_some(&mut tags, word.gone)?;
         }

@@ -131,21 +131,6 @@ pub fn count(wanted: u32, request: &Request, row: Row) -> After
     After::Stays(row, None)
 }
 
-/// The row with this new NOTIFY unanswered.
-fn opened(row: Row, clock: u64, notice: Notice) -> Result<Row, NoMemory>
-    ensures { IfOk result (λ after. after ≡ spec.opened clock notice row) }
-{
-    let mut unanswered = row.unanswered.into_vec();
-    unanswered.push(Unanswered {
-        number: notice.number,
-        moment: clock,
-    })?;
-    Ok(Row {
-        unanswered: Values::new(unanswered),
-        ..row
-    })
-}
-
 /// Whether a NOTIFY of it was unanswered for too long.
 fn is_overdue(clock: u64, row: &Row) -> bool
     ensures { result ≡ spec.is_overdue clock row.now }
@@ -164,7 +149,7 @@ fn watches(row: &Row, name: &str, resource: &str) -> bool
     want.event.package() == name && want.resource.is(resource)
 }
 
-fn target_of(alloc: Global, contact: &Field<Text>) -> Result<Option<Text>, NoMemory>
+fn new_target(alloc: Global, contact: &Field<Text>) -> Result<Option<Text>, NoMemory>
     ensures { IfOk result (λ target. target ≡ value_of contact.now) }
 {
     match contact {
@@ -185,8 +170,16 @@ impl<P: Package> Teller<'_, P> {
         ensures { IfOk result (λ after. after ≡ After.Stays (spec.opened self.now.clock notice row) (Some (out_of (Notifies to
             (spec.notify self.now.place.now (boxes_of P.seen self.now) row.sub.usage row.sub.want notice))))) }
     {
-        let row = opened(row, self.clock, notice)?;
         let out = self.notice_out(alloc, to, row.sub.usage(), row.sub.want(), notice)?;
+        let mut unanswered = row.unanswered.into_vec();
+        unanswered.push(Unanswered {
+            number: notice.number,
+            moment: self.clock,
+        })?;
+        let row = Row {
+            unanswered: Values::new(unanswered),
+            ..row
+        };
         Ok(After::Stays(row, Some(out)))
     }
 
@@ -287,7 +280,7 @@ impl<P: Package> Teller<'_, P> {
             let (usage, want, notice) = sub.end(Reason::Timeout);
             return Ok(Step::Over(usage, want, notice));
         }
-        let target = target_of(alloc, &incoming.request.contact)?;
+        let target = new_target(alloc, &incoming.request.contact)?;
         Ok(sub.refresh(
             incoming.request.head.cseq,
             target,

@@ -9,15 +9,16 @@ ghost use Rattle.notifier.specs.Causes.{rule_of, CanTell};
 ghost use Rattle.notifier.specs.Sound.{IsOwn};
 ghost use Rattle.notifier.specs.Stored.{rows_of, Gives, IsIndexed};
 
-use crate::store::rows::Rows;
+use crate::store::rows::{Rows, Serials};
 use crate::sweep::rule::Cause;
 use notifier_model::homes::TagNumbers;
 use sip_read::Response;
 use sip_text::NoMemory;
+use smallvec::SmallVec;
 use std::alloc::Global;
 
 /// The serial that stands in a local tag of this worker.
-pub fn serial_in(worker: u32, tag: &str) -> Option<u32>
+pub fn own_serial(worker: u32, tag: &str) -> Option<u32>
     ensures { Gives worker tag.now result }
 {
     let numbers = TagNumbers::read(tag)?;
@@ -34,15 +35,15 @@ fn answered_serial(worker: u32, response: &Response) -> Option<u32>
 {
     match &response.head.from.tag {
         None => None,
-        Some(tag) => serial_in(worker, tag.as_str()),
+        Some(tag) => own_serial(worker, tag.as_str()),
     }
 }
 
 /// A list of a serial, if there is one.
-fn one_serial(alloc: Global, serial: Option<u32>) -> Result<Vec<u32>, NoMemory>
+fn one_serial(alloc: Global, serial: Option<u32>) -> Result<Serials, NoMemory>
     ensures items { IfOk result (λ v. v.items ≡ option_to_list serial) }
 {
-    let mut serials = Vec::new(alloc);
+    let mut serials = SmallVec::new(alloc);
     if let Some(serial) = serial {
         serials.push(serial)?;
     }
@@ -56,7 +57,7 @@ pub fn touched(
     rows: &Rows,
     clock: u64,
     cause: &Cause<'_>,
-) -> Result<Vec<u32>, NoMemory>
+) -> Result<Serials, NoMemory>
     requires clock { clock < 2 ^ 63 }
     requires indexed { IsIndexed rows.now }
     requires live { All (CanTell clock cause.now) (rows_of rows.now) }
@@ -69,7 +70,7 @@ pub fn touched(
         Cause::Response(response) => one_serial(alloc, answered_serial(worker, response)),
         Cause::Refused(serial, _) => one_serial(alloc, Some(*serial)),
         Cause::Renewal(serial, _) => one_serial(alloc, Some(*serial)),
-        Cause::Change(name, resource, _) => rows.watchers_of(alloc, name, resource),
+        Cause::Change(name, resource, _) => rows.watching(alloc, name, resource),
         Cause::Time => rows.timed_out(alloc, clock),
         Cause::Stop => rows.serials(alloc),
     }

@@ -40,7 +40,7 @@ returns-in-Renewal-clause-covers c =
 
 pub returns-in-Change-clause-covers : goal.returns-in-Change-clause-covers
 returns-in-Change-clause-covers c =
-    if_ok c.watchers_of.result c.watchers_of.ensures.all (λ serials all place boxes worker own.
+    if_ok c.watching.result c.watching.ensures.all (λ serials all place boxes worker own.
     let e : Change c.in-Change.name c.in-Change.resource c.in-Change.field-2 ≡ c.args.cause.now = cc in
     subst (λ k. Cover serials.items (rule_of place boxes c.args.clock k) (rows_of c.args.rows.now)) e
     (change_covers place boxes c.args.clock c.args.rows.now c.requires.indexed serials.items c.in-Change.name.now c.in-Change.resource.now c.in-Change.field-2 all))

@@ -1,6 +1,6 @@
 use Rattle.std.proofs.Common.{◌≡◌, arith}
 use Rattle.notifier.proofs.Tags.{own_numbers, read_so}
-use Rattle.notifier.proofs.sweep.touched.serial_in.Goals as goal
+use Rattle.notifier.proofs.sweep.touched.own_serial.Goals as goal
 
 pub returns-in_err-numbers : goal.returns-in_err-numbers
 returns-in_err-numbers c = λ place own same small is.

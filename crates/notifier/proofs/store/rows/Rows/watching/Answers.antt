@@ -2,7 +2,7 @@ use Rattle.std.proofs.Common.{◌≡◌, ◌∙◌, sym, ap, rules, subst, Some}
 use Rattle.notifier.specs.Among.{has, RiseFrom}
 use Rattle.notifier.specs.Watchers.{is_in, watcher_set}
 use Rattle.notifier.proofs.Due.{rise_keys, has_any}
-use Rattle.notifier.proofs.store.rows.Rows.watchers_of.Goals as goal
+use Rattle.notifier.proofs.store.rows.Rows.watching.Goals as goal
 
 pub returns-clause-rise : goal.returns-clause-rise
 returns-clause-rise c =

@@ -1,7 +1,7 @@
 use Rattle.std.proofs.Common.{sym, ◌∙◌}
 use Rattle.notifier.proofs.Fitting.{is_refer_then, unsaid, made_by_refer}
-use Rattle.notifier.proofs.create.birth.event_of.Goals.{in_default-via-in-Value+else-not-incoming, in_default-via-in_default}
-use Rattle.notifier.proofs.create.birth.event_of.Goals as goal
+use Rattle.notifier.proofs.create.birth.event.Goals.{in_default-via-in-Value+else-not-incoming, in_default-via-in_default}
+use Rattle.notifier.proofs.create.birth.event.Goals as goal
 
 pub returns-in_default : goal.returns-in_default
 returns-in_default c = elim c.in_default.branch [
