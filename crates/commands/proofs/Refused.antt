@@ -9,11 +9,11 @@ use Rattle.arguments.specs.Choices.{state_of}
 use Rattle.commands.specs.declared.error.ServeError.{ServeError}
 use Rattle.commands.specs.declared.error.ServeError.TheVariants as error
 use Rattle.transport.specs.Devices.{SinkSeen}
-use Rattle.service.specs.declared.running.Outcome.{Outcome}
+use Rattle.service.specs.declared.running.ServiceOutcome.{ServiceOutcome}
 use Rattle.service.specs.Running.{is_faulty}
 use Rattle.service.proofs.Faults.{unfailed}
 use Rattle.commands.specs.UdpEnds.{all_closed, Tells}
-use Rattle.commands.specs.UdpServing.{writer_seen}
+use Rattle.feeds.specs.Emitted.{writer_seen}
 use Rattle.commands.specs.Serving.{Serves, EndsWell}
 use Rattle.commands.specs.Refused.{IsOther, IsNoSocket, IsOfFile, IsOfState, IsOfNamedState, IsOfPasswords, IsOfAdmission, IsOfSetting, IsOfOne, NameFile, NameState, NamePasswords, IsListened, IsRefusal, asks_for_text, AskForText, IsStatus, status_of}
 
@@ -171,7 +171,7 @@ of_admission_is words settings e are (inr (inr (inl (inr is)))) = subst (IsRefus
 of_admission_is words settings e are (inr (inr (inr is))) = of_users_is words is.0 e (settings, are, is.1) is.2
 
 -- a service that ran and was closed off so ended well
-pub ended_well : {W T E : Type 0} (contents : W → Option (List ℕ)) (words : List (List ℕ)) (r : Result T E) (before between after : SinkSeen W) (o : Outcome)
+pub ended_well : {W T E : Type 0} (contents : W → Option (List ℕ)) (words : List (List ℕ)) (r : Result T E) (before between after : SinkSeen W) (o : ServiceOutcome)
     → Serves contents words before between o → OnOk r (is_faulty o ≡ false) → OnOk r (all_closed o.report.workers.items ≡ true)
     → OnOk r (Tells contents o.report.workers.items between after) → OnOk r (EndsWell words)
 ended_well contents words (Ok x) before between after o served no_fault closed told = record {
@@ -180,10 +180,12 @@ ended_well contents words (Ok x) before between after o served no_fault closed t
   local = served.local;
   is_at = served.is_at;
   outcome = o;
-  wire = served.ran.wire;
-  wire' = served.ran.wire';
-  writer = writer_seen contents before;
-  writer' = writer_seen contents between;
+  flow = record {
+    wire = served.ran.wire;
+    wire' = served.ran.wire';
+    writer = writer_seen contents before;
+    writer' = writer_seen contents between;
+  };
   runs = served.ran.runs;
   sip_hears = (unfailed o served.faults no_fault).0;
   lines_hear = (unfailed o served.faults no_fault).1;

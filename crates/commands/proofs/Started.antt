@@ -13,12 +13,12 @@ use Rattle.notifier_model.specs.Limits.{IsWithin}
 use Rattle.notifier_model.specs.Start.{Start, place_of}
 use Rattle.crew.specs.Ready.{start_of}
 use Rattle.crew.proofs.Starting.{element}
-use Rattle.feeds.specs.Emitted.{WireSeen, WriterSeen}
 use Rattle.arguments.specs.Setup.{names_for}
 use Rattle.arguments.specs.Told.{boxes_told, all_told}
 use Rattle.arguments.proofs.ToldBoxes.{told-len}
-use Rattle.service.specs.declared.running.Outcome.{Outcome}
+use Rattle.service.specs.declared.running.ServiceOutcome.{ServiceOutcome}
 use Rattle.service.specs.Running.{Opening, Runs}
+use Rattle.service.specs.Sending.{Outflow}
 use Rattle.commands.proofs.UdpStarted.{started_as}
 use Rattle.commands.specs.declared.plan.Plan.{Plan}
 use Rattle.commands.specs.Plans.{IsCount, setup_of}
@@ -34,9 +34,9 @@ if_both (Ok x) p q f = f x p q
 if_both (Err e) p q f = p
 
 -- the same under other names of the starts and their number
-runs_as : {start start' : ℕ → Start} {workers workers' repeats : ℕ} {opened : Opening} {admission : Admission} {wire wire' : WireSeen} {writer writer' : WriterSeen} {o : Outcome}
-    → workers ≡ workers' → ((w : ℕ) → w < workers' → start w ≡ start' w) → Runs start workers repeats opened admission wire wire' writer writer' o
-    → Runs start' workers' repeats opened admission wire wire' writer writer' o
+runs_as : {start start' : ℕ → Start} {workers workers' repeats : ℕ} {opened : Opening} {admission : Admission} {flow : Outflow} {o : ServiceOutcome}
+    → workers ≡ workers' → ((w : ℕ) → w < workers' → start w ≡ start' w) → Runs start workers repeats opened admission flow o
+    → Runs start' workers' repeats opened admission flow o
 runs_as {start' = start'} {workers' = workers'} same each r = record {
   crew = r.crew;
   sip = r.sip;
@@ -76,7 +76,7 @@ module _ {P : Type 0} (seen : P → Seen) (setup : Setup) (boxes : List (Vec P G
       ∙ ap (λ (b : List Seen). let s : Start = record { place = place_of (setup_of plan local) w; boxes = b } in s) (boxes_at w held low)
 
   -- the service that was asked for
-  pub ran_is : {W : Type 0} (contents : W → Option (List ℕ)) (n : ℕ) {repeats : ℕ} {opened : Opening} {admission : Admission} {before after : SinkSeen W} {o : Outcome}
+  pub ran_is : {W : Type 0} (contents : W → Option (List ℕ)) (n : ℕ) {repeats : ℕ} {opened : Opening} {admission : Admission} {before after : SinkSeen W} {o : ServiceOutcome}
       → n ≡ length boxes → 0 < plan.workers → repeats ≡ plan.choices.numbers.repeats → opened ≡ opening_of plan → admission ≡ plan.admission
       → ((held : Vec P Global) → Ran contents (λ w. start_of seen setup w (get_or boxes w held).items) n repeats opened admission before after o)
       → Ran contents (start_at plan local) plan.workers plan.choices.numbers.repeats (opening_of plan) plan.admission before after o

@@ -3,6 +3,7 @@ use Rattle.std.proofs.Common.{◌≡◌, ◌≢◌, refl, Err, ℕ, ◌<◌, Lis
 use Rattle.std.specs.List.{All}
 use Rattle.std.proofs.lemmas.List.Elements.{All-push, All-append}
 use Rattle.package.specs.declared.change.Change.{Change}
+use Rattle.package.specs.declared.change.Change.TheVariants as change
 use Rattle.scripts.specs.declared.script.Control.{Control}
 use Rattle.scripts.specs.declared.script.Control.TheVariants as control
 use Rattle.scripts.specs.declared.error.ScriptError.{ScriptError}
@@ -27,5 +28,5 @@ adds_told line old new told adds =
 pub no_change : (line : List ℕ) (e : ScriptError) → ¬ (IsBlank line) → ((c : Control) → IsControlLine line c → Answers (λ (x : Control). x) (Err e) c)
     → e ≢ error.NoMemory → IsNoChange line
 no_change line error.NoMemory full only other = absurd (other refl)
-no_change line error.BadScript full only other = record { no_blank = full; no_mail = λ mail is. only (control.Mail mail) is }
-no_change line error.Device full only other = record { no_blank = full; no_mail = λ mail is. only (control.Mail mail) is }
+no_change line error.BadScript full only other = record { no_blank = full; no_mail = λ mail is. only (control.Change (change.Mail mail)) is }
+no_change line error.Device full only other = record { no_blank = full; no_mail = λ mail is. only (control.Change (change.Mail mail)) is }

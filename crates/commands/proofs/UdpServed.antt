@@ -8,26 +8,26 @@ use Rattle.queues.specs.OutboxSeats.{TakerSeat}
 use Rattle.crew.specs.Ports.{PortSeats}
 use Rattle.crew.specs.Started.{Hired, IsStarted}
 use Rattle.crew.specs.Joined.{IsJoined}
-use Rattle.feeds.specs.Emitted.{Fates, WireSeen, IsEmitted}
+use Rattle.feeds.specs.Emitted.{Fates, WireSeen, writer_seen, IsEmitted}
 use Rattle.feeds.specs.declared.feeding.FeedReport.{FeedReport}
 use Rattle.feeds.specs.declared.hearing.Language.{Language}
 use Rattle.feeds.specs.declared.hearing.Language.TheVariants.{Sip, Control}
 use Rattle.commands.specs.declared.udp_listening.Errand.{Errand}
 use Rattle.commands.specs.UdpHearing.{HearsOutSocket}
-use Rattle.commands.specs.UdpServing.{Outcome, Serves, most_lines, writer_seen}
+use Rattle.commands.specs.UdpServing.{Outcome, Serves, most_lines}
 use Rattle.commands.specs.UdpRunning.{AreErrands}
 use Rattle.commands.proofs.UdpStarted.{taker_new, taker_workers}
 
 -- what each thread heard, once its errand is known
 pub heard_sip : {sip control : Errand} (are : AreErrands sip control) (old new : PortSeats) (report : FeedReport)
-    → HearsOutSocket sip.language sip.count old new report → HearsOutSocket Sip sip.count old new report
+    → HearsOutSocket sip.hearing.language sip.hearing.count old new report → HearsOutSocket Sip sip.hearing.count old new report
 heard_sip {sip = sip} are old new report hears =
-    let P : Language → Type 0 = λ l. HearsOutSocket l sip.count old new report in subst P are.says_sip hears
+    let P : Language → Type 0 = λ l. HearsOutSocket l sip.hearing.count old new report in subst P are.says_sip hears
 
 pub heard_control : {sip control : Errand} (are : AreErrands sip control) (old new : PortSeats) (report : FeedReport)
-    → HearsOutSocket control.language control.count old new report → HearsOutSocket Control most_lines old new report
+    → HearsOutSocket control.hearing.language control.hearing.count old new report → HearsOutSocket Control most_lines old new report
 heard_control {control = control} are old new report hears =
-    let P : Language → Type 0 = λ l. HearsOutSocket l control.count old new report in
+    let P : Language → Type 0 = λ l. HearsOutSocket l control.hearing.count old new report in
     let Q : ℕ → Type 0 = λ n. HearsOutSocket Control n old new report in
     subst Q are.most (subst P are.says_control hears)
 

@@ -135,6 +135,12 @@ IsNoSocket place error.System = Unit {0}
 IsNoSocket place error.Device = ⊥
 IsNoSocket place error.NoMemory = ⊥
 
+-- ---- files
+
+-- the file at this path can't be read, or memory ran out
+abbrev pub IsUnread : List ℕ → ServeError → Type 0
+IsUnread path e = (e ≡ error.File path) ⊎ (e ≡ error.NoMemory)
+
 -- ---- files of mailboxes
 
 -- a line names no mailbox for this cause

@@ -6,13 +6,13 @@ use Rattle.transport.specs.Devices.{SinkSeen}
 use Rattle.notifier_model.specs.Start.{Start, place_of}
 use Rattle.arguments.specs.Setup.{names_for}
 use Rattle.arguments.specs.Told.{boxes_told}
-use Rattle.feeds.specs.Emitted.{WireSeen, WriterSeen}
+use Rattle.feeds.specs.Emitted.{WireSeen, WriterSeen, writer_seen}
 use Rattle.commands.specs.UdpEnds.{all_closed}
 use Rattle.commands.specs.UdpLines.{worker_lines}
-use Rattle.commands.specs.UdpServing.{writer_seen}
-use Rattle.service.specs.declared.running.Outcome.{Outcome}
-use Rattle.service.specs.declared.running.Work.{Work}
+use Rattle.service.specs.declared.running.ServiceOutcome.{ServiceOutcome}
+use Rattle.service.specs.declared.running.ServiceWork.{ServiceWork}
 use Rattle.service.specs.Listening.{IsDeaf}
+use Rattle.service.specs.Sending.{Outflow}
 use Rattle.service.specs.Running.{Opening, Runs, AreFaults, is_faulty, opening}
 use Rattle.admission.specs.declared.judging.Admission.{Admission}
 use Rattle.arguments.specs.declared.choices.Choices.{Choices}
@@ -50,7 +50,7 @@ abbrev pub opening_of : Plan → Opening
 opening_of plan = record { mailboxes = plan.mailboxes.items; changes = plan.changes.items; networks = plan.operators.items }
 
 -- what the plan asks for, over the sockets that were chosen
-pub record IsWork (plan : Plan) (work : Work) : Type 0 where
+pub record IsWork (plan : Plan) (work : ServiceWork) : Type 0 where
   pub setup : work.setup ≡ setup_of plan work.sip.coming.local
   pub opened : opening work.desk ≡ opening_of plan
   pub sip : IsAt plan.choices.listen work.sip.coming.local
@@ -70,13 +70,14 @@ new_sink writer = record { writer = writer; failures = 0; is_flushed = false }
 
 module _ {W : Type 0} (contents : W → Option (List ℕ)) where
   -- a crew ran as a service to its end, over some wire
-  pub record Ran (start : ℕ → Start) (workers repeats : ℕ) (opened : Opening) (admission : Admission) (before after : SinkSeen W) (outcome : Outcome) : Type 0 where
+  pub record Ran (start : ℕ → Start) (workers repeats : ℕ) (opened : Opening) (admission : Admission) (before after : SinkSeen W) (outcome : ServiceOutcome) : Type 0 where
     pub wire : WireSeen
     pub wire' : WireSeen
-    pub runs : Runs start workers repeats opened admission wire wire' (writer_seen contents before) (writer_seen contents after) outcome
+    pub runs : Runs start workers repeats opened admission
+        (record { wire = wire; wire' = wire'; writer = writer_seen contents before; writer' = writer_seen contents after }) outcome
 
   -- the words ask for a service, which ran to its end, and tells each fault of its sockets and of the clock
-  pub record Serves (words : List (List ℕ)) (before after : SinkSeen W) (outcome : Outcome) : Type 0 where
+  pub record Serves (words : List (List ℕ)) (before after : SinkSeen W) (outcome : ServiceOutcome) : Type 0 where
     pub plan : Plan
     pub is_plan : IsPlan words plan
     pub local : Addr
@@ -91,17 +92,14 @@ pub record EndsWell (words : List (List ℕ)) : Type 0 where
   pub is_plan : IsPlan words plan
   pub local : Addr
   pub is_at : IsAt plan.choices.listen local
-  pub outcome : Outcome
-  pub wire : WireSeen
-  pub wire' : WireSeen
-  pub writer : WriterSeen
-  pub writer' : WriterSeen
-  pub runs : Runs (start_at plan local) plan.workers plan.choices.numbers.repeats (opening_of plan) plan.admission wire wire' writer writer' outcome
+  pub outcome : ServiceOutcome
+  pub flow : Outflow
+  pub runs : Runs (start_at plan local) plan.workers plan.choices.numbers.repeats (opening_of plan) plan.admission flow outcome
   pub sip_hears : IsDeaf (misses outcome.sip_desk.coming) → ⊥
   pub lines_hear : IsDeaf (misses outcome.desk.coming) → ⊥
   pub clock_failures : outcome.stopwatch.failures ≡ 0
   pub no_fault : is_faulty outcome ≡ false
   pub closed : all_closed outcome.report.workers.items ≡ true
   pub last : WriterSeen
-  pub told : Appends writer'.contents last.contents (worker_lines outcome.report.workers.items)
-  pub no_failure : last.failures ≡ writer'.failures
+  pub told : Appends flow.writer'.contents last.contents (worker_lines outcome.report.workers.items)
+  pub no_failure : last.failures ≡ flow.writer'.failures

@@ -13,7 +13,7 @@ use Rattle.arguments.specs.MailboxFile.{IsBlank}
 
 -- the line tells this change
 abbrev pub TellsChange : List ℕ → Change → Type 0
-TellsChange line c = (mail : MailChange) × IsControlLine line (control.Mail mail) × (c ≡ change.Mail mail)
+TellsChange line c = (mail : MailChange) × IsControlLine line (control.Change c) × (c ≡ change.Mail mail)
 
 -- the line tells this, or nothing
 abbrev pub Tells : List ℕ → Option Change → Type 0
@@ -23,7 +23,7 @@ Tells line (Some c) = TellsChange line c
 -- the line is none of such a file
 pub record IsNoChange (line : List ℕ) : Type 0 where
   pub no_blank : ¬ (IsBlank line)
-  pub no_mail : (mail : MailChange) → ¬ (IsControlLine line (control.Mail mail))
+  pub no_mail : (mail : MailChange) → ¬ (IsControlLine line (control.Change (change.Mail mail)))
 
 abbrev pub listed : Option Change → List Change
 listed None = []

@@ -13,18 +13,12 @@ use Rattle.transport.specs.Devices.{SinkSeen, one_more, AppendsFront}
 use Rattle.crew.specs.declared.end.End.{End}
 use Rattle.crew.specs.declared.end.End.TheVariants.{Closed, NoMemory, Abandoned}
 use Rattle.crew.specs.declared.report.WorkerReport.{WorkerReport}
-use Rattle.feeds.specs.declared.feeding.FeedEnd.{FeedEnd}
-use Rattle.feeds.specs.declared.feeding.FeedEnd.TheVariants.{Done, Fault, Gone}
+use Rattle.feeds.specs.Fed.{is_fault}
 use Rattle.arguments.specs.declared.status.Status.{Status}
 use Rattle.arguments.specs.declared.status.Status.TheVariants as status
 use Rattle.commands.specs.UdpCall.{start_at}
 use Rattle.commands.specs.UdpLines.{worker_lines}
 use Rattle.commands.specs.UdpServing.{Outcome, Serves}
-
-abbrev pub is_fault : FeedEnd → Bool
-is_fault Done = false
-is_fault Fault = true
-is_fault Gone = false
 
 -- did a wire fail, or a line of a transfer?
 abbrev pub has_fault : Outcome → Bool

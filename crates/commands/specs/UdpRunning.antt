@@ -12,7 +12,7 @@ use Rattle.arguments.specs.declared.status.Status.TheVariants as status
 use Rattle.commands.specs.declared.udp_listening.Errand.{Errand}
 use Rattle.commands.specs.declared.udp.Sockets.{Sockets}
 use Rattle.commands.specs.declared.udp_serving.Running.{Running}
-use Rattle.commands.specs.declared.udp_serving.Served.{Served}
+use Rattle.commands.specs.declared.udp_serving.UdpServed.{UdpServed}
 use Rattle.commands.specs.UdpServing.{Outcome, most_lines}
 
 -- the status where no crew is started for this cause. Only a refused thread is a fault of the device
@@ -34,9 +34,9 @@ IsNew start ports running = IsStarted start running.workers 2 running.crew ports
 
 -- what the two threads are to hear
 pub record AreErrands (sip control : Errand) : Type 0 where
-  pub says_sip : sip.language ≡ Sip
-  pub says_control : control.language ≡ Control
-  pub most : control.count ≡ most_lines
+  pub says_sip : sip.hearing.language ≡ Sip
+  pub says_control : control.hearing.language ≡ Control
+  pub most : control.hearing.count ≡ most_lines
 
-abbrev pub outcome_of : Served → Outcome
+abbrev pub outcome_of : UdpServed → Outcome
 outcome_of s = record { feed = s.feed; control = s.control; emitted = s.emitted; workers = s.report.workers.items }

@@ -14,7 +14,7 @@ use Rattle.crew.specs.Started.{Hired, IsStarted}
 use Rattle.crew.specs.Joined.{IsJoined}
 use Rattle.crew.specs.declared.report.WorkerReport.{WorkerReport}
 use Rattle.feeds.specs.declared.sending.EmitReport.{EmitReport}
-use Rattle.feeds.specs.Emitted.{Fates, WireSeen, WriterSeen, IsEmitted}
+use Rattle.feeds.specs.Emitted.{Fates, WireSeen, writer_seen, IsEmitted}
 use Rattle.feeds.specs.declared.feeding.FeedReport.{FeedReport}
 use Rattle.feeds.specs.declared.hearing.Language.TheVariants.{Sip, Control}
 use Rattle.commands.specs.UdpHearing.{HearsOutSocket}
@@ -29,9 +29,6 @@ pub record Outcome : Type 0 where
 -- the most control lines that are heard
 abbrev pub most_lines : ℕ
 most_lines = 1048576
-
-abbrev pub writer_seen : {W : Type 0} → (W → Option (List ℕ)) → SinkSeen W → WriterSeen
-writer_seen contents sink = record { contents = contents sink.writer; failures = sink.failures }
 
 -- workers with these starts handled what the two ports sent until both were closed, as far as their reports say, and each of
 -- their outs was sent, written or counted as failed

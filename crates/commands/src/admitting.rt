@@ -8,7 +8,7 @@ ghost use Rattle.commands.specs.Heard.{Asks, IsAdmission};
 ghost use Rattle.commands.specs.Refused.{IsOfWatched, IsOfAdmission};
 
 use crate::error::ServeError;
-use crate::passwords::users_at;
+use crate::passwords::file_users;
 use admission::{Admission, Authentication, Rate, Rates};
 use arguments::{Choices, Setting, networks_of, passwords_of, watched_of};
 use digest::{Algorithm, Guard, Nonces, Passwords};
@@ -39,7 +39,7 @@ pub(crate) fn secret<R: RandomSource>(rt: &R) -> Result<[u8; 32], ServeError>
 }
 
 /// The buckets of a service that hears so much of each source.
-fn rates_of(alloc: Global, asked: Option<Rate>) -> Result<Option<Rates>, NoMemory>
+fn source_rates(alloc: Global, asked: Option<Rate>) -> Result<Option<Rates>, NoMemory>
     ensures { IfOk result (λ rates. rates ≡ spec.rates_of asked) }
 {
     let Some(size) = NonZeroUsize::new(SOURCES) else {
@@ -108,7 +108,7 @@ fn nonces<R: RandomSource>(rt: &R, choices: &Choices) -> Result<Nonces, ServeErr
 
 /// Who may subscribe and refer: the users of the file that the settings name, or anyone, where they name none.
 #[tactic(auto, using(crate::proofs::Heard::asks_none, crate::proofs::Heard::asks_some))]
-fn authentication_of<R>(rt: &R, settings: &[Setting]) -> Result<Option<Authentication>, ServeError>
+fn new_authentication<R>(rt: &R, settings: &[Setting]) -> Result<Option<Authentication>, ServeError>
 where
     R: Files + RandomSource + AllocGlobal,
     ensures asks { IfOk result (Asks (path_of settings.now) (choices_of settings.now) (pairs_of settings.now)) }
@@ -123,7 +123,7 @@ where
         }
         return Ok(None);
     };
-    let passwords = users_at(rt, &path)?;
+    let passwords = file_users(rt, &path)?;
     check_users(alloc, &passwords, &further)?;
     let guard = Guard {
         passwords,
@@ -138,7 +138,7 @@ where
 }
 
 /// Who is heard by a service with these settings. The file of passwords is read, and the system is asked for randomness.
-pub(crate) fn admission_of<R>(rt: &R, settings: &[Setting]) -> Result<Admission, ServeError>
+pub(crate) fn new_admission<R>(rt: &R, settings: &[Setting]) -> Result<Admission, ServeError>
 where
     R: Files + RandomSource + AllocGlobal,
     ensures admission { IfOk result (IsAdmission settings.now) }
@@ -147,8 +147,8 @@ where
     let alloc = rt.alloc();
     let choices = Choices::of(settings);
     let networks = networks_of(alloc, settings)?;
-    let rates = rates_of(alloc, choices.rate)?;
-    let authentication = authentication_of(rt, settings)?;
+    let rates = source_rates(alloc, choices.rate)?;
+    let authentication = new_authentication(rt, settings)?;
     Ok(Admission {
         networks,
         rates,

@@ -39,7 +39,7 @@ impl Form {
 }
 
 /// The lines behind the `ok` of an answer, if it has some.
-fn lines_in(answer: &[u8]) -> Option<&str> {
+fn told_lines(answer: &[u8]) -> Option<&str> {
     let text = std::str::from_utf8(answer).ok()?;
     text.strip_prefix("ok\n")
 }
@@ -58,8 +58,8 @@ fn cut_more(lines: &str) -> (&str, Option<&str>) {
 }
 
 /// Where an answer says that more is told. None where there is no memory for it.
-pub(crate) fn more_in(alloc: Global, answer: &[u8]) -> Option<Text> {
-    let lines = lines_in(answer)?;
+pub(crate) fn next_place(alloc: Global, answer: &[u8]) -> Option<Text> {
+    let lines = told_lines(answer)?;
     let (_, place) = cut_more(lines);
     Text::of(alloc, place?).ok()
 }
@@ -145,7 +145,7 @@ fn write_lines<W: Write>(writer: &mut W, lines: &str) -> io::Result<()> {
 /// Prints an answer in this form. One that has no lines is printed as it came.
 pub(crate) fn print_answer<R: Print>(rt: &R, answer: &[u8], form: Form) -> io::Result<()> {
     let mut writer = io::writer(rt);
-    match (form, lines_in(answer)) {
+    match (form, told_lines(answer)) {
         (Form::Lines, Some(lines)) => write_lines(&mut writer, cut_more(lines).0)?,
         (Form::Json, Some(lines)) => write_object(&mut writer, lines)?,
         _ => {

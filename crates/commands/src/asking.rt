@@ -7,7 +7,7 @@ ghost use Rattle.commands.specs.Plans.{reached};
 ghost use Rattle.commands.specs.Telling.{TellsLine, TellsPage, IsAskedAs, behind_json};
 ghost use Rattle.commands.specs.Telling as spec;
 
-use crate::answers::{Form, more_in, next_line, print_answer};
+use crate::answers::{Form, next_line, next_place, print_answer};
 use arguments::{Status, TellCall, TellError, parse_tell};
 use control_lines::{Outcome, Speaker, SpeakerFault, UdpSpeaker, tell_line};
 use sip_text::{Addr, NoMemory, Text};
@@ -29,12 +29,12 @@ const ROOM: usize = 65536;
 const PAGES: u32 = 100_000;
 
 /// The answer, which stands at the beginning of the room.
-fn answer_in(room: &[u8], length: usize) -> &[u8] {
+fn received(room: &[u8], length: usize) -> &[u8] {
     &room[..length.min(room.len())]
 }
 
 /// A speaker for the service that a call names, or for the one at 127.0.0.1:5061.
-fn speaker_for<R: Wait + Net>(rt: &R, call: &TellCall) -> Result<UdpSpeaker, SpeakerFault>
+fn new_speaker<R: Wait + Net>(rt: &R, call: &TellCall) -> Result<UdpSpeaker, SpeakerFault>
     ensures service { IfOk result (λ s. s.service ≡ reached call.now.control (loopback 5061)) }
 {
     UdpSpeaker::to(rt, call.control.unwrap_or(CONTROL))
@@ -64,8 +64,8 @@ pub fn ask_by<R: Wait + Print + Eprint + AllocGlobal, S: Speaker>(
     let mut more = None;
     let written = match outcome {
         Outcome::Done(length) | Outcome::Refused(length) => {
-            let answer = answer_in(&room, length);
-            more = more_in(rt.alloc(), answer);
+            let answer = received(&room, length);
+            more = next_place(rt.alloc(), answer);
             print_answer(rt, answer, form)
         }
         Outcome::Silent => eprintln!(rt; "notifyd: nobody answered"),
@@ -141,7 +141,7 @@ fn ask_anew<R: Wait + Net + RandomSource + Print + Eprint + AllocGlobal>(
 ) -> Result<Told, NoMemory>
     ensures { IfOk result (λ told. (told.status ≡ 0) ⊎ (told.status ≡ 1) ⊎ (told.status ≡ 3)) }
 {
-    let Ok(mut speaker) = speaker_for(rt, call) else {
+    let Ok(mut speaker) = new_speaker(rt, call) else {
         let _ = eprintln!(rt; "notifyd: device fault");
         return Ok(Told {
             status: Status::DeviceFault.code(),

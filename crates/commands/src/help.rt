@@ -51,7 +51,7 @@ Lines for tell: MAIL, PROGRESS, STATUS, SHOW, DUMP, WATCHERS, CLOSE; see
 notifyd(8).";
 
 /// The text that a word asks for.
-fn text_of(word: &str) -> Option<&'static str>
+fn word_text(word: &str) -> Option<&'static str>
     ensures asked { IfSome result (λ _. asks_for_text word.now ≡ true) }
     ensures only { asks_for_text word.now ≡ true → result ≢ None }
 {
@@ -65,12 +65,12 @@ fn text_of(word: &str) -> Option<&'static str>
 }
 
 /// The text that the words ask for, where they ask for that alone.
-pub(crate) fn text_for(words: &[Text]) -> Option<&'static str>
+pub(crate) fn asked_text(words: &[Text]) -> Option<&'static str>
     ensures asked { IfSome result (λ _. AskForText words.now) }
     ensures only { AskForText words.now → result ≢ None }
 {
     match words {
-        [word] => text_of(word.as_str()),
+        [word] => word_text(word.as_str()),
         _ => None,
     }
 }

@@ -17,6 +17,7 @@ mod asking;
 mod error;
 mod help;
 mod input;
+mod line_file;
 mod logging;
 mod mailboxes;
 mod passwords;

@@ -5,70 +5,51 @@ ghost use Rattle.commands.specs.Heard.{IsTable, AreUsers};
 ghost use Rattle.commands.specs.Refused.{IsOfPasswords};
 
 use crate::error::ServeError;
-use crate::mailboxes::unread;
+use crate::line_file::{FileLine, TakesLines, take_file};
 use digest::{Passwords, PasswordsError};
 use sip_text::Text;
 use std::alloc::Global;
-use std::fs;
-use std::io::{BufRead, BufReader};
 use std::rt::Files;
 
-/// Takes in a line of the file at this path, where it has this number.
-#[tactic(auto, using(crate::proofs::Heard::of_password))]
-fn take_line(
-    alloc: Global,
-    passwords: &mut Passwords,
-    path: &Text,
-    number: u64,
-    line: &str,
-) -> Result<(), ServeError>
-    ensures taken { OnOk result (Takes passwords.old line.now passwords.new) }
-    ensures refused { IfErr result (IsOfPasswords path.now) }
-{
-    match passwords.add_line(alloc, number, line) {
-        Ok(()) => Ok(()),
-        Err(PasswordsError::NoMemory) => Err(ServeError::NoMemory),
-        Err(error) => Err(ServeError::PasswordLine(path.copy(alloc)?, error)),
-    }
-}
+/// Users, to whom the lines of a file add.
+impl TakesLines for Passwords {
+    ghost use Rattle.std.proofs.Common.{⊎_elim, subst, sym, refl};
+    ghost use Rattle.commands.specs.Heard.{IsTable};
+    ghost use Rattle.commands.specs.Refused.{IsOfPasswords};
 
-/// The users of the lines of a file.
-#[tactic(auto, using(crate::proofs::Heard::table_none, crate::proofs::Heard::table_more))]
-fn read_table<B: BufRead + Drop>(
-    alloc: Global,
-    reader: B,
-    path: &Text,
-) -> Result<Passwords, ServeError>
-    ensures table { IfOk result IsTable }
-    ensures refused { IfErr result (IsOfPasswords path.now) }
-{
-    let mut passwords = Passwords::new(alloc);
-    let mut number = 0u64;
-    for line in reader.lines(alloc) {
-        let line = match line {
-            Ok(line) => line,
-            Err(fault) => return Err(unread(alloc, path, &fault)),
-        };
-        number = number.saturating_add(1);
-        take_line(alloc, &mut passwords, path, number, line.as_str())?;
+    ghost is_sound = { IsTable };
+
+    ghost refuses = { IsOfPasswords };
+
+    #[tactic(auto, using(crate::proofs::Heard::of_password, crate::proofs::Heard::table_more))]
+    fn take_line(&mut self, alloc: Global, line: FileLine<'_>) -> Result<(), ServeError>
+        requires sound { IsTable self.old }
+        ensures sound { OnOk result (IsTable self.new) }
+        ensures taken { OnOk result (Takes self.old line.entry.text.now self.new) }
+        ensures refused { IfErr result (IsOfPasswords line.entry.path.now) }
+    {
+        match self.add_line(alloc, line.number, line.text) {
+            Ok(()) => Ok(()),
+            Err(PasswordsError::NoMemory) => Err(ServeError::NoMemory),
+            Err(error) => Err(ServeError::PasswordLine(line.path.copy(alloc)?, error)),
+        }
     }
-    Ok(passwords)
+
+    ghost unread = { λ path e is. ⊎_elim (λ file. subst (IsOfPasswords path) (sym file) refl) (λ memory. subst (IsOfPasswords path) (sym memory) tt) is };
 }
 
 /// The users of the file at this path. An error where it can't be read, has no user, and at the first line that is none of such a file.
-pub(crate) fn users_at<R: Files + AllocGlobal>(rt: &R, path: &Text) -> Result<Passwords, ServeError>
+#[tactic(auto, using(crate::proofs::Heard::table_none))]
+pub(crate) fn file_users<R: Files + AllocGlobal>(
+    rt: &R,
+    path: &Text,
+) -> Result<Passwords, ServeError>
     ensures users { IfOk result AreUsers }
     ensures refused { IfErr result (IsOfPasswords path.now) }
 {
     let alloc = rt.alloc();
-    let opened = match fs::open(rt, path.as_str()) {
-        Ok(file) => BufReader::new(alloc, file),
-        Err(fault) => Err(fault),
-    };
-    let passwords = match opened {
-        Ok(reader) => read_table(alloc, reader, path)?,
-        Err(fault) => return Err(unread(alloc, path, &fault)),
-    };
+    let mut passwords = Passwords::new(alloc);
+    take_file(rt, path, &mut passwords)?;
     if passwords.realm.is_none() {
         return Err(ServeError::NoUsers(path.copy(alloc)?));
     }

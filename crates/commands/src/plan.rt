@@ -6,10 +6,10 @@ ghost use Rattle.commands.specs.Plans as spec;
 ghost use Rattle.commands.specs.Plans.{IsCount, IsSeed, IsReached, IsPlan};
 ghost use Rattle.commands.specs.Refused.{IsRefusal};
 
-use crate::admitting::{admission_of, secret};
+use crate::admitting::{new_admission, secret};
 use crate::error::ServeError;
-use crate::mailboxes::mailboxes_of;
-use crate::state::changes_of;
+use crate::mailboxes::named_mailboxes;
+use crate::state::told_changes;
 use admission::{Admission, Network};
 use arguments::{Choices, Numbers, control_networks_of, parse_settings};
 use notifier_model::{Limits, Setup};
@@ -37,7 +37,7 @@ pub struct Plan {
 }
 
 /// The limits that the numbers ask for. Their times may not go together.
-fn limits_of(numbers: &Numbers) -> Result<Limits, ServeError>
+fn chosen_limits(numbers: &Numbers) -> Result<Limits, ServeError>
     ensures limits { IfOk result (λ limits. limits ≡ spec.limits_of numbers.now) }
     ensures within { IfOk result AreLimits }
     ensures times { OnErr result (¬ (AreLimits (spec.limits_of numbers.now))) }
@@ -59,7 +59,7 @@ fn limits_of(numbers: &Numbers) -> Result<Limits, ServeError>
 }
 
 /// The seed that was asked for, or 32 bytes of the system's randomness.
-fn seed_of<R: RandomSource>(rt: &R, asked: Option<[u8; 32]>) -> Result<[u8; 32], ServeError>
+fn seed_or_random<R: RandomSource>(rt: &R, asked: Option<[u8; 32]>) -> Result<[u8; 32], ServeError>
     ensures seed { IfOk result (IsSeed asked) }
     ensures refused { IfErr result (λ e. e ≡ error.System) }
 {
@@ -78,7 +78,7 @@ fn processors<R: Threads>(rt: &R) -> u32 {
 }
 
 /// How many workers are asked for: without a number one a processor. From 1 to 256.
-fn workers_of<R: Threads>(rt: &R, asked: Option<u32>) -> u32
+fn worker_count<R: Threads>(rt: &R, asked: Option<u32>) -> u32
     ensures { IsCount asked result }
 {
     let count = match asked {
@@ -117,9 +117,9 @@ where
     ensures refused { IfErr result (IsRefusal words.now) }
 {
     let settings = parse_settings(rt.alloc(), words)?;
-    let mailboxes = mailboxes_of(rt, settings.as_slice())?;
-    let changes = changes_of(rt, settings.as_slice())?;
-    let admission = admission_of(rt, settings.as_slice())?;
+    let mailboxes = named_mailboxes(rt, settings.as_slice())?;
+    let changes = told_changes(rt, settings.as_slice())?;
+    let admission = new_admission(rt, settings.as_slice())?;
     let operators = control_networks_of(rt.alloc(), settings.as_slice())?;
     Ok(Read {
         choices: Choices::of(settings.as_slice()),
@@ -132,7 +132,7 @@ where
 
 /// What the words ask for: files are read and the system is asked for randomness, and no socket is opened.
 #[tactic(auto, using(crate::proofs::Refused::other_is))]
-pub fn plan_of<R>(rt: &R, words: &[Text]) -> Result<Plan, ServeError>
+pub fn new_plan<R>(rt: &R, words: &[Text]) -> Result<Plan, ServeError>
 where
     R: Threads + Files + RandomSource + AllocGlobal,
     ensures plan { IfOk result (IsPlan words.now) }
@@ -153,9 +153,9 @@ where
     }
     Ok(Plan {
         choices,
-        limits: limits_of(&choices.numbers)?,
-        seed: seed_of(rt, choices.seed)?,
-        workers: workers_of(rt, choices.numbers.workers),
+        limits: chosen_limits(&choices.numbers)?,
+        seed: seed_or_random(rt, choices.seed)?,
+        workers: worker_count(rt, choices.numbers.workers),
         mailboxes,
         changes,
         admission,
@@ -164,7 +164,7 @@ where
 }
 
 /// What the desks of the workers stand on. Phones reach the service at its contact, or else where its socket is.
-pub fn setup_of(plan: &Plan, local: Addr) -> Setup
+pub fn local_setup(plan: &Plan, local: Addr) -> Setup
     ensures { result ≡ spec.setup_of plan.now local }
 {
     Setup {

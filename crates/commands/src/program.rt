@@ -12,10 +12,10 @@ ghost use Rattle.commands.specs.declared.error.ServeError.TheVariants as error;
 ghost use Rattle.commands.specs.Serving.{AreOpen, EndsWell, IsWork, Ran, Serves, new_sink};
 
 use crate::error::ServeError;
-use crate::help::{HELP, text_for};
+use crate::help::{HELP, asked_text};
 use crate::input::Watch;
 use crate::logging::{say_goodbye, say_hello, say_spent_worker, warn_of_control};
-use crate::plan::{Plan, plan_of, setup_of};
+use crate::plan::{Plan, local_setup, new_plan};
 use crate::prompt::{Patience, Prompt};
 use crate::sockets::{Sockets, open};
 use crate::udp::all_closed;
@@ -23,7 +23,7 @@ use crate::udp_printing::worker_lines;
 use arguments::{Status, Wanted, all_told};
 use package::Package;
 use scripts::write_page;
-use service::{ControlPort, Exit, Outcome, Shared, SipDesk, Work, run_crew};
+use service::{ControlPort, Exit, ServiceOutcome, ServiceWork, Shared, SipDesk, run_crew};
 use sip_text::{Addr, NoMemory, Text};
 use std::alloc::Global;
 use std::io;
@@ -39,7 +39,7 @@ use transport::{Sink, UdpWire};
 /// A service that has ended: what came of it, and what its lines of transfers were written to.
 #[derive(Drop)]
 pub struct Served<F> {
-    pub outcome: Outcome,
+    pub outcome: ServiceOutcome,
     pub sink: Sink<F>,
     pub shared: Arc<Shared, Global>,
 }
@@ -60,7 +60,7 @@ fn begin<R: Clock + AllocGlobal>(
 }
 
 /// Opens the sockets that a plan asks for, and says where they are.
-fn open_for<R: Wait + Net + Eprint + AllocGlobal>(
+fn open_sockets<R: Wait + Net + Eprint + AllocGlobal>(
     rt: &R,
     plan: &Plan,
 ) -> Result<Sockets, ServeError>
@@ -108,7 +108,7 @@ where
         plan.choices.no_refer,
         make,
     )?;
-    let sockets = open_for(rt, plan)?;
+    let sockets = open_sockets(rt, plan)?;
     let (shared, theirs) = begin(rt, sockets.sip.local())?;
     Ok(Fitted {
         boxes,
@@ -119,7 +119,7 @@ where
 }
 
 /// What a service works with: the plan over these sockets, and the wire by which its outs go.
-fn work_of(plan: Plan, sockets: Sockets, shared: Arc<Shared, Global>) -> (Work, UdpWire)
+fn new_work(plan: Plan, sockets: Sockets, shared: Arc<Shared, Global>) -> (ServiceWork, UdpWire)
     requires { AreOpen plan.choices sockets }
     ensures work { IsWork plan result.0 }
     ensures wire { result.1.local ≡ result.0.sip.coming.local }
@@ -131,7 +131,7 @@ fn work_of(plan: Plan, sockets: Sockets, shared: Arc<Shared, Global>) -> (Work, 
         lines,
         replies,
     } = sockets;
-    let setup = setup_of(&plan, sip.local());
+    let setup = local_setup(&plan, sip.local());
     let numbers = plan.choices.numbers;
     let desk = ControlPort {
         coming: lines,
@@ -146,7 +146,7 @@ fn work_of(plan: Plan, sockets: Sockets, shared: Arc<Shared, Global>) -> (Work, 
         longest: numbers.max_datagram,
         admission: plan.admission,
     };
-    let work = Work {
+    let work = ServiceWork {
         setup,
         sip,
         desk,
@@ -161,7 +161,7 @@ fn work_of(plan: Plan, sockets: Sockets, shared: Arc<Shared, Global>) -> (Work, 
 fn run<R, F, P>(
     rt: R,
     boxes: Vec<Vec<P>>,
-    work: Work,
+    work: ServiceWork,
     shared: Arc<Shared, Global>,
     exit: Exit<UdpWire, F>,
 ) -> Result<Served<F>, ServeError>
@@ -220,7 +220,7 @@ where
     // A cause that is in the words stands in them.
     ensures refused { IfErr result (IsRefusal words.now) }
 {
-    let plan = plan_of(&rt, words)?;
+    let plan = new_plan(&rt, words)?;
     let Fitted {
         boxes,
         shared,
@@ -231,7 +231,7 @@ where
     if plan.choices.log_requests {
         shared.log_requests();
     }
-    let (work, wire) = work_of(plan, sockets, theirs);
+    let (work, wire) = new_work(plan, sockets, theirs);
     let sink = Sink::new(writer);
     let watch = Watch::begin(rt, &shared, is_watched)?;
     let served = run(rt, boxes, work, shared, Exit { wire, sink });
@@ -347,7 +347,7 @@ where
     // A text that is asked for is printed, or could not be.
     ensures text { AskForText words.now → (result ≡ 0) ⊎ (result ≡ status_of error.Device) }
 {
-    if let Some(text) = text_for(words) {
+    if let Some(text) = asked_text(words) {
         return print_text(&rt, text);
     }
     match attempt(rt, words, make) {

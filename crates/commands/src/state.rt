@@ -5,14 +5,12 @@ ghost use Rattle.commands.specs.State.{Tells, IsNoChange, Adds, AreTold, IsState
 ghost use Rattle.commands.specs.Refused.{IsOfState, IsOfNamedState};
 
 use crate::error::ServeError;
-use crate::mailboxes::unread;
+use crate::line_file::{FileLine, TakesLines, take_file};
 use arguments::{Setting, is_blank};
 use package::Change;
 use scripts::{Control, ScriptError, parse_control};
 use sip_text::{NoMemory, Text};
 use std::alloc::Global;
-use std::fs;
-use std::io::{BufRead, BufReader};
 use std::rt::Files;
 
 /// What a line tells, without its line feed. An empty one and a comment, which begins with `#`, tell nothing.
@@ -24,69 +22,46 @@ fn change_in(alloc: Global, line: &str) -> Result<Option<Change>, ScriptError>
         return Ok(None);
     }
     match parse_control(alloc, line.as_bytes())? {
-        Control::Mail(change) => Ok(Some(Change::Mail(change))),
-        Control::Progress(_) | Control::Tick(_) | Control::Close => Err(ScriptError::BadScript),
+        Control::Change(Change::Mail(change)) => Ok(Some(Change::Mail(change))),
+        Control::Change(_) | Control::Tick(_) | Control::Close => Err(ScriptError::BadScript),
     }
 }
 
-/// Adds what a line tells. The line has this number in the file at this path.
-fn add_told(
-    alloc: Global,
-    changes: &mut Vec<Change>,
-    path: &Text,
-    number: u64,
-    line: &str,
-) -> Result<(), ServeError>
-    ensures added { OnOk result (Adds line.now changes.old.items changes.new.items) }
-    ensures refused { IfErr result (IsOfState path.now) }
+/// Adds what a line of a file tells. A line that is no MAIL line is refused.
+fn add_told(alloc: Global, changes: &mut Vec<Change>, line: FileLine<'_>) -> Result<(), ServeError>
+    ensures added { OnOk result (Adds line.entry.text.now changes.old.items changes.new.items) }
+    ensures refused { IfErr result (IsOfState line.entry.path.now) }
 {
-    match change_in(alloc, line) {
+    match change_in(alloc, line.text) {
         Ok(Some(change)) => changes.push(change)?,
         Ok(None) => {}
         Err(ScriptError::NoMemory) => return Err(ServeError::NoMemory),
-        Err(_) => return Err(ServeError::StateLine(path.copy(alloc)?, number)),
+        Err(_) => return Err(ServeError::StateLine(line.path.copy(alloc)?, line.number)),
     }
     Ok(())
 }
 
-/// The changes that the lines of a file tell, in order.
-#[tactic(auto, using(crate::proofs::ToldLines::adds_told))]
-fn read_changes<B: BufRead + Drop>(
-    alloc: Global,
-    reader: B,
-    path: &Text,
-) -> Result<Vec<Change>, ServeError>
-    ensures told { IfOk result (λ changes. AreTold changes.items) }
-    ensures refused { IfErr result (IsOfState path.now) }
-{
-    let mut changes = Vec::new(alloc);
-    let mut number = 0u64;
-    for line in reader.lines(alloc) {
-        let line = match line {
-            Ok(line) => line,
-            Err(fault) => return Err(unread(alloc, path, &fault)),
-        };
-        number = number.saturating_add(1);
-        add_told(alloc, &mut changes, path, number, line.as_str())?;
-    }
-    Ok(changes)
-}
+/// Changes, to which the lines of a file add, in order.
+impl TakesLines for Vec<Change> {
+    ghost use Rattle.std.proofs.Common.{⊎_elim, subst, sym, refl};
+    ghost use Rattle.commands.specs.State.{AreTold};
+    ghost use Rattle.commands.specs.Refused.{IsOfState};
 
-/// The changes that the file at this path tells, in order. An error where it can't be read, and at the first line that is no MAIL
-/// line.
-fn changes_at<R: Files + AllocGlobal>(rt: &R, path: &Text) -> Result<Vec<Change>, ServeError>
-    ensures told { IfOk result (λ changes. AreTold changes.items) }
-    ensures refused { IfErr result (IsOfState path.now) }
-{
-    let alloc = rt.alloc();
-    let opened = match fs::open(rt, path.as_str()) {
-        Ok(file) => BufReader::new(alloc, file),
-        Err(fault) => Err(fault),
-    };
-    match opened {
-        Ok(reader) => read_changes(alloc, reader, path),
-        Err(fault) => Err(unread(alloc, path, &fault)),
+    ghost is_sound = { λ changes. AreTold changes.items };
+
+    ghost refuses = { IsOfState };
+
+    fn take_line(&mut self, alloc: Global, line: FileLine<'_>) -> Result<(), ServeError>
+        requires sound { AreTold self.old.items }
+        ensures sound { OnOk result (AreTold self.new.items) }
+        ensures added { OnOk result (Adds line.entry.text.now self.old.items self.new.items) }
+        ensures refused { IfErr result (IsOfState line.entry.path.now) }
+    {
+        add_told(alloc, self, line)?;
+        Ok(())
     }
+
+    ghost unread = { λ path e is. ⊎_elim (λ file. subst (IsOfState path) (sym file) refl) (λ memory. subst (IsOfState path) (sym memory) tt) is };
 }
 
 /// The path of the file of changes after a setting: of two the last counts.
@@ -122,7 +97,7 @@ fn path_of(alloc: Global, settings: &[Setting]) -> Result<Option<Text>, NoMemory
 }
 
 /// The changes of the file that the settings name, if they name one.
-pub(crate) fn changes_of<R: Files + AllocGlobal>(
+pub(crate) fn told_changes<R: Files + AllocGlobal>(
     rt: &R,
     settings: &[Setting],
 ) -> Result<Vec<Change>, ServeError>
@@ -130,7 +105,11 @@ pub(crate) fn changes_of<R: Files + AllocGlobal>(
     ensures refused { IfErr result (IsOfNamedState settings.now) }
 {
     match path_of(rt.alloc(), settings)? {
-        Some(path) => changes_at(rt, &path),
+        Some(path) => {
+            let mut changes = Vec::new(rt.alloc());
+            take_file(rt, &path, &mut changes)?;
+            Ok(changes)
+        }
         None => Ok(Vec::new(rt.alloc())),
     }
 }

@@ -19,12 +19,11 @@ ghost use Rattle.commands.specs.UdpRunning.{status_of, AreBound, outcome_of};
 ghost use Rattle.commands.specs.UdpServing.{Serves};
 
 use crate::udp_printing::worker_lines;
-use crate::udp_serving::{Ears, Running, Served, serve};
+use crate::udp_serving::{Ears, Running, UdpServed, serve};
 use arguments::{
     ArgumentsError, Status, UdpArguments, Wanted, boxes_for, parse_udp_arguments, setup_at,
 };
 use crew::{Crew, End, Open, Port, StartError, WorkerReport};
-use feeds::FeedEnd;
 use package::Package;
 use queues::outbox::Taker;
 use scripts::write_page;
@@ -62,20 +61,11 @@ fn bind<H: Wait + Net>(rt: &H, port: u16, control_port: u16) -> Result<Sockets, 
     })
 }
 
-fn is_fault(end: FeedEnd) -> bool
-    ensures { result ≡ ends.is_fault end }
-{
-    match end {
-        FeedEnd::Fault => true,
-        FeedEnd::Done | FeedEnd::Gone => false,
-    }
-}
-
 /// Whether a wire failed, or a line of a transfer was not written.
-fn has_fault(served: &Served) -> bool
+fn has_fault(served: &UdpServed) -> bool
     ensures { result ≡ ends.has_fault (outcome_of served.now) }
 {
-    is_fault(served.feed.end) || is_fault(served.control.end) || served.emitted.failed != 0
+    served.feed.end.is_fault() || served.control.end.is_fault() || served.emitted.failed != 0
 }
 
 fn is_closed(end: End) -> bool
@@ -100,7 +90,7 @@ pub fn all_closed(reports: &[WorkerReport]) -> bool
 }
 
 /// Writes the lines of the workers, and tells how the run ended.
-fn close_off<F: Write>(alloc: Global, served: &Served, sink: &mut Sink<F>) -> Status
+fn close_off<F: Write>(alloc: Global, served: &UdpServed, sink: &mut Sink<F>) -> Status
     ensures { EndsAs F.contents (outcome_of served.now) sink.old sink.new result }
 {
     let has_fault = has_fault(served);
@@ -123,7 +113,7 @@ fn close_off<F: Write>(alloc: Global, served: &Served, sink: &mut Sink<F>) -> St
 }
 
 /// The status where a crew isn't started.
-fn status_of(error: StartError) -> Status
+fn start_status(error: StartError) -> Status
     ensures { result ≡ status_of error }
 {
     match error {
@@ -159,7 +149,7 @@ where
     };
     match Crew::start_any(rt, alloc, &setup, 2, boxes, gate) {
         Ok(started) => Ok(started),
-        Err(error) => Err(status_of(error)),
+        Err(error) => Err(start_status(error)),
     }
 }
 
@@ -171,7 +161,7 @@ fn serve_sockets<H, F, P, M>(
     sockets: Sockets,
     sink: &mut Sink<F>,
     make: &M,
-) -> Result<Served, Status>
+) -> Result<UdpServed, Status>
 where
     H: Threads + Wait + Clock + Copy + Send + 'static,
     F: Write,
@@ -217,7 +207,7 @@ fn attempt<H, F, P, M>(
     words: &[Text],
     sink: &mut Sink<F>,
     make: &M,
-) -> Result<Served, Status>
+) -> Result<UdpServed, Status>
 where
     H: Threads + Wait + Net + Clock + Copy + Send + 'static,
     F: Write,

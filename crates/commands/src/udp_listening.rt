@@ -1,4 +1,4 @@
-//! What listens at a socket, on a thread of its own: `feed` at that of SIP, `control` at that of control lines.
+//! What listens at a socket, on a thread of its own: for SIP at one, for control lines at the other.
 ghost use Rattle.std.specs.Prelude.{◌≡◌, ◌<◌, IfOk};
 ghost use Rattle.crew.specs.Kept.{SameSeats};
 ghost use Rattle.crew.specs.Ports.{IsShut};
@@ -8,7 +8,7 @@ ghost use Rattle.commands.specs.UdpHearing.{HearsOut, HearsOutSocket};
 ghost use Rattle.commands.specs.UdpServing.{most_lines};
 
 use crew::Port;
-use feeds::{FeedReport, Language, MOST_CONTROL_LINES, control, feed};
+use feeds::{FeedReport, Language, MOST_CONTROL_LINES, listen};
 use std::alloc::Global;
 use std::snapshot::Snapshot;
 use std::sync::Wait;
@@ -24,18 +24,46 @@ pub(crate) struct Fed {
     pub(crate) report: FeedReport,
 }
 
+/// What a thread is to hear: so many datagrams at most, in this language.
+#[derive(Clone, Copy)]
+pub(crate) struct Hearing {
+    pub(crate) language: Language,
+    pub(crate) count: u32,
+}
+
+impl Hearing {
+    /// The messages of so many SIP datagrams.
+    pub(crate) fn sip(count: u32) -> Hearing
+        ensures { result ≡ record { language = language.Sip; count = count } }
+    {
+        Hearing {
+            language: Language::Sip,
+            count,
+        }
+    }
+
+    /// Control lines, until a CLOSE.
+    pub(crate) fn control() -> Hearing
+        ensures { result ≡ record { language = language.Control; count = most_lines } }
+    {
+        Hearing {
+            language: Language::Control,
+            count: MOST_CONTROL_LINES,
+        }
+    }
+}
+
 /// What a thread is to hear, and the port that it feeds, as contracts see it.
 #[derive(Drop)]
 pub(crate) struct Errand {
     pub(crate) port: Snapshot<Port>,
-    pub(crate) language: Language,
-    pub(crate) count: u32,
+    pub(crate) hearing: Hearing,
 }
 
 impl Promise<Fed> for Errand {
     ghost use Rattle.commands.specs.UdpHearing.{HearsOutSocket};
 
-    ghost kept_by = { λ errand fed. HearsOutSocket errand.language errand.count errand.port.value fed.port fed.report };
+    ghost kept_by = { λ errand fed. HearsOutSocket errand.hearing.language errand.hearing.count errand.port.value fed.port fed.report };
 }
 
 /// A thread that listens.
@@ -62,92 +90,48 @@ fn closed<H: Wait>(rt: &H, mut port: Port) -> Port
     port
 }
 
-/// Feeds a port with the messages of so many SIP datagrams of a wire, and closes the port.
-fn feed_whole<H: Wait, W: Wire>(
+/// Feeds a port with what so many datagrams of a wire say in this language, and closes the port.
+fn hear_out<H: Wait, W: Wire>(
     rt: &H,
     alloc: Global,
     wire: &mut W,
     mut port: Port,
-    count: u32,
+    hearing: Hearing,
 ) -> Fed
     requires { 0 < port.still_open }
-    ensures heard { HearsOut (W.given wire.old) (W.given wire.new) language.Sip count port result.port result.report }
+    ensures heard { HearsOut (W.given wire.old) (W.given wire.new) hearing.language hearing.count port result.port result.report }
     ensures failures { W.failures wire.new ≡ failures_at result.report.end (W.failures wire.old) }
 {
-    let report = feed(rt, alloc, wire, &mut port, count);
+    let report = listen(rt, alloc, wire, &mut port, hearing.language, hearing.count);
     let port = closed(rt, port);
     Fed { port, report }
 }
 
-/// Feeds a port with the control lines of a wire, and closes the port.
-fn control_whole<H: Wait, W: Wire>(rt: &H, alloc: Global, wire: &mut W, mut port: Port) -> Fed
-    requires { 0 < port.still_open }
-    ensures heard { HearsOut (W.given wire.old) (W.given wire.new) language.Control most_lines port result.port result.report }
-    ensures failures { W.failures wire.new ≡ failures_at result.report.end (W.failures wire.old) }
-{
-    let report = control(rt, alloc, wire, &mut port);
-    let port = closed(rt, port);
-    Fed { port, report }
-}
-
-/// Starts a thread that feeds a port with so many SIP datagrams of a socket. Where there is none the port goes away unclosed.
-pub(crate) fn start_feed<H: Threads + Wait + Copy + Send + 'static>(
+/// Starts a thread that feeds a port with what it is to hear of the datagrams of a socket. Where there is none the port goes away unclosed.
+pub(crate) fn start_listener<H: Threads + Wait + Copy + Send + 'static>(
     rt: H,
     alloc: Global,
     wire: UdpWire,
     port: Port,
-    count: u32,
+    hearing: Hearing,
 ) -> Result<Listener, NoThread>
     requires { 0 < port.still_open }
     ensures port { IfOk result (λ h. h.promise.port.value ≡ port) }
-    ensures language { IfOk result (λ h. h.promise.language ≡ language.Sip) }
-    ensures count { IfOk result (λ h. h.promise.count ≡ count) }
+    ensures hearing { IfOk result (λ h. h.promise.hearing ≡ hearing) }
 {
     let errand = Errand {
         port: Snapshot::of(&port),
-        language: Language::Sip,
-        count,
+        hearing,
     };
     let listener = thread::spawn_with(
         &rt,
         errand,
         move || -> Fed
             requires { 0 < port.still_open }
-            ensures { HearsOutSocket language.Sip count port result.port result.report }
+            ensures { HearsOutSocket hearing.language hearing.count port result.port result.report }
         {
             let mut wire = wire;
-            feed_whole(&rt, alloc, &mut wire, port, count)
-        },
-    )?;
-    Ok(listener)
-}
-
-/// Starts a thread that feeds a port with the control lines of a socket. Where there is none the port goes away unclosed.
-pub(crate) fn start_control<H: Threads + Wait + Copy + Send + 'static>(
-    rt: H,
-    alloc: Global,
-    wire: UdpWire,
-    port: Port,
-) -> Result<Listener, NoThread>
-    requires { 0 < port.still_open }
-    ensures port { IfOk result (λ h. h.promise.port.value ≡ port) }
-    ensures language { IfOk result (λ h. h.promise.language ≡ language.Control) }
-    ensures count { IfOk result (λ h. h.promise.count ≡ most_lines) }
-{
-    let errand = Errand {
-        port: Snapshot::of(&port),
-        language: Language::Control,
-        count: MOST_CONTROL_LINES,
-    };
-    let listener = thread::spawn_with(
-        &rt,
-        errand,
-        move || -> Fed
-            requires { 0 < port.still_open }
-            ensures { HearsOutSocket language.Control most_lines port result.port result.report }
-        {
-            let mut wire = wire;
-            control_whole(&rt, alloc, &mut wire, port)
+            hear_out(&rt, alloc, &mut wire, port, hearing)
         },
     )?;
     Ok(listener)

@@ -5,7 +5,7 @@ ghost use Rattle.crew.specs.Ports.{PortSeats};
 ghost use Rattle.commands.specs.UdpServing.{Serves};
 ghost use Rattle.commands.specs.UdpRunning.{IsNew, AreErrands, outcome_of};
 
-use crate::udp_listening::{Listener, NoThread, start_control, start_feed};
+use crate::udp_listening::{Hearing, Listener, NoThread, start_listener};
 use crew::{Crew, Port, Report};
 use feeds::{EmitReport, FeedReport, emit};
 use queues::outbox::Taker;
@@ -18,7 +18,7 @@ use transport::{Sink, UdpWire, Wire};
 
 /// What came of a run.
 #[derive(Drop)]
-pub(crate) struct Served {
+pub(crate) struct UdpServed {
     pub(crate) feed: FeedReport,
     pub(crate) control: FeedReport,
     pub(crate) emitted: EmitReport,
@@ -72,14 +72,14 @@ fn serve_to_end<H: Threads + Wait + Clock, F: Write>(
     mut ports: Vec<Port>,
     listeners: Listeners,
     sink: &mut Sink<F>,
-) -> Served
+) -> UdpServed
     requires new { (start : ℕ → Start)
         × IsNew start (listeners.sip.promise.port.value ∷ listeners.control.promise.port.value ∷ []) running }
     requires errands { AreErrands listeners.sip.promise listeners.control.promise }
     requires room { (vec_len ports ≡ 0) × (2 ≤ vec_capacity ports) }
     ensures { (start : ℕ → Start)
         → IsNew start (listeners.sip.promise.port.value ∷ listeners.control.promise.port.value ∷ []) running
-        → Serves F.contents start running.workers listeners.sip.promise.count sink.old sink.new (outcome_of result) }
+        → Serves F.contents start running.workers listeners.sip.promise.hearing.count sink.old sink.new (outcome_of result) }
 {
     let Running {
         crew,
@@ -94,7 +94,7 @@ fn serve_to_end<H: Threads + Wait + Clock, F: Write>(
     ports.push_reserved(sip.port);
     ports.push_reserved(control.port);
     let report = crew.join(rt, ports, taker);
-    Served {
+    UdpServed {
         feed: sip.report,
         control: control.report,
         emitted,
@@ -127,7 +127,7 @@ pub(crate) fn serve<H, F>(
     mut ports: Vec<Port>,
     ears: Ears,
     sink: &mut Sink<F>,
-) -> Result<Served, NoThread>
+) -> Result<UdpServed, NoThread>
 where
     H: Threads + Wait + Clock + Copy + Send + 'static,
     F: Write,
@@ -146,12 +146,12 @@ where
         count,
     } = ears;
     let control_addr = control.local();
-    let Ok(control) = start_control(rt, alloc, control, second) else {
+    let Ok(control) = start_listener(rt, alloc, control, second, Hearing::control()) else {
         drop(first);
         wind_up(&rt, alloc, running);
         return Err(NoThread);
     };
-    let Ok(sip) = start_feed(rt, alloc, sip, first, count) else {
+    let Ok(sip) = start_listener(rt, alloc, sip, first, Hearing::sip(count)) else {
         let mut running = running;
         let _ = running.outgoing.send(&rt, control_addr, b"CLOSE");
         // First the port that it closed goes: while an end of it is kept the workers wait for the one that went away unclosed.

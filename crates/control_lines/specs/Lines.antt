@@ -52,8 +52,7 @@ IsNoLine octets = (c : Control) → IsControlLine octets c → (n : ℕ) × (c �
 
 -- what the bytes ask for. An answer asks for nothing
 abbrev pub Asks : List ℕ → Asked → Type 0
-Asks octets (asked.Mail m) = IsControlLine octets (control.Mail m)
-Asks octets (asked.Progress p) = IsControlLine octets (control.Progress p)
+Asks octets (asked.Change c) = IsControlLine octets (control.Change c)
 Asks octets asked.Close = IsControlLine octets control.Close
 Asks octets (asked.Question q) = question_in octets ≡ Some q
 Asks octets asked.Nothing = is_answer octets ≡ true

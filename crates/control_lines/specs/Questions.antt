@@ -6,20 +6,12 @@
 --            / "WATCHERS" [SP (mailbox / "*") [SP place]]   ; `*` stands for all mailboxes, a place is decimal, below 2^64
 --
 -- A LF may follow. The mailbox of SHOW and DUMP goes to the end of the line.
-use Rattle.std.specs.Prelude.{ℕ, List, [], Option, Some, None, codes, bytes_eq, ◌==◌, length, if◌then◌else◌}
+use Rattle.std.specs.Prelude.{ℕ, List, Option, Some, None, codes, bytes_eq, if◌then◌else◌}
 use Rattle.std.specs.Str.{byte}
 use Rattle.sip_text.specs.Reading.{◌>>=◌, cut_at, text_of, plain_number}
+use Rattle.scripts.specs.Lines.{bare_line}
 use Rattle.control_lines.specs.declared.question.Question.{Question}
 use Rattle.control_lines.specs.declared.question.Question.TheVariants as question
-
--- what is left of bytes that were cut at their first LF: it may only stand last
-abbrev pub ended : Option (List ℕ × List ℕ) → List ℕ → Option (List ℕ)
-ended None octets = Some octets
-ended (Some cut) octets = if length cut.1 == 0 then Some cut.0 else None
-
--- the line without the LF at its end
-unfoldable pub line_in : List ℕ → Option (List ℕ)
-line_in octets = ended (cut_at (byte "\n") octets) octets
 
 -- the watchers of the mailbox that the word names, or of all, from this place on
 unfoldable pub watched : List ℕ → ℕ → Option Question
@@ -54,4 +46,4 @@ question_of line =
 
 -- the question that these bytes ask, if they ask one
 unfoldable pub question_in : List ℕ → Option Question
-question_in octets = line_in octets >>= question_of
+question_in octets = bare_line octets >>= question_of

@@ -5,17 +5,15 @@ ghost use Rattle.control_lines.specs.Questions.{question_in};
 
 use crate::answer::is_answer;
 use crate::question::{Question, parse_question};
-use package::{MailChange, Progress};
+use package::Change;
 use scripts::{Control, ScriptError, one_reading, parse_control};
 use std::alloc::Global;
 
 /// What a control line asks of a running service.
 #[derive(Debug, Drop)]
 pub enum Asked {
-    /// What a mailbox holds now.
-    Mail(MailChange),
-    /// How a transfer goes.
-    Progress(Progress),
+    /// To take in what a mailbox holds now, or how far a transfer has come.
+    Change(Change),
     /// To end.
     Close,
     /// To be told something.
@@ -37,8 +35,7 @@ fn hear_control(alloc: Global, octets: &[u8]) -> Asked
 {
     one_reading();
     match parse_control(alloc, octets) {
-        Ok(Control::Mail(change)) => Asked::Mail(change),
-        Ok(Control::Progress(progress)) => Asked::Progress(progress),
+        Ok(Control::Change(change)) => Asked::Change(change),
         Ok(Control::Close) => Asked::Close,
         Ok(Control::Tick(_)) => Asked::Bad,
         Err(ScriptError::NoMemory) => Asked::NoMemory,

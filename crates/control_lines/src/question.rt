@@ -1,8 +1,9 @@
 //! What a control line asks to be told.
 ghost use Rattle.std.specs.Prelude.{◌≡◌};
-ghost use Rattle.sip_text.specs.Bytes.{Finds, Gives};
+ghost use Rattle.sip_text.specs.Bytes.{Gives};
 ghost use Rattle.control_lines.specs.Questions as spec;
 
+use scripts::bare_line;
 use sip_text::{NoMemory, Text, cut_at, plain_number, text_of};
 use std::alloc::Global;
 
@@ -17,18 +18,6 @@ pub enum Question {
     Dump(Option<Text>),
     /// Who watches this mailbox, or any, from this place in the list on.
     Watchers(Option<Text>, u64),
-}
-
-/// The line without the LF at its end.
-#[tactic(auto, unfolding(crate::specs::Questions::line_in))]
-fn bare_line(octets: &[u8]) -> Option<&[u8]>
-    ensures { Finds (λ x. x.now) result (spec.line_in octets.now) }
-{
-    match cut_at(b'\n', octets) {
-        Some((line, [])) => Some(line),
-        Some(_) => None,
-        None => Some(octets),
-    }
 }
 
 /// Who watches the mailbox that this word names, or any where it is `*`, from this place on.

@@ -23,7 +23,7 @@ const SCRIPTS: [&str; 3] = [
     "a_replay_without_memory_is_spent",
 ];
 
-/// The event of a block. Each datagram here is read, so what is not is want of memory.
+/// The event of a block. Each datagram here is read and each change is an event, so what is not is want of memory.
 fn event_of(alloc: Global, block: Block) -> Result<Event, NoMemory> {
     match block {
         Block::Sip(addr, octets) => match read(alloc, octets.as_slice()) {
@@ -31,8 +31,7 @@ fn event_of(alloc: Global, block: Block) -> Result<Event, NoMemory> {
             Ok(Message::Response(response)) => Ok(Event::Reply(response)),
             Err(_) => Err(NoMemory),
         },
-        Block::Mail(change) => Ok(Event::Mail(change)),
-        Block::Progress(progress) => Ok(Event::Progress(progress)),
+        Block::Change(change) => Event::of(change).ok_or(NoMemory),
         Block::Tick(time) => Ok(Event::Tick(time)),
     }
 }

@@ -16,7 +16,6 @@ use Rattle.notifier_model.specs.declared.event.Out.{Out}
 use Rattle.notifier_model.specs.declared.event.Out.TheVariants as out
 use Rattle.queues.specs.OutboxSeats.{TakerSeat}
 use Rattle.queues.specs.OutboxTook.{Took}
-use Rattle.queues.specs.declared.outbox.Posted.{Posted}
 use Rattle.queues.specs.declared.outbox.Posted.TheVariants as posted
 use Rattle.transport.specs.declared.datagram.Datagram.{Datagram}
 use Rattle.transport.specs.Wires.{Grows}
@@ -222,9 +221,6 @@ running_first t left told wire writer all none = record {
   emitted = emitting_none t.workers t.got wire writer;
 }
 
-pub took_as : (t u : TakerSeat) (x y : Posted) → x ≡ y → Took t x u → Took t y u
-took_as t u x y is took = let P : Posted → Type 0 = λ z. Took t z u in subst P is took
-
 module _ {log : Fates} {t0 t : TakerSeat} {left : ℕ} {told told' : Option (List Datagram)} {wire wire' : WireSeen} {writer writer' : WriterSeen} {report : EmitReport}
     (was : Running log t0 t left told told' wire wire' writer writer' report) where
   pub running_end : (u : TakerSeat) (left' w : ℕ) → Took t (posted.Ended w) u → left' + 1 ≡ left
@@ -258,6 +254,12 @@ module _ {log : Fates} {t0 t : TakerSeat} {left : ℕ} {told told' : Option (Lis
         given = grows_same told told' told'' [] was.given none;
         emitted = emitting_out was.emitted u.got w o f after after' (subst (λ n. w < n) was.workers took.1.0) got may took_it failed failed' wrote_it;
       }
+
+  -- the same taker by another name, where as many are left
+  pub running_as : (u : TakerSeat) (left' : ℕ) → u ≡ t → left' ≡ left → Running log t0 u left' told told' wire wire' writer writer' report
+  running_as u left' same as_many =
+      let P : TakerSeat → Type 0 = λ k. Running log t0 k left' told told' wire wire' writer writer' report in
+      let Q : ℕ → Type 0 = λ n. Running log t0 t n told told' wire wire' writer writer' report in subst P (sym same) (subst Q (sym as_many) was)
 
   pub running_done : left ≡ 0 → AllEnded t0.workers t.got
   running_done none = all_ended t0.workers t.got (let l = was.left_is in omega arith)

@@ -2,7 +2,7 @@
 use Rattle.std.specs.Prelude.{◌≡◌, ℕ, ◌+◌, Bool, true, false, not, List, [], ◌∷◌, ◌++◌, length, map, Option, Some, None}
 use Rattle.std.specs.List.{filter, filter_map, flat_map, AllByRecursion}
 use Rattle.std.specs.Io.KnownBytes.{Appends}
-use Rattle.transport.specs.Devices.{rises, AppendsFront}
+use Rattle.transport.specs.Devices.{SinkSeen, rises, AppendsFront}
 use Rattle.scripts.specs.Page.{start_text}
 use Rattle.queues.specs.declared.items.Item.{Item}
 use Rattle.queues.specs.Values.{values}
@@ -139,6 +139,12 @@ pub record WireSeen : Type 0 where
 pub record WriterSeen : Type 0 where
   pub contents : Option (List ℕ)
   pub failures : ℕ
+
+abbrev pub wire_seen : {W : Type 0} → (W → Option (List Datagram)) → (W → ℕ) → W → WireSeen
+wire_seen taken failures wire = record { taken = taken wire; failures = failures wire }
+
+abbrev pub writer_seen : {W : Type 0} → (W → Option (List ℕ)) → SinkSeen W → WriterSeen
+writer_seen contents sink = record { contents = contents sink.writer; failures = sink.failures }
 
 -- the outs that were got of the workers met these fates. The wire took, in order, just the datagrams that were sent, and failed
 -- at the others; the writer failed at each transfer that isn't written; it took of each out, in order, what that is, and so,

@@ -95,6 +95,12 @@ IsTold heard.Close old new told.Close = new ≡ old
 
 -- ---- all of them
 
+-- whether a feed ended since its wire failed
+abbrev pub is_fault : FeedEnd → Bool
+is_fault Done = false
+is_fault Fault = true
+is_fault Gone = false
+
 -- CLOSE came last
 pub record ClosesLast (log : Log) : Type 0 where
   pub before : Log

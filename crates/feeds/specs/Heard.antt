@@ -16,6 +16,7 @@ use Rattle.scripts.specs.declared.error.ScriptError.TheVariants as error
 use Rattle.scripts.specs.Script.{IsControlLine}
 use Rattle.notifier_model.specs.declared.event.Event.{Event}
 use Rattle.notifier_model.specs.declared.event.Event.TheVariants as event
+use Rattle.notifier_model.specs.Told.{told_event}
 use Rattle.transport.specs.declared.datagram.Datagram.{Datagram}
 use Rattle.feeds.specs.declared.hearing.Heard.{Heard}
 use Rattle.feeds.specs.declared.hearing.Heard.TheVariants as heard
@@ -38,8 +39,7 @@ SipSays source octets heard.Close = ⊥
 
 -- the event that a line is; CLOSE is none
 abbrev pub event_in : Control → Option Event
-event_in (control.Mail m) = Some (event.Mail m)
-event_in (control.Progress p) = Some (event.Progress p)
+event_in (control.Change c) = told_event c
 event_in (control.Tick n) = Some (event.Tick n)
 event_in control.Close = None
 

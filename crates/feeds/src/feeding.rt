@@ -2,7 +2,7 @@
 ghost use Rattle.std.specs.Prelude.{◌≡◌, ◌<◌, ◌∷◌, [], MatchBool};
 ghost use Rattle.crew.specs.Kept.{SameSeats};
 ghost use Rattle.transport.specs.Wires.{Grows};
-ghost use Rattle.feeds.specs.Fed.{Sends, Misses, IsTold, Log, datagrams, IsFed, failures_at};
+ghost use Rattle.feeds.specs.Fed.{Sends, Misses, IsTold, Log, datagrams, IsFed, is_fault, failures_at};
 
 use crate::hearing::{Heard, Language, hear};
 use crew::Port;
@@ -27,6 +27,15 @@ pub enum FeedEnd {
     Fault,
     /// A worker is gone.
     Gone,
+}
+
+impl FeedEnd {
+    /// Whether the wire failed.
+    pub fn is_fault(self) -> bool
+        ensures { result ≡ is_fault self }
+    {
+        matches!(self, FeedEnd::Fault)
+    }
 }
 
 /// What a feed did.
@@ -60,22 +69,6 @@ pub enum Told {
     Gone,
 }
 
-/// Sends an event that has a home. Any other is dropped.
-fn send_home<R: Wait>(rt: &R, port: &mut Port, happened: Event) -> bool
-    requires still_open { 0 < port.old.still_open }
-    ensures sent { MatchBool result (Sends port.old (happened ∷ []) port.new) (Misses port.old happened port.new) }
-    ensures seats { SameSeats port.old port.new }
-{
-    if is_for_all(&happened) {
-        drop(happened);
-        return false;
-    }
-    let told = port.send(rt, happened);
-    let is_sent = told.is_ok();
-    drop(told);
-    is_sent
-}
-
 /// Sends an event to its home, or a tick to all workers, and waits while an inbox is full. False where a worker is gone: an
 /// event with a home has gone to none then, and a tick to the workers before that one. A stop is no port's to send: false, and
 /// nothing is sent.
@@ -87,7 +80,12 @@ pub fn send_event<R: Wait>(rt: &R, port: &mut Port, happened: Event) -> bool
     match happened {
         // `..`: the event is looked at, and dropped as one
         Event::Tick(now, ..) => port.tick(rt, now).is_ok(),
-        other => send_home(rt, port, other),
+        other => {
+            if is_for_all(&other) {
+                return false;
+            }
+            port.send(rt, other).is_ok()
+        }
     }
 }
 

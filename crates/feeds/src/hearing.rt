@@ -53,8 +53,7 @@ pub fn hear_control(alloc: Global, octets: &[u8]) -> Heard
     ensures { ControlSays octets.now result }
 {
     match parse_control(alloc, octets) {
-        Ok(Control::Mail(change)) => Heard::Event(Event::Mail(change)),
-        Ok(Control::Progress(progress)) => Heard::Event(Event::Progress(progress)),
+        Ok(Control::Change(change)) => Event::of(change).map_or(Heard::Unread, Heard::Event),
         Ok(Control::Tick(time)) => Heard::Event(Event::Tick(time)),
         Ok(Control::Close) => Heard::Close,
         Err(_) => Heard::Unread,

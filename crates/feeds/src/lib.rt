@@ -8,7 +8,7 @@
 //! [`emit`] takes the outs of an outbox until each worker has ended: it sends answers and NOTIFYs (RFC 3261 section 18) by a
 //! wire, and writes a line for each transfer that may start (RFC 3515). It promises that each out that was taken is sent,
 //! written or counted as failed, in order, and nothing else; and that an out counts as failed only where the wire or the
-//! writer failed at it. [`put_out`] is one step of it. [`laws`] says what that is for a subscription of a joined crew.
+//! writer failed at it. [`next_out`] and [`put_out`] are steps of it. [`laws`] says what that is for a subscription of a joined crew.
 //!
 //! What it isn't: it starts no thread and no crew, and promises no progress. That a datagram arrives no contract can say.
 //! Begin with [`feed`] and [`emit`], then `specs/Heard`, `specs/Fed` and `specs/Emitted`.
@@ -18,6 +18,7 @@ mod feeding;
 mod hearing;
 pub mod laws;
 mod sending;
+mod waiting;
 mod writing;
 
 pub use feeding::{
@@ -26,3 +27,4 @@ pub use feeding::{
 pub use hearing::{Heard, Language, hear, hear_message, hear_sip};
 pub use sending::{EmitReport, Fate, emit, put_out};
 pub use transport::{Datagram, MemoryWire, UdpWire, Wire, WireFault};
+pub use waiting::{Idle, Next, next_out};

@@ -3,12 +3,13 @@ ghost use Rattle.std.specs.Prelude.{◌≡◌, ◌⊎◌, ◌∷◌, [], true, f
 ghost use Rattle.queues.specs.Ended.{count_ended, AllEnded};
 ghost use Rattle.transport.specs.Devices.{rises};
 ghost use Rattle.transport.specs.Wires.{Grows};
-ghost use Rattle.feeds.specs.Emitted.{Fates, IsEmitted, MayMeet, Writes, counted, is_start, sent_datagrams, count, fails_to_send, fails_to_start};
+ghost use Rattle.feeds.specs.Emitted.{wire_seen, writer_seen, Fates, IsEmitted, MayMeet, Writes, counted, is_start, sent_datagrams, count, fails_to_send, fails_to_start};
 
+use crate::waiting::{Idle, Next, next_out};
 use crate::writing::write_start;
 use crew::count_up;
 use notifier_model::Out;
-use queues::outbox::{Posted, Taker};
+use queues::outbox::Taker;
 use std::io::Write;
 use std::rt::Clock;
 use std::sync::Wait;
@@ -16,10 +17,7 @@ use std::thread;
 use std::time::Duration;
 use transport::{Sink, Wire};
 
-/// How often nothing may be posted before the thread sleeps.
-const TURNS: u32 = 200;
-
-/// How long it sleeps then, in microseconds: much less than a phone notices.
+/// How long the thread sleeps where nothing is posted, in microseconds: much less than a phone notices.
 const NAP: u64 = 500;
 
 /// What became of an out.
@@ -91,15 +89,6 @@ impl EmitReport {
     }
 }
 
-/// Waits a little where nothing was posted so many times in a row.
-fn rest<R: Clock>(rt: &R, idle: u32) {
-    if idle < TURNS {
-        thread::yield_now();
-    } else {
-        thread::sleep(rt, Duration::from_micros(NAP));
-    }
-}
-
 /// Sends out what the workers post, in the order in which it is taken, until each worker has ended: answers and NOTIFYs by the
 /// wire, and a line for each transfer that starts. What fails is counted, and the rest goes on. Where nothing is posted the
 /// thread yields, and after a while it sleeps between two looks. No worker's end mark was taken yet.
@@ -114,10 +103,8 @@ pub fn emit<R: Wait + Clock, W: Wire, F: Write>(
     requires none_ended { count_ended taker.old.workers taker.old.got ≡ 0 }
     // Where the writer never failed, what it took is flushed.
     ensures emitted { (log : Fates) × IsEmitted taker.old.workers log taker.old.got taker.new.got
-        (record { taken = W.taken wire.old; failures = W.failures wire.old })
-        (record { taken = W.taken wire.new; failures = W.failures wire.new })
-        (record { contents = F.contents sink.old.writer; failures = sink.old.failures })
-        (record { contents = F.contents sink.new.writer; failures = sink.new.failures }) result
+        (wire_seen W.taken W.failures wire.old) (wire_seen W.taken W.failures wire.new)
+        (writer_seen F.contents sink.old) (writer_seen F.contents sink.new) result
         × (count fails_to_start log ≡ 0 → (sink.new ≡ sink.old) ⊎ (sink.new.is_flushed ≡ true)) }
     ensures given { Grows (W.given wire.old) (W.given wire.new) [] }
     ensures outbox { taker.new.outbox ≡ taker.old.outbox }
@@ -130,21 +117,23 @@ pub fn emit<R: Wait + Clock, W: Wire, F: Write>(
         failed: 0,
     };
     let mut left = workers;
-    let mut idle = 0u32;
+    let mut idle = Idle::new();
     for _ in rt.forever() {
         if left == 0 {
             return report;
         }
-        match taker.take(rt) {
-            Some(Posted::Ended(_)) => left -= 1,
-            Some(Posted::Out(_, out)) => {
-                idle = 0;
+        match next_out(rt, taker, &mut left) {
+            Next::Out(out) => {
+                idle.end();
                 let fate = put_out(rt, wire, sink, &out);
                 report.add(rt, fate);
             }
-            None => {
-                rest(rt, idle);
-                idle = idle.saturating_add(1);
+            Next::Ended => {}
+            Next::Nothing => {
+                idle.add();
+                if !idle.yields() {
+                    thread::sleep(rt, Duration::from_micros(NAP));
+                }
             }
         }
     }

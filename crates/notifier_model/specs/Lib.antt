@@ -8,6 +8,7 @@ pub mod Requests
 pub mod Answers
 pub mod Out
 pub mod Sent
+pub mod Told
 pub mod Rows
 pub mod Home
 pub mod HomeLaws

@@ -1,8 +1,9 @@
 //! What comes to a desk, and what it sends.
 ghost use Rattle.std.specs.Prelude.{◌≡◌};
 ghost use Rattle.notifier_model.specs.Sent.{notify_of};
+ghost use Rattle.notifier_model.specs.Told.{told_event};
 
-use package::{MailChange, Progress};
+use package::{Change, MailChange, Progress};
 use sip_read::{Addr, Boxed, Request, Response};
 use sip_text::{Octets, Text};
 use std::mem::size_of;
@@ -23,6 +24,20 @@ pub enum Event {
     /// The notifier stops as planned: each live subscription ends, and may be made again at once (RFC 6665 section
     /// 4.1.3).
     Shut,
+}
+
+impl Event {
+    /// The event that a change is which a notifier may be told: new counts, or how far a transfer has come. That a transfer begins
+    /// follows from its REFER, and that nobody asks for it any more from the end of its usage: both are None.
+    pub fn of(change: Change) -> Option<Event>
+        ensures { result ≡ told_event change }
+    {
+        match change {
+            Change::Mail(change) => Some(Event::Mail(change)),
+            Change::Step(progress) => Some(Event::Progress(progress)),
+            Change::Begin(_) | Change::Forget(_) => None,
+        }
+    }
 }
 
 /// By hand, so that all that lets go of an event calls this one function, and none proves the ways through each field.

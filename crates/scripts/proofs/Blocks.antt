@@ -1,5 +1,5 @@
 -- The blocks of a script: what is found is one, and one is found.
-use Rattle.std.proofs.Common.{◌≡◌, ℕ, zero, suc, ◌<◌, ◌≤◌, Bool, true, false, cond, List, [], ◌∷◌, ◌++◌, length, take, drop, Option, Some, None, refl, sym, ap, subst, ◌∙◌, arith, append_assoc}
+use Rattle.std.proofs.Common.{◌≡◌, ℕ, zero, suc, ◌+◌, ◌<◌, ◌≤◌, Bool, true, false, cond, List, [], ◌∷◌, ◌++◌, length, take, drop, Option, Some, None, refl, sym, ap, subst, ◌∙◌, arith, append_assoc}
 use Rattle.std.specs.Prelude.{decimal, codes, bytes_eq, nat_lt}
 use Rattle.std.specs.List.{flat_map, AllByRecursion}
 use Rattle.std.proofs.lemmas.List.{length-append, take-append-drop, take_at, drop_at, length-take-le}
@@ -14,13 +14,13 @@ use Rattle.scripts.specs.declared.error.ScriptError.TheVariants as error
 use Rattle.sip_text.specs.Reading.{◌>>=◌, cut_at, after_byte, plain_up_to, addr_of}
 use Rattle.scripts.specs.Reading.{Fails, octets_at, sip_head, sip_at, named_at, block_of, block_named, block_at, blocks_at, blocks_of}
 use Rattle.sip_text.specs.Addresses.{addr_text, IsAddr}
-use Rattle.scripts.specs.Script.{sip_text, control_text, block_text, lf, IsControl, IsBlock, IsScript}
+use Rattle.scripts.specs.Script.{sip_text, change_text, control_text, block_text, lf, IsControl, IsBlock, IsScript}
 use Rattle.sip_text.proofs.Cuts.{cut_takes, cut_again, Lacks, lacks_append}
 use Rattle.sip_text.proofs.Pieces.{bind_some, some_is, byte_taken}
 use Rattle.sip_text.proofs.Repeats.{IsRepeated, with_front, fails}
 use Rattle.sip_text.proofs.PlainNumbers.{up_to_takes, up_to_again}
 use Rattle.sip_text.proofs.Addresses.{addr_takes, addr_again, addr_lacks, decimal_lacks}
-use Rattle.scripts.proofs.Lines.{same_text, or_takes, named_takes, HasWord, mail_word, progress_word, tick_word, line_lacks}
+use Rattle.scripts.proofs.Lines.{same_text, or_takes, named_takes, HasWord, change_word, tick_word, line_lacks}
 
 -- ---- SIP blocks
 
@@ -101,8 +101,7 @@ line_takes name words t b r e =
       ends x y z same = ap (λ (l : List ℕ). l ++ 10 ∷ z) same ∙ sym (append_assoc y lf z)
 
       made : (c : Control) (x : Block) → block_of c ≡ Some x → IsControl c → name ++ 32 ∷ words ≡ control_text c → TakesBlock ((name ++ 32 ∷ words) ++ 10 ∷ t) x t
-      made (control.Mail m) x e h whole = subst (λ (z : Block). TakesBlock ((name ++ 32 ∷ words) ++ 10 ∷ t) z t) (some_is (block.Mail m) x e) (record { is_block = h; whole = ends (name ++ 32 ∷ words) (control_text (control.Mail m)) t whole })
-      made (control.Progress g) x e h whole = subst (λ (z : Block). TakesBlock ((name ++ 32 ∷ words) ++ 10 ∷ t) z t) (some_is (block.Progress g) x e) (record { is_block = h; whole = ends (name ++ 32 ∷ words) (control_text (control.Progress g)) t whole })
+      made (control.Change g) x e h whole = subst (λ (z : Block). TakesBlock ((name ++ 32 ∷ words) ++ 10 ∷ t) z t) (some_is (block.Change g) x e) (record { is_block = h; whole = ends (name ++ 32 ∷ words) (control_text (control.Change g)) t whole })
       made (control.Tick n) x e h whole = subst (λ (z : Block). TakesBlock ((name ++ 32 ∷ words) ++ 10 ∷ t) z t) (some_is (block.Tick n) x e) (record { is_block = h; whole = ends (name ++ 32 ∷ words) (control_text (control.Tick n)) t whole })
       made control.Close x e h whole = absurd cc
 
@@ -141,15 +140,13 @@ line_again c b r h w is =
 
 block_again : (b : Block) (r : List ℕ) → IsBlock b → block_at (block_text b ++ r) ≡ Some (b, r)
 block_again (block.Sip addr octets) r h = sip_again addr octets r h.0 h.1
-block_again (block.Mail m) r h = line_again (control.Mail m) (block.Mail m) r h (mail_word m h) refl
-block_again (block.Progress g) r h = line_again (control.Progress g) (block.Progress g) r h (progress_word g h) refl
+block_again (block.Change c) r h = line_again (control.Change c) (block.Change c) r h (change_word c h) refl
 block_again (block.Tick n) r h = line_again (control.Tick n) (block.Tick n) r h (tick_word n h) refl
 
 -- no block is empty
 block_length : (b : Block) → 0 < length (block_text b)
 block_length (block.Sip addr octets) = omega arith
-block_length (block.Mail m) = omega arith
-block_length (block.Progress g) = omega arith
+block_length (block.Change c) = let whole : length (change_text c ++ lf) ≡ length (change_text c) + 1 = length-append (change_text c) lf in omega (arith, whole)
 block_length (block.Tick n) = omega arith
 
 -- ---- blocks one after the other

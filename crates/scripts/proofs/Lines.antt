@@ -8,6 +8,8 @@ use Rattle.std.proofs.lemmas.Bool.Decides.{nat_tests}
 use Rattle.std.proofs.lemmas.Slice.Eq.{bytes_eq-Decides}
 use Rattle.package.specs.Values.{MailChange, Progress, IsMailChange, IsProgress as IsAllowedProgress}
 use Rattle.package.specs.Texts.{is_word, is_printable, is_control, is_unbroken}
+use Rattle.package.specs.declared.change.Change.{Change}
+use Rattle.package.specs.declared.change.Change.TheVariants as change
 use Rattle.package.specs.declared.counts.Counts.{Counts}
 use Rattle.package.specs.declared.counts.Class.{Class}
 use Rattle.package.specs.declared.counts.Class.TheVariants as class
@@ -16,7 +18,7 @@ use Rattle.scripts.specs.declared.script.Control.TheVariants as control
 use Rattle.scripts.specs.Changes.{is_mail, is_progress, mail_of, progress_of}
 use Rattle.sip_text.specs.Reading.{◌>>=◌, cut_at, plain_number, plain_up_to, text_of}
 use Rattle.scripts.specs.Reading.{class_of, count_at, counts_of, mail_words, mail_at, progress_words, progress_at, named_at}
-use Rattle.scripts.specs.Script.{class_text, mail_text, progress_text, control_text, IsMail, IsProgress, IsControl}
+use Rattle.scripts.specs.Script.{class_text, mail_text, progress_text, control_text, IsMail, IsProgress, IsTold, IsControl}
 use Rattle.sip_text.proofs.Cuts.{test_some, cut_takes, cut_again, Lacks, lacks_append, all_lacks}
 use Rattle.sip_text.proofs.Pieces.{bind_some, some_is, and_both}
 use Rattle.sip_text.proofs.PlainNumbers.{number_takes, number_again, up_to_takes, up_to_again}
@@ -316,21 +318,21 @@ pub named_takes : (name rest : List ℕ) (c : Control) → named_at name rest �
 unfolding named_at
 named_takes name rest c e =
     let tick : Option Control = cond (bytes_eq name (codes "TICK")) (plain_number rest >>= λ n. Some (control.Tick n)) None in
-    let others : Option Control = cond (bytes_eq name (codes "PROGRESS")) (progress_at rest >>= λ p. Some (control.Progress p)) tick in
-    or_takes (bytes_eq name (codes "MAIL")) (mail_at rest >>= λ m. Some (control.Mail m)) others c e of_mail
-    (λ _ e2. or_takes (bytes_eq name (codes "PROGRESS")) (progress_at rest >>= λ p. Some (control.Progress p)) tick c e2 of_progress
+    let others : Option Control = cond (bytes_eq name (codes "PROGRESS")) (progress_at rest >>= λ p. Some (control.Change (change.Step p))) tick in
+    or_takes (bytes_eq name (codes "MAIL")) (mail_at rest >>= λ m. Some (control.Change (change.Mail m))) others c e of_mail
+    (λ _ e2. or_takes (bytes_eq name (codes "PROGRESS")) (progress_at rest >>= λ p. Some (control.Change (change.Step p))) tick c e2 of_progress
     (λ _ e3. or_takes (bytes_eq name (codes "TICK")) (plain_number rest >>= λ n. Some (control.Tick n)) None c e3 of_tick (λ _ e4. absurd cc))) where
-      of_mail : bytes_eq name (codes "MAIL") ≡ true → (mail_at rest >>= λ m. Some (control.Mail m)) ≡ Some c → TakesLine name rest c
+      of_mail : bytes_eq name (codes "MAIL") ≡ true → (mail_at rest >>= λ m. Some (control.Change (change.Mail m))) ≡ Some c → TakesLine name rest c
       of_mail same e =
-          let p = bind_some (mail_at rest) (λ m. Some (control.Mail m)) c e in
+          let p = bind_some (mail_at rest) (λ m. Some (control.Change (change.Mail m))) c e in
           let k = mail_takes rest p.0 p.1 in
-          subst (TakesLine name rest) (some_is (control.Mail p.0) c p.2) (record { whole = ap (λ (l : List ℕ). l ++ 32 ∷ rest) (same_text name (codes "MAIL") same) ∙ k.0; is_control = k.1 })
+          subst (TakesLine name rest) (some_is (control.Change (change.Mail p.0)) c p.2) (record { whole = ap (λ (l : List ℕ). l ++ 32 ∷ rest) (same_text name (codes "MAIL") same) ∙ k.0; is_control = k.1 })
 
-      of_progress : bytes_eq name (codes "PROGRESS") ≡ true → (progress_at rest >>= λ p. Some (control.Progress p)) ≡ Some c → TakesLine name rest c
+      of_progress : bytes_eq name (codes "PROGRESS") ≡ true → (progress_at rest >>= λ p. Some (control.Change (change.Step p))) ≡ Some c → TakesLine name rest c
       of_progress same e =
-          let p = bind_some (progress_at rest) (λ g. Some (control.Progress g)) c e in
+          let p = bind_some (progress_at rest) (λ g. Some (control.Change (change.Step g))) c e in
           let k = progress_takes rest p.0 p.1 in
-          subst (TakesLine name rest) (some_is (control.Progress p.0) c p.2) (record { whole = ap (λ (l : List ℕ). l ++ 32 ∷ rest) (same_text name (codes "PROGRESS") same) ∙ k.0; is_control = k.1 })
+          subst (TakesLine name rest) (some_is (control.Change (change.Step p.0)) c p.2) (record { whole = ap (λ (l : List ℕ). l ++ 32 ∷ rest) (same_text name (codes "PROGRESS") same) ∙ k.0; is_control = k.1 })
 
       of_tick : bytes_eq name (codes "TICK") ≡ true → (plain_number rest >>= λ n. Some (control.Tick n)) ≡ Some c → TakesLine name rest c
       of_tick same e =
@@ -348,17 +350,23 @@ pub record HasWord (c : Control) : Type 0 where
   pub not_sip : bytes_eq name (codes "SIP") ≡ false
   pub named : named_at name rest ≡ Some c
 
-pub mail_word : (m : MailChange) → IsMail m → HasWord (control.Mail m)
+mail_word : (m : MailChange) → IsMail m → HasWord (control.Change (change.Mail m))
 unfolding named_at
 mail_word m h =
     let rest : List ℕ = m.mailbox ++ 32 ∷ (class_text m.class ++ 32 ∷ (decimal m.counts.new_count ++ 32 ∷ (decimal m.counts.old_count ++ 32 ∷ (decimal m.counts.urgent_new ++ 32 ∷ decimal m.counts.urgent_old)))) in
     record { name = codes "MAIL"; rest = rest; whole = refl; lacks = refl; not_close = refl; not_sip = refl; named = rw (mail_again m rest h refl) refl }
 
-pub progress_word : (g : Progress) → IsProgress g → HasWord (control.Progress g)
+progress_word : (g : Progress) → IsProgress g → HasWord (control.Change (change.Step g))
 unfolding named_at
 progress_word g h =
     let rest : List ℕ = g.tag ++ 32 ∷ (decimal g.code ++ 32 ∷ g.reason) in
     record { name = codes "PROGRESS"; rest = rest; whole = refl; lacks = refl; not_close = refl; not_sip = refl; named = rw (progress_again g rest h refl) refl }
+
+pub change_word : (c : Change) → IsTold c → HasWord (control.Change c)
+change_word (change.Mail m) h = mail_word m h
+change_word (change.Begin tag) h = absurd h
+change_word (change.Step g) h = progress_word g h
+change_word (change.Forget tag) h = absurd h
 
 pub tick_word : (n : ℕ) → n < 2 ^ 64 → HasWord (control.Tick n)
 unfolding named_at
@@ -387,7 +395,9 @@ progress_lacks g h =
     lacks_append 10 (codes "PROGRESS ") (g.tag ++ 32 ∷ (decimal g.code ++ 32 ∷ g.reason)) refl b
 
 pub line_lacks : (c : Control) → IsControl c → Lacks 10 (control_text c)
-line_lacks (control.Mail m) h = mail_lacks m h
-line_lacks (control.Progress g) h = progress_lacks g h
+line_lacks (control.Change (change.Mail m)) h = mail_lacks m h
+line_lacks (control.Change (change.Begin tag)) h = absurd h
+line_lacks (control.Change (change.Step g)) h = progress_lacks g h
+line_lacks (control.Change (change.Forget tag)) h = absurd h
 line_lacks (control.Tick n) h = lacks_append 10 (codes "TICK ") (decimal n) refl (decimal_lacks 10 n refl h)
 line_lacks control.Close h = refl

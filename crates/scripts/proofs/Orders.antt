@@ -7,17 +7,18 @@ use Rattle.scripts.specs.declared.error.ScriptError.TheVariants as error
 use Rattle.scripts.specs.declared.script.Control.{Control}
 use Rattle.scripts.specs.declared.script.Control.TheVariants as control
 use Rattle.sip_text.specs.Reading.{◌>>=◌, cut_at}
-use Rattle.scripts.specs.Reading.{Gives, named_at, ended, line_of, order_of, control_of, blocks_of}
+use Rattle.scripts.specs.Lines.{ended, bare_line}
+use Rattle.scripts.specs.Reading.{Gives, named_at, order_of, control_of, blocks_of}
 use Rattle.scripts.specs.Script.{control_text, lf, IsControl, IsControlLine, IsScript, Answers, IsExactScript, IsExactControlLine}
 use Rattle.sip_text.proofs.Cuts.{cut_takes, cut_again, cut_lacks, Lacks}
 use Rattle.sip_text.proofs.Pieces.{bind_some, some_is}
-use Rattle.scripts.proofs.Lines.{same_text, or_takes, named_takes, HasWord, mail_word, progress_word, tick_word, line_lacks}
+use Rattle.scripts.proofs.Lines.{same_text, or_takes, named_takes, HasWord, change_word, tick_word, line_lacks}
 use Rattle.scripts.proofs.Blocks.{script_takes, script_again}
 
 -- ---- a control line
 
-line_takes : (t l : List ℕ) → line_of t ≡ Some l → (t ≡ l) ⊎ (t ≡ l ++ lf)
-unfolding line_of
+line_takes : (t l : List ℕ) → bare_line t ≡ Some l → (t ≡ l) ⊎ (t ≡ l ++ lf)
+unfolding bare_line
 line_takes t l e = step (cut_at 10 t) refl e where
   at_end : (x r : List ℕ) → t ≡ x ++ 10 ∷ r → (b : Bool) → eqb (length r) 0 ≡ b → cond {A = Option (List ℕ)} b (Some x) None ≡ Some l → (t ≡ l) ⊎ (t ≡ l ++ lf)
   at_end x [] whole true is e = inr (whole ∙ ap (λ (y : List ℕ). y ++ lf) (some_is x l e))
@@ -29,8 +30,8 @@ line_takes t l e = step (cut_at 10 t) refl e where
   step None is e = inl (some_is t l e)
   step (Some p) is e = at_end p.0 p.1 (cut_takes 10 t p.0 p.1 is).0 (eqb (length p.1) 0) refl e
 
-line_again : (t l : List ℕ) → Lacks 10 l → (t ≡ l) ⊎ (t ≡ l ++ lf) → line_of t ≡ Some l
-unfolding line_of
+line_again : (t l : List ℕ) → Lacks 10 l → (t ≡ l) ⊎ (t ≡ l ++ lf) → bare_line t ≡ Some l
+unfolding bare_line
 line_again t l lacks (inl same) = rw (same, cut_lacks 10 l lacks) refl
 line_again t l lacks (inr same) = rw (same, cut_again 10 l [] lacks) refl
 
@@ -58,15 +59,14 @@ word_again c w = rw (w.not_close, w.whole, cut_again 32 w.name w.rest w.lacks, w
 
 order_again : (c : Control) → IsControl c → order_of (control_text c) ≡ Some c
 unfolding order_of
-order_again (control.Mail m) h = word_again (control.Mail m) (mail_word m h)
-order_again (control.Progress g) h = word_again (control.Progress g) (progress_word g h)
+order_again (control.Change g) h = word_again (control.Change g) (change_word g h)
 order_again (control.Tick n) h = word_again (control.Tick n) (tick_word n h)
 order_again control.Close h = refl
 
 pub control_takes : (t : List ℕ) (c : Control) → control_of t ≡ Some c → IsControlLine t c
 unfolding control_of
 control_takes t c e =
-    let p = bind_some (line_of t) (λ l. order_of l) c e in
+    let p = bind_some (bare_line t) (λ l. order_of l) c e in
     let k = order_takes p.0 c p.2 in
     record { is_control = k.is_control; whole = subst (λ (l : List ℕ). (t ≡ l) ⊎ (t ≡ l ++ lf)) k.whole (line_takes t p.0 p.1) }
 

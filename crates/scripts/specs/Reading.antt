@@ -1,9 +1,10 @@
 -- What the reader of scripts computes, piece by piece. No public contract cites this.
-use Rattle.std.specs.Prelude.{◌≡◌, ℕ, zero, suc, List, [], ◌∷◌, length, take, drop, nat_lt, ◌==◌, if◌then◌else◌, Option, Some, None, Result, Ok, Err, codes, bytes_eq}
+use Rattle.std.specs.Prelude.{◌≡◌, ℕ, zero, suc, List, [], ◌∷◌, length, take, drop, nat_lt, if◌then◌else◌, Option, Some, None, Result, Ok, Err, codes, bytes_eq}
 use Rattle.std.specs.Str.{byte}
 use Rattle.sip_text.specs.declared.address.Addr.{Addr}
 use Rattle.sip_text.specs.Reading.{◌>>=◌, after_byte, cut_at, text_of, plain_number, plain_up_to, addr_of}
 use Rattle.package.specs.Values.{MailChange, Progress}
+use Rattle.package.specs.declared.change.Change.TheVariants as change
 use Rattle.package.specs.declared.counts.Counts.{Counts}
 use Rattle.package.specs.declared.counts.Class.{Class}
 use Rattle.package.specs.declared.counts.Class.TheVariants as class
@@ -14,6 +15,7 @@ use Rattle.scripts.specs.declared.script.Control.TheVariants as control
 use Rattle.scripts.specs.declared.error.ScriptError.{ScriptError}
 use Rattle.scripts.specs.declared.error.ScriptError.TheVariants as error
 use Rattle.scripts.specs.Changes.{mail_of, progress_of}
+use Rattle.scripts.specs.Lines.{bare_line}
 
 -- ---- lines
 
@@ -75,8 +77,8 @@ progress_at t = do
 -- the line of this first word and this rest
 unfoldable pub named_at : List ℕ → List ℕ → Option Control
 named_at name rest =
-    if bytes_eq name (codes "MAIL") then (mail_at rest >>= λ m. Some (control.Mail m))
-    else if bytes_eq name (codes "PROGRESS") then (progress_at rest >>= λ p. Some (control.Progress p))
+    if bytes_eq name (codes "MAIL") then (mail_at rest >>= λ m. Some (control.Change (change.Mail m)))
+    else if bytes_eq name (codes "PROGRESS") then (progress_at rest >>= λ p. Some (control.Change (change.Step p)))
     else if bytes_eq name (codes "TICK") then (plain_number rest >>= λ n. Some (control.Tick n))
     else None
 
@@ -102,8 +104,7 @@ sip_at head t = do
 
 -- a line as a block, which CLOSE isn't
 abbrev pub block_of : Control → Option Block
-block_of (control.Mail m) = Some (block.Mail m)
-block_of (control.Progress p) = Some (block.Progress p)
+block_of (control.Change c) = Some (block.Change c)
 block_of (control.Tick n) = Some (block.Tick n)
 block_of control.Close = None
 
@@ -132,22 +133,13 @@ blocks_of t = blocks_at (length t) t
 
 -- ---- a control line
 
--- what is left of bytes that were cut at their first LF: it may only stand last
-abbrev pub ended : Option (List ℕ × List ℕ) → List ℕ → Option (List ℕ)
-ended None t = Some t
-ended (Some p) t = if length p.1 == 0 then Some p.0 else None
-
--- the line without the LF at its end
-unfoldable pub line_of : List ℕ → Option (List ℕ)
-line_of t = ended (cut_at (byte "\n") t) t
-
 -- a line without its LF
 unfoldable pub order_of : List ℕ → Option Control
 order_of line = if bytes_eq line (codes "CLOSE") then Some control.Close else (cut_at (byte " ") line >>= λ word. named_at word.0 word.1)
 
 unfoldable pub control_of : List ℕ → Option Control
 control_of t = do
-  line ← line_of t
+  line ← bare_line t
   order_of line
 
 -- ---- what code returns

@@ -11,10 +11,12 @@
 --   class    = "voice" / "fax" / "pager" / "multimedia" / "text"
 --
 -- Each number is decimal without leading zeros, so each block has one text, and a script is the texts of its blocks, joined.
-use Rattle.std.specs.Prelude.{◌≡◌, ℕ, ◌<◌, ◌≤◌, ◌^◌, List, ◌++◌, length, codes, decimal, IsUtf8, ◌⊎◌, Result, Ok, Err}
+use Rattle.std.specs.Prelude.{◌≡◌, ℕ, ◌<◌, ◌≤◌, ◌^◌, List, [], ◌++◌, length, codes, decimal, IsUtf8, ◌⊎◌, Result, Ok, Err}
 use Rattle.std.specs.List.{flat_map, AllByRecursion}
 use Rattle.sip_text.specs.declared.address.Addr.{Addr}
 use Rattle.sip_text.specs.Addresses.{addr_text, IsAddr}
+use Rattle.package.specs.declared.change.Change.{Change}
+use Rattle.package.specs.declared.change.Change.TheVariants as change
 use Rattle.package.specs.Values.{MailChange, Progress, IsMailChange, IsProgress as IsAllowedProgress}
 use Rattle.package.specs.declared.counts.Class.{Class}
 use Rattle.package.specs.declared.counts.Class.TheVariants as class
@@ -49,10 +51,16 @@ progress_text p = codes "PROGRESS " ++ (p.tag ++ (codes " " ++ (decimal p.code +
 abbrev pub tick_text : ℕ → List ℕ
 tick_text n = codes "TICK " ++ decimal n
 
+-- no line tells that a transfer begins, or that nobody asks for it any more
+abbrev pub change_text : Change → List ℕ
+change_text (change.Mail m) = mail_text m
+change_text (change.Begin tag) = []
+change_text (change.Step p) = progress_text p
+change_text (change.Forget tag) = []
+
 -- a control line without its LF
 abbrev pub control_text : Control → List ℕ
-control_text (control.Mail m) = mail_text m
-control_text (control.Progress p) = progress_text p
+control_text (control.Change c) = change_text c
 control_text (control.Tick n) = tick_text n
 control_text control.Close = codes "CLOSE"
 
@@ -62,8 +70,7 @@ sip_text addr octets =
 
 abbrev pub block_text : Block → List ℕ
 block_text (block.Sip addr octets) = sip_text addr octets
-block_text (block.Mail m) = mail_text m ++ lf
-block_text (block.Progress p) = progress_text p ++ lf
+block_text (block.Change c) = change_text c ++ lf
 block_text (block.Tick n) = tick_text n ++ lf
 
 -- ---- what may be told
@@ -81,16 +88,21 @@ pub record IsProgress (p : Progress) : Type 0 where
   pub reason : IsUtf8 p.reason
   pub allowed : IsAllowedProgress p
 
+-- counts of a mailbox, or how far a transfer has come
+abbrev pub IsTold : Change → Type 0
+IsTold (change.Mail m) = IsMail m
+IsTold (change.Begin tag) = ⊥
+IsTold (change.Step p) = IsProgress p
+IsTold (change.Forget tag) = ⊥
+
 abbrev pub IsControl : Control → Type 0
-IsControl (control.Mail m) = IsMail m
-IsControl (control.Progress p) = IsProgress p
+IsControl (control.Change c) = IsTold c
 IsControl (control.Tick n) = n < 2 ^ 64
 IsControl control.Close = Unit {0}
 
 abbrev pub IsBlock : Block → Type 0
 IsBlock (block.Sip addr octets) = IsAddr addr × (length octets ≤ 65536)
-IsBlock (block.Mail m) = IsMail m
-IsBlock (block.Progress p) = IsProgress p
+IsBlock (block.Change c) = IsTold c
 IsBlock (block.Tick n) = n < 2 ^ 64
 
 -- ---- the relations

@@ -4,7 +4,7 @@ ghost use Rattle.sip_text.specs.Reading.{plain_up_to};
 ghost use Rattle.scripts.specs.Reading.{Gives, octets_at, sip_head, sip_at, block_of, block_named, block_at, blocks_of};
 
 use crate::error::ScriptError;
-use crate::line::named_at;
+use crate::line::line_named;
 use crate::script::{Block, Control};
 use sip_read::Addr;
 use sip_text::{Octets, after_byte, cut_at, plain_number};
@@ -15,7 +15,7 @@ const MOST_OCTETS: u64 = 65536;
 
 /// How many octets a SIP block says that it has.
 #[tactic(auto, unfolding(sip_text::specs::Reading::plain_up_to))]
-fn length_of(word: &[u8]) -> Option<usize>
+fn octet_count(word: &[u8]) -> Option<usize>
     ensures { Finds (λ x. x) result (plain_up_to 65536 word.now) }
 {
     let length = plain_number(word)?;
@@ -28,7 +28,7 @@ fn length_of(word: &[u8]) -> Option<usize>
 
 /// The octets of a datagram, behind which LF stands, and the rest.
 #[tactic(auto, unfolding(crate::specs::Reading::octets_at))]
-fn octets_at(length: usize, bytes: &[u8]) -> Option<(&[u8], &[u8])>
+fn cut_octets(length: usize, bytes: &[u8]) -> Option<(&[u8], &[u8])>
     ensures { Finds (λ x. (x.0.now, x.1.now)) result (octets_at length bytes.now) }
 {
     if bytes.len() < length {
@@ -45,19 +45,23 @@ fn sip_head(text: &[u8]) -> Option<(Addr, usize)>
 {
     let (word, rest) = cut_at(b' ', text)?;
     let addr = Addr::of(word)?;
-    let length = length_of(rest)?;
+    let length = octet_count(rest)?;
     Some((addr, length))
 }
 
 /// A SIP block, of which the head and the bytes behind it are given, and the rest. The octets are copied once.
 #[tactic(auto, unfolding(crate::specs::Reading::sip_at))]
-fn sip_at<'a>(alloc: Global, head: &[u8], bytes: &'a [u8]) -> Result<(Block, &'a [u8]), ScriptError>
+fn sip_block<'a>(
+    alloc: Global,
+    head: &[u8],
+    bytes: &'a [u8],
+) -> Result<(Block, &'a [u8]), ScriptError>
     ensures { Gives (λ x. (x.0, x.1.now)) result (sip_at head.now bytes.now) }
 {
     let Some((addr, length)) = sip_head(head) else {
         return Err(ScriptError::BadScript);
     };
-    let Some((octets, rest)) = octets_at(length, bytes) else {
+    let Some((octets, rest)) = cut_octets(length, bytes) else {
         return Err(ScriptError::BadScript);
     };
     let octets = Vec::from_slice(alloc, octets)?;
@@ -65,12 +69,11 @@ fn sip_at<'a>(alloc: Global, head: &[u8], bytes: &'a [u8]) -> Result<(Block, &'a
 }
 
 /// A line as a block, which CLOSE isn't.
-fn block_of(line: Control) -> Option<Block>
+fn line_block(line: Control) -> Option<Block>
     ensures { Finds (λ x. x) result (block_of line) }
 {
     match line {
-        Control::Mail(change) => Some(Block::Mail(change)),
-        Control::Progress(progress) => Some(Block::Progress(progress)),
+        Control::Change(change) => Some(Block::Change(change)),
         Control::Tick(time) => Some(Block::Tick(time)),
         Control::Close => None,
     }
@@ -87,10 +90,10 @@ fn block_named<'a>(
     ensures { Gives (λ x. (x.0, x.1.now)) result (block_named name.now words.now rest.now) }
 {
     if name == b"SIP".as_slice() {
-        return sip_at(alloc, words, rest);
+        return sip_block(alloc, words, rest);
     }
-    let line = named_at(alloc, name, words)?;
-    match block_of(line) {
+    let line = line_named(alloc, name, words)?;
+    match line_block(line) {
         Some(block) => Ok((block, rest)),
         None => Err(ScriptError::BadScript),
     }
@@ -98,7 +101,7 @@ fn block_named<'a>(
 
 /// The block at the front, and the rest.
 #[tactic(auto, unfolding(crate::specs::Reading::block_at))]
-pub fn block_at(alloc: Global, bytes: &[u8]) -> Result<(Block, &[u8]), ScriptError>
+pub fn cut_block(alloc: Global, bytes: &[u8]) -> Result<(Block, &[u8]), ScriptError>
     ensures { Gives (λ x. (x.0, x.1.now)) result (block_at bytes.now) }
 {
     let Some((line, rest)) = cut_at(b'\n', bytes) else {
@@ -111,13 +114,13 @@ pub fn block_at(alloc: Global, bytes: &[u8]) -> Result<(Block, &[u8]), ScriptErr
 }
 
 /// The blocks to the end of the bytes.
-pub fn blocks_of(alloc: Global, bytes: &[u8]) -> Result<Vec<Block>, ScriptError>
+pub fn all_blocks(alloc: Global, bytes: &[u8]) -> Result<Vec<Block>, ScriptError>
     ensures { Gives (λ v. v.items) result (blocks_of bytes.now) }
 {
     let mut blocks = Vec::new(alloc);
     let mut rest = bytes;
     while !rest.is_empty() {
-        let (block, after) = block_at(alloc, rest)?;
+        let (block, after) = cut_block(alloc, rest)?;
         blocks.push(block)?;
         rest = after;
     }

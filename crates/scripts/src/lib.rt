@@ -1,6 +1,6 @@
 //! Scripts in, pages out, and control lines. It knows nothing of the notifier: only a reader, a writer and memory.
 //!
-//! [`read_script`] reads a script, [`parse_script`] cuts it into [`Block`]s (datagrams, changes, progress, the time), [`Page`]
+//! [`read_script`] reads a script, [`parse_script`] cuts it into [`Block`]s (datagrams, changes, the time), [`Page`]
 //! gathers what is to be printed, and [`write_page`] writes it. [`parse_control`] reads one line for a server that runs.
 //!
 //! Begin with [`Block`] and the grammar in `specs/Script`. Each block has one text, and a script is those texts joined: what is
@@ -19,6 +19,7 @@ pub mod script;
 
 pub use error::ScriptError;
 pub use input::read_script;
+pub use line::bare_line;
 pub use output::write_page;
 pub use page::Page;
 pub use parse::{one_reading, parse_control, parse_script};

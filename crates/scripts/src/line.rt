@@ -1,18 +1,19 @@
 //! The words of a line.
 ghost use Rattle.std.specs.Prelude.{◌≡◌, string_bytes};
 ghost use Rattle.sip_text.specs.Bytes.{Finds};
-ghost use Rattle.scripts.specs.Reading.{Gives, class_of, count_at, counts_of, mail_words, mail_at, progress_words, progress_at, named_at, order_of, line_of, control_of};
+ghost use Rattle.scripts.specs.Reading.{Gives, class_of, count_at, counts_of, mail_words, mail_at, progress_words, progress_at, named_at, order_of, control_of};
+ghost use Rattle.scripts.specs.Lines as spec;
 ghost use Rattle.scripts.specs.Changes.{mail_of, progress_of};
 ghost use Rattle.scripts.specs.Views.{mail_seen, progress_seen};
 
 use crate::error::ScriptError;
 use crate::script::Control;
-use package::{Class, Counts, MailChange, Progress};
+use package::{Change, Class, Counts, MailChange, Progress};
 use sip_text::{count_of, cut_at, plain_number, short_of, text_of};
 use std::alloc::Global;
 
 #[tactic(auto, unfolding(crate::specs::Reading::class_of))]
-fn class_of(word: &[u8]) -> Option<Class>
+fn class_named(word: &[u8]) -> Option<Class>
     ensures { Finds (λ x. x) result (class_of word.now) }
 {
     if word == b"voice".as_slice() {
@@ -32,7 +33,7 @@ fn class_of(word: &[u8]) -> Option<Class>
 
 /// A count before a space, and what stands behind that.
 #[tactic(auto, unfolding(crate::specs::Reading::count_at))]
-fn count_at(text: &[u8]) -> Option<(u32, &[u8])>
+fn cut_count(text: &[u8]) -> Option<(u32, &[u8])>
     ensures { Finds (λ x. (x.0, x.1.now)) result (count_at text.now) }
 {
     let (word, rest) = cut_at(b' ', text)?;
@@ -40,12 +41,12 @@ fn count_at(text: &[u8]) -> Option<(u32, &[u8])>
 }
 
 #[tactic(auto, unfolding(crate::specs::Reading::counts_of))]
-fn counts_of(text: &[u8]) -> Option<Counts>
+fn four_counts(text: &[u8]) -> Option<Counts>
     ensures { Finds (λ x. x) result (counts_of text.now) }
 {
-    let (new_count, rest) = count_at(text)?;
-    let (old_count, rest) = count_at(rest)?;
-    let (urgent_new, rest) = count_at(rest)?;
+    let (new_count, rest) = cut_count(text)?;
+    let (old_count, rest) = cut_count(rest)?;
+    let (urgent_new, rest) = cut_count(rest)?;
     let urgent_old = count_of(rest)?;
     Some(Counts {
         new_count,
@@ -70,8 +71,8 @@ fn mail_words(text: &[u8]) -> Option<MailWords<'_>>
     let (word, rest) = cut_at(b' ', text)?;
     let mailbox = text_of(word)?;
     let (word, rest) = cut_at(b' ', rest)?;
-    let class = class_of(word)?;
-    let counts = counts_of(rest)?;
+    let class = class_named(word)?;
+    let counts = four_counts(rest)?;
     Some(MailWords {
         mailbox,
         class,
@@ -114,7 +115,7 @@ fn mail_change(mailbox: String, class: Class, counts: Counts) -> Option<MailChan
 }
 
 #[tactic(auto, unfolding(crate::specs::Reading::mail_at))]
-fn mail_at(alloc: Global, text: &[u8]) -> Result<MailChange, ScriptError>
+fn mail_line(alloc: Global, text: &[u8]) -> Result<MailChange, ScriptError>
     ensures { Gives (λ x. x) result (mail_at text.now) }
 {
     let Some(words) = mail_words(text) else {
@@ -132,7 +133,7 @@ fn progress_change(tag: String, code: u16, reason: String) -> Option<Progress>
 }
 
 #[tactic(auto, unfolding(crate::specs::Reading::progress_at))]
-fn progress_at(alloc: Global, text: &[u8]) -> Result<Progress, ScriptError>
+fn progress_line(alloc: Global, text: &[u8]) -> Result<Progress, ScriptError>
     ensures { Gives (λ x. x) result (progress_at text.now) }
 {
     let Some(words) = progress_words(text) else {
@@ -145,13 +146,13 @@ fn progress_at(alloc: Global, text: &[u8]) -> Result<Progress, ScriptError>
 
 /// The line of this first word and this rest.
 #[tactic(auto, unfolding(crate::specs::Reading::named_at))]
-pub fn named_at(alloc: Global, name: &[u8], rest: &[u8]) -> Result<Control, ScriptError>
+pub fn line_named(alloc: Global, name: &[u8], rest: &[u8]) -> Result<Control, ScriptError>
     ensures { Gives (λ x. x) result (named_at name.now rest.now) }
 {
     if name == b"MAIL".as_slice() {
-        Ok(Control::Mail(mail_at(alloc, rest)?))
+        Ok(Control::Change(Change::Mail(mail_line(alloc, rest)?)))
     } else if name == b"PROGRESS".as_slice() {
-        Ok(Control::Progress(progress_at(alloc, rest)?))
+        Ok(Control::Change(Change::Step(progress_line(alloc, rest)?)))
     } else if name == b"TICK".as_slice() {
         plain_number(rest)
             .map(Control::Tick)
@@ -161,10 +162,10 @@ pub fn named_at(alloc: Global, name: &[u8], rest: &[u8]) -> Result<Control, Scri
     }
 }
 
-/// The line without the LF at its end.
-#[tactic(auto, unfolding(crate::specs::Reading::line_of))]
-fn line_of(bytes: &[u8]) -> Option<&[u8]>
-    ensures { Finds (λ x. x.now) result (line_of bytes.now) }
+/// The line without the LF at its end. None where one stands before its end.
+#[tactic(auto, unfolding(crate::specs::Lines::bare_line))]
+pub fn bare_line(bytes: &[u8]) -> Option<&[u8]>
+    ensures { Finds (λ x. x.now) result (spec.bare_line bytes.now) }
 {
     match cut_at(b'\n', bytes) {
         Some((line, [])) => Some(line),
@@ -175,7 +176,7 @@ fn line_of(bytes: &[u8]) -> Option<&[u8]>
 
 /// A control line without its LF.
 #[tactic(auto, unfolding(crate::specs::Reading::order_of))]
-fn order_of(alloc: Global, line: &[u8]) -> Result<Control, ScriptError>
+fn bare_control(alloc: Global, line: &[u8]) -> Result<Control, ScriptError>
     ensures { Gives (λ x. x) result (order_of line.now) }
 {
     if line == b"CLOSE".as_slice() {
@@ -184,15 +185,15 @@ fn order_of(alloc: Global, line: &[u8]) -> Result<Control, ScriptError>
     let Some((name, rest)) = cut_at(b' ', line) else {
         return Err(ScriptError::BadScript);
     };
-    named_at(alloc, name, rest)
+    line_named(alloc, name, rest)
 }
 
 #[tactic(auto, unfolding(crate::specs::Reading::control_of))]
-pub fn control_of(alloc: Global, bytes: &[u8]) -> Result<Control, ScriptError>
+pub fn control_line(alloc: Global, bytes: &[u8]) -> Result<Control, ScriptError>
     ensures { Gives (λ x. x) result (control_of bytes.now) }
 {
-    let Some(line) = line_of(bytes) else {
+    let Some(line) = bare_line(bytes) else {
         return Err(ScriptError::BadScript);
     };
-    order_of(alloc, line)
+    bare_control(alloc, line)
 }

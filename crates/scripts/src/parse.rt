@@ -4,9 +4,9 @@ ghost use Rattle.scripts.specs.declared.script.Block.{Block};
 ghost use Rattle.scripts.specs.declared.script.Control.{Control};
 ghost use Rattle.scripts.specs.Script.{IsScript, IsControlLine, Answers, IsExactScript, IsExactControlLine};
 
-use crate::block::blocks_of;
+use crate::block::all_blocks;
 use crate::error::ScriptError;
-use crate::line::control_of;
+use crate::line::control_line;
 use crate::script::{Block, Control};
 use std::alloc::Global;
 
@@ -18,7 +18,7 @@ pub fn parse_script(alloc: Global, bytes: &[u8]) -> Result<Vec<Block>, ScriptErr
     ensures only { (blocks : List Block) → IsScript bytes.now blocks → Answers (λ v. v.items) result blocks }
     ensures no_device { IfErr result (λ e. e ≢ ScriptError.Device) }
 {
-    blocks_of(alloc, bytes)
+    all_blocks(alloc, bytes)
 }
 
 /// The control line that the bytes are, with its LF or without.
@@ -27,7 +27,7 @@ pub fn parse_control(alloc: Global, bytes: &[u8]) -> Result<Control, ScriptError
     ensures only { (c : Control) → IsControlLine bytes.now c → Answers (λ x. x) result c }
     ensures no_device { IfErr result (λ e. e ≢ ScriptError.Device) }
 {
-    control_of(alloc, bytes)
+    control_line(alloc, bytes)
 }
 
 /// A law on the grammars: bytes are a script, or a control line, in one way at most, or in none.

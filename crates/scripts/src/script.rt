@@ -1,6 +1,6 @@
 //! What a script and a control line say.
 
-use package::{MailChange, Progress};
+use package::Change;
 use sip_read::Addr;
 use sip_text::Octets;
 
@@ -9,10 +9,8 @@ use sip_text::Octets;
 pub enum Block {
     /// A datagram, and the address that it came from.
     Sip(Addr, Octets),
-    /// New counts in a mailbox.
-    Mail(MailChange),
-    /// How far a transfer has come.
-    Progress(Progress),
+    /// New counts in a mailbox, or how far a transfer has come.
+    Change(Change),
     /// The time, in seconds.
     Tick(u64),
 }
@@ -20,10 +18,8 @@ pub enum Block {
 /// A line that controls a running server.
 #[derive(Debug, Drop)]
 pub enum Control {
-    /// New counts in a mailbox.
-    Mail(MailChange),
-    /// How far a transfer has come.
-    Progress(Progress),
+    /// New counts in a mailbox, or how far a transfer has come.
+    Change(Change),
     /// The time, in seconds.
     Tick(u64),
     /// The server takes no more.

@@ -36,16 +36,16 @@ lines_of-push readings datagrams octets =
     ∙ ap (λ n. unread_line n (readings octets)) (omega arith))
 
 module _ (blocks : List Block) (before after : Hearing) where
-  -- a block that is an event, and no datagram
-  pub heard-event : (b : Block) (e : Event) → ((readings : Readings) → event_in readings b ≡ Some e) → octets_in b ≡ None
-      → after.events.items ≡ before.events.items ++ e ∷ [] → after.unread ≡ before.unread → after.datagrams ≡ before.datagrams
+  -- a block that is no datagram: an event, or nothing
+  pub heard-event : (b : Block) (e : Option Event) → ((readings : Readings) → event_in readings b ≡ e) → octets_in b ≡ None
+      → after.events.items ≡ before.events.items ++ option_to_list e → after.unread ≡ before.unread → after.datagrams ≡ before.datagrams
       → HasHeard blocks before → HasHeard (blocks ++ b ∷ []) after
   heard-event b e is_event no_datagram events unread datagrams heard =
       let none : filter_map octets_in (blocks ++ b ∷ []) ≡ filter_map octets_in blocks =
       filter_map-push octets_in blocks b ∙ ap (λ o. filter_map octets_in blocks ++ option_to_list o) no_datagram ∙ append-nil (filter_map octets_in blocks) in
       record {
         events = λ readings are.
-            events ∙ ap (λ xs. xs ++ e ∷ []) (heard.events readings are)
+            events ∙ ap (λ xs. xs ++ option_to_list e) (heard.events readings are)
             ∙ ap (λ o. events_of readings blocks ++ option_to_list o) (sym (is_event readings))
             ∙ sym (filter_map-push (event_in readings) blocks b);
         unread = λ readings are.

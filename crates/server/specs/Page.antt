@@ -23,6 +23,7 @@ use Rattle.notifier_model.specs.declared.event.Out.{Out}
 use Rattle.notifier_model.specs.declared.event.Out.TheVariants as out
 use Rattle.notifier_model.specs.Start.{StartBy, Start}
 use Rattle.notifier_model.specs.Out.{out_of}
+use Rattle.notifier_model.specs.Told.{told_event}
 use Rattle.notifier_model.specs.Run.{made}
 use Rattle.notifier_model.specs.Home.{events_for, at_the_stop}
 
@@ -51,16 +52,14 @@ unread_line number (Err e) = unread_text number (error_number e)
 -- the octets of a datagram
 abbrev pub octets_in : Block → Option (List ℕ)
 octets_in (block.Sip source octets) = Some octets
-octets_in (block.Mail m) = None
-octets_in (block.Progress p) = None
+octets_in (block.Change c) = None
 octets_in (block.Tick n) = None
 
 module _ (readings : Readings) where
   -- the event that a block is
   abbrev pub event_in : Block → Option Event
   event_in (block.Sip source octets) = event_of source (readings octets)
-  event_in (block.Mail m) = Some (event.Mail m)
-  event_in (block.Progress p) = Some (event.Progress p)
+  event_in (block.Change c) = told_event c
   event_in (block.Tick n) = Some (event.Tick n)
 
   -- the events, in order

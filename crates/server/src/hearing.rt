@@ -47,6 +47,18 @@ impl Hearing {
         Ok(())
     }
 
+    /// Takes in what happened, if it is an event.
+    fn event(&mut self, event: Option<Event>) -> Result<(), NoMemory>
+        ensures events { OnOk result (self.new.events.items ≡ self.old.events.items ++ option_to_list event) }
+        ensures unread { OnOk result (self.new.unread ≡ self.old.unread) }
+        ensures datagrams { OnOk result (self.new.datagrams ≡ self.old.datagrams) }
+    {
+        if let Some(event) = event {
+            self.events.push(event)?;
+        }
+        Ok(())
+    }
+
     /// Takes in a block.
     fn block(&mut self, alloc: Global, block: Block) -> Result<(), NoMemory>
         requires { self.old.datagrams < 2 ^ 64 - 1 }
@@ -55,9 +67,8 @@ impl Hearing {
     {
         match block {
             Block::Sip(source, octets) => self.datagram(alloc, source, octets.as_slice())?,
-            Block::Mail(change) => self.events.push(Event::Mail(change))?,
-            Block::Progress(progress) => self.events.push(Event::Progress(progress))?,
-            Block::Tick(time) => self.events.push(Event::Tick(time))?,
+            Block::Change(change) => self.event(Event::of(change))?,
+            Block::Tick(time) => self.event(Some(Event::Tick(time)))?,
         }
         Ok(())
     }

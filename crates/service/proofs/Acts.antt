@@ -168,10 +168,6 @@ module _ (acts : List Act) {t0 t : TakerSeat} {left : ℕ} {told told' : Option 
         emitted = was.emitted;
       })
 
-  -- the same taker by another name
-  pub running_as : (u : TakerSeat) → u ≡ t → Running (fates acts) t0 u left told told' wire without writer writer' report
-  running_as u same = let P : TakerSeat → Type 0 = λ k. Running (fates acts) t0 k left told told' wire without writer writer' report in subst P (sym same) was
-
   pub running_put : (now : ℕ) (u : TakerSeat) (w : ℕ) (o : Out) (f : Fate) (told'' : Option (List Datagram)) (after' : WriterSeen)
       → Took t (posted.Out w o) u → MayMeet o f → Grows told' told'' []
       → after'.failures ≡ rises (count fails_to_start (one o f)) writer'.failures
@@ -200,7 +196,7 @@ module _ {S : Type 0} (flushed : S → Bool) (first old : S) (acts : List Act) (
 
 pub sent_out : {limit : ℕ} {t0 t : TakerSeat} {left : ℕ} {told told' : Option (List Datagram)} {acts : List Act} {s u : State} {wire wire' without : WireSeen}
     {writer writer' : WriterSeen} {report : EmitReport} → Running (fates acts) t0 t left told told' wire without writer writer' report
-    → Does acts s u wire wire' → s ≡ empty limit → IsSentOut limit t0.workers acts t0.got t.got wire wire' writer writer' report
+    → Does acts s u wire wire' → s ≡ empty limit → IsSentOut limit t0.workers acts t0.got t.got (record { wire = wire; wire' = wire'; writer = writer; writer' = writer' }) report
 sent_out {limit = limit} {acts = acts} {u = u} {wire = wire} {wire' = wire'} {without = without} running does none =
     let P : State → Type 0 = λ z. Does acts z u wire wire' in record {
       without = without;

@@ -6,7 +6,8 @@ use Rattle.feeds.specs.declared.feeding.FeedEnd.TheVariants as ends
 use Rattle.service.specs.declared.lines.Done.{Done}
 use Rattle.service.specs.declared.lines.Done.TheVariants as did
 use Rattle.service.specs.Taken.{end_after}
-use Rattle.service.specs.Listening.{IsDeaf, IsDeafAsTold, is_fault}
+use Rattle.feeds.specs.Fed.{is_fault}
+use Rattle.service.specs.Listening.{IsDeaf, IsDeafAsTold}
 
 untold : {A : Type 0} → A ⊎ (false ≡ true) → A
 untold told = ⊎_elim (λ was. was) (λ (never : false ≡ true). absurd cc) told

@@ -1,7 +1,11 @@
 -- What was done with one control line.
-use Rattle.std.proofs.Common.{◌≡◌, ℕ, ◌+◌, Option, Some, None, option_map, List, refl, subst, inl, inr}
-use Rattle.package.specs.Values.{MailChange, Progress}
+use Rattle.std.proofs.Common.{◌≡◌, ℕ, ◌+◌, true, Option, Some, None, option_map, List, refl, subst, ◌∙◌, inl, inr}
+use Rattle.sip_text.proofs.Pieces.{some_is}
+use Rattle.package.specs.declared.change.Change.{Change}
+use Rattle.package.specs.declared.change.Change.TheVariants as change
+use Rattle.notifier_model.specs.declared.event.Event.{Event}
 use Rattle.notifier_model.specs.declared.event.Event.TheVariants as happened
+use Rattle.notifier_model.specs.Told.{told_event}
 use Rattle.crew.specs.Ports.{PortSeats}
 use Rattle.control_lines.specs.declared.answer.Answer.TheVariants as answer
 use Rattle.control_lines.specs.declared.line.Asked.TheVariants as asked
@@ -10,62 +14,66 @@ use Rattle.control_lines.specs.Lines.{Asks}
 use Rattle.control_lines.specs.Told.{Row, told}
 use Rattle.service.specs.declared.lines.Done.{Done}
 use Rattle.service.specs.declared.lines.Done.TheVariants as did
-use Rattle.service.specs.Taken.{Has, IsSent, IsChanged, IsFound, IsDone}
+use Rattle.service.specs.Taken.{told_of, told_by, is_known, IsSent, IsChanged, IsFound, IsDone}
 
-pub changed_sent : (m : MailChange) (rows : List Row) (old new : PortSeats) (d : Done) → Has rows m.mailbox
-    → IsSent old (happened.Mail m) new d → IsChanged m rows (told m rows) old new d
-changed_sent m rows old new (did.Answered answer.Done) has is = (has, refl, is)
-changed_sent m rows old new (did.Answered answer.BadLine) has is = is
-changed_sent m rows old new (did.Answered answer.UnknownMailbox) has is = absurd is
-changed_sent m rows old new (did.Answered answer.Closed) has is = is
-changed_sent m rows old new (did.Answered answer.NoMemory) has is = is
-changed_sent m rows old new (did.Answered answer.Busy) has is = is
-changed_sent m rows old new (did.Repeated a) has is = is
-changed_sent m rows old new did.Unanswered has is = is
-changed_sent m rows old new did.Foreign has is = is
-changed_sent m rows old new did.Counters has is = is
-changed_sent m rows old new (did.Shown n) has is = is
-changed_sent m rows old new (did.Dumped n) has is = is
-changed_sent m rows old new (did.Watched k n) has is = is
-changed_sent m rows old new did.Closing has is = is
-changed_sent m rows old new did.Gone has is = (has, refl, is)
+-- what a change tells of mailboxes is what its event tells
+told_alike : (c : Change) (e : Event) (rows : List Row) → told_event c ≡ Some e → told_of c rows ≡ told_by e rows
+told_alike (change.Mail m) e rows is = subst (λ (x : Event). told m rows ≡ told_by x rows) (some_is (happened.Mail m) e is) refl
+told_alike (change.Begin tag) e rows is = absurd cc
+told_alike (change.Step p) e rows is = subst (λ (x : Event). rows ≡ told_by x rows) (some_is (happened.Progress p) e is) refl
+told_alike (change.Forget tag) e rows is = absurd cc
+
+-- one that is no event tells nothing of them
+pub untold : (c : Change) (rows : List Row) → told_event c ≡ None → told_of c rows ≡ rows
+untold (change.Mail m) rows is = absurd cc
+untold (change.Begin tag) rows is = refl
+untold (change.Step p) rows is = absurd cc
+untold (change.Forget tag) rows is = refl
+
+-- and no line tells it
+no_line : (c : Change) (octets : List ℕ) → Asks octets (asked.Change c) → told_event c ≡ None → ⊥
+no_line (change.Mail m) octets asks is = absurd cc
+no_line (change.Begin tag) octets asks is = asks.is_control
+no_line (change.Step p) octets asks is = absurd cc
+no_line (change.Forget tag) octets asks is = asks.is_control
+
+pub changed_sent : (c : Change) (e : Event) (rows : List Row) (old new : PortSeats) (d : Done) → told_event c ≡ Some e → is_known rows c ≡ true
+    → IsSent old e new d → IsChanged c rows (told_of c rows) old new d
+changed_sent c e rows old new (did.Answered answer.Done) is known sent = (e, is, known, refl, sent)
+changed_sent c e rows old new (did.Answered answer.BadLine) is known sent = absurd sent
+changed_sent c e rows old new (did.Answered answer.UnknownMailbox) is known sent = absurd sent
+changed_sent c e rows old new (did.Answered answer.Closed) is known sent = sent
+changed_sent c e rows old new (did.Answered answer.NoMemory) is known sent = sent
+changed_sent c e rows old new (did.Answered answer.Busy) is known sent = sent
+changed_sent c e rows old new (did.Repeated a) is known sent = sent
+changed_sent c e rows old new did.Unanswered is known sent = sent
+changed_sent c e rows old new did.Foreign is known sent = sent
+changed_sent c e rows old new did.Counters is known sent = sent
+changed_sent c e rows old new (did.Shown n) is known sent = sent
+changed_sent c e rows old new (did.Dumped n) is known sent = sent
+changed_sent c e rows old new (did.Watched k n) is known sent = sent
+changed_sent c e rows old new did.Closing is known sent = sent
+changed_sent c e rows old new did.Gone is known sent = (e, is, known, refl, sent)
 
 module _ (octets : List ℕ) (rows rows' : List Row) (old new : PortSeats) where
-  pub done_changed : (m : MailChange) (d : Done) → Asks octets (asked.Mail m) → IsChanged m rows rows' old new d → IsDone octets rows rows' old new d
-  done_changed m (did.Answered answer.Done) asks is = (happened.Mail m, inl (m, asks, is.0, refl), is.1, is.2)
-  done_changed m (did.Answered answer.BadLine) asks is = absurd is
-  done_changed m (did.Answered answer.UnknownMailbox) asks is = (inl (m, asks, is.0), is.1)
-  done_changed m (did.Answered answer.Closed) asks is = is
-  done_changed m (did.Answered answer.NoMemory) asks is = absurd is
-  done_changed m (did.Answered answer.Busy) asks is = absurd is
-  done_changed m (did.Repeated a) asks is = is
-  done_changed m did.Unanswered asks is = absurd is
-  done_changed m did.Foreign asks is = absurd is
-  done_changed m did.Counters asks is = absurd is
-  done_changed m (did.Shown n) asks is = absurd is
-  done_changed m (did.Dumped n) asks is = absurd is
-  done_changed m (did.Watched k n) asks is = absurd is
-  done_changed m did.Closing asks is = absurd is
-  done_changed m did.Gone asks is = (happened.Mail m, inl (m, asks, is.0, refl), is.1, is.2)
+  pub done_changed : (c : Change) (d : Done) → Asks octets (asked.Change c) → IsChanged c rows rows' old new d → IsDone octets rows rows' old new d
+  done_changed c (did.Answered answer.Done) asks is = (is.0, (c, asks, is.2, is.1), is.3 ∙ told_alike c is.0 rows is.1, is.4)
+  done_changed c (did.Answered answer.BadLine) asks is = absurd (no_line c octets asks is.0)
+  done_changed c (did.Answered answer.UnknownMailbox) asks is = (inl (c, asks, is.0), is.1)
+  done_changed c (did.Answered answer.Closed) asks is = is
+  done_changed c (did.Answered answer.NoMemory) asks is = absurd is
+  done_changed c (did.Answered answer.Busy) asks is = absurd is
+  done_changed c (did.Repeated a) asks is = is
+  done_changed c did.Unanswered asks is = absurd is
+  done_changed c did.Foreign asks is = absurd is
+  done_changed c did.Counters asks is = absurd is
+  done_changed c (did.Shown n) asks is = absurd is
+  done_changed c (did.Dumped n) asks is = absurd is
+  done_changed c (did.Watched k n) asks is = absurd is
+  done_changed c did.Closing asks is = absurd is
+  done_changed c did.Gone asks is = (is.0, (c, asks, is.2, is.1), is.3 ∙ told_alike c is.0 rows is.1, is.4)
 
 module _ (octets : List ℕ) (rows : List Row) (old new : PortSeats) where
-  pub done_progress : (p : Progress) (d : Done) → Asks octets (asked.Progress p) → IsSent old (happened.Progress p) new d → IsDone octets rows rows old new d
-  done_progress p (did.Answered answer.Done) asks is = (happened.Progress p, inr (p, asks, refl), refl, is)
-  done_progress p (did.Answered answer.BadLine) asks is = absurd is
-  done_progress p (did.Answered answer.UnknownMailbox) asks is = absurd is
-  done_progress p (did.Answered answer.Closed) asks is = is
-  done_progress p (did.Answered answer.NoMemory) asks is = absurd is
-  done_progress p (did.Answered answer.Busy) asks is = absurd is
-  done_progress p (did.Repeated a) asks is = is
-  done_progress p did.Unanswered asks is = absurd is
-  done_progress p did.Foreign asks is = absurd is
-  done_progress p did.Counters asks is = absurd is
-  done_progress p (did.Shown n) asks is = absurd is
-  done_progress p (did.Dumped n) asks is = absurd is
-  done_progress p (did.Watched k n) asks is = absurd is
-  done_progress p did.Closing asks is = absurd is
-  done_progress p did.Gone asks is = (happened.Progress p, inr (p, asks, refl), refl, is)
-
   pub done_found : (q : Question) (d : Done) → Asks octets (asked.Question q) → IsFound rows q d → IsDone octets rows rows old old d
   done_found q (did.Answered answer.Done) asks is = absurd is
   done_found q (did.Answered answer.BadLine) asks is = absurd is

@@ -5,7 +5,7 @@ use Rattle.transport.specs.Sockets.{misses}
 use Rattle.transport.specs.declared.udp.UdpWire.{UdpWire}
 use Rattle.feeds.specs.declared.feeding.FeedEnd.{FeedEnd}
 use Rattle.feeds.specs.declared.feeding.FeedEnd.TheVariants as ends
-use Rattle.feeds.specs.Fed.{failures_at}
+use Rattle.feeds.specs.Fed.{is_fault, failures_at}
 use Rattle.service.specs.declared.clock.Stopwatch.{Stopwatch}
 use Rattle.service.specs.declared.feeding.Fed.{Fed}
 use Rattle.service.specs.declared.feeding.Task.{Task}
@@ -13,10 +13,11 @@ use Rattle.service.specs.declared.feeding.Task.TheVariants as task
 use Rattle.service.specs.declared.datagrams.SipDesk.{SipDesk}
 use Rattle.service.specs.declared.lines.ControlDesk.{ControlDesk}
 use Rattle.service.specs.declared.running.Feeders.{Feeders}
-use Rattle.service.specs.declared.running.Outcome.{Outcome}
+use Rattle.service.specs.declared.running.ServiceOutcome.{ServiceOutcome}
 use Rattle.service.specs.Handing.{AreErrands}
-use Rattle.service.specs.Running.{FailsFor, AreFaults, is_faulty}
-use Rattle.service.specs.Listening.{IsDeaf, IsDeafAsTold, is_fault}
+use Rattle.service.specs.Running.{IsLeft, FailsFor, AreFaults, is_faulty}
+use Rattle.service.proofs.Deafness.{deaf_after}
+use Rattle.service.specs.Listening.{IsDeaf, IsDeafAsTold}
 use Rattle.service.specs.Ticks.{new_stopwatch}
 
 same_phones : (a b : SipDesk UdpWire) → task.Datagrams a ≡ task.Datagrams b → a ≡ b
@@ -56,9 +57,24 @@ pub clock_failed : (left : Stopwatch) (fed : Fed) → FailsFor (task.Time new_st
 clock_failed left fed fails is =
     let P : Stopwatch → Type 0 = λ s. s.failures ≡ failures_at fed.end 0 in subst P (same_stopwatch fails.0 left (sym fails.1 ∙ is)) fails.2
 
+-- what is left behind the end of a thread and what it hears then
+pub left_after : (t mid left : Task) (end : FeedEnd) (late : Bool) → IsLeft t end (is_fault end) mid → IsLeft mid ends.Done late left
+    → IsLeft t end (is_fault end || late) left
+left_after (task.Datagrams desk) mid left end late first then =
+    let P : Task → Type 0 = λ t. IsLeft t ends.Done late left in
+    let next : IsLeft (task.Datagrams first.0) ends.Done late left = subst P first.1 then in
+    (next.0, next.1, deaf_after (is_fault end) late (misses desk.coming) (misses first.0.coming) (misses next.0.coming) first.2 next.2)
+left_after (task.Lines desk) mid left end late first then =
+    let P : Task → Type 0 = λ t. IsLeft t ends.Done late left in
+    let next : IsLeft (task.Lines first.0) ends.Done late left = subst P first.1 then in
+    (next.0, next.1, deaf_after (is_fault end) late (misses desk.coming) (misses first.0.coming) (misses next.0.coming) first.2 next.2)
+left_after (task.Time stopwatch) mid left end late first then =
+    let P : Task → Type 0 = λ t. IsLeft t ends.Done late left in
+    let next : IsLeft (task.Time first.0) ends.Done late left = subst P first.1 then in (next.0, next.1, next.2 ∙ first.2)
+
 -- ---- what they say of sockets that had not failed before
 
-pub faults_new : {m n : Misses} {o : Outcome} → m ≡ no_misses → n ≡ no_misses → AreFaults m n o → AreFaults no_misses no_misses o
+pub faults_new : {m n : Misses} {o : ServiceOutcome} → m ≡ no_misses → n ≡ no_misses → AreFaults m n o → AreFaults no_misses no_misses o
 faults_new {o = o} none none' are =
     let P : Misses → Type 0 = λ m. IsDeafAsTold (is_fault o.sip || o.sip_fails_late) m (misses o.sip_desk.coming) in
     let Q : Misses → Type 0 = λ n. IsDeafAsTold (is_fault o.lines || o.lines_fail_late) n (misses o.desk.coming) in record {
@@ -88,7 +104,7 @@ hears false true new none none' on deaf = absurd cc
 hears true b new none none' on deaf = absurd cc
 
 -- where no fault is told no socket is deaf and no read of the clock failed
-pub unfailed : (o : Outcome) → AreFaults no_misses no_misses o → is_faulty o ≡ false
+pub unfailed : (o : ServiceOutcome) → AreFaults no_misses no_misses o → is_faulty o ≡ false
     → (IsDeaf (misses o.sip_desk.coming) → ⊥) × (IsDeaf (misses o.desk.coming) → ⊥) × (o.stopwatch.failures ≡ 0)
 unfailed o are no_fault =
     let none = none_of (is_fault o.sip) o.sip_fails_late (is_fault o.lines) o.lines_fail_late (is_fault o.time) no_fault in (

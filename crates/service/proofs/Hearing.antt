@@ -18,6 +18,7 @@ use Rattle.feeds.specs.declared.hearing.Heard.TheVariants as heard
 use Rattle.feeds.specs.declared.hearing.Language.TheVariants as language
 use Rattle.feeds.specs.declared.feeding.FeedEnd.{FeedEnd}
 use Rattle.feeds.specs.declared.feeding.FeedEnd.TheVariants.{Done, Fault, Gone}
+use Rattle.service.specs.Listening.{Stops}
 use Rattle.feeds.specs.declared.feeding.Told.{Told}
 use Rattle.feeds.specs.declared.feeding.Told.TheVariants as told
 use Rattle.feeds.specs.Heard.{Says}
@@ -236,7 +237,7 @@ module _ {longest : ℕ} {a b : Admission} {moment : ℕ} {old now : PortSeats} 
             refused_after,
           )
 
-  pub served_done : Serves longest a b old now given given' taken taken' failures failures' Done
+  served_done : Serves longest a b old now given given' taken taken' failures failures' Done
   served_done =
       let f = was.serving in (
         was.came,
@@ -247,7 +248,7 @@ module _ {longest : ℕ} {a b : Admission} {moment : ℕ} {old now : PortSeats} 
         was.refused,
       )
 
-  pub served_fault : Serves longest a b old now given given' taken taken' failures failures' Fault
+  served_fault : Serves longest a b old now given given' taken taken' failures failures' Fault
   served_fault =
       let f = was.serving in (
         was.came,
@@ -257,6 +258,11 @@ module _ {longest : ℕ} {a b : Admission} {moment : ℕ} {old now : PortSeats} 
         record { judged = was.judged; served = record { say = f.say; ends = (f.sends, f.unclosed) } },
         was.refused,
       )
+
+  pub served_end : (end : FeedEnd) → Stops end → Serves longest a b old now given given' taken taken' failures failures' end
+  served_end Done stops = served_done
+  served_end Fault stops = served_fault
+  served_end Gone stops = absurd stops
 
   pub hearing_open : now.still_open ≡ old.still_open
   hearing_open = was.serving.sends.still_open

@@ -9,7 +9,6 @@ pub mod Ran
 pub mod Faults
 pub mod Deafness
 pub mod Ticking
-pub mod Receiving
 pub mod Paging
 pub mod Judging
 pub mod Hearing

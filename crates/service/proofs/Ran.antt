@@ -11,16 +11,15 @@ use Rattle.crew.specs.Started.{Hired, IsStarted}
 use Rattle.crew.specs.Joined.{IsJoined}
 use Rattle.crew.specs.declared.report.WorkerReport.{WorkerReport}
 use Rattle.feeds.specs.declared.sending.EmitReport.{EmitReport}
-use Rattle.feeds.specs.Emitted.{WireSeen, WriterSeen}
 use Rattle.feeds.specs.declared.feeding.FeedEnd.{FeedEnd}
 use Rattle.transport.specs.declared.udp.UdpWire.{UdpWire}
 use Rattle.service.specs.declared.feeding.Task.{Task}
 use Rattle.service.specs.declared.datagrams.SipDesk.{SipDesk}
 use Rattle.service.specs.declared.lines.ControlDesk.{ControlDesk}
 use Rattle.service.specs.declared.running.Feeders.{Feeders}
-use Rattle.service.specs.declared.running.Outcome.{Outcome}
+use Rattle.service.specs.declared.running.ServiceOutcome.{ServiceOutcome}
 use Rattle.service.specs.Handing.{AreErrands}
-use Rattle.service.specs.Sending.{Act, IsSentOut}
+use Rattle.service.specs.Sending.{Act, Outflow, IsSentOut}
 use Rattle.service.specs.Running.{SendsDatagrams, SendsLines, SendsTicks, SendsFor, ThenCloses, Opening, IsFresh, Runs, Leaves}
 use Rattle.service.specs.Taken.{DeskSeen, seen}
 use Rattle.service.proofs.Closed.{taker_new, taker_workers}
@@ -40,13 +39,13 @@ on_err (Ok x) p f = p
 on_err (Err e) p f = f p
 
 pub leaves : {start : ℕ → Start} {workers : ℕ} {crew : List Hired} {ports : List PortSeats} {taker : TakerSeat} (is : IsStarted start workers 3 crew ports taker)
-    {wire wire' : WireSeen} {writer writer' : WriterSeen} (none : List PortSeats) (got : List (Item Out)) (reports : List WorkerReport) (repeats : ℕ) (acts : List Act) (report : EmitReport)
-    → none ≡ [] → IsJoined crew none got reports → IsSentOut repeats taker.workers acts taker.got got wire wire' writer writer' report
-    → Leaves start workers repeats wire wire' writer writer'
-leaves {crew = crew} {ports = ports} {taker = taker} is {wire = wire} {wire' = wire'} {writer = writer} {writer' = writer'} none got reports repeats acts report empty joined sent =
+    {flow : Outflow} (none : List PortSeats) (got : List (Item Out)) (reports : List WorkerReport) (repeats : ℕ) (acts : List Act) (report : EmitReport)
+    → none ≡ [] → IsJoined crew none got reports → IsSentOut repeats taker.workers acts taker.got got flow report
+    → Leaves start workers repeats flow
+leaves {crew = crew} {ports = ports} {taker = taker} is {flow = flow} none got reports repeats acts report empty joined sent =
     let P : List PortSeats → Type 0 = λ l. IsJoined crew l got reports in
-    let Q : List (Item Out) → Type 0 = λ l. IsSentOut repeats taker.workers acts l got wire wire' writer writer' report in
-    let N : ℕ → Type 0 = λ n. IsSentOut repeats n acts [] got wire wire' writer writer' report in record {
+    let Q : List (Item Out) → Type 0 = λ l. IsSentOut repeats taker.workers acts l got flow report in
+    let N : ℕ → Type 0 = λ n. IsSentOut repeats n acts [] got flow report in record {
       crew = crew;
       ports = ports;
       taker = taker;
@@ -80,15 +79,15 @@ module _ {phones : SipDesk UdpWire} {desk : ControlDesk UdpWire} {f : Feeders} (
   sent_ticks sends = let P : Task → Type 0 = λ t. ThenCloses (SendsFor t end) old new in subst P are.time sends
 
 pub runs_are : {start : ℕ → Start} {workers : ℕ} {crew : List Hired} {a b c : PortSeats} {taker : TakerSeat} (is : IsStarted start workers 3 crew (a ∷ b ∷ c ∷ []) taker)
-    (opened : Opening) (admission : Admission) (wire wire' : WireSeen) (writer writer' : WriterSeen) (o : Outcome) (a' b' c' : PortSeats) (ports : List PortSeats)
+    (opened : Opening) (admission : Admission) (flow : Outflow) (o : ServiceOutcome) (a' b' c' : PortSeats) (ports : List PortSeats)
     (got : List (Item Out)) (repeats : ℕ) (acts : List Act) (report : EmitReport)
     → ThenCloses (SendsDatagrams admission o.sip) a a' → ThenCloses (SendsLines opened workers o.lines) b b' → ThenCloses (SendsTicks o.time) c c'
     → ports ≡ a' ∷ b' ∷ c' ∷ [] → IsJoined crew ports got o.report.workers.items
-    → IsSentOut repeats taker.workers acts taker.got got wire wire' writer writer' report → Runs start workers repeats opened admission wire wire' writer writer' o
-runs_are {crew = crew} {a = a} {b = b} {c = c} {taker = taker} is opened admission wire wire' writer writer' o a' b' c' ports got repeats acts report datagrams lines ticks are joined sent =
+    → IsSentOut repeats taker.workers acts taker.got got flow report → Runs start workers repeats opened admission flow o
+runs_are {crew = crew} {a = a} {b = b} {c = c} {taker = taker} is opened admission flow o a' b' c' ports got repeats acts report datagrams lines ticks are joined sent =
     let P : List PortSeats → Type 0 = λ l. IsJoined crew l got o.report.workers.items in
-    let Q : List (Item Out) → Type 0 = λ l. IsSentOut repeats taker.workers acts l got wire wire' writer writer' report in
-    let N : ℕ → Type 0 = λ n. IsSentOut repeats n acts [] got wire wire' writer writer' report in record {
+    let Q : List (Item Out) → Type 0 = λ l. IsSentOut repeats taker.workers acts l got flow report in
+    let N : ℕ → Type 0 = λ n. IsSentOut repeats n acts [] got flow report in record {
       crew = crew;
       sip = a;
       lines = b;
@@ -113,25 +112,25 @@ module _ {start : ℕ → Start} {n m : ℕ} (same : m ≡ n) where
   pub started_with : {crew : List Hired} {ports : List PortSeats} {taker : TakerSeat} → IsStarted start n 3 crew ports taker → IsStarted start m 3 crew ports taker
   started_with {crew = crew} {ports = ports} {taker = taker} is = let P : ℕ → Type 0 = λ k. IsStarted start k 3 crew ports taker in subst P (sym same) is
 
-  pub runs_with : {repeats : ℕ} {opened : Opening} {admission : Admission} {wire wire' : WireSeen} {writer writer' : WriterSeen} {o : Outcome}
-      → Runs start m repeats opened admission wire wire' writer writer' o → Runs start n repeats opened admission wire wire' writer writer' o
-  runs_with {repeats = repeats} {opened = opened} {admission = admission} {wire = wire} {wire' = wire'} {writer = writer} {writer' = writer'} {o = o} runs =
-      let P : ℕ → Type 0 = λ k. Runs start k repeats opened admission wire wire' writer writer' o in subst P same runs
+  pub runs_with : {repeats : ℕ} {opened : Opening} {admission : Admission} {flow : Outflow} {o : ServiceOutcome}
+      → Runs start m repeats opened admission flow o → Runs start n repeats opened admission flow o
+  runs_with {repeats = repeats} {opened = opened} {admission = admission} {flow = flow} {o = o} runs =
+      let P : ℕ → Type 0 = λ k. Runs start k repeats opened admission flow o in subst P same runs
 
-  pub leaves_with : {repeats : ℕ} {wire wire' : WireSeen} {writer writer' : WriterSeen} → Leaves start m repeats wire wire' writer writer' → Leaves start n repeats wire wire' writer writer'
-  leaves_with {repeats = repeats} {wire = wire} {wire' = wire'} {writer = writer} {writer' = writer'} left = let P : ℕ → Type 0 = λ k. Leaves start k repeats wire wire' writer writer' in subst P same left
+  pub leaves_with : {repeats : ℕ} {flow : Outflow} → Leaves start m repeats flow → Leaves start n repeats flow
+  leaves_with {repeats = repeats} {flow = flow} left = let P : ℕ → Type 0 = λ k. Leaves start k repeats flow in subst P same left
 
 -- the same, where the starts and the admission have other names
 module _ {start start' : ℕ → Start} (same : start ≡ start') where
-  pub runs_as : {n repeats : ℕ} {opened : Opening} {a b : Admission} {wire wire' : WireSeen} {writer writer' : WriterSeen} {o : Outcome} → a ≡ b
-      → Runs start n repeats opened a wire wire' writer writer' o → Runs start' n repeats opened b wire wire' writer writer' o
-  runs_as {n = n} {repeats = repeats} {opened = opened} {a = a} {b = b} {wire = wire} {wire' = wire'} {writer = writer} {writer' = writer'} {o = o} admits runs =
-      let P : (ℕ → Start) → Type 0 = λ s. Runs s n repeats opened a wire wire' writer writer' o in
-      let Q : Admission → Type 0 = λ x. Runs start' n repeats opened x wire wire' writer writer' o in subst Q admits (subst P same runs)
+  pub runs_as : {n repeats : ℕ} {opened : Opening} {a b : Admission} {flow : Outflow} {o : ServiceOutcome} → a ≡ b
+      → Runs start n repeats opened a flow o → Runs start' n repeats opened b flow o
+  runs_as {n = n} {repeats = repeats} {opened = opened} {a = a} {b = b} {flow = flow} {o = o} admits runs =
+      let P : (ℕ → Start) → Type 0 = λ s. Runs s n repeats opened a flow o in
+      let Q : Admission → Type 0 = λ x. Runs start' n repeats opened x flow o in subst Q admits (subst P same runs)
 
-  pub leaves_as : {n repeats : ℕ} {wire wire' : WireSeen} {writer writer' : WriterSeen} → Leaves start n repeats wire wire' writer writer' → Leaves start' n repeats wire wire' writer writer'
-  leaves_as {n = n} {repeats = repeats} {wire = wire} {wire' = wire'} {writer = writer} {writer' = writer'} left =
-      let P : (ℕ → Start) → Type 0 = λ s. Leaves s n repeats wire wire' writer writer' in subst P same left
+  pub leaves_as : {n repeats : ℕ} {flow : Outflow} → Leaves start n repeats flow → Leaves start' n repeats flow
+  leaves_as {n = n} {repeats = repeats} {flow = flow} left =
+      let P : (ℕ → Start) → Type 0 = λ s. Leaves s n repeats flow in subst P same left
 
 -- the same desk, where the number of workers has another name
 pub fresh_with : {opened : Opening} {n m : ℕ} {desk : DeskSeen} → n ≡ m → IsFresh opened n desk → IsFresh opened m desk

@@ -11,6 +11,7 @@ use Rattle.transport.specs.Wires.{Grows}
 use Rattle.feeds.proofs.Telling.{grows_none, grows_more, grows_same}
 use Rattle.feeds.specs.declared.feeding.FeedEnd.{FeedEnd}
 use Rattle.feeds.specs.declared.feeding.FeedEnd.TheVariants as ends
+use Rattle.service.specs.Listening.{Stops}
 use Rattle.feeds.specs.Fed.{Sends}
 use Rattle.feeds.proofs.SendingHome.{sends_none, sends_more}
 use Rattle.control_lines.specs.declared.answer.Answer.TheVariants as answer
@@ -317,13 +318,13 @@ module _ {desk at : DeskSeen} {old now : PortSeats} {given given' taken taken' :
   }
 
   -- the service closed for another cause than a line
-  pub taken_done : (log : List Line) × Grows given given' (datagrams_of log) × AreTaken desk log old now ends.Done × AreAnswered log taken taken' failures failures'
+  taken_done : (log : List Line) × Grows given given' (datagrams_of log) × AreTaken desk log old now ends.Done × AreAnswered log taken taken' failures failures'
   taken_done = (was.log, was.book.came_are, record { each = was.book.each; stops = inr was.on; sends = was.sends }, was.book.answered)
 
   pub taking_open : now.still_open ≡ old.still_open
   taking_open = was.sends.still_open
 
-  pub taken_fault : (after : Option (List Datagram)) → Grows given' after []
+  taken_fault : (after : Option (List Datagram)) → Grows given' after []
       → (log : List Line) × Grows given after (datagrams_of log) × AreTaken desk log old now ends.Fault × AreAnswered log taken taken' failures failures'
   taken_fault after none = (
     was.log,
@@ -331,3 +332,11 @@ module _ {desk at : DeskSeen} {old now : PortSeats} {given given' taken taken' :
     record { each = was.book.each; stops = was.on; sends = was.sends },
     was.book.answered,
   )
+
+-- listening ended, behind a look that gave nothing
+pub taken_end : {desk at : DeskSeen} {old now : PortSeats} {given given' taken taken' : Option (List Datagram)} {failures failures' : ℕ}
+    → Taking desk at old now given given' taken taken' failures failures' → (after : Option (List Datagram)) → Grows given' after [] → (end : FeedEnd) → Stops end
+    → (log : List Line) × Grows given after (datagrams_of log) × AreTaken desk log old now end × AreAnswered log taken taken' failures failures'
+taken_end was after none ends.Done stops = taken_done (taking_silent was after none)
+taken_end was after none ends.Fault stops = taken_fault was after none
+taken_end was after none ends.Gone stops = absurd stops

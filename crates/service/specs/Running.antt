@@ -22,9 +22,8 @@ use Rattle.crew.specs.Started.{Hired, IsStarted}
 use Rattle.crew.specs.Joined.{IsJoined}
 use Rattle.crew.specs.declared.report.WorkerReport.{WorkerReport}
 use Rattle.feeds.specs.declared.sending.EmitReport.{EmitReport}
-use Rattle.feeds.specs.Emitted.{WireSeen, WriterSeen}
 use Rattle.feeds.specs.declared.feeding.FeedEnd.{FeedEnd}
-use Rattle.feeds.specs.Fed.{failures_at}
+use Rattle.feeds.specs.Fed.{is_fault, failures_at}
 use Rattle.transport.specs.Ears.{Misses}
 use Rattle.transport.specs.Sockets.{misses}
 use Rattle.transport.specs.declared.udp.UdpWire.{UdpWire}
@@ -37,10 +36,10 @@ use Rattle.service.specs.declared.datagrams.SipDesk.{SipDesk}
 use Rattle.service.specs.declared.lines.ControlDesk.{ControlDesk}
 use Rattle.service.specs.declared.lines.ControlPort.{ControlPort}
 use Rattle.service.specs.declared.lines.TheConstants.{KEPT}
-use Rattle.service.specs.declared.running.Outcome.{Outcome}
-use Rattle.service.specs.Sending.{Act, IsSentOut}
+use Rattle.service.specs.declared.running.ServiceOutcome.{ServiceOutcome}
+use Rattle.service.specs.Sending.{Act, Outflow, IsSentOut}
 use Rattle.service.specs.Admitted.{Case, AreHeard}
-use Rattle.service.specs.Listening.{IsDeafAsTold, is_fault}
+use Rattle.service.specs.Listening.{IsDeafAsTold}
 use Rattle.service.specs.Taken.{DeskSeen, Line, AreFirst, AreTaken, seen}
 use Rattle.service.specs.Ticks.{AreNotices, AreTold}
 
@@ -91,17 +90,19 @@ pub record ThenCloses (sends : PortSeats → PortSeats → Type 0) (old new : Po
   pub ends : IsShut fed_to new
   pub seats : SameSeats old new
 
--- what a thread leaves of what it was to send: a wire that is deaf exactly where it was before or the thread tells of a fault, or a
--- clock that failed once more exactly where it does
+-- what a thread that ended so leaves of what it was to send: a wire that is deaf exactly where it was before or the thread tells of it, or
+-- a clock that failed once more exactly where it ends with a fault
+abbrev pub IsLeft : Task → FeedEnd → Bool → Task → Type 0
+IsLeft (task.Datagrams desk) end told left =
+    (d : SipDesk UdpWire) × (left ≡ task.Datagrams d) × IsDeafAsTold told (misses desk.coming) (misses d.coming)
+IsLeft (task.Lines desk) end told left =
+    (d : ControlDesk UdpWire) × (left ≡ task.Lines d) × IsDeafAsTold told (misses desk.coming) (misses d.coming)
+IsLeft (task.Time stopwatch) end told left =
+    (s : Stopwatch) × (left ≡ task.Time s) × (s.failures ≡ failures_at end stopwatch.failures)
+
+-- it tells of a fault as its end, or late
 abbrev pub FailsFor : Task → Fed → Type 0
-FailsFor (task.Datagrams desk) fed =
-    (left : SipDesk UdpWire) × (fed.left ≡ task.Datagrams left)
-    × IsDeafAsTold (is_fault fed.end || fed.fails_late) (misses desk.coming) (misses left.coming)
-FailsFor (task.Lines desk) fed =
-    (left : ControlDesk UdpWire) × (fed.left ≡ task.Lines left)
-    × IsDeafAsTold (is_fault fed.end || fed.fails_late) (misses desk.coming) (misses left.coming)
-FailsFor (task.Time stopwatch) fed =
-    (left : Stopwatch) × (fed.left ≡ task.Time left) × (left.failures ≡ failures_at fed.end stopwatch.failures)
+FailsFor t fed = IsLeft t fed.end (is_fault fed.end || fed.fails_late) fed.left
 
 -- a thread has sent this through its port and closed it
 pub record Keeps (task : Task) (old : PortSeats) (fed : Fed) : Type 0 where
@@ -111,12 +112,12 @@ pub record Keeps (task : Task) (old : PortSeats) (fed : Fed) : Type 0 where
 -- ---- how it ended
 
 -- is it told that a wire by which something comes in was deaf, or that the clock failed?
-abbrev pub is_faulty : Outcome → Bool
+abbrev pub is_faulty : ServiceOutcome → Bool
 is_faulty o = is_fault o.sip || o.sip_fails_late || is_fault o.lines || o.lines_fail_late || is_fault o.time
 
 -- faults are told truly. Of the wires by which SIP came in and lines did, with what was so of their receives before: each is deaf now
 -- exactly where it was then or a fault of it is told, as its end or late. Of the clock: a read failed exactly where its end tells it
-pub record AreFaults (phones operators : Misses) (o : Outcome) : Type 0 where
+pub record AreFaults (phones operators : Misses) (o : ServiceOutcome) : Type 0 where
   pub sip : IsDeafAsTold (is_fault o.sip || o.sip_fails_late) phones (misses o.sip_desk.coming)
   pub lines : IsDeafAsTold (is_fault o.lines || o.lines_fail_late) operators (misses o.desk.coming)
   pub time : o.stopwatch.failures ≡ failures_at o.time 0
@@ -126,7 +127,7 @@ pub record AreFaults (phones operators : Misses) (o : Outcome) : Type 0 where
 -- workers with these starts handled, as their reports tell, what the three ports sent until all were closed, the first of them what those
 -- SIP datagrams say that this admission allows; and each of their
 -- outs was sent, written or failed, in order, and NOTIFYs again as their transactions ask for it, of which so many may be open
-pub record Runs (start : ℕ → Start) (workers repeats : ℕ) (opened : Opening) (admission : Admission) (wire wire' : WireSeen) (writer writer' : WriterSeen) (outcome : Outcome) : Type 0 where
+pub record Runs (start : ℕ → Start) (workers repeats : ℕ) (opened : Opening) (admission : Admission) (flow : Outflow) (outcome : ServiceOutcome) : Type 0 where
   -- as it was started
   pub crew : List Hired
   pub sip : PortSeats
@@ -147,13 +148,13 @@ pub record Runs (start : ℕ → Start) (workers repeats : ℕ) (opened : Openin
   -- what became of these
   pub acts : List Act
   pub counts : EmitReport
-  pub sent : IsSentOut repeats workers acts [] got wire wire' writer writer' counts
+  pub sent : IsSentOut repeats workers acts [] got flow counts
 
 -- ---- a service that doesn't run
 
 -- what left by a wire and a writer were outs of workers with these starts: of each all that the one-thread notifier makes of the
 -- events that it handled, and no others. Each was sent, written or failed, in order, and NOTIFYs again as in a service that runs
-pub record Leaves (start : ℕ → Start) (workers repeats : ℕ) (wire wire' : WireSeen) (writer writer' : WriterSeen) : Type 0 where
+pub record Leaves (start : ℕ → Start) (workers repeats : ℕ) (flow : Outflow) : Type 0 where
   pub crew : List Hired
   pub ports : List PortSeats
   pub taker : TakerSeat
@@ -165,4 +166,4 @@ pub record Leaves (start : ℕ → Start) (workers repeats : ℕ) (wire wire' : 
   -- what became of these
   pub acts : List Act
   pub counts : EmitReport
-  pub sent : IsSentOut repeats workers acts [] got wire wire' writer writer' counts
+  pub sent : IsSentOut repeats workers acts [] got flow counts

@@ -12,7 +12,8 @@ use Rattle.transport.specs.declared.datagram.Datagram.{Datagram}
 use Rattle.transport.specs.Wires.{datagram, Grows}
 use Rattle.feeds.specs.declared.sending.Fate.{Fate}
 use Rattle.feeds.specs.declared.sending.EmitReport.{EmitReport}
-use Rattle.feeds.specs.Emitted.{Fates, WireSeen, WriterSeen, IsEmitted, datagram_sent, fails_to_send}
+use Rattle.feeds.specs.Emitted.{Fates, WireSeen, WriterSeen, wire_seen, writer_seen, IsEmitted, datagram_sent, fails_to_send}
+use Rattle.service.specs.declared.outs.Exit.{Exit}
 use Rattle.transactions.specs.declared.open.Open.{Open}
 use Rattle.transactions.specs.Timers.{is_over}
 use Rattle.transactions.specs.Machine.{State, empty, due}
@@ -113,13 +114,28 @@ pub record Does (acts : List Act) (open_before open_after : State) (wire wire' :
   pub asked : AreAsked open_before acts
   pub open_now : open_after ≡ state_after (calls acts) open_before
 
+-- what a wire and a writer tell before outs leave by them and after
+pub record Outflow : Type 0 where
+  pub wire : WireSeen
+  pub wire' : WireSeen
+  pub writer : WriterSeen
+  pub writer' : WriterSeen
+
+abbrev pub outflow : {W F : Type 0} → (W → Option (List Datagram)) → (W → ℕ) → (F → Option (List ℕ)) → Exit W F → Exit W F → Outflow
+outflow taken failures contents old new = record {
+  wire = wire_seen taken failures old.wire;
+  wire' = wire_seen taken failures new.wire;
+  writer = writer_seen contents old.sink;
+  writer' = writer_seen contents new.sink;
+}
+
 -- The outs that were got of the workers met these fates: with the repeats left out the wire has taken just their datagrams, in
 -- order. With them it has taken what the acts tell
-pub record IsSentOut (limit workers : ℕ) (acts : List Act) (got got' : List (Item Out)) (wire wire' : WireSeen) (writer writer' : WriterSeen) (report : EmitReport) : Type 0 where
+pub record IsSentOut (limit workers : ℕ) (acts : List Act) (got got' : List (Item Out)) (flow : Outflow) (report : EmitReport) : Type 0 where
   pub without : WireSeen
-  pub emitted : IsEmitted workers (fates acts) got got' wire without writer writer' report
+  pub emitted : IsEmitted workers (fates acts) got got' flow.wire without flow.writer flow.writer' report
   pub left_open : State
-  pub does : Does acts (empty limit) left_open wire wire'
+  pub does : Does acts (empty limit) left_open flow.wire flow.wire'
 
 -- ---- what that says of each repeat
 

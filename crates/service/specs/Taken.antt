@@ -1,5 +1,5 @@
 -- What a service does with control lines, and what it answers.
-use Rattle.std.specs.Prelude.{◌≡◌, ◌≤◌, ◌+◌, ◌&&◌, ◌||◌, ◌==◌, not, ℕ, Bool, true, false, List, [], ◌∷◌, ◌++◌, length, map, ◌⊎◌, Option, Some, None, String, string_bytes, if◌then◌else◌}
+use Rattle.std.specs.Prelude.{◌≡◌, ◌≤◌, ◌+◌, ◌&&◌, ◌||◌, ◌==◌, not, ℕ, Bool, true, false, List, [], ◌∷◌, ◌++◌, length, map, ◌⊎◌, Option, Some, None, is_some, String, string_bytes, if◌then◌else◌}
 use Rattle.std.specs.Int.NonZero.{non_zero_u32_get}
 use Rattle.std.specs.List.{filter, filter_map, fold, list_any, AllByRecursion}
 use Rattle.std.specs.Option.{option_map_or}
@@ -11,9 +11,9 @@ use Rattle.admission.specs.Networks.{contains}
 use Rattle.admission.specs.Verdicts.{has_none as names_none, is_one_of}
 use Rattle.package.specs.declared.change.Change.{Change}
 use Rattle.package.specs.declared.change.Change.TheVariants as change
-use Rattle.package.specs.Values.{MailChange, Progress}
 use Rattle.notifier_model.specs.declared.event.Event.{Event}
 use Rattle.notifier_model.specs.declared.event.Event.TheVariants as happened
+use Rattle.notifier_model.specs.Told.{told_event}
 use Rattle.crew.specs.Ports.{PortSeats}
 use Rattle.transport.specs.Devices.{one_more, rises}
 use Rattle.transport.specs.declared.datagram.Datagram.{Datagram}
@@ -109,14 +109,14 @@ AreFirst names changes rows =
 
 -- ---- what a line means, behind its token, to a service that was told so of its mailboxes
 
-abbrev pub Has : List Row → List ℕ → Type 0
-Has rows name = (n : ℕ) × (place name rows ≡ Some n)
+-- the service has the mailbox that a change is of, if it is of one
+abbrev pub is_known : List Row → Change → Bool
+is_known rows (change.Mail m) = is_some (place m.mailbox rows)
+is_known rows other = true
 
 -- it tells that this happened: a mailbox of the service changed, or a transfer went on
 abbrev pub Tells : List Row → List ℕ → Event → Type 0
-Tells rows octets e =
-    ((m : MailChange) × Asks octets (asked.Mail m) × Has rows m.mailbox × (e ≡ happened.Mail m))
-    ⊎ ((p : Progress) × Asks octets (asked.Progress p) × (e ≡ happened.Progress p))
+Tells rows octets e = (c : Change) × Asks octets (asked.Change c) × (is_known rows c ≡ true) × (told_event c ≡ Some e)
 
 -- the question names a mailbox that the service doesn't have
 abbrev pub NamesNone : List Row → Question → Type 0
@@ -130,7 +130,7 @@ NamesNone rows (question.Watchers (Some name) from) = place name rows ≡ None
 -- it tells or asks of a mailbox that the service doesn't have
 abbrev pub IsUnknown : List Row → List ℕ → Type 0
 IsUnknown rows octets =
-    ((m : MailChange) × Asks octets (asked.Mail m) × (place m.mailbox rows ≡ None))
+    ((c : Change) × Asks octets (asked.Change c) × (is_known rows c ≡ false))
     ⊎ ((q : Question) × Asks octets (asked.Question q) × NamesNone rows q)
 
 -- the question asks for the mailboxes from this place on
@@ -172,12 +172,15 @@ IsSent old e new (did.Answered answer.Done) = Sends old (e ∷ []) new
 IsSent old e new did.Gone = Misses old e new
 IsSent old e new other = ⊥
 
--- the same of a mailbox's change, where the service has the mailbox
-abbrev pub IsChanged : MailChange → List Row → List Row → PortSeats → PortSeats → Done → Type 0
-IsChanged m rows rows' old new (did.Answered answer.Done) = Has rows m.mailbox × (rows' ≡ told m rows) × Sends old (happened.Mail m ∷ []) new
-IsChanged m rows rows' old new (did.Answered answer.UnknownMailbox) = (place m.mailbox rows ≡ None) × Stays rows rows' old new
-IsChanged m rows rows' old new did.Gone = Has rows m.mailbox × (rows' ≡ told m rows) × Misses old (happened.Mail m) new
-IsChanged m rows rows' old new other = ⊥
+-- the same of a change that the service knows, and its mailbox was told of it. One that is no event is no line
+abbrev pub IsChanged : Change → List Row → List Row → PortSeats → PortSeats → Done → Type 0
+IsChanged c rows rows' old new (did.Answered answer.Done) =
+    (e : Event) × (told_event c ≡ Some e) × (is_known rows c ≡ true) × (rows' ≡ told_of c rows) × Sends old (e ∷ []) new
+IsChanged c rows rows' old new (did.Answered answer.UnknownMailbox) = (is_known rows c ≡ false) × Stays rows rows' old new
+IsChanged c rows rows' old new (did.Answered answer.BadLine) = (told_event c ≡ None) × Stays rows rows' old new
+IsChanged c rows rows' old new did.Gone =
+    (e : Event) × (told_event c ≡ Some e) × (is_known rows c ≡ true) × (rows' ≡ told_of c rows) × Misses old e new
+IsChanged c rows rows' old new other = ⊥
 
 -- what was done with the line: but for a CLOSE, `ok` only where its event went to its worker, and nothing is sent with any other
 -- answer
@@ -238,13 +241,9 @@ end_after other = None
 
 -- ---- its answer
 
--- what a question was told, or that there was no memory for that
-abbrev pub report_or_none : Option (String Global) → List ℕ
-report_or_none text = option_map_or string_bytes text (answer_text answer.NoMemory)
-
--- a page of rows, or that it was not told in time
-abbrev pub page_or_busy : Option (String Global) → List ℕ
-page_or_busy text = option_map_or string_bytes text (answer_text answer.Busy)
+-- a text, or this answer where there is none
+abbrev pub text_or : Option (String Global) → Answer → List ℕ
+text_or text otherwise = option_map_or string_bytes text (answer_text otherwise)
 
 abbrev pub IsReply : DeskSeen → Done → List ℕ → Type 0
 IsReply desk (did.Answered a) octets = octets ≡ answer_text a

@@ -8,11 +8,12 @@ ghost use Rattle.transport.specs.Wires.{Grows};
 ghost use Rattle.feeds.specs.Heard.{SipSays};
 ghost use Rattle.service.specs.Admitted as spec;
 ghost use Rattle.service.specs.Admitted.{Case, IsRead, Meets, Refuses, arrived, AreHeard, AreRefused};
-ghost use Rattle.service.specs.Listening.{IsDeafAsTold, is_fault};
+ghost use Rattle.feeds.specs.Fed.{is_fault};
+ghost use Rattle.service.specs.Listening.{IsDeafAsTold};
 ghost use Rattle.service.specs.Served.{is_gone, is_short};
 ghost use Rattle.transport.specs.declared.datagram.Datagram.{Datagram};
 
-use crate::listening::{FaultLog, receive};
+use crate::listening::{Came, Listening, ROOM, Until};
 use crate::request_log::log_answer;
 use crate::shared::{Counter, Shared};
 use admission::{Admission, Arrival, Cause, Reading, Verdict};
@@ -25,9 +26,6 @@ use std::alloc::Global;
 use std::rt::Clock;
 use std::sync::Wait;
 use transport::{Ear, Wire};
-
-/// The room for a datagram: none is longer.
-const ROOM: usize = 65536;
 
 /// What a SIP datagram says, and why it can't be read, if it can't.
 #[derive(Drop)]
@@ -267,17 +265,13 @@ impl<W: Ear> SipDesk<W> {
         ensures seats { SameSeats port.old port.new }
     {
         let mut octets = [0; ROOM];
-        let mut log = FaultLog::new();
+        let mut listening = Listening::new(Until::Closing);
         let mut moment = 0;
         for _ in rt.forever() {
-            if shared.is_closing() {
-                return FeedEnd::Done;
-            }
-            let Ok(came) = receive(rt, &mut self.coming, &mut log, shared, &mut octets) else {
-                return FeedEnd::Fault;
-            };
-            let Some((length, source)) = came else {
-                continue;
+            let (length, source) = match listening.look(rt, &mut self.coming, shared, &mut octets) {
+                Came::Datagram(length, source) => (length, source),
+                Came::Nothing => continue,
+                Came::End(end) => return end,
             };
             shared.count(Counter::Datagram);
             if !self.takes(shared, length) {
@@ -346,19 +340,16 @@ impl<W: Ear> SipDesk<W> {
         ensures admission { self.new.admission ≡ self.old.admission }
     {
         let mut octets = [0; ROOM];
-        let mut log = FaultLog::new();
+        let mut listening = Listening::new(Until::Finished);
         for _ in rt.forever() {
-            if shared.is_finished() {
-                return false;
-            }
-            let Ok(came) = receive(rt, &mut self.coming, &mut log, shared, &mut octets) else {
-                return true;
-            };
-            let Some((length, source)) = came else {
-                continue;
-            };
-            if let Some(heard) = self.hear_late(alloc, shared, source, &octets[..length]) {
-                shared.notes.put(rt, alloc, &heard);
+            match listening.look(rt, &mut self.coming, shared, &mut octets) {
+                Came::Datagram(length, source) => {
+                    if let Some(heard) = self.hear_late(alloc, shared, source, &octets[..length]) {
+                        shared.notes.put(rt, alloc, &heard);
+                    }
+                }
+                Came::Nothing => {}
+                Came::End(end) => return end.is_fault(),
             }
         }
         unreachable!()

@@ -21,7 +21,7 @@ fn name(alloc: Global, addr: Addr) -> Result<String, NoMemory> {
 }
 
 /// How much was dropped at the socket of this name, if this line is its: its second word is the name, and its last one the count.
-fn drops_in(line: &str, name: &str) -> Option<u64> {
+fn drop_count(line: &str, name: &str) -> Option<u64> {
     let mut words = line.split_whitespace();
     if words.nth(1)? != name {
         return None;
@@ -37,7 +37,7 @@ pub(crate) fn kernel_drops<R: Files>(rt: &R, alloc: Global, place: Addr) -> Opti
     let reader = BufReader::new(alloc, sockets).ok()?;
     for line in reader.lines(alloc).take(LINES) {
         let line = line.ok()?;
-        if let Some(count) = drops_in(line.as_str(), name.as_str()) {
+        if let Some(count) = drop_count(line.as_str(), name.as_str()) {
             return Some(count);
         }
     }

@@ -7,7 +7,7 @@ use notifier_model::Out;
 use std::sync::Wait;
 
 /// What an out counts as.
-fn counter_for(out: &Out, fate: Fate) -> Counter {
+fn counter(out: &Out, fate: Fate) -> Counter {
     match fate {
         Fate::Failed => Counter::Failed,
         Fate::Started => Counter::Start,
@@ -35,7 +35,7 @@ pub(crate) fn count<R: Wait>(rt: &R, shared: &Shared, out: &Out, fate: Fate) {
     if let (Out::Answer { bytes, .. }, Fate::Sent) = (out, fate) {
         shared.count_status(bytes.as_slice());
     }
-    shared.count(counter_for(out, fate));
+    shared.count(counter(out, fate));
 }
 
 /// Says to whom an answer goes, where the operator wants to know of each.

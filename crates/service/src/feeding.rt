@@ -2,8 +2,13 @@
 ghost use Rattle.std.specs.Prelude.{◌≡◌, ◌<◌, IfOk};
 ghost use Rattle.crew.specs.Kept.{SameSeats};
 ghost use Rattle.crew.specs.Ports.{IsShut};
+ghost use Rattle.feeds.specs.Fed.{is_fault};
+ghost use Rattle.transport.specs.declared.udp.UdpWire.{UdpWire};
+ghost use Rattle.service.specs.declared.clock.Stopwatch.{Stopwatch};
+ghost use Rattle.service.specs.declared.datagrams.SipDesk.{SipDesk};
 ghost use Rattle.service.specs.declared.feeding.Task.TheVariants as tasks;
-ghost use Rattle.service.specs.Running.{Keeps};
+ghost use Rattle.service.specs.declared.lines.ControlDesk.{ControlDesk};
+ghost use Rattle.service.specs.Running.{IsLeft, Keeps, SendsFor};
 
 use crate::clock::{Stopwatch, tell_time};
 use crate::datagrams::SipDesk;
@@ -28,6 +33,77 @@ pub(crate) enum Task {
     Lines(ControlDesk<UdpWire>),
     /// The time.
     Time(Stopwatch),
+}
+
+impl Task {
+    /// Sends through a port what it is to send, until the service closes. The port isn't closed.
+    fn feed<R: Wait + Clock + Eprint>(
+        &mut self,
+        rt: &R,
+        alloc: Global,
+        port: &mut Port,
+        shared: &Shared,
+    ) -> FeedEnd
+        requires still_open { 0 < port.old.still_open }
+        ensures sends { SendsFor self.old result port.old port.new }
+        ensures fails { IsLeft self.old result (is_fault result) self.new }
+        ensures seats { SameSeats port.old port.new }
+    {
+        match self {
+            Task::Datagrams(desk) => desk.hear_datagrams(rt, alloc, port, shared),
+            Task::Lines(desk) => desk.take_lines(rt, alloc, port, shared),
+            Task::Time(stopwatch) => tell_time(rt, stopwatch, port, shared),
+        }
+    }
+
+    /// Hears answers to NOTIFYs and refuses control lines while the service closes, until all was sent out or the wire is deaf: true then.
+    fn listen_on<R: Wait + Clock + Eprint>(
+        &mut self,
+        rt: &R,
+        alloc: Global,
+        shared: &Shared,
+    ) -> bool
+        ensures { IsLeft self.old FeedEnd.Done result self.new }
+    {
+        match self {
+            Task::Datagrams(desk) => desk.hear_answers(rt, alloc, shared),
+            Task::Lines(desk) => desk.refuse_lines(rt, shared),
+            Task::Time(_) => false,
+        }
+    }
+
+    /// What it heard SIP datagrams by.
+    pub(crate) fn into_sip_desk(self) -> SipDesk<UdpWire>
+        requires { (desk : SipDesk UdpWire) × (self ≡ tasks.Datagrams desk) }
+        ensures { self ≡ tasks.Datagrams result }
+    {
+        let Task::Datagrams(desk) = self else {
+            unreachable!()
+        };
+        desk
+    }
+
+    /// What it took control lines by.
+    pub(crate) fn into_control_desk(self) -> ControlDesk<UdpWire>
+        requires { (desk : ControlDesk UdpWire) × (self ≡ tasks.Lines desk) }
+        ensures { self ≡ tasks.Lines result }
+    {
+        let Task::Lines(desk) = self else {
+            unreachable!()
+        };
+        desk
+    }
+
+    /// What it read the time by.
+    pub(crate) fn into_stopwatch(self) -> Stopwatch
+        requires { (stopwatch : Stopwatch) × (self ≡ tasks.Time stopwatch) }
+        ensures { self ≡ tasks.Time result }
+    {
+        let Task::Time(stopwatch) = self else {
+            unreachable!()
+        };
+        stopwatch
+    }
 }
 
 /// A port that was fed and closed.
@@ -79,85 +155,25 @@ fn shut<R: Wait>(rt: &R, mut port: Port, shared: &Shared) -> Port
     port
 }
 
-/// Sends what SIP datagrams say until the service closes, and closes the port. Answers to NOTIFYs are heard until all was sent out.
-fn hear_whole<R: Wait + Clock + Eprint>(
-    rt: &R,
-    alloc: Global,
-    mut port: Port,
-    mut desk: SipDesk<UdpWire>,
-    shared: &Shared,
-) -> Fed
-    requires { 0 < port.still_open }
-    ensures { Keeps (tasks.Datagrams desk) port result }
-{
-    let end = desk.hear_datagrams(rt, alloc, &mut port, shared);
-    let port = shut(rt, port, shared);
-    let fails_late = desk.hear_answers(rt, alloc, shared);
-    Fed {
-        port,
-        end,
-        fails_late,
-        left: Task::Datagrams(desk),
-    }
-}
-
-/// Sends what control lines tell until the service closes, and closes the port. Lines are answered until all was sent out.
-fn take_whole<R: Wait + Clock + Eprint>(
-    rt: &R,
-    alloc: Global,
-    mut port: Port,
-    mut desk: ControlDesk<UdpWire>,
-    shared: &Shared,
-) -> Fed
-    requires { 0 < port.still_open }
-    ensures { Keeps (tasks.Lines desk) port result }
-{
-    let end = desk.take_lines(rt, alloc, &mut port, shared);
-    let port = shut(rt, port, shared);
-    let fails_late = desk.refuse_lines(rt, shared);
-    Fed {
-        port,
-        end,
-        fails_late,
-        left: Task::Lines(desk),
-    }
-}
-
-/// Sends the time until the service closes, and closes the port.
-fn tell_whole<R: Wait + Clock + Eprint>(
-    rt: &R,
-    mut port: Port,
-    mut stopwatch: Stopwatch,
-    shared: &Shared,
-) -> Fed
-    requires { 0 < port.still_open }
-    ensures { Keeps (tasks.Time stopwatch) port result }
-{
-    let end = tell_time(rt, &mut stopwatch, &mut port, shared);
-    let port = shut(rt, port, shared);
-    Fed {
-        port,
-        end,
-        fails_late: false,
-        left: Task::Time(stopwatch),
-    }
-}
-
-/// Does a task to its end, and closes the port.
+/// Does a task to its end, and closes the port. Where it listens it goes on with that until all was sent out.
 fn do_task<R: Wait + Clock + Eprint>(
     rt: &R,
     alloc: Global,
-    port: Port,
-    task: Task,
+    mut port: Port,
+    mut task: Task,
     shared: &Shared,
 ) -> Fed
     requires { 0 < port.still_open }
     ensures { Keeps task port result }
 {
-    match task {
-        Task::Datagrams(desk) => hear_whole(rt, alloc, port, desk, shared),
-        Task::Lines(desk) => take_whole(rt, alloc, port, desk, shared),
-        Task::Time(stopwatch) => tell_whole(rt, port, stopwatch, shared),
+    let end = task.feed(rt, alloc, &mut port, shared);
+    let port = shut(rt, port, shared);
+    let fails_late = task.listen_on(rt, alloc, shared);
+    Fed {
+        port,
+        end,
+        fails_late,
+        left: task,
     }
 }
 

@@ -52,6 +52,6 @@ pub use error::RunError;
 pub use lines::{ControlDesk, ControlPort};
 pub use operators::Operators;
 pub use outs::Exit;
-pub use running::{Outcome, Work, run_crew};
+pub use running::{ServiceOutcome, ServiceWork, run_crew};
 pub use shared::Shared;
 pub use sip_text::NoMemory;

@@ -9,10 +9,11 @@ ghost use Rattle.control_lines.specs.declared.question.Question.TheVariants as q
 ghost use Rattle.service.specs.declared.lines.Done.TheVariants as did;
 ghost use Rattle.service.specs.Taken as spec;
 ghost use Rattle.service.specs.Taken.{Line, IsSent, IsChanged, IsDone, IsFound, IsTaken, Offers, IsAnswered, AreFirst, datagrams_of, AreTaken, AreAnswered, AreRefused, operators_in, seen};
-ghost use Rattle.service.specs.Listening.{IsDeafAsTold, is_fault};
+ghost use Rattle.feeds.specs.Fed.{is_fault};
+ghost use Rattle.service.specs.Listening.{IsDeafAsTold};
 
-use crate::listening::{FaultLog, receive};
-use crate::operators::{Operators, tell_each};
+use crate::listening::{Came, Listening, ROOM, Until};
+use crate::operators::{Operators, is_known, tell, tell_each};
 use crate::reports::{counters, dumped, inquiry, shown, watched};
 use crate::shared::{Counter, Shared};
 use admission::Network;
@@ -22,7 +23,7 @@ use control_lines::{
 use crew::Port;
 use feeds::{FeedEnd, send_event};
 use notifier_model::Event;
-use package::{Change, MailChange};
+use package::Change;
 use sip_text::{Addr, NoMemory, Text};
 use std::alloc::Global;
 use std::num::NonZeroU32;
@@ -32,9 +33,6 @@ use transport::{Ear, Wire};
 
 /// How many answers to lines with a token are kept.
 pub const KEPT: usize = 4096;
-
-/// The room for a control line: as long as a datagram may be. A line that were cut might still be read, with a wrong number.
-const ROOM: usize = 65536;
 
 /// What is done with a control line.
 #[derive(Clone, Copy)]
@@ -92,18 +90,20 @@ fn send<R: Wait>(rt: &R, port: &mut Port, event: Event) -> Done
     }
 }
 
-/// Notes and sends the change of a mailbox of the service. That of any other is dropped.
-fn send_change<R: Wait>(rt: &R, port: &mut Port, told: &mut ToldCounts, change: MailChange) -> Done
+/// Notes and sends a change. That of a mailbox which the service doesn't have is dropped.
+fn send_change<R: Wait>(rt: &R, port: &mut Port, told: &mut ToldCounts, change: Change) -> Done
     requires still_open { 0 < port.old.still_open }
     ensures done { IsChanged change told.old told.new port.old port.new result }
     ensures seats { SameSeats port.old port.new }
 {
-    let Some(_place) = told.place(change.mailbox()) else {
-        drop(change);
+    if !is_known(told, &change) {
         return Done::Answered(Answer::UnknownMailbox);
-    };
-    told.tell(&change);
-    send(rt, port, Event::Mail(change))
+    }
+    tell(told, &change);
+    match Event::of(change) {
+        Some(event) => send(rt, port, event),
+        None => Done::Answered(Answer::BadLine),
+    }
 }
 
 /// What SHOW asks for.
@@ -166,8 +166,7 @@ pub fn take_line<R: Wait>(
     ensures seats { SameSeats port.old port.new }
 {
     match hear_line(alloc, octets) {
-        Asked::Mail(change) => send_change(rt, port, told, change),
-        Asked::Progress(progress) => send(rt, port, Event::Progress(progress)),
+        Asked::Change(change) => send_change(rt, port, told, change),
         Asked::Close => Done::Closing,
         Asked::Question(question) => find(told, &question),
         Asked::Nothing => Done::Unanswered,
@@ -308,9 +307,16 @@ impl<W: Wire> ControlDesk<W> {
         reply(rt, &mut self.going, shared, to, answer.text().as_bytes());
     }
 
-    /// Sends what a question is told, or that it could not be told, for want of memory or of a clock.
-    fn say_report<R: Wait>(&mut self, rt: &R, shared: &Shared, to: Addr, text: Option<String>)
-        ensures offered { Offers to (spec.report_or_none text)
+    /// Sends this text, or this answer where there is none.
+    fn say_text<R: Wait>(
+        &mut self,
+        rt: &R,
+        shared: &Shared,
+        to: Addr,
+        text: Option<String>,
+        otherwise: Answer,
+    )
+        ensures offered { Offers to (spec.text_or text otherwise)
             (W.taken self.old.going) (W.taken self.new.going)
             (W.failures self.old.going) (W.failures self.new.going) }
         ensures given { Grows (W.given self.old.going) (W.given self.new.going) [] }
@@ -319,22 +325,7 @@ impl<W: Wire> ControlDesk<W> {
     {
         match text {
             Some(text) => reply(rt, &mut self.going, shared, to, text.as_bytes()),
-            None => self.say(rt, shared, to, Answer::NoMemory),
-        }
-    }
-
-    /// Sends a page of rows, or that it was not told in time.
-    fn say_page<R: Wait>(&mut self, rt: &R, shared: &Shared, to: Addr, text: Option<String>)
-        ensures offered { Offers to (spec.page_or_busy text)
-            (W.taken self.old.going) (W.taken self.new.going)
-            (W.failures self.old.going) (W.failures self.new.going) }
-        ensures given { Grows (W.given self.old.going) (W.given self.new.going) [] }
-        ensures coming { self.new.coming ≡ self.old.coming }
-        ensures seen { seen self.new ≡ seen self.old }
-    {
-        match text {
-            Some(text) => reply(rt, &mut self.going, shared, to, text.as_bytes()),
-            None => self.say(rt, shared, to, Answer::Busy),
+            None => self.say(rt, shared, to, otherwise),
         }
     }
 
@@ -360,18 +351,21 @@ impl<W: Wire> ControlDesk<W> {
             Done::Repeated(answer) => self.say(rt, shared, to, answer),
             Done::Unanswered => {}
             Done::Foreign => shared.count(Counter::ForeignLine),
-            Done::Counters => self.say_report(rt, shared, to, counters(rt, alloc, shared)),
+            Done::Counters => {
+                let text = counters(rt, alloc, shared);
+                self.say_text(rt, shared, to, text, Answer::NoMemory);
+            }
             Done::Shown(place) => {
                 let text = shown(alloc, &self.told, self.workers, place);
-                self.say_report(rt, shared, to, text);
+                self.say_text(rt, shared, to, text, Answer::NoMemory);
             }
             Done::Dumped(from) => {
                 let text = dumped(alloc, &self.told, from);
-                self.say_report(rt, shared, to, text);
+                self.say_text(rt, shared, to, text, Answer::NoMemory);
             }
             Done::Watched(place, from) => {
                 let text = watched(rt, alloc, shared, inquiry(alloc, &self.told, place, from));
-                self.say_page(rt, shared, to, text);
+                self.say_text(rt, shared, to, text, Answer::Busy);
             }
             Done::Closing => {
                 shared.close();
@@ -432,16 +426,12 @@ impl<W: Ear> ControlDesk<W> {
         ensures seats { SameSeats port.old port.new }
     {
         let mut octets = [0; ROOM];
-        let mut log = FaultLog::new();
+        let mut listening = Listening::new(Until::Closing);
         for _ in rt.forever() {
-            if shared.is_closing() {
-                return FeedEnd::Done;
-            }
-            let Ok(came) = receive(rt, &mut self.coming, &mut log, shared, &mut octets) else {
-                return FeedEnd::Fault;
-            };
-            let Some((length, source)) = came else {
-                continue;
+            let (length, source) = match listening.look(rt, &mut self.coming, shared, &mut octets) {
+                Came::Datagram(length, source) => (length, source),
+                Came::Nothing => continue,
+                Came::End(end) => return end,
             };
             let done = self.take(rt, alloc, port, source, &octets[..length]);
             self.answer(rt, alloc, shared, source, done);
@@ -471,19 +461,16 @@ impl<W: Ear> ControlDesk<W> {
         ensures seen { seen self.new ≡ seen self.old }
     {
         let mut octets = [0; ROOM];
-        let mut log = FaultLog::new();
+        let mut listening = Listening::new(Until::Finished);
         for _ in rt.forever() {
-            if shared.is_finished() {
-                return false;
-            }
-            let Ok(came) = receive(rt, &mut self.coming, &mut log, shared, &mut octets) else {
-                return true;
-            };
-            let Some((length, source)) = came else {
-                continue;
-            };
-            if self.owes(source, &octets[..length]) {
-                self.say(rt, shared, source, Answer::Closed);
+            match listening.look(rt, &mut self.coming, shared, &mut octets) {
+                Came::Datagram(length, source) => {
+                    if self.owes(source, &octets[..length]) {
+                        self.say(rt, shared, source, Answer::Closed);
+                    }
+                }
+                Came::Nothing => {}
+                Came::End(end) => return end.is_fault(),
             }
         }
         unreachable!()

@@ -1,16 +1,19 @@
 //! Receives that may fail, and are tried again.
-ghost use Rattle.std.specs.Prelude.{◌≤◌, [], IfOk, IfSome, is_err, length};
-ghost use Rattle.transport.specs.Ears.{GivesInTime};
+ghost use Rattle.std.specs.Prelude.{[]};
 ghost use Rattle.transport.specs.Wires.{Grows};
-ghost use Rattle.service.specs.Listening.{IsDeafAsTold};
+ghost use Rattle.service.specs.Listening.{Gave, IsDeafAsTold, MayCome, tells_deaf};
 
 use crate::shared::{Counter, Shared};
+use feeds::FeedEnd;
 use sip_text::Addr;
 use std::rt::Clock;
 use std::sync::Wait;
 use std::thread;
 use std::time::Duration;
 use transport::{Ear, ReceiveFault};
+
+/// The room for a datagram: none is longer. A control line that were cut might still be read, with a wrong number.
+pub(crate) const ROOM: usize = 65536;
 
 /// After how many failed receives, one after the other, a wire is deaf: those of ten seconds.
 const MOST: u64 = 1000;
@@ -21,25 +24,50 @@ const PAUSE: u64 = 10;
 /// How many milliseconds pass between two lines on receives that failed.
 const MINUTE: u64 = 60_000;
 
-/// Nothing can come by a wire any more.
+/// What came of one look at a wire.
 #[derive(Clone, Copy)]
-pub(crate) struct Deaf;
+pub(crate) enum Came {
+    /// A datagram of so many octets, from this address.
+    Datagram(usize, Addr),
+    /// Nothing yet.
+    Nothing,
+    /// Nothing more is listened for: the service goes no further, or nothing can come by the wire any more.
+    End(FeedEnd),
+}
 
-/// The failed receives of a thread, as they are told once a minute.
+/// Until when a thread listens.
+#[derive(Clone, Copy)]
+pub(crate) enum Until {
+    /// Until the service closes.
+    Closing,
+    /// Until all was sent out.
+    Finished,
+}
+
+/// How a thread listens by a wire. Its failed receives are told once a minute.
 #[derive(Drop)]
-pub(crate) struct FaultLog {
-    /// When the last one was told.
+pub(crate) struct Listening {
+    until: Until,
+    /// When the last failed receive was told.
     told: Option<u64>,
 }
 
-impl FaultLog {
+impl Listening {
     /// One that has told nothing.
-    pub(crate) fn new() -> FaultLog {
-        FaultLog { told: None }
+    pub(crate) fn new(until: Until) -> Listening {
+        Listening { until, told: None }
+    }
+
+    /// Whether the service has come as far as this listens.
+    fn is_over(&self, shared: &Shared) -> bool {
+        match self.until {
+            Until::Closing => shared.is_closing(),
+            Until::Finished => shared.is_finished(),
+        }
     }
 
     /// Counts a failed receive, and says on standard error, where it didn't within the last minute, why it failed and at which address.
-    fn add<R: Clock + Eprint>(
+    fn note<R: Clock + Eprint>(
         &mut self,
         rt: &R,
         shared: &Shared,
@@ -61,30 +89,35 @@ impl FaultLog {
         let port = place.port;
         let _ = eprintln!(rt; "notifyd: a receive at {a}.{b}.{c}.{d}:{port} failed: {fault}");
     }
-}
 
-/// Receives once by a wire: the length of a datagram and where it came from, or None where none came yet. Behind a receive that failed
-/// it waits a little, so that the next one may do better. [`Deaf`] where each receive of ten seconds failed, or the descriptor is lost.
-pub(crate) fn receive<R: Wait + Clock + Eprint, W: Ear>(
-    rt: &R,
-    wire: &mut W,
-    log: &mut FaultLog,
-    shared: &Shared,
-    octets: &mut [u8],
-) -> Result<Option<(usize, Addr)>, Deaf>
-    ensures within { IfOk result (λ came. IfSome came (λ r. r.0 ≤ length octets.new)) }
-    ensures given { GivesInTime (W.given wire.old) (W.given wire.new) octets.new result }
-    ensures taken { Grows (W.taken wire.old) (W.taken wire.new) [] }
-    ensures deaf { IsDeafAsTold (is_err result) (W.misses wire.old) (W.misses wire.new) }
-{
-    let fault = match wire.recv_in_time(rt, octets) {
-        Ok(came) => return Ok(came),
-        Err(fault) => fault,
-    };
-    log.add(rt, shared, wire.place(), fault);
-    if fault.is_lost() || wire.row() >= MOST {
-        return Err(Deaf);
+    /// Receives once by a wire, and puts the datagram at the beginning of these octets. Behind a receive that failed it waits a little, so
+    /// that the next one may do better. It ends as done where it listens no further, and with a fault where each receive of ten seconds
+    /// failed, or the descriptor is lost.
+    pub(crate) fn look<R: Wait + Clock + Eprint, W: Ear>(
+        &mut self,
+        rt: &R,
+        wire: &mut W,
+        shared: &Shared,
+        octets: &mut [u8],
+    ) -> Came
+        ensures came { MayCome octets.new result }
+        ensures given { Gave (W.given wire.old) (W.given wire.new) octets.new result }
+        ensures taken { Grows (W.taken wire.old) (W.taken wire.new) [] }
+        ensures deaf { IsDeafAsTold (tells_deaf result) (W.misses wire.old) (W.misses wire.new) }
+    {
+        if self.is_over(shared) {
+            return Came::End(FeedEnd::Done);
+        }
+        let fault = match wire.recv_in_time(rt, octets) {
+            Ok(Some((length, source))) => return Came::Datagram(length, source),
+            Ok(None) => return Came::Nothing,
+            Err(fault) => fault,
+        };
+        self.note(rt, shared, wire.place(), fault);
+        if fault.is_lost() || wire.row() >= MOST {
+            return Came::End(FeedEnd::Fault);
+        }
+        thread::sleep(rt, Duration::from_millis(PAUSE));
+        Came::Nothing
     }
-    thread::sleep(rt, Duration::from_millis(PAUSE));
-    Ok(None)
 }

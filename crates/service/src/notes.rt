@@ -35,7 +35,7 @@ fn answered_tag(head: &Head) -> Option<&Text>
 }
 
 /// The note of what was heard, if that is an answer to a NOTIFY.
-pub(crate) fn note_in(alloc: Global, heard: &Heard) -> Result<Option<Note>, NoMemory>
+pub(crate) fn new_note(alloc: Global, heard: &Heard) -> Result<Option<Note>, NoMemory>
     ensures { IfOk result (λ note. note ≡ spec.note_in heard.now) }
 {
     let Heard::Event(Event::Reply(response)) = heard else {
@@ -67,7 +67,7 @@ impl Notes {
     /// Puts the note of what was heard, if that is an answer to a NOTIFY. Where there is no room or no memory it is dropped: its
     /// NOTIFY is sent once more then.
     pub(crate) fn put<R: Wait>(&self, rt: &R, alloc: Global, heard: &Heard) {
-        if let Ok(Some(note)) = note_in(alloc, heard) {
+        if let Ok(Some(note)) = new_note(alloc, heard) {
             self.post.put(rt, Parcel::Note(note));
         }
     }

@@ -1,4 +1,4 @@
-//! Whose control lines are heard, and what operators told before a service began.
+//! Whose control lines are heard, and what operators tell of mailboxes.
 ghost use Rattle.std.specs.Prelude.{◌≡◌};
 ghost use Rattle.admission.specs.Verdicts as verdicts;
 ghost use Rattle.service.specs.Taken as spec;
@@ -84,8 +84,18 @@ impl Operators {
     }
 }
 
+/// Whether the service has the mailbox that a change is of, if it is of one.
+pub(crate) fn is_known(told: &ToldCounts, change: &Change) -> bool
+    ensures { result ≡ spec.is_known told.now change.now }
+{
+    match change {
+        Change::Mail(change) => told.place(change.mailbox()).is_some(),
+        Change::Begin(_) | Change::Step(_) | Change::Forget(_) => true,
+    }
+}
+
 /// A mailbox was told what this change says of it, if it says something.
-fn tell(told: &mut ToldCounts, change: &Change)
+pub(crate) fn tell(told: &mut ToldCounts, change: &Change)
     ensures { told.new ≡ told_of change.now told.old }
 {
     match change {

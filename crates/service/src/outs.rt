@@ -1,25 +1,23 @@
 //! What the workers post, sent out, and each NOTIFY again that nobody answers.
-ghost use Rattle.std.specs.Prelude.{◌≡◌, ◌<◌, ◌⊎◌, ℕ, List, [], true, IfSome, IfNone};
+ghost use Rattle.std.specs.Prelude.{◌≡◌, ◌⊎◌, ℕ, List, [], true};
 ghost use Rattle.queues.specs.Ended.{AllEnded};
-ghost use Rattle.queues.specs.OutboxTook.{Took};
 ghost use Rattle.transport.specs.Wires.{Grows};
 ghost use Rattle.feeds.specs.declared.sending.EmitReport.{EmitReport};
 ghost use Rattle.feeds.specs.Emitted as spec;
 ghost use Rattle.transactions.specs.Machine.{empty};
-ghost use Rattle.service.specs.Sending.{Act, IsSentOut, fates};
+ghost use Rattle.service.specs.Sending.{Act, IsSentOut, fates, outflow};
 ghost use Rattle.service.specs.Watched.{AreRowed};
 
 use crate::put::Put;
 use crate::sending::{Waiting, Watch};
 use crate::shared::{Counter, Shared};
 use crossbeam_utils::sync::Parker;
-use feeds::{Fate, put_out};
+use feeds::{Fate, Next, next_out, put_out};
 use notifier_model::Out;
-use queues::outbox::{Posted, Taker};
+use queues::outbox::Taker;
 use std::io::Write;
 use std::rt::{Clock, Files};
 use std::sync::Wait;
-use std::thread;
 use std::time::Duration;
 use transport::{Sink, Wire};
 
@@ -40,18 +38,6 @@ fn note_error<W: Wire>(shared: &Shared, wire: &W, out: &Out, fate: Fate) {
         }
         _ => {}
     }
-}
-
-/// What comes next of so many workers that haven't ended, if anything was posted.
-fn next_posted<R: Wait>(rt: &R, taker: &mut Taker, left: u32) -> Option<Posted>
-    ensures next { IfSome result (λ posted. Took taker.old posted taker.new) }
-    ensures none { IfNone result (taker.new ≡ taker.old) }
-    ensures some { IfSome result (λ _. 0 < left) }
-{
-    if left == 0 {
-        return None;
-    }
-    taker.take(rt)
 }
 
 /// What outs leave by: datagrams by the wire, START lines by the writer.
@@ -85,12 +71,10 @@ impl Outgoing {
 
     /// Waits where nothing was posted: until a worker posts, but not for long, where nothing was done for some turns.
     fn rest<R: Wait + Clock>(&self, rt: &R, watch: &Watch) {
-        if watch.is_awake() {
-            thread::yield_now();
-            return;
+        if !watch.yields() {
+            self.parker
+                .park_timeout(rt, Duration::from_millis(self.nap(watch.now())));
         }
-        self.parker
-            .park_timeout(rt, Duration::from_millis(self.nap(watch.now())));
     }
 }
 
@@ -113,10 +97,7 @@ pub(crate) fn send_outs<R: Wait + Clock + Files + Eprint, W: Wire, F: Write>(
     ensures sent { (limit : ℕ) → outgoing.old.waiting.transactions ≡ empty limit
         → (acts : List Act) × (report : EmitReport)
         × IsSentOut limit outgoing.old.taker.workers acts outgoing.old.taker.got outgoing.new.taker.got
-        (record { taken = W.taken exit.old.wire; failures = W.failures exit.old.wire })
-        (record { taken = W.taken exit.new.wire; failures = W.failures exit.new.wire })
-        (record { contents = F.contents exit.old.sink.writer; failures = exit.old.sink.failures })
-        (record { contents = F.contents exit.new.sink.writer; failures = exit.new.sink.failures }) report
+        (outflow W.taken W.failures F.contents exit.old exit.new) report
         × (spec.count spec.fails_to_start (fates acts) ≡ 0
         → (exit.new.sink ≡ exit.old.sink) ⊎ (exit.new.sink.is_flushed ≡ true))
         × AreRowed (empty limit) acts outgoing.old.waiting.watchers.rows outgoing.new.waiting.watchers.rows }
@@ -136,19 +117,16 @@ pub(crate) fn send_outs<R: Wait + Clock + Files + Eprint, W: Wire, F: Write>(
         let has_more = outgoing
             .waiting
             .tend(rt, &mut exit.wire, &mut watch, shared);
-        match next_posted(rt, &mut outgoing.taker, left) {
-            Some(Posted::Ended(_)) => {
-                shared.count(Counter::WorkerEnded);
-                left -= 1;
-            }
-            Some(Posted::Out(_, out)) => {
+        match next_out(rt, &mut outgoing.taker, &mut left) {
+            Next::Out(out) => {
                 let fate = put_out(rt, &mut exit.wire, &mut exit.sink, &out);
                 note_error(shared, &exit.wire, &out, fate);
                 let now = watch.now();
                 outgoing.waiting.put(rt, Put { now, out, fate }, shared);
                 watch.count_out();
             }
-            None => {
+            Next::Ended => shared.count(Counter::WorkerEnded),
+            Next::Nothing => {
                 watch.pause(has_more);
                 outgoing.waiting.settle_few(rt, shared);
                 outgoing.rest(rt, &watch);

@@ -35,7 +35,7 @@ pub(crate) fn counters<R: Clock>(rt: &R, alloc: Global, shared: &Shared) -> Opti
 }
 
 /// The worker that has this mailbox.
-fn worker_for(workers: NonZeroU32, mailbox: &str) -> u32
+fn home(workers: NonZeroU32, mailbox: &str) -> u32
     ensures { result ≡ spec.worker_for (non_zero_u32_get workers) mailbox.now }
 {
     key_hash(mailbox) % workers.get()
@@ -51,7 +51,7 @@ pub(crate) fn shown(
     ensures { IfSome result (λ text. IsShown told.now (non_zero_u32_get workers) place (string_bytes text)) }
 {
     let (mailbox, counts) = told.get(place)?;
-    let worker = worker_for(workers, mailbox);
+    let worker = home(workers, mailbox);
     let Ok(lines) = show_page(alloc, worker, mailbox, &counts) else {
         return None;
     };

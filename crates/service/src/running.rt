@@ -5,16 +5,14 @@ ghost use Rattle.crew.specs.Ports.{PortSeats};
 ghost use Rattle.crew.specs.Ready.{start_of};
 ghost use Rattle.crew.specs.Started.{IsStarted};
 ghost use Rattle.service.specs.Handing.{IsNew, NoneWaits, NoneClosed, AreLent, AreErrands};
-ghost use Rattle.service.specs.Listening as spec;
-ghost use Rattle.service.specs.declared.clock.Stopwatch.{Stopwatch};
 ghost use Rattle.service.specs.declared.error.RunError.TheVariants as error;
-ghost use Rattle.service.specs.declared.feeding.Task.TheVariants as tasks;
 ghost use Rattle.service.specs.declared.datagrams.SipDesk.{SipDesk};
 ghost use Rattle.service.specs.declared.lines.ControlDesk.{ControlDesk};
 ghost use Rattle.transport.specs.Sockets.{misses};
 ghost use Rattle.transport.specs.declared.udp.UdpWire.{UdpWire};
 ghost use Rattle.transactions.specs.Machine.{empty};
 ghost use Rattle.service.specs.Running.{Opening, Runs, Leaves, AreFaults, IsFresh, is_faulty, opening};
+ghost use Rattle.service.specs.Sending.{outflow};
 ghost use Rattle.service.specs.Taken.{seen};
 
 use crate::clock::Stopwatch;
@@ -43,7 +41,7 @@ use watchers::Watchers;
 
 /// What a service works with beside its packages.
 #[derive(Drop)]
-pub struct Work {
+pub struct ServiceWork {
     pub setup: Setup,
     /// What hears SIP datagrams.
     pub sip: SipDesk<UdpWire>,
@@ -58,7 +56,7 @@ pub struct Work {
 
 /// What came of a service.
 #[derive(Drop)]
-pub struct Outcome {
+pub struct ServiceOutcome {
     /// Why no more SIP datagrams were taken.
     pub sip: FeedEnd,
     /// Whether the wire by which they come was deaf behind that, while answers were heard.
@@ -79,25 +77,16 @@ pub struct Outcome {
     pub stopwatch: Stopwatch,
 }
 
-fn is_fault(end: FeedEnd) -> bool
-    ensures { result ≡ spec.is_fault end }
-{
-    match end {
-        FeedEnd::Fault => true,
-        FeedEnd::Done | FeedEnd::Gone => false,
-    }
-}
-
-impl Outcome {
+impl ServiceOutcome {
     /// Whether a wire by which something comes in was deaf, or the clock failed.
     pub fn is_faulty(&self) -> bool
         ensures { result ≡ is_faulty self.now }
     {
-        is_fault(self.sip)
+        self.sip.is_fault()
             || self.sip_fails_late
-            || is_fault(self.lines)
+            || self.lines.is_fault()
             || self.lines_fail_late
-            || is_fault(self.time)
+            || self.time.is_fault()
     }
 }
 
@@ -215,10 +204,7 @@ fn wind_up<R: Threads + Wait + Clock + Files + Eprint, W: Wire, F: Write>(
     requires none_put { running.outgoing.waiting.burst.items ≡ [] }
     ensures { (start : ℕ → Start) (ports : List PortSeats) (repeats : ℕ) → IsNew start ports running → NoneWaits repeats running
         → Leaves start running.outgoing.workers repeats
-        (record { taken = W.taken exit.old.wire; failures = W.failures exit.old.wire })
-        (record { taken = W.taken exit.new.wire; failures = W.failures exit.new.wire })
-        (record { contents = F.contents exit.old.sink.writer; failures = exit.old.sink.failures })
-        (record { contents = F.contents exit.new.sink.writer; failures = exit.new.sink.failures }) }
+        (outflow W.taken W.failures F.contents exit.old exit.new) }
 {
     let Running {
         crew,
@@ -233,39 +219,6 @@ fn wind_up<R: Threads + Wait + Clock + Files + Eprint, W: Wire, F: Write>(
     drop(report);
 }
 
-/// The desk of a thread that heard SIP datagrams by it.
-fn sip_desk_of(task: Task) -> SipDesk<UdpWire>
-    requires { (desk : SipDesk UdpWire) × (task ≡ tasks.Datagrams desk) }
-    ensures { task ≡ tasks.Datagrams result }
-{
-    let Task::Datagrams(desk) = task else {
-        unreachable!()
-    };
-    desk
-}
-
-/// The desk of a thread that took lines by it.
-fn desk_of(task: Task) -> ControlDesk<UdpWire>
-    requires { (desk : ControlDesk UdpWire) × (task ≡ tasks.Lines desk) }
-    ensures { task ≡ tasks.Lines result }
-{
-    let Task::Lines(desk) = task else {
-        unreachable!()
-    };
-    desk
-}
-
-/// What a thread that told the time read it by.
-fn stopwatch_of(task: Task) -> Stopwatch
-    requires { (stopwatch : Stopwatch) × (task ≡ tasks.Time stopwatch) }
-    ensures { task ≡ tasks.Time result }
-{
-    let Task::Time(stopwatch) = task else {
-        unreachable!()
-    };
-    stopwatch
-}
-
 /// Sends out what the workers post until the ports have ended, and joins all threads. There is room for the ports.
 fn serve_to_end<R: Threads + Wait + Clock + Files + Eprint, W: Wire, F: Write>(
     rt: &R,
@@ -273,7 +226,7 @@ fn serve_to_end<R: Threads + Wait + Clock + Files + Eprint, W: Wire, F: Write>(
     mut ports: Vec<Port>,
     feeders: Feeders,
     exit: &mut Exit<W, F>,
-) -> Outcome
+) -> ServiceOutcome
     requires new { (start : ℕ → Start) × (lent : List PortSeats) × IsNew start lent running × AreLent lent feeders }
     requires none_put { running.outgoing.waiting.burst.items ≡ [] }
     requires errands { (phones : SipDesk UdpWire) × (desk : ControlDesk UdpWire) × AreErrands phones desk feeders }
@@ -284,10 +237,7 @@ fn serve_to_end<R: Threads + Wait + Clock + Files + Eprint, W: Wire, F: Write>(
         → IsNew start lent running → NoneWaits repeats running → AreLent lent feeders → AreErrands phones desk feeders
         → (opened : Opening) → IsFresh opened running.outgoing.workers (seen desk)
         → Runs start running.outgoing.workers repeats opened phones.admission
-        (record { taken = W.taken exit.old.wire; failures = W.failures exit.old.wire })
-        (record { taken = W.taken exit.new.wire; failures = W.failures exit.new.wire })
-        (record { contents = F.contents exit.old.sink.writer; failures = exit.old.sink.failures })
-        (record { contents = F.contents exit.new.sink.writer; failures = exit.new.sink.failures }) result }
+        (outflow W.taken W.failures F.contents exit.old exit.new) result }
 {
     let Running {
         crew,
@@ -304,16 +254,16 @@ fn serve_to_end<R: Threads + Wait + Clock + Files + Eprint, W: Wire, F: Write>(
     ports.push_reserved(lines.port);
     ports.push_reserved(time.port);
     let report = crew.join(rt, ports, outgoing.taker);
-    Outcome {
+    ServiceOutcome {
         sip: sip.end,
         sip_fails_late: sip.fails_late,
         lines: lines.end,
         lines_fail_late: lines.fails_late,
         time: time.end,
         report,
-        sip_desk: sip_desk_of(sip.left),
-        desk: desk_of(lines.left),
-        stopwatch: stopwatch_of(time.left),
+        sip_desk: sip.left.into_sip_desk(),
+        desk: lines.left.into_control_desk(),
+        stopwatch: time.left.into_stopwatch(),
     }
 }
 
@@ -326,7 +276,7 @@ fn serve<R, W, F>(
     mut ports: Vec<Port>,
     ears: Ears,
     exit: &mut Exit<W, F>,
-) -> Result<Outcome, RunError>
+) -> Result<ServiceOutcome, RunError>
 where
     R: Threads + Wait + Clock + Files + Eprint + Copy + Send + 'static,
     W: Wire,
@@ -337,18 +287,12 @@ where
     ensures served { IfOk result (λ o. (start : ℕ → Start) (repeats : ℕ) → IsNew start ports.items running
         → NoneWaits repeats running → (opened : Opening) → IsFresh opened running.outgoing.workers (seen ears.desk)
         → Runs start running.outgoing.workers repeats opened ears.sip.admission
-        (record { taken = W.taken exit.old.wire; failures = W.failures exit.old.wire })
-        (record { taken = W.taken exit.new.wire; failures = W.failures exit.new.wire })
-        (record { contents = F.contents exit.old.sink.writer; failures = exit.old.sink.failures })
-        (record { contents = F.contents exit.new.sink.writer; failures = exit.new.sink.failures }) o) }
+        (outflow W.taken W.failures F.contents exit.old exit.new) o) }
     ensures faults { IfOk result (AreFaults (misses ears.sip.coming) (misses ears.desk.coming)) }
     ensures refused { IfErr result (λ e. e ≡ error.NoThread) }
     ensures left { OnErr result ((start : ℕ → Start) (repeats : ℕ) → IsNew start ports.items running
         → NoneWaits repeats running → Leaves start running.outgoing.workers repeats
-        (record { taken = W.taken exit.old.wire; failures = W.failures exit.old.wire })
-        (record { taken = W.taken exit.new.wire; failures = W.failures exit.new.wire })
-        (record { contents = F.contents exit.old.sink.writer; failures = exit.old.sink.failures })
-        (record { contents = F.contents exit.new.sink.writer; failures = exit.new.sink.failures })) }
+        (outflow W.taken W.failures F.contents exit.old exit.new)) }
 {
     match start_feeders(rt, alloc, &mut ports, ears, &running.shared) {
         Ok(feeders) => Ok(serve_to_end(&rt, running, ports, feeders, exit)),
@@ -430,7 +374,7 @@ fn new_ears(
 }
 
 /// Makes what a service with so many workers begins with.
-fn make_ready(alloc: Global, workers: u32, work: Work) -> Result<Ready, NoMemory>
+fn make_ready(alloc: Global, workers: u32, work: ServiceWork) -> Result<Ready, NoMemory>
     ensures setup { IfOk result (λ r. r.setup ≡ work.setup) }
     ensures sip { IfOk result (λ r. r.ears.sip ≡ work.sip) }
     ensures coming { IfOk result (λ r. r.ears.desk.coming ≡ work.desk.coming) }
@@ -441,7 +385,7 @@ fn make_ready(alloc: Global, workers: u32, work: Work) -> Result<Ready, NoMemory
     let rows = work.setup.limits.table().saturating_mul(workers);
     let per_source = work.sip.admission.per_source;
     let waiting = new_waiting(alloc, work.repeats, rows, per_source)?;
-    let Work {
+    let ServiceWork {
         setup,
         sip,
         desk,
@@ -512,9 +456,9 @@ pub fn run_crew<R, P, W, F>(
     rt: R,
     alloc: Global,
     boxes: Vec<Vec<P>>,
-    work: Work,
+    work: ServiceWork,
     exit: &mut Exit<W, F>,
-) -> Result<Outcome, RunError>
+) -> Result<ServiceOutcome, RunError>
 where
     R: Threads + Wait + Clock + Files + Eprint + Copy + Send + 'static,
     P: Package + 'static,
@@ -524,10 +468,7 @@ where
     ensures runs { IfOk result (λ o. (b : _)
         → Runs (λ w. start_of P.seen work.setup w (get_or boxes.items w b).items) (vec_len boxes) work.repeats
         (opening work.desk) work.sip.admission
-        (record { taken = W.taken exit.old.wire; failures = W.failures exit.old.wire })
-        (record { taken = W.taken exit.new.wire; failures = W.failures exit.new.wire })
-        (record { contents = F.contents exit.old.sink.writer; failures = exit.old.sink.failures })
-        (record { contents = F.contents exit.new.sink.writer; failures = exit.new.sink.failures }) o) }
+        (outflow W.taken W.failures F.contents exit.old exit.new) o) }
     // A socket that wasn't deaf before is so now exactly where a fault of it is told; a read of the clock failed exactly where one of
     // it is.
     ensures faults { IfOk result (AreFaults (misses work.sip.coming) (misses work.desk.coming)) }
@@ -535,10 +476,7 @@ where
     ensures no_memory { result ≡ Err error.NoMemory → exit.new ≡ exit.old }
     ensures no_thread { OnErr result ((exit.new ≡ exit.old) ⊎ ((b : _)
         → Leaves (λ w. start_of P.seen work.setup w (get_or boxes.items w b).items) (vec_len boxes) work.repeats
-        (record { taken = W.taken exit.old.wire; failures = W.failures exit.old.wire })
-        (record { taken = W.taken exit.new.wire; failures = W.failures exit.new.wire })
-        (record { contents = F.contents exit.old.sink.writer; failures = exit.old.sink.failures })
-        (record { contents = F.contents exit.new.sink.writer; failures = exit.new.sink.failures }))) }
+        (outflow W.taken W.failures F.contents exit.old exit.new))) }
 {
     let workers = boxes.len() as u32;
     let Ready {

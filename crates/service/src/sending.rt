@@ -2,6 +2,7 @@
 ghost use Rattle.std.specs.Prelude.{◌≡◌, ◌<◌, ◌^◌, List, [], ◌∷◌, ◌++◌, map, true, IfOk};
 ghost use Rattle.service.specs.Watched.{IsSeen, AreRowed, noted_rows};
 ghost use Rattle.transport.specs.Wires.{Grows};
+ghost use Rattle.feeds.specs.Emitted.{wire_seen};
 ghost use Rattle.transactions.specs.Machine.{State};
 ghost use Rattle.transactions.specs.Runs.{state_after};
 ghost use Rattle.watchers.specs.Rows.{Row};
@@ -16,6 +17,7 @@ use crate::notes::Note;
 use crate::put::Put;
 use crate::shared::{Counter, LAST_MOMENT, Shared};
 use circular_buffer::HeapCircularBuffer;
+use feeds::Idle;
 use notifier_model::{NotifyOut, Out};
 use sip_text::NoMemory;
 use std::alloc::Global;
@@ -44,9 +46,6 @@ const OUTS_AT_ONCE: u32 = 512;
 /// How many outs are kept as soon as no further one is posted. Behind more the thread waits a little: the worker may not be through yet.
 const FEW: usize = 4;
 
-/// How often nothing may be posted before the thread looks at all of that again, and sleeps.
-const TURNS: u32 = 8;
-
 /// How many milliseconds pass between two lines on NOTIFYs that were given up.
 const MINUTE: u64 = 60_000;
 
@@ -62,8 +61,8 @@ pub(crate) struct Watch {
     repeats: u32,
     /// How many outs followed one another since the last look at the notes.
     outs: u32,
-    /// How many turns there were in a row in which nothing was done.
-    idle: u32,
+    /// The turns in a row in which nothing was done.
+    idle: Idle,
     /// For how many milliseconds at most the answers to the last NOTIFYs are waited for, and until when.
     linger: u64,
     until: Option<u64>,
@@ -76,7 +75,7 @@ impl Watch {
             moment: 0,
             repeats: PACE,
             outs: 0,
-            idle: 0,
+            idle: Idle::new(),
             linger,
             until: None,
         }
@@ -92,28 +91,28 @@ impl Watch {
     /// Counts an out that was sent.
     pub(crate) fn count_out(&mut self) {
         self.outs = self.outs.saturating_add(1);
-        self.idle = 0;
+        self.idle.end();
     }
 
     /// Nothing was posted in this turn. Where more is to be done all the same, the next turn goes on with it.
     pub(crate) fn pause(&mut self, has_more: bool) {
-        self.idle = if has_more {
-            0
+        if has_more {
+            self.idle.end();
         } else {
-            self.idle.saturating_add(1)
-        };
+            self.idle.add();
+        }
     }
 
-    /// Whether something was done a moment ago: so more may be posted soon, and the thread doesn't sleep.
-    pub(crate) fn is_awake(&self) -> bool {
-        self.idle < TURNS
+    /// Lets the workers run where something was done a moment ago: so more may be posted soon. False where the thread may sleep.
+    pub(crate) fn yields(&self) -> bool {
+        self.idle.yields()
     }
 
     /// Whether only what is posted counts in this turn: outs follow one another, and not too many yet, or the next one may be posted soon.
     /// So neither a change to many phones nor a short wait costs much.
     pub(crate) fn is_busy(&self) -> bool {
-        let is_first = self.outs == 0 && self.idle == 0;
-        !is_first && self.outs < OUTS_AT_ONCE && self.is_awake()
+        let is_first = self.outs == 0 && self.idle.is_none();
+        !is_first && self.outs < OUTS_AT_ONCE && self.idle.is_short()
     }
 
     /// The notes and what is due are looked at in this turn.
@@ -124,7 +123,7 @@ impl Watch {
     /// Looks at the clock, unless outs follow one another: an out that comes behind a wait is of a moment of its own. Where the clock
     /// can't be read no answer is waited for.
     pub(crate) fn look<R: Clock + Files>(&mut self, rt: &R, shared: &Shared) {
-        if self.idle == 0 && self.outs % OUTS_A_LOOK != 0 {
+        if self.idle.is_none() && self.outs % OUTS_A_LOOK != 0 {
             return;
         }
         match shared.moment(rt) {
@@ -418,8 +417,7 @@ impl Waiting {
         requires in_range { now < 2 ^ 63 }
         ensures does { (acts : List Act) × (fates acts ≡ [])
             × Does acts self.old.transactions self.new.transactions
-            (record { taken = W.taken wire.old; failures = W.failures wire.old })
-            (record { taken = W.taken wire.new; failures = W.failures wire.new })
+            (wire_seen W.taken W.failures wire.old) (wire_seen W.taken W.failures wire.new)
             × AreRowed self.old.transactions acts self.old.watchers.rows self.new.watchers.rows }
         ensures given { Grows (W.given wire.old) (W.given wire.new) [] }
         ensures burst { self.new.burst ≡ self.old.burst }
@@ -452,8 +450,7 @@ impl Waiting {
         shared: &Shared,
     ) -> bool
         ensures does { (more : List Act) × Tends more self.old self.new
-            (record { taken = W.taken wire.old; failures = W.failures wire.old })
-            (record { taken = W.taken wire.new; failures = W.failures wire.new }) }
+            (wire_seen W.taken W.failures wire.old) (wire_seen W.taken W.failures wire.new) }
         ensures given { Grows (W.given wire.old) (W.given wire.new) [] }
     {
         if watch.is_busy() {

@@ -22,7 +22,7 @@ impl Waker {
     ) -> Result<(Parker, Waker), AllocError> {
         let parker = Parker::new(alloc)?;
         let unparker = parker.unparker().clone()?;
-        shared.window.wake_by(parker.unparker().clone()?);
+        shared.window.set_sender(parker.unparker().clone()?);
         let shared = Arc::try_clone(shared)?;
         Ok((parker, Waker { unparker, shared }))
     }

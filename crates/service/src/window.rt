@@ -31,7 +31,7 @@ pub(crate) struct Page {
 
 impl Page {
     /// What it tells, if it is for this inquiry.
-    fn text_for(self, inquiry: &Inquiry) -> Option<String>
+    fn into_text(self, inquiry: &Inquiry) -> Option<String>
         ensures { IfSome result (λ text. IsPage inquiry.now (string_bytes text)) }
     {
         if self.inquiry.is(inquiry) {
@@ -64,7 +64,7 @@ impl Window {
     }
 
     /// From now on this wakes the thread that sends.
-    pub(crate) fn wake_by(&self, sender: Unparker) {
+    pub(crate) fn set_sender(&self, sender: Unparker) {
         if let Err(other) = self.sender.try_set(sender) {
             drop(other);
         }
@@ -79,7 +79,7 @@ impl Window {
                 thread::sleep(rt, Duration::from_micros(NAP));
                 continue;
             };
-            if let Some(text) = page.text_for(inquiry) {
+            if let Some(text) = page.into_text(inquiry) {
                 return Some(text);
             }
         }

@@ -9,14 +9,14 @@ pub run-served-requires-clause-few_workers : goal.run-served-requires-clause-few
 run-served-requires-clause-few_workers g c κs within =
     let plan = c.in_ok-plan.plan in let fitted = c.in_ok-boxes.field-0 in let boxes = fitted.boxes in let size = boxes.ok.0 in
     let few = count_is plan.choices.numbers.workers plan.workers c.in_ok-plan.ensures.plan.workers in
-    let len = workers_are g.P.Package.seen c.work_of-work.result.0.setup boxes.items plan c.work_of-work.result.0.sip.coming.local c.work_of-work.ensures.work.setup c.in_ok-boxes.ensures.boxes in
+    let len = workers_are g.P.Package.seen c.new_work-work.result.0.setup boxes.items plan c.new_work-work.result.0.sip.coming.local c.new_work-work.ensures.work.setup c.in_ok-boxes.ensures.boxes in
     omega (arith, few.1)
 
 pub returns-clause-served : goal.returns-clause-served
 returns-clause-served g c =
-    let plan = c.in_ok-plan.plan in let fitted = c.in_ok-boxes.field-0 in let boxes = fitted.boxes in let local = c.work_of-work.result.0.sip.coming.local in
+    let plan = c.in_ok-plan.plan in let fitted = c.in_ok-boxes.field-0 in let boxes = fitted.boxes in let local = c.new_work-work.result.0.sip.coming.local in
     let few = count_is plan.choices.numbers.workers plan.workers c.in_ok-plan.ensures.plan.workers in
-    let work = c.work_of-work.ensures.work in
+    let work = c.new_work-work.ensures.work in
     if_both c.run-served.result (rw c.new-sink.ensures at c.run-served.ensures.ran) c.run-served.ensures.faults
     (λ served ran faults. record {
       plan = plan;
@@ -24,7 +24,7 @@ returns-clause-served g c =
       local = local;
       is_at = work.sip;
       ran =
-          ran_is g.P.Package.seen c.work_of-work.result.0.setup boxes.items plan local work.setup c.in_ok-boxes.ensures.boxes
+          ran_is g.P.Package.seen c.new_work-work.result.0.setup boxes.items plan local work.setup c.in_ok-boxes.ensures.boxes
           g.F.Write.contents _ boxes.ok.0 (omega (arith, few.0)) work.repeats work.opened work.admission ran;
       faults = faults_new work.sip_misses work.line_misses faults;
     })

@@ -11,14 +11,14 @@ two_are ports a b a' b' are first second = are ∙ ap (λ p. p ∷ b ∷ []) (sy
 pub take_both-first-requires : goal.take_both-first-requires
 take_both-first-requires g c = let is = c.requires.new.1 in let two = ports_len is in let len = c.args.ports.ok.0 in omega arith
 
-pub start_control-requires-after_bounds : goal.start_control-requires-after_bounds
-start_control-requires-after_bounds g c κs within =
+pub start_listener-requires-after_bounds : goal.start_listener-requires-after_bounds
+start_listener-requires-after_bounds g c κs within =
     let second = c.take_both-first.result.1 in
     let P : List PortSeats → Type 0 = λ l. 0 < (get_or l 1 second).still_open in
     subst P c.take_both-first.ensures.both (port_open c.requires.new.1 1 second (omega arith) c.requires.some)
 
-pub start_feed-requires-after_bounds : goal.start_feed-requires-after_bounds
-start_feed-requires-after_bounds g c κs within =
+pub start_listener-requires-2-after_bounds : goal.start_listener-requires-2-after_bounds
+start_listener-requires-2-after_bounds g c κs within =
     let first = c.take_both-first.result.0 in
     let P : List PortSeats → Type 0 = λ l. 0 < (get_or l 0 first).still_open in
     subst P c.take_both-first.ensures.both (port_open c.requires.new.1 0 first (omega arith) c.requires.some)
@@ -27,15 +27,16 @@ pub serve_to_end-requires-clause-new : goal.serve_to_end-requires-clause-new
 serve_to_end-requires-clause-new g c =
     let is = c.requires.new in
     let P : List PortSeats → Type 0 = λ l. IsNew is.0 l c.args.running in
-    (is.0, subst P (two_are c.args.ports.items _ _ _ _ c.take_both-first.ensures.both c.in-Ok-start_feed.ensures.port c.in-Ok.ensures.port) is.1)
+    (is.0, subst P (two_are c.args.ports.items _ _ _ _ c.take_both-first.ensures.both c.in-Ok-start_listener.ensures.port c.in-Ok.ensures.port) is.1)
 
 pub serve_to_end-requires-clause-errands : goal.serve_to_end-requires-clause-errands
 serve_to_end-requires-clause-errands g c =
-    record { says_sip = c.in-Ok-start_feed.ensures.language; says_control = c.in-Ok.ensures.language; most = c.in-Ok.ensures.count }
+    let sip = c.in-Ok-start_listener.ensures.hearing ∙ c.sip.ensures in let control = c.in-Ok.ensures.hearing ∙ c.control.ensures in
+    record { says_sip = ap (λ h. h.language) sip; says_control = ap (λ h. h.language) control; most = ap (λ h. h.count) control }
 
 pub returns-clause-served : goal.returns-clause-served
 returns-clause-served g c = λ start is.
     let P : List PortSeats → Type 0 = λ l. IsNew start l c.args.running in
     let Q : ℕ → Type 0 = λ n. Serves g.F.Write.contents start c.args.running.workers n c.args.sink.now c.serve_to_end.new.sink (outcome_of c.serve_to_end.result) in
-    subst Q c.in-Ok-start_feed.ensures.count
-    (c.serve_to_end.ensures start (subst P (two_are c.args.ports.items _ _ _ _ c.take_both-first.ensures.both c.in-Ok-start_feed.ensures.port c.in-Ok.ensures.port) is))
+    subst Q (ap (λ h. h.count) (c.in-Ok-start_listener.ensures.hearing ∙ c.sip.ensures))
+    (c.serve_to_end.ensures start (subst P (two_are c.args.ports.items _ _ _ _ c.take_both-first.ensures.both c.in-Ok-start_listener.ensures.port c.in-Ok.ensures.port) is))

@@ -30,7 +30,7 @@ returns g c = λ start is.
     let room = c.requires.room in let size = c.args.ports.ok.0 in
     let one = c.push_reserved.new.self in let two = c.push_reserved-2.new.self in
     let both = pushed_two c.args.ports.items one.items two.items sip.result.port control.result.port (omega arith) c.push_reserved.ensures.items c.push_reserved-2.ensures.items in
-    serves_are g.F.Write.contents is c.args.listeners.sip.promise.count c.args.sink.now emitted.new.sink _ sip.result.port control.result.port two.items emitted.new.taker.got emitted.ensures.emitted.0 _ _
+    serves_are g.F.Write.contents is c.args.listeners.sip.promise.hearing.count c.args.sink.now emitted.new.sink _ sip.result.port control.result.port two.items emitted.new.taker.got emitted.ensures.emitted.0 _ _
     (heard_sip c.requires.errands _ sip.result.port sip.result.report sip.ensures)
     (heard_control c.requires.errands _ control.result.port control.result.report control.ensures)
     both c.join-report.ensures emitted.ensures.emitted.1

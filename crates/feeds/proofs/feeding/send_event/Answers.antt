@@ -1,9 +1,10 @@
-use Rattle.std.proofs.Common.{◌≡◌, ◌∷◌, [], MatchBool, Bool, sym, subst}
+use Rattle.std.proofs.Common.{◌≡◌, ◌∷◌, [], MatchBool, Bool, false, sym, subst, ◌∙◌}
 use Rattle.notifier_model.specs.declared.event.Event.{Event}
 use Rattle.notifier_model.specs.declared.event.Event.TheVariants as event
-use Rattle.crew.proofs.Keeping.{ticked_keeps}
+use Rattle.notifier_model.specs.Home.{home, is_for_all}
+use Rattle.crew.proofs.Keeping.{sent_keeps, ticked_keeps}
 use Rattle.feeds.specs.Fed.{Sends, Misses}
-use Rattle.feeds.proofs.SendingHome.{ticked_law}
+use Rattle.feeds.proofs.SendingHome.{sent_law, ticked_law}
 use Rattle.feeds.proofs.feeding.send_event.Goals as goal
 
 pub returns-in-Tick-clause-sent : goal.returns-in-Tick-clause-sent
@@ -19,3 +20,17 @@ returns-in-Tick-clause-sent g c =
 pub returns-in-Tick-clause-seats : goal.returns-in-Tick-clause-seats
 returns-in-Tick-clause-seats g c =
     ticked_keeps c.tick.result c.args.port.now c.tick.new.self (event.Tick c.in-Tick.now) c.tick.ensures
+
+pub returns-else-is_for_all-clause-sent : goal.returns-else-is_for_all-clause-sent
+returns-else-is_for_all-clause-sent g c =
+    let old = c.args.port.now in
+    let new = c.send.new.self in
+    let e = c.args.happened in
+    let single : is_for_all e ≡ false = sym c.is_for_all.ensures ∙ c.if-is_for_all.false in
+    let P : Bool → Type 0 = λ b. MatchBool b (Sends old (e ∷ []) new) (Misses old e new) in
+    subst P (sym c.is_ok-in_default.ensures.value) (sent_law c.send.result old new e single c.requires.still_open c.send.ensures)
+
+pub returns-else-is_for_all-clause-seats : goal.returns-else-is_for_all-clause-seats
+returns-else-is_for_all-clause-seats g c =
+    let old = c.args.port.now in
+    sent_keeps c.send.result old c.send.new.self (home c.args.happened old.still_open) c.args.happened c.send.ensures

@@ -5,11 +5,11 @@ use Rattle.scripts.proofs.parse.parse_control.Goals as goal
 
 pub returns-clause-found : goal.returns-clause-found
 returns-clause-found c =
-    found_is (λ x. x) c.control_of.result (control_of c.args.bytes.now) (IsControlLine c.args.bytes.now) c.control_of.ensures (control_takes c.args.bytes.now)
+    found_is (λ x. x) c.control_line.result (control_of c.args.bytes.now) (IsControlLine c.args.bytes.now) c.control_line.ensures (control_takes c.args.bytes.now)
 
 pub returns-clause-only : goal.returns-clause-only
 returns-clause-only c = λ k h.
-    only_is (λ x. x) c.control_of.result (control_of c.args.bytes.now) k c.control_of.ensures (control_again c.args.bytes.now k h)
+    only_is (λ x. x) c.control_line.result (control_of c.args.bytes.now) k c.control_line.ensures (control_again c.args.bytes.now k h)
 
 pub returns-clause-no_device : goal.returns-clause-no_device
-returns-clause-no_device c = never_device (λ x. x) c.control_of.result (control_of c.args.bytes.now) c.control_of.ensures
+returns-clause-no_device c = never_device (λ x. x) c.control_line.result (control_of c.args.bytes.now) c.control_line.ensures

@@ -6,11 +6,11 @@ use Rattle.scripts.proofs.parse.parse_script.Goals as goal
 
 pub returns-clause-found : goal.returns-clause-found
 returns-clause-found c =
-    found_is (λ v. v.items) c.blocks_of.result (blocks_of c.args.bytes.now) (IsScript c.args.bytes.now) c.blocks_of.ensures (script_takes c.args.bytes.now)
+    found_is (λ v. v.items) c.all_blocks.result (blocks_of c.args.bytes.now) (IsScript c.args.bytes.now) c.all_blocks.ensures (script_takes c.args.bytes.now)
 
 pub returns-clause-only : goal.returns-clause-only
 returns-clause-only c = λ blocks h.
-    only_is (λ v. v.items) c.blocks_of.result (blocks_of c.args.bytes.now) blocks c.blocks_of.ensures (script_again c.args.bytes.now blocks h)
+    only_is (λ v. v.items) c.all_blocks.result (blocks_of c.args.bytes.now) blocks c.all_blocks.ensures (script_again c.args.bytes.now blocks h)
 
 pub returns-clause-no_device : goal.returns-clause-no_device
-returns-clause-no_device c = never_device (λ v. v.items) c.blocks_of.result (blocks_of c.args.bytes.now) c.blocks_of.ensures
+returns-clause-no_device c = never_device (λ v. v.items) c.all_blocks.result (blocks_of c.args.bytes.now) c.all_blocks.ensures

@@ -1,14 +1,16 @@
-use Rattle.std.proofs.Common.{ap, sym, subst, refl, ◌∙◌, List, ℕ}
-use Rattle.control_lines.specs.Told.{Row, place}
-use Rattle.service.specs.Taken.{Has, IsChanged}
-use Rattle.service.proofs.Doing.{changed_sent}
+use Rattle.std.proofs.Common.{sym, subst, refl, ◌∙◌, List}
+use Rattle.control_lines.specs.Told.{Row}
+use Rattle.service.specs.Taken.{IsChanged}
+use Rattle.service.proofs.Doing.{changed_sent, untold}
 use Rattle.service.proofs.lines.send_change.Goals as goal
 
-pub returns-in_default-clause-done : goal.returns-in_default-clause-done
-returns-in_default-clause-done g c = (ap (λ (n : List ℕ). place n c.args.told.now) (sym c.mailbox.ensures.value) ∙ sym c.in_default.ensures.place, (refl, refl))
+pub returns-then-not-is_known-clause-done : goal.returns-then-not-is_known-clause-done
+returns-then-not-is_known-clause-done g c = (sym c.is_known.ensures ∙ c.if-not-is_known.true, (refl, refl))
 
-pub returns-clause-done : goal.returns-clause-done
-returns-clause-done g c =
-    let has : Has c.args.told.now c.args.change.mailbox = (c.in-Some._place, ap (λ (n : List ℕ). place n c.args.told.now) (sym c.mailbox.ensures.value) ∙ sym c.in-Some.ensures.place) in
+pub returns-in-Some-clause-done : goal.returns-in-Some-clause-done
+returns-in-Some-clause-done g c =
     subst (λ (rows : List Row). IsChanged c.args.change c.args.told.now rows c.args.port.now c.send.new.port c.send.result) (sym c.tell.ensures)
-    (changed_sent c.args.change c.args.told.now c.args.port.now c.send.new.port c.send.result has c.send.ensures.done)
+    (changed_sent c.args.change c.in-Some.event c.args.told.now c.args.port.now c.send.new.port c.send.result (sym c.in-Some.ensures) (sym c.is_known.ensures ∙ c.if-not-is_known.false) c.send.ensures.done)
+
+pub returns-in-None-clause-done : goal.returns-in-None-clause-done
+returns-in-None-clause-done g c = let none = sym c.in-None.ensures in (none, (c.tell.ensures ∙ untold c.args.change c.args.told.now none, refl))

@@ -1,6 +1,6 @@
 use Rattle.std.proofs.Common.{◌≡◌, ◌⊎◌, ℕ, List, true}
 use Rattle.feeds.specs.declared.sending.EmitReport.{EmitReport}
-use Rattle.feeds.specs.Emitted.{WireSeen, count, fails_to_start}
+use Rattle.feeds.specs.Emitted.{WireSeen, wire_seen, writer_seen, count, fails_to_start}
 use Rattle.feeds.proofs.Emitting.{Running}
 use Rattle.transactions.specs.Runs.{state_after}
 use Rattle.service.specs.Sending.{Act, calls, fates, Does}
@@ -13,13 +13,10 @@ invariant-loop g l = record {
   report : EmitReport;
   without : WireSeen;
   running : Running (fates acts) l.fn.outgoing.taker l.outgoing.taker l.left (g.W.Wire.given l.fn.exit.wire) (g.W.Wire.given l.exit.wire)
-      (record { taken = g.W.Wire.taken l.fn.exit.wire; failures = g.W.Wire.failures l.fn.exit.wire })
-      without
-      (record { contents = g.F.Write.contents l.fn.exit.sink.writer; failures = l.fn.exit.sink.failures })
-      (record { contents = g.F.Write.contents l.exit.sink.writer; failures = l.exit.sink.failures }) report;
+      (wire_seen g.W.Wire.taken g.W.Wire.failures l.fn.exit.wire) without
+      (writer_seen g.F.Write.contents l.fn.exit.sink) (writer_seen g.F.Write.contents l.exit.sink) report;
   does : Does acts l.fn.outgoing.waiting.transactions (state_after (calls acts) l.fn.outgoing.waiting.transactions)
-      (record { taken = g.W.Wire.taken l.fn.exit.wire; failures = g.W.Wire.failures l.fn.exit.wire })
-      (record { taken = g.W.Wire.taken l.exit.wire; failures = g.W.Wire.failures l.exit.wire });
+      (wire_seen g.W.Wire.taken g.W.Wire.failures l.fn.exit.wire) (wire_seen g.W.Wire.taken g.W.Wire.failures l.exit.wire);
   kept : AreKept l.fn.outgoing.waiting.transactions l.fn.outgoing.waiting.watchers.rows acts l.outgoing.waiting;
   flushed : count fails_to_start (fates acts) ≡ 0 → (l.exit.sink ≡ l.fn.exit.sink) ⊎ (l.exit.sink.is_flushed ≡ true);
 }

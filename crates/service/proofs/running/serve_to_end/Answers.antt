@@ -27,23 +27,23 @@ join-report-requires-clause-ports g c p q low =
 pub join-report-requires-clause-ended : goal.join-report-requires-clause-ended
 join-report-requires-clause-ended g c = started_end c.requires.new.2 c.send_outs.new.outgoing.taker c.send_outs.ensures.outbox c.send_outs.ensures.ended
 
-pub sip_desk_of-requires : goal.sip_desk_of-requires
-sip_desk_of-requires g c =
+pub into_sip_desk-requires : goal.into_sip_desk-requires
+into_sip_desk-requires g c =
     let its = left_phones c.requires.errands.2 c.join-sip.result c.join-sip.ensures.fails in (its.0, its.1)
 
-pub desk_of-requires : goal.desk_of-requires
-desk_of-requires g c =
+pub into_control_desk-requires : goal.into_control_desk-requires
+into_control_desk-requires g c =
     let its = left_desk c.requires.errands.2 c.join-lines.result c.join-lines.ensures.fails in (its.0, its.1)
 
-pub stopwatch_of-requires : goal.stopwatch_of-requires
-stopwatch_of-requires g c =
+pub into_stopwatch-requires : goal.into_stopwatch-requires
+into_stopwatch-requires g c =
     let its = left_stopwatch c.requires.errands.2 c.join-time.result c.join-time.ensures.fails in (its.0, its.1)
 
 pub returns-clause-faults : goal.returns-clause-faults
 returns-clause-faults g c = λ phones desk errands. record {
-  sip = phones_heard phones c.sip_desk_of.result c.join-sip.result (left_phones errands c.join-sip.result c.join-sip.ensures.fails) c.sip_desk_of.ensures;
-  lines = desk_heard desk c.desk_of.result c.join-lines.result (left_desk errands c.join-lines.result c.join-lines.ensures.fails) c.desk_of.ensures;
-  time = clock_failed c.stopwatch_of.result c.join-time.result (left_stopwatch errands c.join-time.result c.join-time.ensures.fails) c.stopwatch_of.ensures;
+  sip = phones_heard phones c.into_sip_desk.result c.join-sip.result (left_phones errands c.join-sip.result c.join-sip.ensures.fails) c.into_sip_desk.ensures;
+  lines = desk_heard desk c.into_control_desk.result c.join-lines.result (left_desk errands c.join-lines.result c.join-lines.ensures.fails) c.into_control_desk.ensures;
+  time = clock_failed c.into_stopwatch.result c.join-time.result (left_stopwatch errands c.join-time.result c.join-time.ensures.fails) c.into_stopwatch.ensures;
 }
 
 pub returns-clause-runs : goal.returns-clause-runs
@@ -54,7 +54,7 @@ returns-clause-runs g c = λ start lent phones desk repeats is none lent_are err
     let all = pushed_three c.args.ports.items one.items two.items three.items sip.result.port lines.result.port time.result.port (omega arith) c.push_reserved.ensures.items c.push_reserved-2.ensures.items c.push_reserved-3.ensures.items in
     let P : List PortSeats → Type 0 = λ l. IsNew start l c.args.running in
     let sent = c.send_outs.ensures.sent repeats none in
-    runs_are (subst P lent_are is) opened phones.admission _ _ _ _ _ sip.result.port lines.result.port time.result.port three.items c.send_outs.new.outgoing.taker.got repeats sent.0 sent.1
+    runs_are (subst P lent_are is) opened phones.admission _ _ sip.result.port lines.result.port time.result.port three.items c.send_outs.new.outgoing.taker.got repeats sent.0 sent.1
     (sent_datagrams errands sip.result.end _ sip.result.port sip.ensures.sends)
     (sent_lines errands lines.result.end _ lines.result.port opened c.args.running.outgoing.workers fresh lines.ensures.sends)
     (sent_ticks errands time.result.end _ time.result.port time.ensures.sends)

@@ -5,7 +5,7 @@ use Rattle.control_lines.specs.Lines.{answer_text}
 use Rattle.service.specs.declared.lines.Done.TheVariants as did
 use Rattle.service.specs.Taken.{IsReply, seen}
 use Rattle.service.specs.Told.{IsReport, IsShown, IsInquiry, IsWatched, dumped}
-use Rattle.service.proofs.Answering.{answered_by, foreign_by, unanswered_by, either_report, either_page, page_of}
+use Rattle.service.proofs.Answering.{answered_by, foreign_by, unanswered_by, either_text, page_of}
 use Rattle.service.proofs.lines.ControlDesk.answer.Goals as goal
 
 pub returns-in-Answered-clause-answered : goal.returns-in-Answered-clause-answered
@@ -29,27 +29,27 @@ returns-in-Foreign-clause-answered g c =
 pub returns-in-Counters-clause-answered : goal.returns-in-Counters-clause-answered
 returns-in-Counters-clause-answered g c =
     rw c.in-Counters.is (answered_by (seen c.args.self.now) did.Counters c.args.to _ _ _ _ _ refl
-    (either_report (IsReply (seen c.args.self.now) did.Counters) c.counters.result
-    (λ t is. inl (subst (λ (o : Option (String Global)). IfSome o (λ x. IsReport (string_bytes x))) is c.counters.ensures)) (inr refl))
-    c.say_report.ensures.offered)
+    (either_text (IsReply (seen c.args.self.now) did.Counters) c.counters-text.result answer.NoMemory
+    (λ t is. inl (subst (λ (o : Option (String Global)). IfSome o (λ x. IsReport (string_bytes x))) is c.counters-text.ensures)) (inr refl))
+    c.say_text.ensures.offered)
 
 pub returns-in-Shown-clause-answered : goal.returns-in-Shown-clause-answered
 returns-in-Shown-clause-answered g c =
     let desk = seen c.args.self.now in
     let n = c.in-Shown.place in
     rw c.in-Shown.is (answered_by desk (did.Shown n) c.args.to _ _ _ _ _ refl
-    (either_report (IsReply desk (did.Shown n)) c.shown-text.result
+    (either_text (IsReply desk (did.Shown n)) c.shown-text.result answer.NoMemory
     (λ t is. inl (subst (λ (o : Option (String Global)). IfSome o (λ x. IsShown desk.rows desk.workers n (string_bytes x))) is c.shown-text.ensures)) (inr refl))
-    c.say_report-in-Shown.ensures.offered)
+    c.say_text-in-Shown.ensures.offered)
 
 pub returns-in-Dumped-clause-answered : goal.returns-in-Dumped-clause-answered
 returns-in-Dumped-clause-answered g c =
     let desk = seen c.args.self.now in
     let n = c.in-Dumped.from in
     rw c.in-Dumped.is (answered_by desk (did.Dumped n) c.args.to _ _ _ _ _ refl
-    (either_report (IsReply desk (did.Dumped n)) c.dumped-text.result
+    (either_text (IsReply desk (did.Dumped n)) c.dumped-text.result answer.NoMemory
     (λ t is. inl (subst (λ (o : Option (String Global)). IfSome o (λ x. string_bytes x ≡ dumped desk.rows n)) is c.dumped-text.ensures)) (inr refl))
-    c.say_report-in-Dumped.ensures.offered)
+    c.say_text-in-Dumped.ensures.offered)
 
 pub returns-in-Closing-clause-answered : goal.returns-in-Closing-clause-answered
 returns-in-Closing-clause-answered g c =
@@ -64,6 +64,6 @@ returns-in-Watched-clause-answered g c =
     let desk = seen c.args.self.now in
     let m = c.in-Watched.place in let n = c.in-Watched.from in
     rw c.in-Watched.is (answered_by desk (did.Watched m n) c.args.to _ _ _ _ _ refl
-    (either_page (IsReply desk (did.Watched m n)) c.watched-text.result
+    (either_text (IsReply desk (did.Watched m n)) c.watched-text.result answer.Busy
     (λ t is. inl (page_of (IsInquiry desk.rows m n) IsWatched c.inquiry.result c.watched-text.result c.inquiry.ensures c.watched-text.ensures t is)) (inr refl))
-    c.say_page.ensures.offered)
+    c.say_text-in-Watched.ensures.offered)

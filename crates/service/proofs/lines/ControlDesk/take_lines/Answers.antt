@@ -1,10 +1,10 @@
 use Rattle.std.proofs.Common.{◌∙◌, ◌∷◌, [], refl, sym, subst, take, arith, false, true}
 use Rattle.transport.specs.Wires.{Grows, datagram}
+use Rattle.feeds.specs.Fed.{is_fault}
 use Rattle.feeds.proofs.Telling.{grows_none, grows_same}
 use Rattle.service.specs.Taken.{DeskSeen, IsTaken, MayReply, seen}
 use Rattle.service.proofs.Deafness.{deaf_same, deaf_after, no_fault_after}
-use Rattle.service.proofs.Receiving.{gave_one, gave_none}
-use Rattle.service.proofs.Taking.{taking_none, taking_more, taking_silent, taken_last, taken_done, taken_fault, taking_open}
+use Rattle.service.proofs.Taking.{taking_none, taking_more, taking_silent, taken_last, taken_end, taking_open}
 use Rattle.service.proofs.lines.ControlDesk.take_lines.Goals as goal
 
 pub loop-init : goal.loop-init
@@ -18,29 +18,26 @@ loop-init g c = record {
       (g.W.Wire.taken c.args.self.now.going) (g.W.Wire.failures c.args.self.now.going);
 }
 
-pub returns-then-is_closing-clause-taken : goal.returns-then-is_closing-clause-taken
-returns-then-is_closing-clause-taken g c = taken_done c.loop.invariant.taking
+pub returns-in-End-clause-taken : goal.returns-in-End-clause-taken
+returns-in-End-clause-taken g c = taken_end c.loop.invariant.taking (g.W.Wire.given c.look.new.wire) c.in-End.ensures.given c.in-End.end c.in-End.ensures.came
 
-pub returns-in_default-clause-taken : goal.returns-in_default-clause-taken
-returns-in_default-clause-taken g c = taken_fault c.loop.invariant.taking (g.W.Wire.given c.receive.new.wire) c.in_default.ensures.given
-
-pub loop-preserved-in_default-came : goal.loop-preserved-in_default-came
-loop-preserved-in_default-came g c =
+pub loop-preserved-in-Nothing : goal.loop-preserved-in-Nothing
+loop-preserved-in-Nothing g c =
     let at = c.loop.invariant in record {
       still_open = at.still_open;
       seats = at.seats;
-      coming = grows_same (g.W.Wire.taken c.args.self.now.coming) (g.W.Wire.taken c.loop.self.coming) (g.W.Wire.taken c.receive.new.wire) _ at.coming c.receive.ensures.taken;
-      deaf = deaf_after false false (g.W.Ear.misses c.args.self.now.coming) (g.W.Ear.misses c.loop.self.coming) (g.W.Ear.misses c.receive.new.wire) at.deaf c.in-Ok.ensures.deaf;
+      coming = grows_same (g.W.Wire.taken c.args.self.now.coming) (g.W.Wire.taken c.loop.self.coming) (g.W.Wire.taken c.look.new.wire) _ at.coming c.look.ensures.taken;
+      deaf = deaf_after false false (g.W.Ear.misses c.args.self.now.coming) (g.W.Ear.misses c.loop.self.coming) (g.W.Ear.misses c.look.new.wire) at.deaf c.in-Nothing.ensures.deaf;
       going = at.going;
-      taking = taking_silent at.taking (g.W.Wire.given c.receive.new.wire) (gave_none _ _ _ _ c.in-Ok.ensures.given c.in_default-came.is);
+      taking = taking_silent at.taking (g.W.Wire.given c.look.new.wire) (c.in-Nothing.ensures.given);
     }
 
 pub returns-in-Some-end_after-clause-taken : goal.returns-in-Some-end_after-clause-taken
 returns-in-Some-end_after-clause-taken g c =
-    let at = c.loop.invariant in let one = c.in-Some-came in
-    let came = datagram one.source (take one.length c.receive.new.octets) in
+    let at = c.loop.invariant in let one = c.in-Datagram in
+    let came = datagram one.source (take one.length c.look.new.octets) in
     let after = g.W.Wire.given c.answer.new.self.coming in
-    let first : Grows (g.W.Wire.given c.loop.self.coming) (g.W.Wire.given c.receive.new.wire) (came ∷ []) = gave_one _ _ _ _ c.in-Ok.ensures.given (one.length, one.source) one.is in
+    let first : Grows (g.W.Wire.given c.loop.self.coming) (g.W.Wire.given c.look.new.wire) (came ∷ []) = c.in-Datagram.ensures.given in
     let gave : Grows (g.W.Wire.given c.loop.self.coming) after (came ∷ []) = rw (c.answer.ensures.coming, c.take-done.ensures.coming) first in
     let is : IsTaken came.peer came.octets (seen c.loop.self) (seen c.answer.new.self) c.loop.port c.take-done.new.port c.take-done.result =
     subst (λ (s : DeskSeen). IsTaken came.peer came.octets (seen c.loop.self) s c.loop.port c.take-done.new.port c.take-done.result) (sym c.answer.ensures.seen) c.take-done.ensures.done in
@@ -53,30 +50,30 @@ returns-in-Some-end_after-clause-taken g c =
 pub returns-in-Some-end_after-clause-deaf : goal.returns-in-Some-end_after-clause-deaf
 returns-in-Some-end_after-clause-deaf g c =
     rw (c.answer.ensures.coming, c.take-done.ensures.coming, no_fault_after c.take-done.result c.in-Some-end_after.end (sym c.end_after.ensures ∙ c.in-Some-end_after.is))
-    (deaf_after false false (g.W.Ear.misses c.args.self.now.coming) (g.W.Ear.misses c.loop.self.coming) (g.W.Ear.misses c.receive.new.wire) c.loop.invariant.deaf c.in-Ok.ensures.deaf)
+    (deaf_after false false (g.W.Ear.misses c.args.self.now.coming) (g.W.Ear.misses c.loop.self.coming) (g.W.Ear.misses c.look.new.wire) c.loop.invariant.deaf c.in-Datagram.ensures.deaf)
 
 pub loop-preserved : goal.loop-preserved
 loop-preserved g c =
-    let at = c.loop.invariant in let one = c.in-Some-came in
-    let came = datagram one.source (take one.length c.receive.new.octets) in
+    let at = c.loop.invariant in let one = c.in-Datagram in
+    let came = datagram one.source (take one.length c.look.new.octets) in
     let after = g.W.Wire.given c.answer.new.self.coming in
-    let first : Grows (g.W.Wire.given c.loop.self.coming) (g.W.Wire.given c.receive.new.wire) (came ∷ []) = gave_one _ _ _ _ c.in-Ok.ensures.given (one.length, one.source) one.is in
+    let first : Grows (g.W.Wire.given c.loop.self.coming) (g.W.Wire.given c.look.new.wire) (came ∷ []) = c.in-Datagram.ensures.given in
     let gave : Grows (g.W.Wire.given c.loop.self.coming) after (came ∷ []) = rw (c.answer.ensures.coming, c.take-done.ensures.coming) first in
     let is : IsTaken came.peer came.octets (seen c.loop.self) (seen c.answer.new.self) c.loop.port c.take-done.new.port c.take-done.result =
     subst (λ (s : DeskSeen). IsTaken came.peer came.octets (seen c.loop.self) s c.loop.port c.take-done.new.port c.take-done.result) (sym c.answer.ensures.seen) c.take-done.ensures.done in
     let replied = c.answer.ensures.answered in
     let said = rw c.take-done.ensures.going at replied.2 in
     let may = subst (λ (s : DeskSeen). MayReply s c.take-done.result replied.0) (sym c.answer.ensures.seen) replied.1 in
-    let on = sym c.end_after.ensures ∙ c.in_default-end_after.is in
+    let on = sym c.end_after.ensures ∙ c.in_default.is in
     let taking = taking_more at.taking c.take-done.new.port after (g.W.Wire.taken c.answer.new.self.going) (g.W.Wire.failures c.answer.new.self.going)
     came replied.0 gave (seen c.answer.new.self) c.take-done.result is may said on in record {
       still_open = (let now = taking_open taking in let same = c.requires.still_open in omega arith);
       seats = c.take-done.ensures.seats ∙ at.seats;
-      coming = rw (c.answer.ensures.coming, c.take-done.ensures.coming) (grows_same (g.W.Wire.taken c.args.self.now.coming) (g.W.Wire.taken c.loop.self.coming) (g.W.Wire.taken c.receive.new.wire) _ at.coming c.receive.ensures.taken);
-      deaf = rw (c.answer.ensures.coming, c.take-done.ensures.coming) (deaf_after false false (g.W.Ear.misses c.args.self.now.coming) (g.W.Ear.misses c.loop.self.coming) (g.W.Ear.misses c.receive.new.wire) at.deaf c.in-Ok.ensures.deaf);
+      coming = rw (c.answer.ensures.coming, c.take-done.ensures.coming) (grows_same (g.W.Wire.taken c.args.self.now.coming) (g.W.Wire.taken c.loop.self.coming) (g.W.Wire.taken c.look.new.wire) _ at.coming c.look.ensures.taken);
+      deaf = rw (c.answer.ensures.coming, c.take-done.ensures.coming) (deaf_after false false (g.W.Ear.misses c.args.self.now.coming) (g.W.Ear.misses c.loop.self.coming) (g.W.Ear.misses c.look.new.wire) at.deaf c.in-Datagram.ensures.deaf);
       going = grows_same (g.W.Wire.given c.args.self.now.going) (g.W.Wire.given c.loop.self.going) (g.W.Wire.given c.answer.new.self.going) _ at.going (rw c.take-done.ensures.going at c.answer.ensures.given);
       taking = taking;
     }
 
-pub returns-in_default-clause-deaf : goal.returns-in_default-clause-deaf
-returns-in_default-clause-deaf g c = deaf_after false true (g.W.Ear.misses c.args.self.now.coming) (g.W.Ear.misses c.loop.self.coming) (g.W.Ear.misses c.receive.new.wire) c.loop.invariant.deaf c.in_default.ensures.deaf
+pub returns-in-End-clause-deaf : goal.returns-in-End-clause-deaf
+returns-in-End-clause-deaf g c = deaf_after false (is_fault c.in-End.end) (g.W.Ear.misses c.args.self.now.coming) (g.W.Ear.misses c.loop.self.coming) (g.W.Ear.misses c.look.new.wire) c.loop.invariant.deaf c.in-End.ensures.deaf
