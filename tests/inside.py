@@ -5,8 +5,7 @@ The program stands in `inside/` as text, `*.rt.in`: no proof is asked of it, so 
 and `rt try` compiles it so that one allocation of each run fails, always that of the same number. A run makes a call behind so
 many allocations that the failing one is the first of the call, in the next run the second, and so on up to runs in which the call
 ends before it. In each of these the call must say that memory ran out, and leave things as its contract says; a call that goes on all
-the same has swallowed the failure. One may: where a list is collected, the standard library asks for one place if it doesn't get as
-many as it guessed. Such a call does all that it should, so it is whole `again`, and only calls that collect may be.
+the same, whole `again`, has swallowed the failure.
 
 Wrong bodies are planted on further copies (`inside/*.edit`): one that swallows a failure, which must be seen, and one by which a worker
 is gone while a port is open, which no crew has: so the answers that a port and a feed have for it are met. It needs `rt`."""
@@ -42,8 +41,7 @@ REFUSED = 2000
 # So many runs in a row in which a call ends before the failing allocation end a sweep.
 ENOUGH = 4
 
-# The calls, and for what each is refused in some run: for the whole of it, or for the parts of these numbers; and whether one of
-# them goes on with a smaller list.
+# The calls, and for what each is refused in some run: for the whole of it, or for the parts of these numbers.
 CALLS = {
     "read": {"refused"},
     "wrong_messages": {"refused 1", "refused 2", "refused 3", "refused 4"},
@@ -54,13 +52,13 @@ CALLS = {
     "notify": {"refused"},
     "mailboxes": {"refused 2", "refused 4"},
     "transfers": {"refused 1", "refused 2", "refused 3", "refused 4", "refused 5", "refused 6"},
-    "mail": {"refused 1", "refused 2", "refused 3", "again"},
-    "transfer": {"refused 1", "refused 2", "refused 3", "refused 4", "again"},
-    "replay": {"refused 1", "refused 2", "refused 3", "again"},
-    "script": {"refused", "again"},
+    "mail": {"refused 1", "refused 2", "refused 3"},
+    "transfer": {"refused 1", "refused 2", "refused 3", "refused 4"},
+    "replay": {"refused 1", "refused 2", "refused 3"},
+    "script": {"refused"},
     "start": {"refused"},
-    "closed": {"refused", "refused 1", "refused 2", "refused 3", "again"},
-    "dropped": {"refused", "refused 1", "refused 2", "refused 3", "again"},
+    "closed": {"refused", "refused 1", "refused 2", "refused 3"},
+    "dropped": {"refused", "refused 1", "refused 2", "refused 3"},
 }
 
 # Seconds that the compiler may take: less than two minutes on a machine where nothing else runs, much longer beside proofs.
