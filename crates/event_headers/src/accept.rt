@@ -32,7 +32,7 @@ fn pair_at(text: &[u8]) -> Option<(WrittenRange<'_>, &[u8])>
 }
 
 /// The range with texts of its own, in small letters.
-fn range_of(alloc: Global, written: WrittenRange<'_>) -> Result<Range, NoMemory>
+fn small_range(alloc: Global, written: WrittenRange<'_>) -> Result<Range, NoMemory>
     ensures { IfOk result (λ r. r ≡ range_seen written.entry) }
 {
     let main = Text::small(alloc, written.main)?;
@@ -59,7 +59,7 @@ impl<'a> Element<'a> for Range {
         let Some((_, rest)) = some_of(alloc, rest)? else {
             return Ok(None);
         };
-        let range = range_of(alloc, written)?;
+        let range = small_range(alloc, written)?;
         Ok(Some((range, rest)))
     }
 }

@@ -30,7 +30,7 @@ pub struct WrittenState<'a> {
 
 /// The state of this word and these parameters.
 #[tactic(auto, unfolding(crate::specs::HeaderReading::state_with))]
-fn state_with<'a>(word: &'a str, parameters: &[Parameter<'a>]) -> Option<WrittenState<'a>>
+fn written_state<'a>(word: &'a str, parameters: &[Parameter<'a>]) -> Option<WrittenState<'a>>
     ensures { Finds state_seen result (state_with word.now (views parameters.now)) }
 {
     let expires = word_named(Class::Digit, b"expires", parameters)?;
@@ -52,7 +52,7 @@ fn state_of(alloc: Global, text: &[u8]) -> Result<Option<WrittenState<'_>>, NoMe
     let Some((word, parameters)) = token_with(alloc, text)? else {
         return Ok(None);
     };
-    Ok(state_with(word, parameters.as_slice()))
+    Ok(written_state(word, parameters.as_slice()))
 }
 
 /// The seconds that the digits stand for, where there are digits. `None` where they exceed 4294967295.

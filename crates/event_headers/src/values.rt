@@ -33,7 +33,7 @@ fn some_text(text: Option<String>) -> Option<Text>
     }
 }
 
-fn text_of(text: &Option<Text>) -> Option<&str>
+fn borrowed(text: &Option<Text>) -> Option<&str>
     ensures { option_map (λ t. t.now) result ≡ text.now }
 {
     match text {
@@ -124,7 +124,7 @@ impl EventValue {
     pub fn id(&self) -> Option<&str>
         ensures { option_map (λ t. t.now) result ≡ self.now.id }
     {
-        text_of(&self.id)
+        borrowed(&self.id)
     }
 }
 
@@ -249,7 +249,7 @@ impl StateValue {
     pub fn reason(&self) -> Option<&str>
         ensures { option_map (λ t. t.now) result ≡ self.now.reason }
     {
-        text_of(&self.reason)
+        borrowed(&self.reason)
     }
 
     /// After how many seconds to subscribe again.

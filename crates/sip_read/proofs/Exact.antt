@@ -420,3 +420,27 @@ pub reading : (bytes : List ℕ) (r : Result Message ReadError) → Answers (λ 
 reading bytes (Err errors.NoMemory) h = tt
 reading bytes (Err e) h = subst (Says bytes) h (says bytes)
 reading bytes (Ok m) h = subst (Says bytes) h (says bytes)
+
+-- what the clauses of the call want
+abbrev pub IsAnswer : List ℕ → Result Message ReadError → Type 0
+IsAnswer bytes r = IsReading bytes r × ((said : Result Message ReadError) → Says bytes said → Answers (λ m. m) r said) × (Wrong bytes errors.TooLong → r ≡ Err errors.TooLong) × (Wrong bytes errors.NotSip → r ≡ Err errors.NotSip)
+
+only : (bytes : List ℕ) (r : Result Message ReadError) → Answers (λ m. m) r (read_of bytes) → (said : Result Message ReadError) → Says bytes said → Answers (λ m. m) r said
+only bytes r h said is = subst (Answers (λ m. m) r) (told bytes said is) h
+
+pub too_long : (bytes : List ℕ) → 65535 < length bytes → IsAnswer bytes (Err errors.TooLong)
+unfolding read_of
+too_long bytes long =
+    let h : Answers (λ m. m) (Err errors.TooLong) (read_of bytes) = rw (lt-ltb 65535 (length bytes) long) refl in
+    (reading bytes (Err errors.TooLong) h, only bytes (Err errors.TooLong) h, λ w. refl, λ w. let short = w.0 in absurd (omega (arith, long, short)))
+
+pub not_sip : (bytes : List ℕ) → length bytes ≤ 65535 → first_at bytes ≡ None → IsAnswer bytes (Err errors.NotSip)
+unfolding read_of
+not_sip bytes short none =
+    let h : Answers (λ m. m) (Err errors.NotSip) (read_of bytes) = rw (le-ltb 65535 (length bytes) short, none) refl in
+    (reading bytes (Err errors.NotSip) h, only bytes (Err errors.NotSip) h, λ w. absurd (w short), λ w. refl)
+
+-- where a first line stands
+pub answer : (bytes : List ℕ) → length bytes ≤ 65535 → (first : First) (section : List ℕ) → first_at bytes ≡ Some (first, section) → (r : Result Message ReadError) → Answers (λ m. m) r (read_of bytes) → IsAnswer bytes r
+answer bytes short first section is r h =
+    (reading bytes r h, only bytes r h, λ w. absurd (w short), λ w. absurd (w.1 first section (short, first_takes bytes first section is)))

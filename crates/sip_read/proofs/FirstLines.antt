@@ -10,7 +10,7 @@ use Rattle.sip_text.specs.Bytes.{is_in}
 use Rattle.sip_text.specs.Reading.{◌>>=◌, span_at, after_byte, text_of, word_at}
 use Rattle.sip_text.specs.Grammar.{AllPassing, IsWord, number_of}
 use Rattle.sip_text.proofs.Pieces.{bind_some, some_is, and_both, span_takes, span_again, byte_taken}
-use Rattle.sip_text.proofs.Utf8.{text_taken, text_again, token_small, uri_small}
+use Rattle.sip_text.proofs.Utf8.{text_taken, text_again, text_from_ascii, token_small, uri_small}
 use Rattle.sip_text.proofs.Words.{word_at_takes, word_at_again}
 use Rattle.sip_read.specs.FirstLine.{First, request, status, IsRequestLine, IsStatusLine, IsFirstLine}
 use Rattle.sip_read.specs.FirstLineComputed.{request_line, version_at, status_line, or_status, first_of, first_at}
@@ -167,3 +167,79 @@ unfolding first_at
 first_again bytes first section h =
     let one : line_at bytes ≡ Some (h.0, section) = ap line_at h.3 ∙ line_again h.0 section h.1 in
     rw (one, first_of_again h.0 first h.2) refl
+
+-- ---- step by step: behind its first token a request line has a space, and a status line a slash
+
+token_text : (line word rest : List ℕ) → span_at (is_in class.Token) line ≡ Some (word, rest) → word_at (is_in class.Token) line ≡ Some (word, rest)
+unfolding word_at
+token_text line word rest e = rw (e, text_again word (text_from_ascii (is_in class.Token) token_small word (span_takes class.Token line word rest e).1.0)) refl
+
+token_span : (line : List ℕ) (o : Option (List ℕ × List ℕ)) → word_at (is_in class.Token) line ≡ o → span_at (is_in class.Token) line ≡ o
+unfolding word_at
+token_span line o is = step (span_at (is_in class.Token) line) refl where
+  step : (s : Option (List ℕ × List ℕ)) → span_at (is_in class.Token) line ≡ s → s ≡ o
+  step None e = let none : word_at (is_in class.Token) line ≡ None = rw e refl in sym none ∙ is
+  step (Some x) e = sym (token_text line x.0 x.1 e) ∙ is
+
+no_status : (line : List ℕ) → version_at line ≡ None → status_line line ≡ None
+unfolding status_line
+no_status line e = rw e refl
+
+no_token : (line : List ℕ) → word_at (is_in class.Token) line ≡ None → first_of line ≡ None
+unfolding request_line version_at
+no_token line is =
+    let no_request : request_line line ≡ None = rw is refl in
+    let no_version : version_at line ≡ None = rw (token_span line None is) refl in
+    ap (or_status line) no_request ∙ no_status line no_version
+
+not_status : (line word rest behind : List ℕ) → word_at (is_in class.Token) line ≡ Some (word, rest) → after_byte 32 rest ≡ Some behind → status_line line ≡ None
+unfolding version_at
+not_status line word rest behind is space =
+    let no_slash : after_byte 47 rest ≡ None = rw (byte_taken 32 rest behind space) refl in
+    no_status line (rw (token_span line (Some (word, rest)) is, no_slash) refl)
+
+module _ (bytes line section : List ℕ) (is : line_at bytes ≡ Some (line, section)) where
+  none_first : first_of line ≡ None → first_at bytes ≡ None
+  unfolding first_at
+  none_first e = rw (is, e) refl
+
+  some_first : (first : First) → first_of line ≡ Some first → first_at bytes ≡ Some (first, section)
+  unfolding first_at
+  some_first first e = rw (is, e) refl
+
+  pub begins_bare : word_at (is_in class.Token) line ≡ None → first_at bytes ≡ None
+  begins_bare none = none_first (no_token line none)
+
+  module _ (word rest : List ℕ) (token : word_at (is_in class.Token) line ≡ Some (word, rest)) where
+    status_only : after_byte 32 rest ≡ None → first_of line ≡ status_line line
+    unfolding request_line
+    status_only none = let no_request : request_line line ≡ None = rw (token, none) refl in ap (or_status line) no_request
+
+    pub no_first : after_byte 32 rest ≡ None → status_line line ≡ None → first_at bytes ≡ None
+    no_first none other = none_first (status_only none ∙ other)
+
+    pub status_first : after_byte 32 rest ≡ None → (first : First) → status_line line ≡ Some first → first_at bytes ≡ Some (first, section)
+    status_first none first is_status = some_first first (status_only none ∙ is_status)
+
+    module _ (behind : List ℕ) (space : after_byte 32 rest ≡ Some behind) where
+      no_request : request_line line ≡ None → first_at bytes ≡ None
+      no_request none = none_first (ap (or_status line) none ∙ not_status line word rest behind token space)
+
+      pub no_uri : word_at (is_in class.Uri) behind ≡ None → first_at bytes ≡ None
+      unfolding request_line
+      no_uri e = no_request (rw (token, space, e) refl)
+
+      module _ (uri more : List ℕ) (is_uri : word_at (is_in class.Uri) behind ≡ Some (uri, more)) where
+        pub no_version : after_byte 32 more ≡ None → first_at bytes ≡ None
+        unfolding request_line
+        no_version e = no_request (rw (token, space, is_uri, e) refl)
+
+        pub other_version : (version : List ℕ) → after_byte 32 more ≡ Some version → str_eq_ignore_ascii_case version (codes "SIP/2.0") ≡ false → first_at bytes ≡ None
+        unfolding request_line
+        other_version version e other = no_request (rw (token, space, is_uri, e, other) refl)
+
+        pub request_first : (version : List ℕ) → after_byte 32 more ≡ Some version → str_eq_ignore_ascii_case version (codes "SIP/2.0") ≡ true → first_at bytes ≡ Some (request word uri, section)
+        unfolding request_line
+        request_first version e sip =
+            let found : request_line line ≡ Some (request word uri) = rw (token, space, is_uri, e, sip) refl in
+            some_first (request word uri) (ap (or_status line) found)

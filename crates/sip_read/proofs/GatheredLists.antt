@@ -3,8 +3,8 @@ use Rattle.std.proofs.Common.{◌≡◌, ℕ, List, [], ◌∷◌, ◌++◌, Opt
 use Rattle.std.proofs.lemmas.List.{append-nil}
 use Rattle.sip_read.specs.declared.header.Header.TheVariants as headers
 use Rattle.sip_read.specs.declared.message.Via.{Via}
-use Rattle.sip_read.specs.declared.once.Once.{Once}
-use Rattle.sip_read.specs.declared.once.Once.TheVariants as once
+use Rattle.sip_read.specs.declared.gathered.Once.{Once}
+use Rattle.sip_read.specs.declared.gathered.Once.TheVariants as once
 use Rattle.sip_read.specs.AddressesComputed.{contact_of}
 use Rattle.sip_read.specs.FieldsComputed.{event_kept, expires_kept}
 use Rattle.sip_read.specs.GatheredComputed.{Fields, Gathered, nothing, capped, accept_more, first_or, with_item, with_items}

@@ -1,7 +1,7 @@
 -- A Via value at the front of a text.
 use Rattle.std.proofs.Common.{◌≡◌, ℕ, ◌-◌, ◌<◌, Bool, true, false, eqb, cond, List, [], ◌∷◌, ◌++◌, length, take, Option, Some, None, refl, sym, ap, subst, ◌∙◌, append_assoc, arith, find}
 use Rattle.std.specs.Prelude.{codes}
-use Rattle.std.specs.List.{list_all, list_any}
+use Rattle.std.specs.List.{list_all}
 use Rattle.std.specs.Str.{IsUtf8, str_eq_ignore_ascii_case}
 use Rattle.std.proofs.lemmas.List.{length-append, take_at}
 use Rattle.std.proofs.lemmas.Bool.{eqb-true, eq-eqb}
@@ -10,7 +10,7 @@ use Rattle.sip_text.specs.declared.scan.Class.TheVariants as class
 use Rattle.sip_text.specs.Bytes.{is_in, is_space}
 use Rattle.sip_text.specs.Reading.{◌>>=◌, span_at, after_byte, after_spaces, text_of, some_of, word_at}
 use Rattle.sip_text.specs.Grammar.{Parameter, has_name, AreSpaces, IsWord, Stops, IsParameter, IsAssigned, AreParameters}
-use Rattle.sip_read.specs.Vias.{Hop, is_bare_rport, value_of_first, branch_of, IsSlashed, IsProtocol, IsHop}
+use Rattle.sip_read.specs.Vias.{Hop, value_of_first, branch_of, IsSlashed, IsProtocol, IsHop}
 use Rattle.sip_read.specs.ViasComputed.{taken, slashed_at, version_at, protocol_at, some_text_of, Marks, marks_of, marks_at, hop_at}
 use Rattle.sip_text.proofs.Pieces.{bind_some, some_is, and_both, span_takes, span_again, spaces_taken, spaces_again, byte_taken, NoSpace, not_of_space, stops_at_spaces, word_stops_spaces}
 use Rattle.sip_text.proofs.Utf8.{text_taken, text_again, text_after_ascii, token_small, space_small, split_text, is_wide}

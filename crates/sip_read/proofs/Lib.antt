@@ -14,7 +14,6 @@ pub mod Gatherings
 pub mod GatheredLists
 pub mod Exact
 pub mod BadLines
-pub mod Assembling
 pub mod Kept
 pub mod PlainLines
 pub mod Names

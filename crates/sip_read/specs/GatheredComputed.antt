@@ -7,8 +7,8 @@ use Rattle.sip_read.specs.declared.call.Sequence.{Sequence}
 use Rattle.sip_read.specs.declared.header.Header.TheVariants as headers
 use Rattle.sip_read.specs.declared.message.Party.{Party}
 use Rattle.sip_read.specs.declared.message.Via.{Via}
-use Rattle.sip_read.specs.declared.once.Once.{Once}
-use Rattle.sip_read.specs.declared.once.Once.TheVariants as once
+use Rattle.sip_read.specs.declared.gathered.Once.{Once}
+use Rattle.sip_read.specs.declared.gathered.Once.TheVariants as once
 use Rattle.sip_read.specs.AddressesComputed.{contact_of}
 use Rattle.sip_read.specs.FieldsComputed.{event_kept, expires_kept}
 use Rattle.sip_read.specs.Items.{Item, item}

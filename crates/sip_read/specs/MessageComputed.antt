@@ -14,8 +14,8 @@ use Rattle.sip_read.specs.declared.message.Message.TheVariants as messages
 use Rattle.sip_read.specs.declared.message.Party.{Party}
 use Rattle.sip_read.specs.declared.message.Request.{Request}
 use Rattle.sip_read.specs.declared.message.Via.{Via}
-use Rattle.sip_read.specs.declared.once.Once.{Once}
-use Rattle.sip_read.specs.declared.once.Once.TheVariants as once
+use Rattle.sip_read.specs.declared.gathered.Once.{Once}
+use Rattle.sip_read.specs.declared.gathered.Once.TheVariants as once
 use Rattle.sip_read.specs.FieldsComputed.{accept_kept}
 use Rattle.sip_read.specs.FirstLine.{First, request, status}
 use Rattle.sip_read.specs.FirstLineComputed.{first_at}
@@ -62,10 +62,11 @@ head_of vias top from to call_id cseq =
     call_of from to call_id cseq then λ c.
     Ok (record { vias = vias; top = v; from = c.0.0; to = c.0.1; call_id = c.1.0; cseq = c.1.1.number; cseq_method = c.1.1.method })
 
+-- what a Content-Length leaves of the rest; several lines are refused before
 abbrev pub body_of : Once ℕ → List ℕ → Result (List ℕ) ReadError
-body_of once.Absent rest = Ok rest
 body_of (once.One n) rest = if nat_lt (length rest) n then Err errors.ShortBody else Ok (take n rest)
-body_of once.Several rest = Err (errors.Twice names.ContentLength)
+body_of once.Absent rest = Ok rest
+body_of once.Several rest = Ok rest
 
 abbrev pub value_or_bad : {A : Type 0} → Option A → Field A
 value_or_bad None = field.Bad

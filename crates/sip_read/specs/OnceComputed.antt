@@ -5,8 +5,8 @@ use Rattle.sip_text.specs.declared.field.Field.TheVariants as field
 use Rattle.sip_read.specs.declared.error.HeaderName.{HeaderName}
 use Rattle.sip_read.specs.declared.error.ReadError.{ReadError}
 use Rattle.sip_read.specs.declared.error.ReadError.TheVariants as errors
-use Rattle.sip_read.specs.declared.once.Once.{Once}
-use Rattle.sip_read.specs.declared.once.Once.TheVariants as once
+use Rattle.sip_read.specs.declared.gathered.Once.{Once}
+use Rattle.sip_read.specs.declared.gathered.Once.TheVariants as once
 
 -- with one value more
 abbrev pub once_more : {T : Type 0} → Once T → T → Once T
@@ -24,10 +24,11 @@ is_several once.Absent = false
 is_several (once.One x) = false
 is_several once.Several = true
 
+-- the value of the one line; several lines are refused before
 abbrev pub required : {T : Type 0} → HeaderName → Once T → Result T ReadError
-required name once.Absent = Err (errors.Missing name)
 required name (once.One x) = Ok x
-required name once.Several = Err (errors.Twice name)
+required name once.Absent = Err (errors.Missing name)
+required name once.Several = Err (errors.Missing name)
 
 abbrev pub field_of : {T : Type 0} → Once (Option T) → Field T
 field_of once.Absent = field.Absent

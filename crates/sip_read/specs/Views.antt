@@ -1,12 +1,11 @@
 -- What contracts see of the code's values.
-use Rattle.std.specs.Prelude.{ℕ, List, Option, option_map}
+use Rattle.std.specs.Prelude.{ℕ, List, option_map}
 use Rattle.std.specs.Borrow.{Bor}
 use Rattle.sip_read.specs.declared.call.Sequence.{Sequence}
-use Rattle.sip_read.specs.declared.first_line.First.{First as FirstText}
-use Rattle.sip_read.specs.declared.first_line.First.TheVariants as firsts
-use Rattle.sip_read.specs.declared.fields.Fields.{Fields as FieldsHeld}
+use Rattle.sip_read.specs.declared.datagram.First.{First as FirstText}
+use Rattle.sip_read.specs.declared.datagram.First.TheVariants as firsts
+use Rattle.sip_read.specs.declared.gathered.Fields.{Fields as FieldsHeld}
 use Rattle.sip_read.specs.declared.gathered.Gathered.{Gathered as GatheredHeld}
-use Rattle.sip_read.specs.declared.message.Party.{Party}
 use Rattle.sip_read.specs.declared.via.Hop.{Hop as HopText}
 use Rattle.sip_read.specs.declared.via.Marks.{Marks as MarksText}
 use Rattle.sip_read.specs.FirstLine.{First, request, status}
@@ -14,10 +13,6 @@ use Rattle.sip_read.specs.GatheredComputed.{Fields, Gathered}
 use Rattle.sip_read.specs.Vias.{Hop}
 use Rattle.sip_read.specs.ViasComputed.{Marks}
 use Rattle.sip_text.specs.Views.{view}
-
--- a From's or a To's text and tag
-abbrev pub party_seen : (Bor (List ℕ) × Option (Bor (List ℕ))) → Party
-party_seen x = record { text = x.0.now; tag = option_map (λ v. v.now) x.1 }
 
 -- a CSeq's number and method
 abbrev pub sequence_seen : (ℕ × Bor (List ℕ)) → Sequence
@@ -40,4 +35,4 @@ abbrev pub fields_seen : FieldsHeld → Fields
 fields_seen f = record { event = f.event; expires = f.expires; accept = option_map (λ v. v.items) f.accept; contact = f.contact; refer_to = f.refer_to; refer_sub = f.refer_sub; require = f.require.items; record_routes = f.record_routes.items }
 
 abbrev pub gathered_seen : GatheredHeld → Gathered
-gathered_seen g = record { vias = g.vias.items; top = g.top; from = g.from; to = g.to; call_id = g.call_id; cseq = g.cseq; content_length = g.content_length; fields = fields_seen g.fields }
+gathered_seen g = record { vias = g.head.vias.items; top = g.head.top; from = g.head.from; to = g.head.to; call_id = g.head.call_id; cseq = g.head.cseq; content_length = g.content_length; fields = fields_seen g.fields }

@@ -1,9 +1,16 @@
-//! An address: in angle brackets behind a display name, or bare (RFC 3261 section 20.10).
-ghost use Rattle.std.specs.Prelude.{◌≡◌};
+//! Addresses (RFC 3261 section 20.10), in angle brackets behind a display name or bare, and the values that are one: From, To, Contact and Refer-To.
+ghost use Rattle.std.specs.Prelude.{◌≡◌, IfOk};
 ghost use Rattle.sip_text.specs.Bytes.{Finds};
-ghost use Rattle.sip_read.specs.AddressesComputed.{has_scheme, angle_at, bare_at, after_display, bracketed_at, address_at};
+ghost use Rattle.sip_read.specs.AddressesComputed.{has_scheme, angle_at, bare_at, after_display, bracketed_at, address_at, party_of, contact_of};
+ghost use Rattle.sip_read.specs.LineAnswers.{Takes};
 
-use sip_text::{Class, after_byte, quoted_at, skip_spaces, span_at, split_front};
+use crate::error::ReadError;
+use crate::message::Party;
+use sip_text::{
+    Class, NoMemory, Text, after_byte, parameters_of, quoted_at, skip_spaces, some_copy, span_at,
+    split_front, text_of, word_among,
+};
+use std::alloc::Global;
 
 /// Whether it begins with a scheme and a colon, and goes on.
 fn has_scheme(uri: &[u8]) -> bool
@@ -34,11 +41,7 @@ fn bare_at(text: &[u8]) -> Option<(&[u8], &[u8])>
     ensures { Finds (λ x. (x.0.now, x.1.now)) result (bare_at text.now) }
 {
     let (uri, rest) = span_at(Class::Bare, text)?;
-    if has_scheme(uri) {
-        Some((uri, rest))
-    } else {
-        None
-    }
+    has_scheme(uri).then_some((uri, rest))
 }
 
 /// What follows the display name at the front, which may be empty.
@@ -64,12 +67,39 @@ pub fn bracketed_at(text: &[u8]) -> Option<(&[u8], &[u8])>
 
 /// The uri of the address at the front, and what follows the address.
 #[tactic(auto, unfolding(crate::specs::AddressesComputed::address_at))]
-pub fn address_at(text: &[u8]) -> Option<(&[u8], &[u8])>
+fn address_at(text: &[u8]) -> Option<(&[u8], &[u8])>
     ensures { Finds (λ x. (x.0.now, x.1.now)) result (address_at text.now) }
 {
     let inner = after_display(text).and_then(|rest| after_byte(b'<', skip_spaces(rest)));
     match inner {
         Some(inner) => angle_at(inner),
         None => bare_at(text),
+    }
+}
+
+/// The From or To that the value is.
+#[tactic(auto, unfolding(crate::specs::AddressesComputed::party_of, sip_text::specs::Reading::word_among))]
+pub fn party_of(alloc: Global, value: &[u8]) -> Result<Party, ReadError>
+    ensures { Takes (λ p. p) result (party_of value.now) }
+{
+    let (_, rest) = address_at(value).ok_or(ReadError::BadLine)?;
+    let tag = word_among(Class::Token, b"tag", rest).ok_or(ReadError::BadLine)?;
+    let text = text_of(value).ok_or(ReadError::BadLine)?;
+    let text = Text::of(alloc, text)?;
+    let tag = some_copy(alloc, tag)?;
+    Ok(Party { text, tag })
+}
+
+/// The uri of the one address that the value is.
+#[tactic(auto, unfolding(crate::specs::AddressesComputed::contact_of))]
+pub fn contact_of(alloc: Global, value: &[u8]) -> Result<Option<Text>, NoMemory>
+    ensures { IfOk result (λ o. o ≡ contact_of value.now) }
+{
+    let Some((uri, rest)) = address_at(value) else {
+        return Ok(None);
+    };
+    match parameters_of(alloc, rest)? {
+        Some(_) => some_copy(alloc, text_of(uri)),
+        None => Ok(None),
     }
 }

@@ -31,17 +31,11 @@ fn visible_of(text: &[u8]) -> Option<&[u8]>
 
 /// The Call-ID that the value is: one or more bytes from `!` to `~`.
 #[tactic(auto, unfolding(crate::specs::ValuesComputed::call_id_of))]
-fn call_id_at(value: &[u8]) -> Option<&str>
-    ensures { Finds (λ x. x.now) result (call_id_of value.now) }
-{
-    text_of(visible_of(value)?)
-}
-
-/// The Call-ID that the value is.
 pub fn call_id_of(alloc: Global, value: &[u8]) -> Result<Text, ReadError>
     ensures { Takes (λ t. t) result (call_id_of value.now) }
 {
-    let text = call_id_at(value).ok_or(ReadError::BadLine)?;
+    let visible = visible_of(value).ok_or(ReadError::BadLine)?;
+    let text = text_of(visible).ok_or(ReadError::BadLine)?;
     Ok(Text::of(alloc, text)?)
 }
 
@@ -54,7 +48,7 @@ pub struct Sequence {
 
 /// The number and the method of the CSeq that the value is, as they stand there.
 #[tactic(auto, unfolding(crate::specs::ValuesComputed::sequence_of))]
-fn sequence_at(text: &[u8]) -> Option<(u32, &str)>
+fn sequence_parts(text: &[u8]) -> Option<(u32, &str)>
     ensures { Finds sequence_seen result (sequence_of text.now) }
 {
     let (digits, rest) = span_at(Class::Digit, text)?;
@@ -72,7 +66,7 @@ fn sequence_at(text: &[u8]) -> Option<(u32, &str)>
 pub fn sequence_of(alloc: Global, value: &[u8]) -> Result<Sequence, ReadError>
     ensures { Takes (λ s. s) result (sequence_of value.now) }
 {
-    let (number, method) = sequence_at(value).ok_or(ReadError::BadLine)?;
+    let (number, method) = sequence_parts(value).ok_or(ReadError::BadLine)?;
     let method = Text::of(alloc, method)?;
     Ok(Sequence { number, method })
 }

@@ -1,37 +1,231 @@
 //! What the header lines say, header by header.
-ghost use Rattle.std.specs.Prelude.{◌≡◌, ◌<◌, option_map};
+ghost use Rattle.std.specs.Prelude.{◌≡◌, ◌<◌, option_map, IfOk, OnOk};
 ghost use Rattle.sip_text.specs.Bytes.{is_in};
 ghost use Rattle.sip_text.specs.Reading.{all_of, elements_of};
 ghost use Rattle.sip_text.specs.declared.scan.Class.TheVariants as class;
-ghost use Rattle.sip_read.specs.GatheredComputed.{nothing, capped, with_element, with_items, gather};
-ghost use Rattle.sip_read.specs.ItemsComputed.{element_at, line_values, line_items};
+ghost use Rattle.sip_read.specs.declared.header.Header.TheVariants as headers;
+ghost use Rattle.sip_read.specs.GatheredComputed.{nothing, fields_nothing, capped, with_element, with_field, with_items, gather};
+ghost use Rattle.sip_read.specs.Items.{item};
+ghost use Rattle.sip_read.specs.ItemsComputed.{element_at, line_items};
 ghost use Rattle.sip_read.specs.LineAnswers.{Takes};
-ghost use Rattle.sip_read.specs.Views.{gathered_seen};
+ghost use Rattle.sip_read.specs.MessageComputed.{head_of, request_of};
+ghost use Rattle.sip_read.specs.OnceComputed.{once_more, is_several, field_of};
+ghost use Rattle.sip_read.specs.Views.{fields_seen, gathered_seen};
 
+use crate::address::{contact_of, party_of};
 use crate::call::{Sequence, call_id_of, sequence_of};
-use crate::error::ReadError;
-use crate::fields::Fields;
-use crate::folding::unfolded_of;
-use crate::header::{Header, header_named};
+use crate::error::{HeaderName, ReadError};
+use crate::header::{Header, header_named, header_of, line_at, unfolded_of};
 use crate::item::{Listed, route_at};
-use crate::line::{header_of, line_at};
-use crate::message::{Party, Via};
-use crate::once::Once;
-use crate::party::{contact_of, party_of};
-use crate::value::{event_of, expires_of, refer_sub_of};
+use crate::message::{Head, Party, Request, Via};
+use crate::value::{accept_of, event_of, expires_of, refer_sub_of};
 use crate::via::hop_at;
-use sip_text::{Class, Text, after_comma, all_of, capped_number, is_text, word_at};
+use event_headers::{EventValue, Range};
+use sip_text::{
+    Class, Field, NoMemory, Octets, Text, Values, after_comma, all_of, capped_number, is_text,
+    some_copy, word_at,
+};
 use std::alloc::Global;
 
-/// What the lines say, as far as they were read. Each value is a text of its own.
+/// What the lines of one header say: no line, the value of the one line, or several lines.
 #[derive(Drop)]
-pub struct Gathered {
+pub enum Once<T> {
+    Absent,
+    One(T),
+    Several,
+}
+
+impl<T: Drop> Once<T> {
+    /// A further line has this value. In its callers: called, it makes reading take a fortieth longer.
+    #[inline(always)]
+    pub fn add(&mut self, value: T)
+        ensures { self.new ≡ once_more self.old value }
+    {
+        *self = match self {
+            Once::Absent => Once::One(value),
+            _ => Once::Several,
+        };
+    }
+
+    pub fn is_several(&self) -> bool
+        ensures { result ≡ is_several self.now }
+    {
+        matches!(self, Once::Several)
+    }
+}
+
+impl<T: Drop> Once<Option<T>> {
+    /// What a header says that may stand, each line of which has a value or is bad.
+    fn field(self) -> Field<T>
+        ensures { result ≡ field_of self }
+    {
+        match self {
+            Once::Absent => Field::Absent,
+            Once::One(Some(value)) => Field::Value(value),
+            Once::One(None) | Once::Several => Field::Bad,
+        }
+    }
+}
+
+/// What the lines say that only a request's reader asks for.
+pub struct Fields {
+    pub event: Once<Option<EventValue>>,
+    pub expires: Once<Option<u32>>,
+    /// All Accept lines, joined with commas.
+    pub accept: Option<Vec<u8>>,
+    pub contact: Once<Option<Text>>,
+    pub refer_to: Once<Option<Text>>,
+    pub refer_sub: Once<Option<bool>>,
+    pub require: Vec<Text>,
+    pub record_routes: Vec<Text>,
+}
+
+/// By hand, so that all that lets go of them calls this one function, and none proves the ways through each field.
+impl Drop for Fields {
+    fn drop(self) {
+        let Fields {
+            event: _,
+            expires: _,
+            accept: _,
+            contact: _,
+            refer_to: _,
+            refer_sub: _,
+            require: _,
+            record_routes: _,
+        } = self;
+    }
+}
+
+impl Fields {
+    pub fn new(alloc: Global) -> Fields
+        ensures { fields_seen result ≡ fields_nothing }
+    {
+        Fields {
+            event: Once::Absent,
+            expires: Once::Absent,
+            accept: None,
+            contact: Once::Absent,
+            refer_to: Once::Absent,
+            refer_sub: Once::Absent,
+            require: Vec::new(alloc),
+            record_routes: Vec::new(alloc),
+        }
+    }
+
+    /// Takes in an Accept line, behind a comma where it isn't the first.
+    pub fn add_accept(&mut self, alloc: Global, value: &[u8]) -> Result<(), NoMemory>
+        ensures { OnOk result (fields_seen self.new ≡ with_field (fields_seen self.old) (item headers.Accept value.now)) }
+    {
+        match &mut self.accept {
+            Some(joined) => {
+                joined.push(b',')?;
+                joined.extend_from_slice(value)?;
+            }
+            None => self.accept = Some(Vec::from_slice(alloc, value)?),
+        }
+        Ok(())
+    }
+
+    /// The request of these and its other parts. Apart from its caller: within it, reading takes a fortieth longer.
+    #[inline(never)]
+    pub fn request(
+        self,
+        alloc: Global,
+        head: Head,
+        method: &str,
+        uri: &str,
+        body: &[u8],
+    ) -> Result<Request, NoMemory>
+        ensures { IfOk result (λ r. r ≡ request_of method.now uri.now head (fields_seen self) body.now) }
+    {
+        let method = Text::of(alloc, method)?;
+        let uri = Text::of(alloc, uri)?;
+        let accept = match &self.accept {
+            Some(joined) => accept_of(alloc, joined.as_slice())?,
+            None => Field::Absent,
+        };
+        let body = Octets::new(Vec::from_slice(alloc, body)?);
+        let Fields {
+            event,
+            expires,
+            accept: _,
+            contact,
+            refer_to,
+            refer_sub,
+            require,
+            record_routes,
+        } = self;
+        Ok(Request {
+            method,
+            uri,
+            head,
+            event: event.field(),
+            expires: expires.field(),
+            accept,
+            contact: contact.field(),
+            refer_to: refer_to.field(),
+            refer_sub: refer_sub.field(),
+            require: Values::new(require),
+            record_routes: Values::new(record_routes),
+            body,
+        })
+    }
+}
+
+/// What the lines say that each message has. Each value is a text of its own.
+#[derive(Drop)]
+pub struct HeadLines {
     pub vias: Vec<Text>,
     pub top: Option<Via>,
     pub from: Once<Party>,
     pub to: Once<Party>,
     pub call_id: Once<Text>,
     pub cseq: Once<Sequence>,
+}
+
+impl HeadLines {
+    /// The head, or the first header that no line has. Several lines are refused before.
+    #[tactic(auto, unfolding(crate::specs::MessageComputed::head_of))]
+    pub fn head(self) -> Result<Head, ReadError>
+        ensures { result ≡ head_of self.vias.items self.top self.from self.to self.call_id self.cseq }
+    {
+        let HeadLines {
+            vias,
+            top,
+            from,
+            to,
+            call_id,
+            cseq,
+        } = self;
+        let top = top.ok_or(ReadError::Missing(HeaderName::Via))?;
+        let Once::One(from) = from else {
+            return Err(ReadError::Missing(HeaderName::From));
+        };
+        let Once::One(to) = to else {
+            return Err(ReadError::Missing(HeaderName::To));
+        };
+        let Once::One(call_id) = call_id else {
+            return Err(ReadError::Missing(HeaderName::CallId));
+        };
+        let Once::One(cseq) = cseq else {
+            return Err(ReadError::Missing(HeaderName::CSeq));
+        };
+        Ok(Head {
+            vias: Values::new(vias),
+            top,
+            from,
+            to,
+            call_id,
+            cseq: cseq.number,
+            cseq_method: cseq.method,
+        })
+    }
+}
+
+/// What the lines say, as far as they were read.
+#[derive(Drop)]
+pub struct Gathered {
+    pub head: HeadLines,
     /// The number, or 2^32 where it is greater.
     pub content_length: Once<u64>,
     pub fields: Fields,
@@ -50,18 +244,21 @@ impl Gathered {
         ensures { gathered_seen result ≡ nothing }
     {
         Gathered {
-            vias: Vec::new(alloc),
-            top: None,
-            from: Once::Absent,
-            to: Once::Absent,
-            call_id: Once::Absent,
-            cseq: Once::Absent,
+            head: HeadLines {
+                vias: Vec::new(alloc),
+                top: None,
+                from: Once::Absent,
+                to: Once::Absent,
+                call_id: Once::Absent,
+                cseq: Once::Absent,
+            },
             content_length: Once::Absent,
             fields: Fields::new(alloc),
         }
     }
 
-    /// Takes in the element of a list at the front. What follows it.
+    /// Takes in the element of a list at the front. What follows it. In its caller: called, it makes reading take a hundredth longer.
+    #[inline(always)]
     #[tactic(auto, unfolding(crate::specs::ItemsComputed::token_at, sip_text::specs::Reading::word_at))]
     fn add_element<'a>(
         &mut self,
@@ -75,9 +272,13 @@ impl Gathered {
         match listed {
             Listed::Via => {
                 let (hop, rest) = hop_at(text).ok_or(ReadError::BadLine)?;
-                self.vias.push(Text::of(alloc, hop.text)?)?;
-                if self.top.is_none() {
-                    self.top = Some(hop.via(alloc)?);
+                self.head.vias.push(Text::of(alloc, hop.text)?)?;
+                if self.head.top.is_none() {
+                    self.head.top = Some(Via {
+                        sent_by: Text::of(alloc, hop.sent_by)?,
+                        branch: some_copy(alloc, hop.branch)?,
+                        bare_rport: hop.bare_rport,
+                    });
                 }
                 Ok(rest)
             }
@@ -112,17 +313,22 @@ impl Gathered {
         }
     }
 
-    /// Takes in the values of a line of this header.
-    fn add_values(&mut self, alloc: Global, header: Header, value: &[u8]) -> Result<(), ReadError>
+    /// Takes in a header line.
+    #[tactic(auto, using(crate::proofs::Gatherings::line_is), unfolding(crate::specs::ItemsComputed::line_items))]
+    fn add_line(&mut self, alloc: Global, line: &[u8]) -> Result<(), ReadError>
         ensures { Takes (λ done. gathered_seen self.new) result
-            (option_map (with_items (gathered_seen self.old)) (line_values header value.now)) }
+            (option_map (with_items (gathered_seen self.old)) (line_items line.now)) }
     {
-        match header {
+        if !is_text(line) {
+            return Err(ReadError::BadLine);
+        }
+        let (name, value) = header_of(line).ok_or(ReadError::BadLine)?;
+        match header_named(name) {
             Header::Via => self.add_elements(alloc, Listed::Via, value)?,
-            Header::From => self.from.add(party_of(alloc, value)?),
-            Header::To => self.to.add(party_of(alloc, value)?),
-            Header::CallId => self.call_id.add(call_id_of(alloc, value)?),
-            Header::CSeq => self.cseq.add(sequence_of(alloc, value)?),
+            Header::From => self.head.from.add(party_of(alloc, value)?),
+            Header::To => self.head.to.add(party_of(alloc, value)?),
+            Header::CallId => self.head.call_id.add(call_id_of(alloc, value)?),
+            Header::CSeq => self.head.cseq.add(sequence_of(alloc, value)?),
             Header::ContentLength => self.content_length.add(length_of(value)?),
             Header::Contact => self.fields.contact.add(contact_of(alloc, value)?),
             Header::Event => self.fields.event.add(event_of(alloc, value)?),
@@ -135,19 +341,6 @@ impl Gathered {
             Header::Other => {}
         }
         Ok(())
-    }
-
-    /// Takes in a header line.
-    #[tactic(auto, using(crate::proofs::Gatherings::line_is), unfolding(crate::specs::ItemsComputed::line_items))]
-    fn add_line(&mut self, alloc: Global, line: &[u8]) -> Result<(), ReadError>
-        ensures { Takes (λ done. gathered_seen self.new) result
-            (option_map (with_items (gathered_seen self.old)) (line_items line.now)) }
-    {
-        if !is_text(line) {
-            return Err(ReadError::BadLine);
-        }
-        let (name, value) = header_of(line).ok_or(ReadError::BadLine)?;
-        self.add_values(alloc, header_named(name), value)
     }
 
     /// Takes in the header lines at the front, up to the empty line. What follows that.

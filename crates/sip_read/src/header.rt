@@ -1,7 +1,148 @@
-//! Names of headers.
-ghost use Rattle.std.specs.Prelude.{◌≡◌};
-ghost use Rattle.std.specs.Str.{str_eq_ignore_ascii_case};
+//! Header lines: where a line ends, lines that others continue (RFC 3261 section 7.3.1), a line's name and value, and which header it is of.
+ghost use Rattle.std.specs.Prelude.{◌≡◌, ◌<◌, ◌≤◌, None, length, drop, MatchOption, IfSome, OnOk};
+ghost use Rattle.std.specs.List.{prefix_len};
+ghost use Rattle.std.specs.Str.{byte, str_eq_ignore_ascii_case};
+ghost use Rattle.sip_text.specs.Bytes.{is_line_byte, Finds, Gives};
+ghost use Rattle.sip_text.specs.Reading.{after_byte};
 ghost use Rattle.sip_read.specs.Headers.{is_name, header_named};
+ghost use Rattle.sip_read.specs.LinesComputed.{begins_space, joined, continued_of, unfolded_of, line_at, header_of};
+ghost use Rattle.sip_read.specs.LineViews.{line_seen, unfolded_seen};
+
+use httparse::is_header_value;
+use memchr::memchr;
+use sip_text::{Class, NoMemory, after_byte, kept_len, skip_spaces, span_at, trim};
+use std::alloc::Global;
+
+/// How long the line at the front is, where a CR follows it.
+///
+/// The first CR ends it, if each byte before that may stand in a line. These are the bytes of a header's value in HTTP, too. Both looks
+/// compare 16 bytes or more at a time.
+#[tactic(auto, using(crate::proofs::LineEnds::line_ends))]
+fn line_len(text: &[u8]) -> Option<usize>
+    ensures value { MatchOption result (after_byte (byte "\r") (drop (prefix_len is_line_byte text.now) text.now) ≡ None)
+        (λ n. n ≡ prefix_len is_line_byte text.now) }
+    ensures bound { IfSome result (λ n. n ≤ length text.now) }
+{
+    let count = memchr(b'\r', text)?;
+    if is_header_value(text.split_at(count).0) {
+        Some(count)
+    } else {
+        None
+    }
+}
+
+/// A line at the front, and what stands behind its CRLF.
+#[tactic(auto, unfolding(crate::specs::LinesComputed::line_at))]
+pub fn line_at(text: &[u8]) -> Option<(&[u8], &[u8])>
+    ensures { Finds (λ x. (x.0.now, x.1.now)) result (line_at text.now) }
+{
+    let (line, rest) = text.split_at(line_len(text)?);
+    let rest = after_byte(b'\n', after_byte(b'\r', rest)?)?;
+    Some((line, rest))
+}
+
+/// A header line in one piece. One that isn't continued stands in the datagram, and takes no memory.
+#[derive(Drop)]
+pub struct Line<'a> {
+    first: &'a [u8],
+    /// The whole line, where others continue the first one.
+    unfolded: Option<Vec<u8>>,
+}
+
+impl Line<'_> {
+    /// Its octets, without its end.
+    pub fn as_slice(&self) -> &[u8]
+        ensures { result.now ≡ line_seen self.now }
+    {
+        match &self.unfolded {
+            Some(whole) => whole.as_slice(),
+            None => self.first,
+        }
+    }
+}
+
+fn begins_space(text: &[u8]) -> bool
+    ensures { result ≡ begins_space text.now }
+{
+    match text {
+        [first, ..] => Class::Space.contains(*first),
+        [] => false,
+    }
+}
+
+/// Adds a continuation line: the line break and the spaces on both sides of it become one space.
+fn join(line: &mut Vec<u8>, piece: &[u8]) -> Result<(), NoMemory>
+    ensures { OnOk result (line.new.items ≡ joined line.old.items piece.now) }
+{
+    line.truncate(kept_len(line.as_slice()));
+    line.push(b' ')?;
+    line.extend_from_slice(skip_spaces(piece))?;
+    Ok(())
+}
+
+/// The line that begins with this piece, and what stands behind its continuation lines.
+fn joined_lines<'a>(
+    alloc: Global,
+    first: &[u8],
+    text: &'a [u8],
+) -> Result<Option<(Vec<u8>, &'a [u8])>, NoMemory>
+    ensures { Gives (λ x. (x.0.items, x.1.now)) result (continued_of first.now text.now) }
+{
+    let mut line = Vec::from_slice(alloc, first)?;
+    let mut rest = text;
+    while begins_space(rest) {
+        let Some((piece, after)) = line_at(rest) else {
+            return Ok(None);
+        };
+        join(&mut line, piece)?;
+        rest = after;
+    }
+    Ok(Some((line, rest)))
+}
+
+/// A line that begins with this piece, and what stands behind it. Only a line that is continued is copied.
+#[tactic(auto, unfolding(crate::specs::LinesComputed::unfolded_of))]
+pub fn unfolded_of<'a>(
+    alloc: Global,
+    first: &'a [u8],
+    text: &'a [u8],
+) -> Result<Option<(Line<'a>, &'a [u8])>, NoMemory>
+    ensures { Gives unfolded_seen result (unfolded_of first.now text.now) }
+{
+    if begins_space(first) {
+        return Ok(None);
+    }
+    if !begins_space(text) {
+        return Ok(Some((
+            Line {
+                first,
+                unfolded: None,
+            },
+            text,
+        )));
+    }
+    match joined_lines(alloc, first, text)? {
+        Some((whole, rest)) => Ok(Some((
+            Line {
+                first,
+                unfolded: Some(whole),
+            },
+            rest,
+        ))),
+        None => Ok(None),
+    }
+}
+
+/// The name and the value of a header line. Apart from its caller, the loop over the name takes half as long for each byte.
+#[inline(never)]
+#[tactic(auto, unfolding(crate::specs::LinesComputed::header_of))]
+pub fn header_of(line: &[u8]) -> Option<(&[u8], &[u8])>
+    ensures { Finds (λ x. (x.0.now, x.1.now)) result (header_of line.now) }
+{
+    let (name, rest) = span_at(Class::Token, line)?;
+    let value = after_byte(b':', skip_spaces(rest))?;
+    Some((name, trim(value)))
+}
 
 /// Which header a line is of, as far as the reader keeps its value.
 #[derive(Clone, Copy)]
@@ -80,6 +221,8 @@ fn named_in_any_case(name: &[u8]) -> Header
 
 /// The header that a name stands for (RFC 3261 section 7.3.3, RFC 6665 section 8.2, RFC 3515 section 2.1,
 /// RFC 4488 section 4). The names are compared first as the RFCs write them, since almost all do: that takes a quarter of the time.
+/// Apart from its caller: within it, reading takes a hundredth longer.
+#[inline(never)]
 pub fn header_named(name: &[u8]) -> Header
     ensures { result ≡ header_named name.now }
 {

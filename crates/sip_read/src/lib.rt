@@ -8,32 +8,26 @@
 //! `FirstLine`, `Folding` (lines that are continued), `Items` (header lines), `Vias`, `Addresses` and `Calls`. The files named `..Computed` hold
 //! the function on lists that stands between that relation and the code. The levels below the lines are those of `sip_text`,
 //! and the headers Event, Expires and Accept those of `event_headers`.
+//!
+//! The code begins in `datagram`: the first line, then `gathered` takes in line by line what `header` cuts and names, then the message. Values
+//! are read in `via`, `address`, `call`, `item` and `value`. A reader `.._at` reads at the front of a text and gives what follows, a reader
+//! `.._of` a whole text ([`unfolded_of`] alone, named after what it makes, gives what follows too).
 #![tactic(auto)]
 
 mod address;
-mod assemble;
-mod boxed;
 mod call;
 mod datagram;
 pub mod error;
-mod fields;
-mod first_line;
-mod folding;
 mod gathered;
 mod header;
 mod item;
 pub mod laws;
-mod line;
 pub mod message;
-mod once;
-mod party;
 mod value;
 mod via;
 
-pub use boxed::Boxed;
 pub use datagram::read;
 pub use error::{HeaderName, ReadError};
-pub use folding::{Line, unfolded_of};
-pub use line::{header_of, line_at};
-pub use message::{Head, Message, Party, Request, Response, Via};
+pub use header::{Line, header_of, line_at, unfolded_of};
+pub use message::{Boxed, Head, Message, Party, Request, Response, Via};
 pub use sip_text::Addr;

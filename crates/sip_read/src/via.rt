@@ -1,17 +1,13 @@
 //! Values of Via (RFC 3261 section 20.42, RFC 3581).
-ghost use Rattle.std.specs.Prelude.{◌≡◌, ◌-◌, option_map, IfOk};
+ghost use Rattle.std.specs.Prelude.{◌≡◌, ◌-◌, option_map};
 ghost use Rattle.sip_text.specs.Bytes.{Finds};
 ghost use Rattle.sip_text.specs.Views.{view};
-ghost use Rattle.sip_read.specs.Vias.{via_of};
 ghost use Rattle.sip_read.specs.ViasComputed.{taken, slashed_at, version_at, protocol_at, marks_with, marks_at, some_text_of, hop_at};
 ghost use Rattle.sip_read.specs.Views.{hop, marks};
 
-use crate::message::Via;
 use sip_text::{
-    Class, NoMemory, Parameter, Text, after_byte, begins, parameter_at, skip_spaces, some_copy,
-    span_at, text_of, word_at,
+    Class, Parameter, after_byte, begins, parameter_at, skip_spaces, span_at, text_of, word_at,
 };
-use std::alloc::Global;
 
 /// A Via value, as it stands in the line.
 #[derive(Clone, Copy)]
@@ -20,21 +16,6 @@ pub struct Hop<'a> {
     pub sent_by: &'a str,
     pub branch: Option<&'a str>,
     pub bare_rport: bool,
-}
-
-impl Hop<'_> {
-    /// Its parts that decide, as texts of their own.
-    pub fn via(self, alloc: Global) -> Result<Via, NoMemory>
-        ensures { IfOk result (λ v. v ≡ via_of (hop self.entry)) }
-    {
-        let sent_by = Text::of(alloc, self.sent_by)?;
-        let branch = some_copy(alloc, self.branch)?;
-        Ok(Via {
-            sent_by,
-            branch,
-            bare_rport: self.bare_rport,
-        })
-    }
 }
 
 /// The text without the rest that stands at its end.
@@ -126,8 +107,8 @@ fn marks_at(text: &[u8]) -> Option<(Marks<'_>, &[u8])>
     Some((marks, rest))
 }
 
-/// The text that the bytes are, where there are any.
-fn some_text_of(bytes: Option<&[u8]>) -> Option<Option<&str>>
+/// The text of a branch, where it has a value.
+fn branch_text(bytes: Option<&[u8]>) -> Option<Option<&str>>
     ensures { Finds (λ o. option_map (λ t. t.now) o) result (some_text_of (option_map (λ t. t.now) bytes.entry)) }
 {
     match bytes {
@@ -144,7 +125,7 @@ pub fn hop_at(text: &[u8]) -> Option<(Hop<'_>, &[u8])>
     let rest = protocol_at(text)?;
     let (sent_by, rest) = word_at(Class::Host, rest)?;
     let (marks, rest) = marks_at(rest)?;
-    let branch = some_text_of(marks.branch.and_then(|it| it.value))?;
+    let branch = branch_text(marks.branch.and_then(|it| it.value))?;
     let text = text_of(before(text, rest))?;
     Some((
         Hop {

@@ -1,6 +1,6 @@
 use Rattle.std.proofs.Common.{◌≡◌, length}
 use Rattle.sip_read.specs.LinesComputed.{continued_of}
-use Rattle.sip_read.proofs.folding.continued_of.Given as goal
+use Rattle.sip_read.proofs.header.joined_lines.Given as goal
 
 abbrev pub invariant-loop-rest : goal.invariant-loop-rest
 invariant-loop-rest l = continued_of l.line.items l.rest ≡ continued_of l.first l.text

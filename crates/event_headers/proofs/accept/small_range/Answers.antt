@@ -1,5 +1,5 @@
 use Rattle.event_headers.proofs.States.{small_token}
-use Rattle.event_headers.proofs.accept.range_of.Goals as goal
+use Rattle.event_headers.proofs.accept.small_range.Goals as goal
 
 pub of-requires : goal.of-requires
 of-requires c =

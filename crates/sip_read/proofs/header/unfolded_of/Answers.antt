@@ -1,7 +1,7 @@
 use Rattle.std.proofs.Common.{◌≡◌, false}
 use Rattle.sip_read.specs.LinesComputed.{begins_space}
 use Rattle.sip_read.proofs.Continuations.{not_continued}
-use Rattle.sip_read.proofs.folding.unfolded_of.Goals as goal
+use Rattle.sip_read.proofs.header.unfolded_of.Goals as goal
 
 pub returns-then-not-begins_space : goal.returns-then-not-begins_space
 returns-then-not-begins_space c =

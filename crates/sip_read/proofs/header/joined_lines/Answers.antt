@@ -2,7 +2,7 @@ use Rattle.std.proofs.Common.{◌≡◌, arith, true, false, sym, ◌∙◌}
 use Rattle.sip_read.specs.LinesComputed.{begins_space, joined}
 use Rattle.sip_read.proofs.Continuations.{goes_on, fails, is_done}
 use Rattle.sip_read.proofs.Lines.{line_shortens}
-use Rattle.sip_read.proofs.folding.continued_of.Goals as goal
+use Rattle.sip_read.proofs.header.joined_lines.Goals as goal
 
 pub returns-in_default : goal.returns-in_default
 returns-in_default c =
