@@ -19,10 +19,10 @@ use Rattle.notifier_model.specs.declared.event.Event.{Event}
 use Rattle.notifier_model.specs.declared.event.Event.TheVariants.{Request as Comes}
 use Rattle.notifier_model.specs.declared.refusal.Refusal.{Refusal}
 use Rattle.notifier_model.specs.declared.refusal.Refusal.TheVariants.{NoDialog, OldCseq, ReferInDialog, OtherEvent, TooBrief}
-use Rattle.notifier_model.specs.Requests.{is_refer, event_of, asked, granted, asks_nothing, is_too_brief, misfit, unheard}
+use Rattle.notifier_model.specs.Requests.{is_refer, event_of, asked, granted, asks_nothing, is_too_brief, misfit, denial}
 use Rattle.sip_write.specs.Answer.{answer_text}
 use Rattle.notifier_model.specs.declared.row.Row.{Row}
-use Rattle.notifier_model.specs.Book.{Book, Refused, keeping, refused, denied, accepted, served, unless_denied, in_dialog}
+use Rattle.notifier_model.specs.Book.{Book, Refused, keeping, telling, refused, denied, accepted, served, unless_denied, in_dialog}
 use Rattle.notifier_model.specs.Rows.{renewed_sub, stays, opened, with_sub, turned, only, is_dialog, counted, renewed}
 use Rattle.notifier_model.specs.Answers.{refusal_answer, renewal_answer}
 use Rattle.notifier_model.specs.Out.{Answers, notifications}
@@ -68,7 +68,7 @@ heard_body start past source r boxes s l ok none hold is alive =
 
 -- an accepted request isn't a REFER
 accepted-plain : (limits : Limits) (l : Life) (r : Request) → accepts limits l r ≡ true → is_refer r ≡ false
-unfolding unheard
+unfolding denial
 accepted-plain limits l r h = not_true (is_refer r) (λ refers. by_refer refers h)
   where
     by_refer : is_refer r ≡ true → is_none (if is_refer r then Some ReferInDialog
@@ -91,26 +91,26 @@ asks-more limits r plain h = positive (asked limits r) (subst (λ (d : Bool). (n
 -- asked 0: it ends
 renewed_over : (start : Start) (past : List Event) (b : Book) (source : Addr) (r : Request) (s : ℕ) (l : Life) → accepts start.place.limits l r ≡ true → asks_nothing start.place.limits r ≡ true
     → body_of_held (content_in b.boxes (want_of start s l).event.package (want_of start s l).resource) ≡ body start (Comes source r ∷ past) (Then (now past) (Heard source r) l)
-    → Follows start s (Comes source r ∷ past) (turned start.place b.boxes b.clock source (row_of start s l).sub.want (with_sub (record (row_of start s l) { last_cseq = r.head.cseq })) (over (end (row_of start s l).sub Timeout))) (Then (now past) (Heard source r) l)
+    → Follows start s (Comes source r ∷ past) (turned (telling start.place b) source (with_sub (record (row_of start s l) { last_cseq = r.head.cseq })) (over (end (row_of start s l).sub Timeout))) (Then (now past) (Heard source r) l)
 unfolding end row_of sub_of usage_of
 renewed_over start past b source r s l accepted zero_asked same_body =
-    over_follows start b.boxes b.clock source (want_of start s l) (with_sub (record (row_of start s l) { last_cseq = r.head.cseq })) (usage_of start s l) (want_of start s l) (number start.place.limits l + 1) Timeout s (Comes source r ∷ past) (Then (now past) (Heard source r) l)
+    over_follows start b.boxes b.clock source (with_sub (record (row_of start s l) { last_cseq = r.head.cseq })) (usage_of start s l) (want_of start s l) (number start.place.limits l + 1) Timeout s (Comes source r ∷ past) (Then (now past) (Heard source r) l)
     refl (unfold number is_touched in (rw accepted refl)) (sym (address-accepted start.place.limits (now past) source r l accepted)) same_body (unfold is_touched in accepted) (unfold terminated is_touched ended in (rw (accepted, zero_asked) refl))
 
 -- or goes on
 renewed_on : (start : Start) (past : List Event) (b : Book) (source : Addr) (r : Request) (s : ℕ) (l : Life) → b.clock ≡ now past → accepts start.place.limits l r ≡ true → asks_nothing start.place.limits r ≡ false
     → body_of_held (content_in b.boxes (want_of start s l).event.package (want_of start s l).resource) ≡ body start (Comes source r ∷ past) (Then (now past) (Heard source r) l)
-    → Follows start s (Comes source r ∷ past) (turned start.place b.boxes b.clock source (row_of start s l).sub.want (with_sub (record (row_of start s l) { last_cseq = r.head.cseq })) (refresh (row_of start s l).sub r.head.cseq (value_of r.contact) source b.clock (granted start.place.limits r))) (Then (now past) (Heard source r) l)
+    → Follows start s (Comes source r ∷ past) (turned (telling start.place b) source (with_sub (record (row_of start s l) { last_cseq = r.head.cseq })) (refresh (row_of start s l).sub r.head.cseq (value_of r.contact) source b.clock (granted start.place.limits r))) (Then (now past) (Heard source r) l)
 unfolding refresh row_of
 renewed_on start past b source r s l clock accepted some_asked same_body =
-    told_follows start b.boxes b.clock source (sub_of start s l).want (with_sub (record (row_of start s l) { last_cseq = r.head.cseq }))
+    told_follows start b.boxes b.clock source (with_sub (record (row_of start s l) { last_cseq = r.head.cseq }))
     (record {
       usage = record (sub_of start s l).usage { target = unwrap_or (value_of r.contact) (sub_of start s l).usage.target; remote_cseq = r.head.cseq };
       want = record (sub_of start s l).want { to = source };
       count = (sub_of start s l).count + 1;
       due = b.clock + granted start.place.limits r;
     }) (granted start.place.limits r) s (Comes source r ∷ past) (Then (now past) (Heard source r) l)
-    next_sub (sym (address-accepted start.place.limits (now past) source r l accepted)) (unfold sub_of in same_body) (unfold opened row_of last_cseq unanswered just_made is_touched in (rw (accepted, clock) refl)) time (unfold is_touched in accepted) (unfold ended in (rw some_asked refl)) (unfold is_removed in refl)
+    next_sub (sym (address-accepted start.place.limits (now past) source r l accepted)) (unfold want_of birth in same_body) (unfold opened row_of last_cseq unanswered just_made is_touched in (rw (accepted, clock) refl)) time (unfold is_touched in accepted) (unfold ended in (rw some_asked refl)) (unfold is_removed in refl)
   where
     asks : nat_lt 0 (asked start.place.limits r) ≡ true
     asks = asks-more start.place.limits r (accepted-plain start.place.limits l r accepted) some_asked
@@ -132,8 +132,8 @@ renewed_on start past b source r s l clock accepted some_asked same_body =
 -- ---- the step
 
 heard_goes : (start : Start) (past : List Event) (b : Book) (source : Addr) (r : Request) (tag : Bytes) (k : ℕ) (who : Life) → Ranges start.place.limits → Holds start past b → is_fresh start.place.limits past r ≡ true → is_none (misfit r) ≡ true → r.head.to.tag ≡ Some tag → life start past k ≡ Some who → is_gone start.place.limits who ≡ false → is_dialog r tag (row_of start k who) ≡ true → is_above who r.head.cseq ≡ true
-    → Goes start past (Comes source r) (served start.place b source r (unless_denied k (unheard start.place.limits (event_of (birth who)) r)))
-heard_goes start past b source r tag k who ok h fresh good to lives alive dialog above = by_cause (unheard start.place.limits (event_of (birth who)) r) refl
+    → Goes start past (Comes source r) (served start.place b source r (unless_denied k (denial start.place.limits (event_of (birth who)) r)))
+heard_goes start past b source r tag k who ok h fresh good to lives alive dialog above = by_cause (denial start.place.limits (event_of (birth who)) r) refl
   where
     none : birth_at start past (Comes source r) ≡ None
     none = no_birth start past source r tag to
@@ -147,25 +147,25 @@ heard_goes start past b source r tag k who ok h fresh good to lives alive dialog
     same_body : body_of_held (content_in b.boxes (want_of start k who).event.package (want_of start k who).resource) ≡ body start (Comes source r ∷ past) (Then (now past) (Heard source r) who)
     same_body = heard_body start past source r b.boxes k who ok none h.boxes_hold lives alive
 
-    renewed_is : accepts start.place.limits who r ≡ true → Follows start k (Comes source r ∷ past) (renewed start.place b.boxes b.clock source r (row_of start k who)) (Then (now past) (Heard source r) who)
-    renewed_is accepted = unfold renewed renewed_sub in if_is (λ (turn : Turn). Follows start k (Comes source r ∷ past) (turned start.place b.boxes b.clock source (row_of start k who).sub.want (with_sub (record (row_of start k who) { last_cseq = r.head.cseq })) turn) (Then (now past) (Heard source r) who)) (asks_nothing start.place.limits r)
+    renewed_is : accepts start.place.limits who r ≡ true → Follows start k (Comes source r ∷ past) (renewed (telling start.place b) source r (row_of start k who)) (Then (now past) (Heard source r) who)
+    renewed_is accepted = unfold renewed renewed_sub in if_is (λ (turn : Turn). Follows start k (Comes source r ∷ past) (turned (telling start.place b) source (with_sub (record (row_of start k who) { last_cseq = r.head.cseq })) turn) (Then (now past) (Heard source r) who)) (asks_nothing start.place.limits r)
         (over (end (row_of start k who).sub Timeout)) (refresh (row_of start k who).sub r.head.cseq (value_of r.contact) source b.clock (granted start.place.limits r))
         (λ e. renewed_over start past b source r k who accepted e same_body)
         (λ e. renewed_on start past b source r k who h.clock_is accepted e same_body)
 
-    by_cause : (o : Option Refusal) → unheard start.place.limits (event_of (birth who)) r ≡ o → Goes start past (Comes source r) (served start.place b source r (unless_denied k o))
+    by_cause : (o : Option Refusal) → denial start.place.limits (event_of (birth who)) r ≡ o → Goes start past (Comes source r) (served start.place b source r (unless_denied k o))
     by_cause (Some cause) e = unfold unless_denied served denied refused keeping row_of in
         by_all_rows start past (Comes source r) (keeping start.place b r (refusal_answer start.place b.boxes source r cause)) (only k (counted r)) (Answers source (answer_text (refusal_answer start.place b.boxes source r cause)) ∷ []) ok none
         (unfold keeping in clock) (unfold keeping in h.next_is) (unfold keeping in h.rows_are) (unfold keeping in after) (unfold keeping in (ring_goes start past source b.ring r (answer_text (refusal_answer start.place b.boxes source r cause)) h.ring_is fresh)) (λ t more. unfold notifications in refl)
         (dialog_rules start past source r tag k who (counted r) ok fresh good to lives dialog above (counted_follows start past source r k who alive (ap is_none e)))
     by_cause None e = unfold unless_denied served accepted row_of in
-        by_all_rows start past (Comes source r) (keeping start.place b r (renewal_answer start.place source r)) (only k (renewed start.place b.boxes b.clock source r)) (Answers source (answer_text (renewal_answer start.place source r)) ∷ []) ok none
+        by_all_rows start past (Comes source r) (keeping start.place b r (renewal_answer start.place source r)) (only k (renewed (telling start.place b) source r)) (Answers source (answer_text (renewal_answer start.place source r)) ∷ []) ok none
         (unfold keeping in clock) (unfold keeping in h.next_is) (unfold keeping in h.rows_are) (unfold keeping in after) (unfold keeping in (ring_goes start past source b.ring r (answer_text (renewal_answer start.place source r)) h.ring_is fresh)) (λ t more. unfold notifications in refl)
-        (dialog_rules start past source r tag k who (renewed start.place b.boxes b.clock source r) ok fresh good to lives dialog above (renewed_is (ap is_none e)))
+        (dialog_rules start past source r tag k who (renewed (telling start.place b) source r) ok fresh good to lives dialog above (renewed_is (ap is_none e)))
 
 -- an old CSeq is heard by no one
-too_old_unheard : (start : Start) (past : List Event) (r : Request) (tag : Bytes) (k : ℕ) (who : Life) → Ranges start.place.limits → is_fresh start.place.limits past r ≡ true → is_none (misfit r) ≡ true → r.head.to.tag ≡ Some tag → life start past k ≡ Some who → is_dialog r tag (row_of start k who) ≡ true → is_above who r.head.cseq ≡ false → Nobody_hears start past r
-too_old_unheard start past r tag k who ok fresh good to lives dialog below s l is alive = heard-is start past r tag s l fresh good to ∙ by_serial (s == k) refl
+too_old_denial : (start : Start) (past : List Event) (r : Request) (tag : Bytes) (k : ℕ) (who : Life) → Ranges start.place.limits → is_fresh start.place.limits past r ≡ true → is_none (misfit r) ≡ true → r.head.to.tag ≡ Some tag → life start past k ≡ Some who → is_dialog r tag (row_of start k who) ≡ true → is_above who r.head.cseq ≡ false → Nobody_hears start past r
+too_old_denial start past r tag k who ok fresh good to lives dialog below s l is alive = heard-is start past r tag s l fresh good to ∙ by_serial (s == k) refl
   where
     by_serial : (d : Bool) → (s == k) ≡ d → (is_dialog r tag (row_of start s l) && is_above l r.head.cseq) ≡ false
     by_serial true e =
@@ -183,9 +183,9 @@ somebody_goes start past b source r tag rows ok h fresh good to one = by_last (n
     above-is = unfold row_of in (sound_of start past one.serial one.who ok one.lives).above r.head.cseq
 
     by_last : (d : Bool) → nat_lt (row_of start one.serial one.who).last_cseq r.head.cseq ≡ d → Goes start past (Comes source r)
-        (served start.place b source r (if d then unless_denied (row_of start one.serial one.who).serial (unheard start.place.limits (row_of start one.serial one.who).sub.want.event r) else Refused OldCseq))
+        (served start.place b source r (if d then unless_denied (row_of start one.serial one.who).serial (denial start.place.limits (row_of start one.serial one.who).sub.want.event r) else Refused OldCseq))
     by_last true e = unfold row_of sub_of want_of in (heard_goes start past b source r tag one.serial one.who ok h fresh good to one.lives one.alive one.dialog (above-is ∙ e))
-    by_last false e = unfold served in refused_goes start past b source r OldCseq ok h fresh (no_birth start past source r tag to) (too_old_unheard start past r tag one.serial one.who ok fresh good to one.lives one.dialog (above-is ∙ e))
+    by_last false e = unfold served in refused_goes start past b source r OldCseq ok h fresh (no_birth start past source r tag to) (too_old_denial start past r tag one.serial one.who ok fresh good to one.lives one.dialog (above-is ∙ e))
 
 -- nobody is that dialog
 nobody_goes : (start : Start) (past : List Event) (b : Book) (source : Addr) (r : Request) (tag : Bytes) (rows : List Row) → Ranges start.place.limits → Holds start past b → is_fresh start.place.limits past r ≡ true → is_none (misfit r) ≡ true → r.head.to.tag ≡ Some tag → Nobody start past (is_dialog r tag) (births start past) rows → Goes start past (Comes source r) (refused start.place b source r NoDialog)

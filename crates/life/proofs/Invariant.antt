@@ -13,14 +13,14 @@ use Rattle.notifier_model.specs.Requests.{is_refer, event_of, is_of_refer}
 use Rattle.notifier_model.specs.declared.row.Row.{Row}
 use Rattle.notifier_model.specs.declared.row.Kept.{Kept}
 use Rattle.notifier_model.specs.Book.{SteppedBy, Book}
-use Rattle.notifier_model.specs.Rows.{gone, gone_at, Told, forgetting}
+use Rattle.notifier_model.specs.Rows.{gone_at, sweep, Turned, forgetting}
 use Rattle.notifier_model.specs.Out.{notifications}
 use Rattle.life.specs.Past.{now, content, keys}
 use Rattle.life.specs.Life.{Life, birth, status, is_gone}
 use Rattle.life.specs.Lives.{births, life, birth_at, befell}
 use Rattle.life.specs.Notices.{notices_at}
 use Rattle.life.proofs.Boxes.{boxes_without, types-stay, content-other, forget-after}
-use Rattle.life.proofs.Rows.{row_of, sub_of, want_of, usage_of, live_row, rows_to, left_of}
+use Rattle.life.proofs.Rows.{row_of, sub_of, want_of, usage_of, live_row, rows_to, gone, left_of}
 use Rattle.life.proofs.NextLives.{no_life, Ranges}
 use Rattle.life.proofs.AllRows.{Rules, left-one, apart, born_small}
 
@@ -60,10 +60,10 @@ pub record Goes (start : Start) (past : List Event) (e : Event) (stepped : Stepp
 
 -- ---- the transfers of the rows that go are forgotten, and no others
 
-abbrev pub without_row : (Row → Told) → Row → List Seen → List Seen
+abbrev pub without_row : (Row → Turned) → Row → List Seen → List Seen
 without_row rule row boxes = if is_of_refer row.sub.want.event && is_none (rule row).row then boxes_without boxes row.sub.usage.local_tag else boxes
 
-unfoldable pub forgot : (Row → Told) → List Row → List Seen → List Seen
+unfoldable pub forgot : (Row → Turned) → List Row → List Seen → List Seen
 forgot rule [] boxes = boxes
 forgot rule (row ∷ rows) boxes = forgot rule rows (without_row rule row boxes)
 
@@ -72,7 +72,7 @@ unfolding forgetting
 forgetting-append [] ys boxes = refl
 forgetting-append (x ∷ xs) ys boxes = forgetting-append xs ys (boxes_without boxes x)
 
-forgetting-one : (rule : Row → Told) (row : Row) (boxes : List Seen) → forgetting (gone_at rule row) boxes ≡ without_row rule row boxes
+forgetting-one : (rule : Row → Turned) (row : Row) (boxes : List Seen) → forgetting (gone_at rule row) boxes ≡ without_row rule row boxes
 unfolding gone_at
 forgetting-one rule row boxes = by_test (is_of_refer row.sub.want.event && is_none (rule row).row)
   where
@@ -81,20 +81,20 @@ forgetting-one rule row boxes = by_test (is_of_refer row.sub.want.event && is_no
     by_test false = unfold forgetting in refl
 
 -- the same, row by row
-pub forgot-is : (rule : Row → Told) (rows : List Row) (boxes : List Seen) → forgetting (gone rule rows) boxes ≡ forgot rule rows boxes
-unfolding gone forgot
+pub forgot-is : (rule : Row → Turned) (rows : List Row) (boxes : List Seen) → forgetting (gone rule rows) boxes ≡ forgot rule rows boxes
+unfolding sweep forgot
 forgot-is rule [] boxes = unfold forgetting in refl
 forgot-is rule (row ∷ rows) boxes =
     forgetting-append (gone_at rule row) (gone rule rows) boxes ∙ (ap (forgetting (gone rule rows)) (forgetting-one rule row boxes) ∙ forgot-is rule rows (without_row rule row boxes))
 
-forgetting-types : (rule : Row → Told) (rows : List Row) (boxes : List Seen) (name : Bytes) → type_in (forgot rule rows boxes) name ≡ type_in boxes name
+forgetting-types : (rule : Row → Turned) (rows : List Row) (boxes : List Seen) (name : Bytes) → type_in (forgot rule rows boxes) name ≡ type_in boxes name
 unfolding forgot
 forgetting-types rule [] boxes name = refl
 forgetting-types rule (row ∷ rows) boxes name =
     forgetting-types rule rows (without_row rule row boxes) name
     ∙ if_is (λ (bs : List Seen). type_in bs name ≡ type_in boxes name) (is_of_refer row.sub.want.event && is_none (rule row).row) (boxes_without boxes row.sub.usage.local_tag) boxes (λ h. types-stay boxes (Forget row.sub.usage.local_tag) name) (λ h. refl)
 
-forgetting-other : (rule : Row → Told) (rows : List Row) (boxes : List Seen) (name resource : Bytes) → bytes_eq refer_package name ≡ false → content_in (forgot rule rows boxes) name resource ≡ content_in boxes name resource
+forgetting-other : (rule : Row → Turned) (rows : List Row) (boxes : List Seen) (name resource : Bytes) → bytes_eq refer_package name ≡ false → content_in (forgot rule rows boxes) name resource ≡ content_in boxes name resource
 unfolding forgot
 forgetting-other rule [] boxes name resource f = refl
 forgetting-other rule (row ∷ rows) boxes name resource f =
@@ -107,19 +107,19 @@ forget-none boxes tag resource none = forget-after boxes tag resource ∙ if_is 
 pub forget-elsewhere : (boxes : List Seen) (tag resource : Bytes) → bytes_eq resource tag ≡ false → content_in (boxes_without boxes tag) refer_package resource ≡ content_in boxes refer_package resource
 forget-elsewhere boxes tag resource f = forget-after boxes tag resource ∙ rw f refl
 
-forgetting-none : (rule : Row → Told) (rows : List Row) (boxes : List Seen) (resource : Bytes) → content_in boxes refer_package resource ≡ None → content_in (forgot rule rows boxes) refer_package resource ≡ None
+forgetting-none : (rule : Row → Turned) (rows : List Row) (boxes : List Seen) (resource : Bytes) → content_in boxes refer_package resource ≡ None → content_in (forgot rule rows boxes) refer_package resource ≡ None
 unfolding forgot
 forgetting-none rule [] boxes resource none = none
 forgetting-none rule (row ∷ rows) boxes resource none =
     forgetting-none rule rows (without_row rule row boxes) resource
     (if_is (λ (bs : List Seen). content_in bs refer_package resource ≡ None) (is_of_refer row.sub.want.event && is_none (rule row).row) (boxes_without boxes row.sub.usage.local_tag) boxes (λ h. forget-none boxes row.sub.usage.local_tag resource none) (λ h. none))
 
-forgot-append : (rule : Row → Told) (xs ys : List Row) (boxes : List Seen) → forgot rule (xs ++ ys) boxes ≡ forgot rule ys (forgot rule xs boxes)
+forgot-append : (rule : Row → Turned) (xs ys : List Row) (boxes : List Seen) → forgot rule (xs ++ ys) boxes ≡ forgot rule ys (forgot rule xs boxes)
 unfolding forgot
 forgot-append rule [] ys boxes = refl
 forgot-append rule (x ∷ xs) ys boxes = forgot-append rule xs ys (without_row rule x boxes)
 
-forget-one : (start : Start) (rule : Row → Told) (k s : ℕ) (o : Option Life) (boxes : List Seen)
+forget-one : (start : Start) (rule : Row → Turned) (k s : ℕ) (o : Option Life) (boxes : List Seen)
     → ((s ≡ k → ⊥) → bytes_eq (tag_of start.place s) (tag_of start.place k) ≡ false) → (s ≡ k → is_some (left_of rule (live_row start s o)) ≡ true)
     → content_in (forgot rule (option_to_list (live_row start s o)) boxes) refer_package (tag_of start.place k) ≡ content_in boxes refer_package (tag_of start.place k)
 unfolding forgot live_row left_of
@@ -142,7 +142,7 @@ forget-one start rule k s (Some l) boxes differ there = by_gone (is_gone start.p
     by_gone true there = refl
     by_gone false there = unfold row_of sub_of want_of usage_of in by_tests (row_of start s l) (is_of_refer (event_of (birth l))) (is_none (rule (row_of start s l)).row) refl there
 
-forget-keeps : (start : Start) (rule : Row → Told) (life : ℕ → Option Life) (k n : ℕ) (boxes : List Seen) → ((s : ℕ) → s ≤ n → (s ≡ k → ⊥) → bytes_eq (tag_of start.place s) (tag_of start.place k) ≡ false) → is_some (left_of rule (live_row start k (life k))) ≡ true
+forget-keeps : (start : Start) (rule : Row → Turned) (life : ℕ → Option Life) (k n : ℕ) (boxes : List Seen) → ((s : ℕ) → s ≤ n → (s ≡ k → ⊥) → bytes_eq (tag_of start.place s) (tag_of start.place k) ≡ false) → is_some (left_of rule (live_row start k (life k))) ≡ true
     → content_in (forgot rule (rows_to start life n) boxes) refer_package (tag_of start.place k) ≡ content_in boxes refer_package (tag_of start.place k)
 unfolding rows_to forgot
 forget-keeps start rule life k zero boxes differ there = refl
@@ -166,7 +166,7 @@ life_small start past s l ok is = by_place (s_within s (births start past))
     by_place (inr le) = born_small start past s ok (omega arith)
 
 -- after all rows by one rule
-pub forget_holdings : (start : Start) (past : List Event) (e : Event) (rule : Row → Told) (boxes : List Seen) → Ranges start.place.limits → birth_at start past e ≡ None → Rules start past e rule → Holdings start (e ∷ past) boxes → Holdings start (e ∷ past) (forgot rule (rows_to start (life start past) (births start past)) boxes)
+pub forget_holdings : (start : Start) (past : List Event) (e : Event) (rule : Row → Turned) (boxes : List Seen) → Ranges start.place.limits → birth_at start past e ≡ None → Rules start past e rule → Holdings start (e ∷ past) boxes → Holdings start (e ∷ past) (forgot rule (rows_to start (life start past) (births start past)) boxes)
 forget_holdings start past e rule boxes ok none h hold = record {
   types = λ name. forgetting-types rule (rows_to start (life start past) (births start past)) boxes name ∙ hold.types name;
   contents = λ name resource f. forgetting-other rule (rows_to start (life start past) (births start past)) boxes name resource (bytes_other_way name refer_package f) ∙ hold.contents name resource f;

@@ -24,7 +24,7 @@ use Rattle.life.proofs.SoundLives.{BirthKept, lived-birth}
 use Rattle.life.proofs.NextLives.{befell-born, befell-unborn, life-next, births-next, no_life, no_life_yet}
 use Rattle.life.specs.Own.{is_own, born_of}
 use Rattle.life.specs.Renaming.{other_tag, renamed_tag, renamed_request, renamed_event}
-use Rattle.life.specs.Apart.{has_new_key, is_open_to, matters, are_apart}
+use Rattle.life.specs.Apart.{has_new_key, is_open_to, matters, own_requests_are_new}
 use Rattle.life.specs.IsolationLaws.{IsLike, AloneLaw, SameLaw}
 use Rattle.life.proofs.Renamed.{renamed_life, birth-renamed, grant-renamed, address-renamed, status-renamed, touched-renamed, number-renamed, terminated-renamed, gone-renamed}
 use Rattle.life.proofs.Mine.{its_event, mine, mine-none, mine-own, mine-other, now-mine, content-mine}
@@ -63,7 +63,7 @@ once start serial past e l is = by_serial (serial == births start past + 1) refl
     by_serial false f = refl
     by_serial true f = let at : serial ≡ births start past + 1 = grind (arith, nat_tests) in let none = no_life start past serial (inr (omega arith)) in absurd (let g : Some l ≡ None = sym is ∙ none in cc)
 
--- what `are_apart` says of one event
+-- what `own_requests_are_new` says of one event
 pub apart_here : (d k more : Bool) → ((not d || k) && more) ≡ true → d ≡ true → k ≡ true
 apart_here true true more h e = refl
 apart_here true false more h e = h
@@ -84,7 +84,7 @@ module _ (start other : Start) (serial : ℕ) (x : Request) (like : IsLike start
     life_is : life other (past_of past) 1 ≡ its_life old new (life start past serial)
     births_is : births other (past_of past) ≡ one_if (is_some (life start past serial))
 
-  -- what `are_apart` says of one event
+  -- what `own_requests_are_new` says of one event
   abbrev IsApart : List Event → Event → Type 0
   IsApart past e = matters start serial x past e ≡ true → has_new_key past e ≡ true
 
@@ -205,15 +205,15 @@ module _ (start other : Start) (serial : ℕ) (x : Request) (like : IsLike start
     births_is = rw (mine-none start other serial x, no_life_yet start serial) (unfold births lives in refl);
   }
 
-  stands : (past : List Event) → IsBornOf start serial x past → are_apart start serial x past ≡ true → Stands past
-  unfolding are_apart
+  stands : (past : List Event) → IsBornOf start serial x past → own_requests_are_new start serial x past ≡ true → Stands past
+  unfolding own_requests_are_new
   stands [] born apart = none_stands
   stands (e ∷ past) born apart =
-      let more = and-right (not (matters start serial x past e) || has_new_key past e) (are_apart start serial x past) apart in
+      let more = and-right (not (matters start serial x past e) || has_new_key past e) (own_requests_are_new start serial x past) apart in
       by (stands past (born_before start serial x past e born) more) (is_own start serial x past e) refl
     where
       by : Stands past → (d : Bool) → is_own start serial x past e ≡ d → Stands (e ∷ past)
-      by st true h = own_stands past e st born h (apart_here (matters start serial x past e) (has_new_key past e) (are_apart start serial x past) apart)
+      by st true h = own_stands past e st born h (apart_here (matters start serial x past e) (has_new_key past e) (own_requests_are_new start serial x past) apart)
       by st false h = other_stands past e st (born_before start serial x past e born) h
 
   -- ---- what is told
@@ -270,16 +270,16 @@ module _ (start other : Start) (serial : ℕ) (x : Request) (like : IsLike start
   unfolding notices
   told-other past e ih born h = rw (mine-other start other serial x past e h, not_own-befell start serial x past e born h, told-none past e, append-nil (notices start serial past)) ih
 
-  alone : (past : List Event) → IsBornOf start serial x past → are_apart start serial x past ≡ true → notices start serial past ≡ notices other 1 (past_of past)
-  unfolding are_apart
+  alone : (past : List Event) → IsBornOf start serial x past → own_requests_are_new start serial x past ≡ true → notices start serial past ≡ notices other 1 (past_of past)
+  unfolding own_requests_are_new
   alone [] born apart = notices-none
   alone (e ∷ past) born apart =
       let before = born_before start serial x past e born in
-      let more = and-right (not (matters start serial x past e) || has_new_key past e) (are_apart start serial x past) apart in
+      let more = and-right (not (matters start serial x past e) || has_new_key past e) (own_requests_are_new start serial x past) apart in
       by (alone past before more) (stands past before more) (is_own start serial x past e) refl
     where
       by : notices start serial past ≡ notices other 1 (past_of past) → Stands past → (d : Bool) → is_own start serial x past e ≡ d → notices start serial (e ∷ past) ≡ notices other 1 (past_of (e ∷ past))
-      by ih st true h = told-own past e ih st born h (apart_here (matters start serial x past e) (has_new_key past e) (are_apart start serial x past) apart)
+      by ih st true h = told-own past e ih st born h (apart_here (matters start serial x past e) (has_new_key past e) (own_requests_are_new start serial x past) apart)
       by ih st false h = told-other past e ih (born_before start serial x past e born) h
 
 pub alone_law : AloneLaw

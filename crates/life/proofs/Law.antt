@@ -34,16 +34,16 @@ use Rattle.life.proofs.Invariant.{Holds, Goes}
 use Rattle.life.proofs.RepliesAndTicks.{reply_goes, shut_goes, tick_goes}
 use Rattle.life.proofs.MailChanges.{mail_goes}
 use Rattle.life.proofs.Progresses.{progress_goes}
-use Rattle.life.proofs.RefusedRequests.{refused_goes, stale_goes, fresh-kept, birth-unfit, unfit-unheard}
+use Rattle.life.proofs.RefusedRequests.{refused_goes, stale_goes, fresh-kept, birth-unfit, unfit-denial}
 use Rattle.life.proofs.InDialogs.{dialog_goes}
 use Rattle.life.proofs.OutsideDialogs.{outside_goes}
 
 -- one that doesn't fit, whatever else holds
 misfit_goes : (start : Start) (past : List Event) (b : Book) (source : Addr) (r : Request) (cause : Refusal) → Ranges start.place.limits → Holds start past b → is_fresh start.place.limits past r ≡ true → is_none (misfit r) ≡ false → Goes start past (Comes source r) (refused start.place b source r cause)
-misfit_goes start past b source r cause ok h fresh bad = refused_goes start past b source r cause ok h fresh (birth-unfit start past source r unfit) (unfit-unheard start past r unheard)
+misfit_goes start past b source r cause ok h fresh bad = refused_goes start past b source r cause ok h fresh (birth-unfit start past source r unfit) (unfit-denial start past r denial)
   where
-    unheard : (is_fresh start.place.limits past r && is_none (misfit r)) ≡ false
-    unheard = rw bad (and-false (is_fresh start.place.limits past r))
+    denial : (is_fresh start.place.limits past r && is_none (misfit r)) ≡ false
+    denial = rw bad (and-false (is_fresh start.place.limits past r))
 
     unfit : fits start past r ≡ false
     unfit = unfold fits in (ap (λ (d : Bool). is_fresh start.place.limits past r && (d && is_placed start r r.head.to.tag)) bad ∙ and-false (is_fresh start.place.limits past r))

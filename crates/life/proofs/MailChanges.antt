@@ -34,8 +34,8 @@ use Rattle.life.proofs.Rows.{row_of, sub_of, want_of, usage_of, target_of, accep
 use Rattle.life.proofs.Deeds.{lived-mails}
 use Rattle.life.proofs.NextLives.{Ranges, births-of_none}
 use Rattle.life.proofs.SoundLives.{sound_of}
-use Rattle.life.proofs.Turns.{Follows, told_follows}
-use Rattle.life.proofs.AllRows.{Turned, Rules}
+use Rattle.life.proofs.Turns.{told_from, Follows, told_follows}
+use Rattle.life.proofs.AllRows.{TurnsInto, Rules}
 use Rattle.life.proofs.Invariant.{Holdings, Holds, Goes}
 use Rattle.life.proofs.RepliesAndTicks.{by_all_rows, by_nothing, transfers_same, body-is}
 
@@ -142,35 +142,35 @@ unfolding is_changed
 mail_nothing start past m boxes hold e s l is alive =
     rw (lived-mails start s past m l, changed-is start past m boxes hold, e) (drop (bytes_eq (event_of (birth l)).package mail_package) (bytes_eq (user_part (birth l).uri) m.mailbox))
   where
-    drop : (a b : Bool) → Turned start s (Mails m ∷ past) (stays (row_of start s l)) l (when ((a && b) && false) (Then (now past) MailChanged l))
+    drop : (a b : Bool) → TurnsInto start s (Mails m ∷ past) (stays (row_of start s l)) l (when ((a && b) && false) (Then (now past) MailChanged l))
     drop true true = refl
     drop true false = refl
     drop false b = refl
 
 changed_follows : (start : Start) (past : List Event) (m : MailChange) (b : Book) (s : ℕ) (l : Life) → Ranges start.place.limits → b.clock ≡ now past → Holdings start past b.boxes → life start past s ≡ Some l → is_gone start.place.limits l ≡ false
-    → Follows start s (Mails m ∷ past) (tells start.place (change_first b.boxes (Mail m)).1 b.clock (row_of start s l) (changed (row_of start s l).sub b.clock false)) (Then (now past) MailChanged l)
+    → Follows start s (Mails m ∷ past) (tells (told_from start.place (change_first b.boxes (Mail m)).1 b.clock) (row_of start s l) (changed (row_of start s l).sub b.clock false)) (Then (now past) MailChanged l)
 unfolding tells changed opened unanswered just_made row_of sub_of usage_of want_of target_of accepted_cseq number address end_of_grant last_heard birth last_cseq now is_touched ended is_removed
 changed_follows start past m b s l ok clock hold is alive =
-    told_follows start (change_first b.boxes (Mail m)).1 b.clock (address start.place.limits l) (want_of start s l) (with_sub (row_of start s l)) (sub_of start s (Then (now past) MailChanged l)) (end_of_grant start.place.limits l - b.clock) s (Mails m ∷ past) (Then (now past) MailChanged l)
+    told_follows start (change_first b.boxes (Mail m)).1 b.clock (address start.place.limits l) (with_sub (row_of start s l)) (sub_of start s (Then (now past) MailChanged l)) (end_of_grant start.place.limits l - b.clock) s (Mails m ∷ past) (Then (now past) MailChanged l)
     refl refl same_body (rw clock refl) (ap (λ (n : ℕ). end_of_grant start.place.limits l - n) clock) refl refl refl
   where
     same_body : body_of_held (content_in (change_first b.boxes (Mail m)).1 (want_of start s l).event.package (want_of start s l).resource) ≡ body start (Mails m ∷ past) (Then (now past) MailChanged l)
     same_body = unfold body birth status want_of address last_heard in body-is start (Mails m ∷ past) (change_first b.boxes (Mail m)).1 s l (sound_of start past s l ok is).plain (mail_holdings start past m b.boxes hold).contents
         (λ refers. content-other b.boxes (Mail m) refer_package (tag_of start.place s) refl ∙ hold.transfers s l is alive refers)
 
-mail_turns : (start : Start) (past : List Event) (m : MailChange) (b : Book) → Ranges start.place.limits → b.clock ≡ now past → Holdings start past b.boxes → is_change (change_first b.boxes (Mail m)).0 ≡ true → Rules start past (Mails m) (tells_watcher start.place (change_first b.boxes (Mail m)).1 b.clock mail_package m.mailbox false)
+mail_turns : (start : Start) (past : List Event) (m : MailChange) (b : Book) → Ranges start.place.limits → b.clock ≡ now past → Holdings start past b.boxes → is_change (change_first b.boxes (Mail m)).0 ≡ true → Rules start past (Mails m) (tells_watcher (told_from start.place (change_first b.boxes (Mail m)).1 b.clock) mail_package m.mailbox false)
 unfolding is_changed tells_watcher tells_change wherever
 mail_turns start past m b ok clock hold e s l is alive = rw (lived-mails start s past m l, changed-is start past m b.boxes hold, e) (unfold row_of sub_of want_of in by_refer (is_refer (birth l)) refl)
   where
     row : Row
     row = row_of start s l
 
-    by_tests : (a c : Bool) → Turned start s (Mails m ∷ past) (if a && c then tells start.place (change_first b.boxes (Mail m)).1 b.clock (row_of start s l) (changed (row_of start s l).sub b.clock false) else stays (row_of start s l)) l (when ((a && c) && true) (Then (now past) MailChanged l))
+    by_tests : (a c : Bool) → TurnsInto start s (Mails m ∷ past) (if a && c then tells (told_from start.place (change_first b.boxes (Mail m)).1 b.clock) (row_of start s l) (changed (row_of start s l).sub b.clock false) else stays (row_of start s l)) l (when ((a && c) && true) (Then (now past) MailChanged l))
     by_tests true true = changed_follows start past m b s l ok clock hold is alive
     by_tests true false = refl
     by_tests false c = refl
 
-    by_refer : (d : Bool) → is_refer (birth l) ≡ d → Turned start s (Mails m ∷ past) (if bytes_eq (event_of (birth l)).package mail_package && bytes_eq (if d then tag_of start.place s else user_part (birth l).uri) m.mailbox then tells start.place (change_first b.boxes (Mail m)).1 b.clock (row_of start s l) (changed (row_of start s l).sub b.clock false) else stays (row_of start s l)) l (when ((bytes_eq (event_of (birth l)).package mail_package && bytes_eq (user_part (birth l).uri) m.mailbox) && true) (Then (now past) MailChanged l))
+    by_refer : (d : Bool) → is_refer (birth l) ≡ d → TurnsInto start s (Mails m ∷ past) (if bytes_eq (event_of (birth l)).package mail_package && bytes_eq (if d then tag_of start.place s else user_part (birth l).uri) m.mailbox then tells (told_from start.place (change_first b.boxes (Mail m)).1 b.clock) (row_of start s l) (changed (row_of start s l).sub b.clock false) else stays (row_of start s l)) l (when ((bytes_eq (event_of (birth l)).package mail_package && bytes_eq (user_part (birth l).uri) m.mailbox) && true) (Then (now past) MailChanged l))
     by_refer true g =
         let other : bytes_eq (event_of (birth l)).package mail_package ≡ false = unfold event_of in (rw g refl) in
         rw other refl
@@ -188,7 +188,7 @@ mail_goes start past m b ok h = by_outcome (change_first b.boxes (Mail m)).0 ref
 
     by_outcome : (o : Outcome) → (change_first b.boxes (Mail m)).0 ≡ o → Goes start past (Mails m) (content_changed start.place b mail_package m.mailbox false (o, (change_first b.boxes (Mail m)).1))
     by_outcome Changed e =
-        by_all_rows start past (Mails m) (record b { boxes = (change_first b.boxes (Mail m)).1 }) (tells_watcher start.place (change_first b.boxes (Mail m)).1 b.clock mail_package m.mailbox false) [] ok refl h.clock_is h.next_is h.rows_are after h.ring_is (λ tag more. refl)
+        by_all_rows start past (Mails m) (record b { boxes = (change_first b.boxes (Mail m)).1 }) (tells_watcher (told_from start.place (change_first b.boxes (Mail m)).1 b.clock) mail_package m.mailbox false) [] ok refl h.clock_is h.next_is h.rows_are after h.ring_is (λ tag more. refl)
         (mail_turns start past m b ok h.clock_is h.boxes_hold (ap is_change e))
     by_outcome Same e = unchanged (ap is_change e)
     by_outcome Unknown e = unchanged (ap is_change e)

@@ -22,41 +22,43 @@ use Rattle.notifier_model.specs.Answers.{kept_answer, refusal_answer, refusal_te
 use Rattle.notifier_model.specs.Fields.{same_event}
 use Rattle.notifier_model.specs.Limits.{Limits}
 use Rattle.notifier_model.specs.Out.{Send, Answers}
-use Rattle.notifier_model.specs.Requests.{is_ack, is_subscribe, is_refer, is_sip_uri, is_strange, is_malformed, is_too_brief, event_of, misfit, unheard, key_of_request}
-use Rattle.notifier_model.specs.Rows.{Told, stays, wherever, with_sub, turned, said, has_serial, only, counted, renewed, renewed_sub, is_dialog}
-use Rattle.notifier_model.specs.Book.{Book, Verdict, Silent, Repeated, Refused, Denied, Renewed, Born, unless, unless_denied, in_dialog, by_to_tag, by_kept, verdict, nothing, keeping, refused, denied, accepted, all_rows, served, step}
+use Rattle.notifier_model.specs.Requests.{is_ack, is_subscribe, is_refer, is_sip_uri, is_strange, is_malformed, is_too_brief, event_of, misfit, denial, key_of_request}
+use Rattle.notifier_model.specs.Rows.{Turned, stays, wherever, with_sub, turned, sweep, has_serial, only, counted, renewed, renewed_sub, is_dialog}
+use Rattle.notifier_model.specs.Book.{Book, Verdict, Silent, Repeated, Refused, Denied, Renewed, Born, unless, unless_denied, in_dialog, by_to_tag, by_kept, verdict, nothing, keeping, telling, refused, denied, accepted, all_rows, served, step}
 use Rattle.life.specs.NeverFull.{is_503, NeverFullLaw}
 use Rattle.life.proofs.Texts.{if_is}
+use Rattle.life.proofs.Rows.{said}
+use Rattle.life.proofs.Turns.{told_from}
 
 abbrev Fair : Send → Type 0
 Fair out = is_503 out ≡ false
 
 -- ---- the rows say nothing but NOTIFYs
 
-abbrev Quiet : (Row → Told) → Type 0
+abbrev Quiet : (Row → Turned) → Type 0
 Quiet rule = (row : Row) → All Fair (rule row).notifies
 
-turned-fair : (place : Place) (boxes : List Seen) (clock : ℕ) (to : Addr) (want : Want) (mk : State → Row) (next : Step) → All Fair (turned place boxes clock to want mk next).notifies
+turned-fair : (place : Place) (boxes : List Seen) (clock : ℕ) (to : Addr) (mk : State → Row) (next : Step) → All Fair (turned (told_from place boxes clock) to mk next).notifies
 unfolding turned
-turned-fair place boxes clock to want mk (Live sub notice) = All-cons Fair _ [] refl (All-nil Fair)
-turned-fair place boxes clock to want mk (Over usage asked notice) = All-cons Fair _ [] refl (All-nil Fair)
+turned-fair place boxes clock to mk (Live sub notice) = All-cons Fair _ [] refl (All-nil Fair)
+turned-fair place boxes clock to mk (Over usage asked notice) = All-cons Fair _ [] refl (All-nil Fair)
 
-only-fair : (serial : ℕ) (rule : Row → Told) → Quiet rule → Quiet (only serial rule)
+only-fair : (serial : ℕ) (rule : Row → Turned) → Quiet rule → Quiet (only serial rule)
 unfolding only wherever stays
 only-fair serial rule quiet row =
-    if_is (λ (t : Told). All Fair t.notifies) (has_serial serial row) (rule row) (stays row) (λ e. quiet row) (λ e. All-nil Fair)
+    if_is (λ (t : Turned). All Fair t.notifies) (has_serial serial row) (rule row) (stays row) (λ e. quiet row) (λ e. All-nil Fair)
 
 counted-fair : (r : Request) → Quiet (counted r)
 unfolding counted stays
 counted-fair r row = All-nil Fair
 
-renewed-fair : (place : Place) (boxes : List Seen) (clock : ℕ) (source : Addr) (r : Request) → Quiet (renewed place boxes clock source r)
+renewed-fair : (place : Place) (boxes : List Seen) (clock : ℕ) (source : Addr) (r : Request) → Quiet (renewed (told_from place boxes clock) source r)
 unfolding renewed
 renewed-fair place boxes clock source r row =
-    turned-fair place boxes clock source row.sub.want (with_sub (record row { last_cseq = r.head.cseq })) (renewed_sub place clock source r row.sub)
+    turned-fair place boxes clock source (with_sub (record row { last_cseq = r.head.cseq })) (renewed_sub place clock source r row.sub)
 
-said-fair : (rule : Row → Told) → Quiet rule → (rows : List Row) → All Fair (said rule rows)
-unfolding said
+said-fair : (rule : Row → Turned) → Quiet rule → (rows : List Row) → All Fair (said rule rows)
+unfolding sweep
 said-fair rule quiet [] = All-nil Fair
 said-fair rule quiet (row ∷ rows) = All-append Fair (rule row).notifies (said rule rows) (quiet row) (said-fair rule quiet rows)
 
@@ -108,9 +110,9 @@ misfit-fair r =
     (λ e. if_is FairCauses (list_any is_strange r.require) _ _ (λ e full. cc)
     (λ e. if_is FairCauses (is_malformed r) _ _ (λ e full. cc) (λ e. tt))))
 
-unheard-fair : (limits : Limits) (event : EventValue) (r : Request) → FairCauses (unheard limits event r)
-unfolding unheard
-unheard-fair limits event r =
+denial-fair : (limits : Limits) (event : EventValue) (r : Request) → FairCauses (denial limits event r)
+unfolding denial
+denial-fair limits event r =
     if_is FairCauses (is_refer r) _ _ (λ e full. cc)
     (λ e. if_is FairCauses (not (same_event (event_of r) event)) _ _ (λ e full. cc)
     (λ e. if_is FairCauses (is_too_brief limits r) _ _ (λ e full. cc) (λ e. tt)))
@@ -130,7 +132,7 @@ unfolding in_dialog
 in_dialog-fair limits r None = λ full. cc
 in_dialog-fair limits r (Some row) =
     if_is FairVerdict (nat_lt row.last_cseq r.head.cseq) _ _
-    (λ e. denied-fair row.serial (unheard limits row.sub.want.event r) (unheard-fair limits row.sub.want.event r))
+    (λ e. denied-fair row.serial (denial limits row.sub.want.event r) (denial-fair limits row.sub.want.event r))
     (λ e full. cc)
 
 by_to_tag-fair : (limits : Limits) (b : Book) (r : Request) (tag : List ℕ) (o : Option (List ℕ)) → o ≡ Some tag → FairVerdict (by_to_tag limits b r o)
@@ -160,8 +162,8 @@ served-fair place b source r (Denied serial cause) fair =
     All-cons Fair _ (said (only serial (counted r)) b.rows) (refusal-fair place b.boxes source source r cause fair)
     (said-fair (only serial (counted r)) (only-fair serial (counted r) (counted-fair r)) b.rows)
 served-fair place b source r (Renewed serial) fair =
-    All-cons Fair _ (said (only serial (renewed place b.boxes b.clock source r)) b.rows) (renewal-fair place source source r)
-    (said-fair (only serial (renewed place b.boxes b.clock source r)) (only-fair serial (renewed place b.boxes b.clock source r) (renewed-fair place b.boxes b.clock source r)) b.rows)
+    All-cons Fair _ (said (only serial (renewed (telling place b) source r)) b.rows) (renewal-fair place source source r)
+    (said-fair (only serial (renewed (telling place b) source r)) (only-fair serial (renewed (telling place b) source r) (renewed-fair place b.boxes b.clock source r)) b.rows)
 served-fair place b source r (Born kind) fair = absurd fair
 
 pub never_full_law : NeverFullLaw

@@ -28,7 +28,7 @@ use Rattle.life.specs.Own.{born_of, own}
 use Rattle.life.specs.Renaming
 use Rattle.life.specs.Renaming.{renamed}
 use Rattle.life.specs.Apart
-use Rattle.life.specs.Apart.{are_apart}
+use Rattle.life.specs.Apart.{own_requests_are_new}
 use Rattle.life.specs.IsolationLaws.{HasSameOwn}
 use Rattle.life.specs.Notifiers.{Notifier, told_by, numbered_from, counting, IsolatedLaw, OneCounterLaw}
 use Rattle.life.proofs.IsolationLaw.{same_law}
@@ -52,7 +52,7 @@ two = comes before ∷ comes refer_1 ∷ []
 
 -- in the first run it has serial 1, in the second serial 2
 has_same : HasSameOwn transfers transfers 1 2 refer_1 (newest_first one) (newest_first two)
-unfolding Tag.local_tag Requests.key_of_request Requests.is_sip_uri Requests.user_part Requests.event_of Requests.asks_nothing Requests.is_unwatched Requests.is_malformed Requests.misfit Requests.misplaced_at Requests.is_full Block.block_word Block.double_rounds Block.diagonal_round Block.column_round Block.quarter_round Steps.u32_at Hex.encode_with Fmt.digits Past.is_among Past.keys_with Past.keys Past.is_fresh Past.fits Life.birth Life.is_touched Life.number Life.ended Life.terminated Life.is_removed Life.is_gone Lives.is_in_dialog Lives.concerns Lives.lived Lives.count_alive Lives.is_birth Lives.begun Lives.befalls Lives.go_on Lives.after Lives.lives Lives.births Lives.life Lives.birth_at Lives.is_born_at Own.is_own Own.own Own.born_of Renaming.renamed_event Renaming.renamed Apart.all_keys Apart.has_new_key Apart.matters Apart.are_apart
+unfolding Tag.local_tag Requests.key_of_request Requests.is_sip_uri Requests.user_part Requests.event_of Requests.asks_nothing Requests.is_unwatched Requests.is_malformed Requests.misfit Requests.misplaced_at Requests.is_full Block.block_word Block.double_rounds Block.diagonal_round Block.column_round Block.quarter_round Steps.u32_at Hex.encode_with Fmt.digits Past.is_among Past.keys_with Past.keys Past.is_fresh Past.fits Life.birth Life.is_touched Life.number Life.ended Life.terminated Life.is_removed Life.is_gone Lives.is_in_dialog Lives.concerns Lives.lived Lives.count_alive Lives.is_birth Lives.begun Lives.befalls Lives.go_on Lives.after Lives.lives Lives.births Lives.life Lives.birth_at Lives.is_born_at Own.is_own Own.own Own.born_of Renaming.renamed_event Renaming.renamed Apart.all_keys Apart.has_new_key Apart.matters Apart.own_requests_are_new
 has_same = record {
   born = refl;
   born_too = refl;
@@ -65,7 +65,7 @@ has_same = record {
 -- ---- the numbers that its watcher sees
 
 unfoldable numbers : Notifier → ℕ → List Event → List ℕ
-unfolding Tag.local_tag Requests.key_of_request Requests.is_sip_uri Requests.user_part Requests.event_of Requests.asked Requests.granted Requests.asks_nothing Requests.is_unwatched Requests.birth_of Requests.is_malformed Requests.misfit Requests.misplaced_at Requests.is_full Answers.birth_answer Answers.kept_answer Answers.ring_with Out.notifications Rows.notify Rows.opened Rows.turned Rows.forgetting Book.new_usage Book.new_want Book.first_step Book.keeping Book.new_row Book.first_word Book.first_boxes Book.first_told Book.first_gone Book.born_with Book.born Book.unless Book.outside Book.by_to_tag Book.by_kept Book.verdict Book.served Book.step Run.empty Run.made_from Run.made Table.told Table.accept Block.block_word Block.double_rounds Block.diagonal_round Block.column_round Block.quarter_round Steps.u32_at Hex.encode_with Fmt.digits numbered_from
+unfolding Tag.local_tag Requests.key_of_request Requests.is_sip_uri Requests.user_part Requests.event_of Requests.asked Requests.granted Requests.asks_nothing Requests.is_unwatched Requests.birth_of Requests.is_malformed Requests.misfit Requests.misplaced_at Requests.is_full Answers.birth_answer Answers.kept_answer Answers.ring_with Out.notifications Rows.notify Rows.opened Rows.turned Rows.forgetting Book.new_usage Book.new_want Book.first_step Book.keeping Book.new_row Book.first_word Book.first_boxes Book.first_told Book.first_gone Book.first_turned Book.born Book.unless Book.outside Book.by_to_tag Book.by_kept Book.verdict Book.served Book.step Run.empty Run.made_from Run.made Table.told Table.accept Block.block_word Block.double_rounds Block.diagonal_round Block.column_round Block.quarter_round Steps.u32_at Hex.encode_with Fmt.digits numbered_from
 numbers notifier serial es = map (λ n. n.number) (told_by notifier transfers serial es)
 
 -- this notifier tells it number 1 in both

@@ -25,8 +25,8 @@ use Rattle.sip_write.specs.Answer.{answer_text}
 use Rattle.notifier_model.specs.declared.row.Row.{Row}
 use Rattle.notifier_model.specs.declared.birth.Birth.{Birth}
 use Rattle.notifier_model.specs.declared.birth.Birth.TheVariants.{Watch, Fetch, Transfer, Unwatched}
-use Rattle.notifier_model.specs.Book.{born_with, first_gone, first_step, first_word, Book, Born as Makes, Refused, keeping, new_row, new_usage, new_want, first_boxes, first_told, refused, born, served, unless, outside}
-use Rattle.notifier_model.specs.Rows.{Told, opened, forgetting, turned}
+use Rattle.notifier_model.specs.Book.{first_gone, first_step, first_word, Book, Born as Makes, Refused, keeping, new_row, new_usage, new_want, newborn, first_boxes, first_turned, first_told, refused, born, served, unless, outside}
+use Rattle.notifier_model.specs.Rows.{Turned, opened, forgetting, turned}
 use Rattle.notifier_model.specs.Out.{Notification, Send, Starts, notifications}
 use Rattle.notifier_model.specs.Answers.{birth_answer}
 use Rattle.life.specs.Past.{now, content, mail_content, is_fresh, is_placed, fits}
@@ -39,7 +39,7 @@ use Rattle.life.proofs.Rows.{last_cseq, target_of, accepted_cseq, usage_of, want
 use Rattle.life.proofs.Deeds.{hears, lived-comes}
 use Rattle.life.proofs.NextLives.{births-of_birth, by_fate, life-next, Ranges}
 use Rattle.life.proofs.SoundLives.{fits-plain, gone-removed}
-use Rattle.life.proofs.Turns.{Follows, over_follows, told_follows}
+use Rattle.life.proofs.Turns.{told_from, Follows, over_follows, told_follows}
 use Rattle.life.proofs.AllRows.{apart, born_small}
 use Rattle.life.proofs.Invariant.{type_in, Transfers, Holdings, Holds, Goes, forget-elsewhere, life_small}
 use Rattle.life.proofs.RepliesAndTicks.{content-same, body-is, quiet-counts, goes_follows}
@@ -109,9 +109,9 @@ unfolding birth_at begun is_birth
 birth_at-is start past b source r h to = rw (to, h.next_is, h.rows_are, length-rows_to start past) (unfold births in refl)
 
 -- a request without a To tag is heard by no one
-unheard_outside : (start : Start) (past : List Event) (r : Request) (s : ℕ) (l : Life) → r.head.to.tag ≡ None → hears start s past r l ≡ false
+denial_outside : (start : Start) (past : List Event) (r : Request) (s : ℕ) (l : Life) → r.head.to.tag ≡ None → hears start s past r l ≡ false
 unfolding hears is_in_dialog
-unheard_outside start past r s l to =
+denial_outside start past r s l to =
     ap (λ (t : Option Bytes). (bytes_eq (birth l).head.call_id r.head.call_id && (same_text (Some (tag_of start.place s)) t && bytes_eq (or_empty (birth l).head.from.tag) (or_empty r.head.from.tag))) && (is_fresh start.place.limits past r && may_hear r l)) to
     ∙ no_second (bytes_eq (birth l).head.call_id r.head.call_id)
   where
@@ -121,7 +121,7 @@ unheard_outside start past r s l to =
 
 befell-other : (start : Start) (past : List Event) (source : Addr) (r : Request) (s : ℕ) → r.head.to.tag ≡ None → (s == births start past + 1) ≡ false → befell start past (Comes source r) s ≡ None
 befell-other start past source r s to other = by_fate start past (Comes source r) s (λ o before. o ≡ None) (λ unborn. refl) (λ l next begins. absurd (never_both (s == births start past + 1) next other)) (λ l is gone. refl)
-    (λ l is alive. rw (lived-comes start s past source r l, unheard_outside start past r s l to) refl)
+    (λ l is alive. rw (lived-comes start s past source r l, denial_outside start past r s l to) refl)
 
 befell-new : (start : Start) (past : List Event) (source : Addr) (r : Request) → birth_at start past (Comes source r) ≡ Some (Born (now past) source r) → befell start past (Comes source r) (births start past + 1) ≡ Some (Born (now past) source r)
 unfolding befell
@@ -256,10 +256,9 @@ new_transfer start past b source r begins refers =
     begun_own start b (refer-there start b.boxes r begins.placed refers) (h.boxes_hold.not_begun b.next (let e = h.next_is in omega arith) (next_small start past b begins.ok h))
 
 -- what is told of a birth of this kind
-abbrev born_told : Start → Book → Addr → Request → Birth → Told
+abbrev born_told : Start → Book → Addr → Request → Birth → Turned
 born_told start b source r kind =
-    first_told start.place (first_boxes b.boxes (tag_of start.place b.next) kind) b.clock (tag_of start.place b.next) source r b.next
-    (first_step start.place.limits b.clock (new_usage (tag_of start.place b.next) r) (new_want start.place (tag_of start.place b.next) source r) r kind)
+    first_told (told_from start.place (first_boxes b.boxes (tag_of start.place b.next) kind) b.clock) source r (newborn start.place b.next kind)
 
 born_body : (start : Start) (past : List Event) (b : Book) (source : Addr) (r : Request) (kind : Birth) → Begins_here start past b source r → (is_refer r ≡ true → kind ≡ Transfer)
     → body_of_held (content_in (first_boxes b.boxes (tag_of start.place b.next) kind) (new_want start.place (tag_of start.place b.next) source r).event.package (new_want start.place (tag_of start.place b.next) source r).resource) ≡ body start (Comes source r ∷ past) (Born (now past) source r)
@@ -271,13 +270,13 @@ born_body start past b source r kind begins watched =
 
 -- it is told, and goes on
 on_follows : (start : Start) (past : List Event) (b : Book) (source : Addr) (r : Request) (kind : Birth) → Begins_here start past b source r → (is_refer r ≡ true → kind ≡ Transfer) → asks_nothing start.place.limits r ≡ false → is_unwatched r ≡ false
-    → Follows start b.next (Comes source r ∷ past) (turned start.place (first_boxes b.boxes (tag_of start.place b.next) kind) b.clock source (new_want start.place (tag_of start.place b.next) source r) (new_row b.next r)
+    → Follows start b.next (Comes source r ∷ past) (turned (told_from start.place (first_boxes b.boxes (tag_of start.place b.next) kind) b.clock) source (new_row b.next r)
     (accept (new_usage (tag_of start.place b.next) r) (new_want start.place (tag_of start.place b.next) source r) b.clock (granted start.place.limits r))) (Born (now past) source r)
 unfolding accept
 on_follows start past b source r kind begins transfer asks watched =
-    told_follows start (first_boxes b.boxes (tag_of start.place b.next) kind) b.clock source (new_want start.place (tag_of start.place b.next) source r) (new_row b.next r)
+    told_follows start (first_boxes b.boxes (tag_of start.place b.next) kind) b.clock source (new_row b.next r)
     (record { usage = new_usage (tag_of start.place b.next) r; want = new_want start.place (tag_of start.place b.next) source r; count = 1; due = b.clock + granted start.place.limits r }) (granted start.place.limits r) b.next (Comes source r ∷ past) (Born (now past) source r)
-    (unfold new_usage new_want sub_of usage_of want_of target_of accepted_cseq number is_touched address end_of_grant last_heard birth in (rw (begins.holds.clock_is, watched) refl)) (unfold address last_heard in refl) (born_body start past b source r kind begins transfer)
+    (unfold new_usage new_want sub_of usage_of want_of target_of accepted_cseq number is_touched address end_of_grant last_heard birth in (rw (begins.holds.clock_is, watched) refl)) (unfold address last_heard in refl) (unfold new_want want_of birth in born_body start past b source r kind begins transfer)
     (unfold opened new_row row_of last_cseq unanswered just_made is_touched in (rw (begins.holds.clock_is, watched) refl)) time (unfold is_touched in (ap not watched)) (unfold ended in (rw asks refl)) (unfold is_removed in watched)
   where
     time : granted start.place.limits r ≡ end_of_grant start.place.limits (Born (now past) source r) - now (Comes source r ∷ past)
@@ -285,17 +284,17 @@ on_follows start past b source r kind begins transfer asks watched =
 
 -- a fetch is told once
 fetch_follows : (start : Start) (past : List Event) (b : Book) (source : Addr) (r : Request) → Begins_here start past b source r → is_refer r ≡ false → asks_nothing start.place.limits r ≡ true
-    → Follows start b.next (Comes source r ∷ past) (turned start.place (first_boxes b.boxes (tag_of start.place b.next) Fetch) b.clock source (new_want start.place (tag_of start.place b.next) source r) (new_row b.next r)
+    → Follows start b.next (Comes source r ∷ past) (turned (told_from start.place (first_boxes b.boxes (tag_of start.place b.next) Fetch) b.clock) source (new_row b.next r)
     (over (fetch (new_usage (tag_of start.place b.next) r) (new_want start.place (tag_of start.place b.next) source r)))) (Born (now past) source r)
 unfolding fetch new_usage
 fetch_follows start past b source r begins plain asks =
-    over_follows start (first_boxes b.boxes (tag_of start.place b.next) Fetch) b.clock source (new_want start.place (tag_of start.place b.next) source r) (new_row b.next r) (new_usage (tag_of start.place b.next) r) (new_want start.place (tag_of start.place b.next) source r) 1 Timeout b.next (Comes source r ∷ past) (Born (now past) source r)
+    over_follows start (first_boxes b.boxes (tag_of start.place b.next) Fetch) b.clock source (new_row b.next r) (new_usage (tag_of start.place b.next) r) (new_want start.place (tag_of start.place b.next) source r) 1 Timeout b.next (Comes source r ∷ past) (Born (now past) source r)
     (unfold new_usage in refl) (unfold number is_touched in (rw (plain-watched r plain) refl)) (unfold address last_heard in refl) (born_body start past b source r Fetch begins (λ refers. absurd (never_both (is_refer r) refers plain)))
     (unfold is_touched in (ap not (plain-watched r plain))) (unfold terminated is_touched ended in (rw (plain-watched r plain, asks) refl))
 
 -- the turn of a birth
 first_follows : (start : Start) (past : List Event) (b : Book) (source : Addr) (r : Request) → Begins_here start past b source r → Follows start b.next (Comes source r ∷ past) (born_told start b source r (birth_of_request start.place.limits r)) (Born (now past) source r)
-unfolding first_told first_step
+unfolding first_told first_turned first_step
 first_follows start past b source r begins =
     by_births start.place.limits r (λ (kind : Birth). Follows start b.next (Comes source r ∷ past) (born_told start b source r kind) (Born (now past) source r))
     (λ plain asks. on_follows start past b source r Watch begins (λ refers. absurd (never_both (is_refer r) refers plain)) asks (plain-watched r plain))
@@ -379,8 +378,8 @@ born_notices start past b source r begins k small = by_who (k == births start pa
 
 -- ---- the step
 
-born_goes : (start : Start) (past : List Event) (b : Book) (source : Addr) (r : Request) → Begins_here start past b source r → Goes start past (Comes source r) (born start.place b source r (birth_of_request start.place.limits r))
-unfolding born born_with keeping first_word
+born_goes : (start : Start) (past : List Event) (b : Book) (source : Addr) (r : Request) → Begins_here start past b source r → Goes start past (Comes source r) (born start.place b source r (newborn start.place b.next (birth_of_request start.place.limits r)))
+unfolding born keeping first_word
 born_goes start past b source r begins = record {
   book = record {
     clock_is = unfold now in begins.holds.clock_is;
@@ -396,7 +395,7 @@ born_goes start past b source r begins = record {
 -- a refusal outside a dialog
 not_born : (start : Start) (past : List Event) (b : Book) (source : Addr) (r : Request) (cause : Refusal) → Ranges start.place.limits → Holds start past b → is_fresh start.place.limits past r ≡ true → r.head.to.tag ≡ None → (fits start past r && not (is_full start.place.limits b.next (length b.rows) r)) ≡ false → Goes start past (Comes source r) (refused start.place b source r cause)
 not_born start past b source r cause ok h fresh to e =
-    refused_goes start past b source r cause ok h fresh (birth_at-is start past b source r h to ∙ ap (λ (d : Bool). when d (Born (now past) source r)) e) (λ s l is alive. unheard_outside start past r s l to)
+    refused_goes start past b source r cause ok h fresh (birth_at-is start past b source r h to ∙ ap (λ (d : Bool). when d (Born (now past) source r)) e) (λ s l is alive. denial_outside start past r s l to)
 
 pub outside_goes : (start : Start) (past : List Event) (b : Book) (source : Addr) (r : Request) → Ranges start.place.limits → Holds start past b → is_fresh start.place.limits past r ≡ true → is_none (misfit r) ≡ true → r.head.to.tag ≡ None → Goes start past (Comes source r) (served start.place b source r (outside start.place.limits b r))
 unfolding outside

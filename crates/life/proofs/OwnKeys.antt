@@ -9,7 +9,7 @@ use Rattle.notifier_model.specs.Start.{Start, tag_of}
 use Rattle.life.specs.Lives.{life, concerns, is_born_at}
 use Rattle.life.proofs.Texts.{and-right}
 use Rattle.life.specs.Own.{is_own, own}
-use Rattle.life.specs.Apart.{all_keys, has_new_key, is_open_to, matters, are_apart, has_none_of, have_own_keys}
+use Rattle.life.specs.Apart.{all_keys, has_new_key, is_open_to, matters, own_requests_are_new, has_none_of, own_keys_are_unique}
 use Rattle.life.specs.IsolationLaws.{OwnKeysLaw}
 use Rattle.life.proofs.IsolationLaw.{alone_law}
 
@@ -41,13 +41,13 @@ weaker false true may false true more h = absurd (cc)
 weaker false true may false false more h = absurd (cc)
 weaker false false may false old more h = refl
 
-apart_of_own_keys : (start : Start) (serial : ℕ) (x : Request) (later : List Key) (past : List Event) → have_own_keys start serial x later past ≡ true → are_apart start serial x past ≡ true
-unfolding have_own_keys are_apart matters is_own
+apart_of_own_keys : (start : Start) (serial : ℕ) (x : Request) (later : List Key) (past : List Event) → own_keys_are_unique start serial x later past ≡ true → own_requests_are_new start serial x past ≡ true
+unfolding own_keys_are_unique own_requests_are_new matters is_own
 apart_of_own_keys start serial x later [] h = refl
 apart_of_own_keys start serial x later (e ∷ past) h =
-    let more = apart_of_own_keys start serial x (all_keys (e ∷ []) ++ later) past (and-right (not (is_own start serial x past e) || (has_none_of later e && has_none_of (all_keys past) e)) (have_own_keys start serial x (all_keys (e ∷ []) ++ later) past) h) in
+    let more = apart_of_own_keys start serial x (all_keys (e ∷ []) ++ later) past (and-right (not (is_own start serial x past e) || (has_none_of later e && has_none_of (all_keys past) e)) (own_keys_are_unique start serial x (all_keys (e ∷ []) ++ later) past) h) in
     let here : (not (is_born_at start serial past e || ((concerns (tag_of start.place serial) x e || is_born_at start serial past e) && is_open_to start.place.limits (life start past serial) e)) || has_none_of (all_keys past) e) ≡ true =
-    weaker (is_born_at start serial past e) (concerns (tag_of start.place serial) x e) (is_open_to start.place.limits (life start past serial) e) (has_none_of (all_keys past) e) (has_none_of later e) (have_own_keys start serial x (all_keys (e ∷ []) ++ later) past) h in
+    weaker (is_born_at start serial past e) (concerns (tag_of start.place serial) x e) (is_open_to start.place.limits (life start past serial) e) (has_none_of (all_keys past) e) (has_none_of later e) (own_keys_are_unique start serial x (all_keys (e ∷ []) ++ later) past) h in
     rw (← same-new past e, here) more
 
 pub own_keys_law : OwnKeysLaw

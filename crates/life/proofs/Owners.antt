@@ -28,17 +28,18 @@ use Rattle.notifier_model.specs.Start.{Start, tag_of, last_moment}
 use Rattle.notifier_model.specs.Requests.{is_refer, asks_nothing}
 use Rattle.notifier_model.specs.Fields.{value_of, or_empty}
 use Rattle.notifier_model.specs.Out.{Send, Answers, Notifies, Starts, out_of, notification, notifications}
-use Rattle.notifier_model.specs.Rows.{Told, notify, stays, goes, wherever, with_sub, turned, tells, ends, usage_after, said, has_serial, only, counted, renewed, renewed_sub, watches, tells_change, tells_watcher, is_due, is_overdue, times_out, stops, is_answered_by, takes_answer, answered}
+use Rattle.notifier_model.specs.Rows.{Turned, notify, stays, goes, wherever, with_sub, turned, tells, ends, usage_after, sweep, has_serial, only, counted, renewed, renewed_sub, watches, tells_change, tells_watcher, is_due, is_overdue, times_out, stops, is_answered_by, takes_answer, answered}
 use Rattle.notifier_model.specs.declared.birth.Birth.{Birth}
 use Rattle.notifier_model.specs.declared.birth.Birth.TheVariants.{Watch, Fetch, Transfer, Unwatched}
-use Rattle.notifier_model.specs.Book.{Book, Verdict, Silent, Repeated, Refused, Denied, Renewed, Born as Makes, new_usage, new_want, new_row, first_step, first_word, nothing, keeping, refused, denied, accepted, all_rows, first_boxes, first_told, born_with, born, verdict, served, content_changed, replied, ticked, shut, step}
+use Rattle.notifier_model.specs.Book.{Book, Verdict, Silent, Repeated, Refused, Denied, Renewed, Born as Makes, new_usage, new_want, new_row, first_step, first_word, newborn, nothing, keeping, telling, refused, denied, accepted, all_rows, first_boxes, first_turned, first_told, born, verdict, served, content_changed, replied, ticked, shut, step}
 use Rattle.notifier_model.specs.Run.{made, made_from, empty}
 use Rattle.life.specs.Life.{Life, is_gone}
 use Rattle.life.specs.Lives.{births}
 use Rattle.life.specs.Laws.{IsStart, IsOfALife, AreOfLives, NoOtherLaw}
 use Rattle.life.proofs.Texts.{Bytes, bytes_own, if_is}
 use Rattle.life.proofs.NextLives.{Ranges, ranges}
-use Rattle.life.proofs.Rows.{row_of, sub_of, usage_of, live_row, rows_to, notifications-append}
+use Rattle.life.proofs.Rows.{row_of, sub_of, usage_of, live_row, rows_to, said, notifications-append}
+use Rattle.life.proofs.Turns.{told_from}
 use Rattle.life.proofs.AllRows.{born_small}
 use Rattle.life.proofs.Invariant.{Holds, Stepped}
 use Rattle.life.proofs.Law.{step_goes, empty_holds, notices_law}
@@ -59,13 +60,13 @@ tags-append P (Notifies to n ∷ xs) ys p q = (p.0, tags-append P xs ys p.1 q)
 
 -- ---- what is told of a row has its tag
 
-abbrev Own : (Bytes → Type 0) → (Row → Told) → Type 0
+abbrev Own : (Bytes → Type 0) → (Row → Turned) → Type 0
 Own P rule = (row : Row) → P row.sub.usage.local_tag → AllTags P (rule row).notifies
 
-turned-own : (place : Place) (boxes : List Seen) (clock : ℕ) (to : Addr) (want : Want) (mk : State → Row) (next : Step) (P : Bytes → Type 0) → P (usage_after next).local_tag → AllTags P (turned place boxes clock to want mk next).notifies
+turned-own : (place : Place) (boxes : List Seen) (clock : ℕ) (to : Addr) (mk : State → Row) (next : Step) (P : Bytes → Type 0) → P (usage_after next).local_tag → AllTags P (turned (told_from place boxes clock) to mk next).notifies
 unfolding turned notify
-turned-own place boxes clock to want mk (Live sub notice) P p = (p, tt)
-turned-own place boxes clock to want mk (Over usage asked notice) P p = (p, tt)
+turned-own place boxes clock to mk (Live sub notice) P p = (p, tt)
+turned-own place boxes clock to mk (Over usage asked notice) P p = (p, tt)
 
 told-own : (s : State) (left : ℕ) (P : Bytes → Type 0) → P s.usage.local_tag → P (usage_after (told s left)).local_tag
 unfolding told
@@ -75,54 +76,54 @@ counted-own : (P : Bytes → Type 0) (r : Request) → Own P (counted r)
 unfolding counted stays
 counted-own P r row p = tt
 
-wherever-own : (P : Bytes → Type 0) (test : Row → Bool) (rule : Row → Told) → Own P rule → Own P (wherever test rule)
+wherever-own : (P : Bytes → Type 0) (test : Row → Bool) (rule : Row → Turned) → Own P rule → Own P (wherever test rule)
 unfolding wherever stays
-wherever-own P test rule own row p = if_is (λ (t : Told). AllTags P t.notifies) (test row) (rule row) (stays row) (λ e. own row p) (λ e. tt)
+wherever-own P test rule own row p = if_is (λ (t : Turned). AllTags P t.notifies) (test row) (rule row) (stays row) (λ e. own row p) (λ e. tt)
 
 takes_answer-own : (P : Bytes → Type 0) (response : Response) → Own P (takes_answer response)
 unfolding takes_answer stays goes
 takes_answer-own P response row p =
-    if_is (λ (t : Told). AllTags P t.notifies) (refuses response) _ _ (λ e. tt) (λ e. if_is (λ (t : Told). AllTags P t.notifies) (is_final response.status) _ _ (λ e. tt) (λ e. tt))
+    if_is (λ (t : Turned). AllTags P t.notifies) (refuses response) _ _ (λ e. tt) (λ e. if_is (λ (t : Turned). AllTags P t.notifies) (is_final response.status) _ _ (λ e. tt) (λ e. tt))
 
 answered-own : (P : Bytes → Type 0) (response : Response) → Own P (answered response)
 unfolding answered
 answered-own P response = wherever-own P (is_answered_by response) (takes_answer response) (takes_answer-own P response)
 
-ends-own : (P : Bytes → Type 0) (place : Place) (boxes : List Seen) (clock : ℕ) (reason : Reason) → Own P (ends place boxes clock reason)
+ends-own : (P : Bytes → Type 0) (place : Place) (boxes : List Seen) (clock : ℕ) (reason : Reason) → Own P (ends (told_from place boxes clock) reason)
 unfolding ends tells end
-ends-own P place boxes clock reason row p = turned-own place boxes clock row.sub.want.to row.sub.want (with_sub row) (over (end row.sub reason)) P p
+ends-own P place boxes clock reason row p = turned-own place boxes clock row.sub.want.to (with_sub row) (over (end row.sub reason)) P p
 
-stops-own : (P : Bytes → Type 0) (place : Place) (boxes : List Seen) (clock : ℕ) → Own P (stops place boxes clock)
+stops-own : (P : Bytes → Type 0) (place : Place) (boxes : List Seen) (clock : ℕ) → Own P (stops (told_from place boxes clock))
 unfolding stops
 stops-own P place boxes clock = ends-own P place boxes clock Deactivated
 
-times_out-own : (P : Bytes → Type 0) (place : Place) (boxes : List Seen) (clock : ℕ) → Own P (times_out place boxes clock)
+times_out-own : (P : Bytes → Type 0) (place : Place) (boxes : List Seen) (clock : ℕ) → Own P (times_out (told_from place boxes clock))
 unfolding times_out goes
 times_out-own P place boxes clock row p =
-    if_is (λ (t : Told). AllTags P t.notifies) (is_overdue clock row) goes (wherever (is_due clock) (ends place boxes clock Timeout) row)
-    (λ e. tt) (λ e. wherever-own P (is_due clock) (ends place boxes clock Timeout) (ends-own P place boxes clock Timeout) row p)
+    if_is (λ (t : Turned). AllTags P t.notifies) (is_overdue clock row) goes (wherever (is_due clock) (ends (told_from place boxes clock) Timeout) row)
+    (λ e. tt) (λ e. wherever-own P (is_due clock) (ends (told_from place boxes clock) Timeout) (ends-own P place boxes clock Timeout) row p)
 
 changed-own : (s : State) (clock : ℕ) (is_over : Bool) (P : Bytes → Type 0) → P s.usage.local_tag → P (usage_after (changed s clock is_over)).local_tag
 unfolding changed end
 changed-own s clock true P p = p
 changed-own s clock false P p = told-own (record s { count = s.count + 1 }) _ P p
 
-tells_watcher-own : (P : Bytes → Type 0) (place : Place) (boxes : List Seen) (clock : ℕ) (name resource : Bytes) (is_over : Bool) → Own P (tells_watcher place boxes clock name resource is_over)
+tells_watcher-own : (P : Bytes → Type 0) (place : Place) (boxes : List Seen) (clock : ℕ) (name resource : Bytes) (is_over : Bool) → Own P (tells_watcher (told_from place boxes clock) name resource is_over)
 unfolding tells_watcher
-tells_watcher-own P place boxes clock name resource is_over = wherever-own P (watches name resource) (tells_change place boxes clock is_over) change-own
+tells_watcher-own P place boxes clock name resource is_over = wherever-own P (watches name resource) (tells_change (told_from place boxes clock) is_over) change-own
   where
-    change-own : Own P (tells_change place boxes clock is_over)
-    change-own row p = unfold tells_change tells in turned-own place boxes clock row.sub.want.to row.sub.want (with_sub row) (changed row.sub clock is_over) P (changed-own row.sub clock is_over P p)
+    change-own : Own P (tells_change (told_from place boxes clock) is_over)
+    change-own row p = unfold tells_change tells in turned-own place boxes clock row.sub.want.to (with_sub row) (changed row.sub clock is_over) P (changed-own row.sub clock is_over P p)
 
-renewed-own : (P : Bytes → Type 0) (place : Place) (boxes : List Seen) (clock : ℕ) (source : Addr) (r : Request) → Own P (renewed place boxes clock source r)
+renewed-own : (P : Bytes → Type 0) (place : Place) (boxes : List Seen) (clock : ℕ) (source : Addr) (r : Request) → Own P (renewed (told_from place boxes clock) source r)
 unfolding renewed
 renewed-own P place boxes clock source r row p =
-    turned-own place boxes clock source row.sub.want (with_sub (record row { last_cseq = r.head.cseq })) (renewed_sub place clock source r row.sub) P by_time
+    turned-own place boxes clock source (with_sub (record row { last_cseq = r.head.cseq })) (renewed_sub place clock source r row.sub) P by_time
   where
     by_time : P (usage_after (renewed_sub place clock source r row.sub)).local_tag
     by_time = unfold renewed_sub refresh end in if_is (λ (next : Step). P (usage_after next).local_tag) (asks_nothing place.limits r) _ _ (λ e. p) (λ e. told-own _ _ P p)
 
-only-own : (P : Bytes → Type 0) (serial : ℕ) (rule : Row → Told) → Own P rule → Own P (only serial rule)
+only-own : (P : Bytes → Type 0) (serial : ℕ) (rule : Row → Turned) → Own P rule → Own P (only serial rule)
 unfolding only
 only-own P serial rule own = wherever-own P (has_serial serial) rule own
 
@@ -132,8 +133,8 @@ abbrev RowTags : (Bytes → Type 0) → List Row → Type 0
 RowTags P [] = Unit {0}
 RowTags P (row ∷ rows) = P row.sub.usage.local_tag × RowTags P rows
 
-said-own : (P : Bytes → Type 0) (rule : Row → Told) → Own P rule → (rows : List Row) → RowTags P rows → AllTags P (said rule rows)
-unfolding said
+said-own : (P : Bytes → Type 0) (rule : Row → Turned) → Own P rule → (rows : List Row) → RowTags P rows → AllTags P (said rule rows)
+unfolding sweep
 said-own P rule own [] p = tt
 said-own P rule own (row ∷ rows) p = tags-append P (rule row).notifies (said rule rows) (own row p.0) (said-own P rule own rows p.1)
 
@@ -164,21 +165,21 @@ Tagged start stepped = AllTags (IsTag start) stepped.outs
 abbrev Tags : Start → Book → Type 0
 Tags start b = RowTags (IsTag start) b.rows
 
-first-tag : (place : Place) (boxes : List Seen) (clock : ℕ) (tag : Bytes) (source : Addr) (r : Request) (serial : ℕ) (kind : Birth) (P : Bytes → Type 0) → P tag → AllTags P (first_told place boxes clock tag source r serial (first_step place.limits clock (new_usage tag r) (new_want place tag source r) r kind)).notifies
-unfolding first_told first_step goes
-first-tag place boxes clock tag source r serial Watch P p = turned-own place boxes clock source (new_want place tag source r) (new_row serial r) _ P (unfold accept new_usage in told-own _ _ P p)
-first-tag place boxes clock tag source r serial Fetch P p = turned-own place boxes clock source (new_want place tag source r) (new_row serial r) _ P (unfold fetch new_usage in p)
-first-tag place boxes clock tag source r serial Transfer P p = turned-own place boxes clock source (new_want place tag source r) (new_row serial r) _ P (unfold accept new_usage in told-own _ _ P p)
+first-tag : (place : Place) (boxes : List Seen) (clock : ℕ) (tag : Bytes) (source : Addr) (r : Request) (serial : ℕ) (kind : Birth) (P : Bytes → Type 0) → P tag → AllTags P (first_told (told_from place boxes clock) source r (record { kind = kind; serial = serial; tag = tag })).notifies
+unfolding first_told first_turned first_step goes
+first-tag place boxes clock tag source r serial Watch P p = turned-own place boxes clock source (new_row serial r) _ P (unfold accept new_usage in told-own _ _ P p)
+first-tag place boxes clock tag source r serial Fetch P p = turned-own place boxes clock source (new_row serial r) _ P (unfold fetch new_usage in p)
+first-tag place boxes clock tag source r serial Transfer P p = turned-own place boxes clock source (new_row serial r) _ P (unfold accept new_usage in told-own _ _ P p)
 first-tag place boxes clock tag source r serial Unwatched P p = tt
 
 no_tags : (P : Bytes → Type 0) (tag : Bytes) (r : Request) → AllTags P (first_word tag r)
 unfolding first_word
 no_tags P tag r = if_is (AllTags P) (is_refer r) (Starts tag (or_empty (value_of r.refer_to)) ∷ []) [] (λ e. tt) (λ e. tt)
 
-born-tags : (start : Start) (b : Book) (source : Addr) (r : Request) (kind : Birth) → b.next < 2 ^ 64 → Tagged start (born start.place b source r kind)
-unfolding born born_with
+born-tags : (start : Start) (b : Book) (source : Addr) (r : Request) (kind : Birth) → b.next < 2 ^ 64 → Tagged start (born start.place b source r (newborn start.place b.next kind))
+unfolding born
 born-tags start b source r kind small =
-    tags-append (IsTag start) (first_told start.place (first_boxes b.boxes (tag_of start.place b.next) kind) b.clock (tag_of start.place b.next) source r b.next (first_step start.place.limits b.clock (new_usage (tag_of start.place b.next) r) (new_want start.place (tag_of start.place b.next) source r) r kind)).notifies (first_word (tag_of start.place b.next) r)
+    tags-append (IsTag start) (first_told (told_from start.place (first_boxes b.boxes (tag_of start.place b.next) kind) b.clock) source r (newborn start.place b.next kind)).notifies (first_word (tag_of start.place b.next) r)
     (first-tag start.place (first_boxes b.boxes (tag_of start.place b.next) kind) b.clock (tag_of start.place b.next) source r b.next kind (IsTag start) (b.next, small, refl))
     (no_tags (IsTag start) (tag_of start.place b.next) r)
 
@@ -189,12 +190,12 @@ served-tags start b source r (Repeated bytes) small p = tt
 served-tags start b source r (Refused cause) small p = tt
 served-tags start b source r (Denied serial cause) small p = said-own (IsTag start) (only serial (counted r)) (only-own (IsTag start) serial (counted r) (counted-own (IsTag start) r)) b.rows p
 served-tags start b source r (Renewed serial) small p =
-    said-own (IsTag start) (only serial (renewed start.place b.boxes b.clock source r)) (only-own (IsTag start) serial (renewed start.place b.boxes b.clock source r) (renewed-own (IsTag start) start.place b.boxes b.clock source r)) b.rows p
+    said-own (IsTag start) (only serial (renewed (telling start.place b) source r)) (only-own (IsTag start) serial (renewed (telling start.place b) source r) (renewed-own (IsTag start) start.place b.boxes b.clock source r)) b.rows p
 served-tags start b source r (Makes kind) small p = born-tags start b source r kind small
 
 content-tags : (start : Start) (b : Book) (name resource : Bytes) (is_over : Bool) (changed : Outcome × List Seen) → Tags start b → Tagged start (content_changed start.place b name resource is_over changed)
 unfolding content_changed all_rows nothing
-content-tags start b name resource is_over (Changed, boxes) p = said-own (IsTag start) (tells_watcher start.place boxes b.clock name resource is_over) (tells_watcher-own (IsTag start) start.place boxes b.clock name resource is_over) b.rows p
+content-tags start b name resource is_over (Changed, boxes) p = said-own (IsTag start) (tells_watcher (told_from start.place boxes b.clock) name resource is_over) (tells_watcher-own (IsTag start) start.place boxes b.clock name resource is_over) b.rows p
 content-tags start b name resource is_over (Same, boxes) p = tt
 content-tags start b name resource is_over (Unknown, boxes) p = tt
 
@@ -206,8 +207,8 @@ step-tags start b (Mails m) small p = content-tags start b mail_package m.mailbo
 step-tags start b (Progresses q) small p = content-tags start b refer_package q.tag (is_final q.code) (change_first b.boxes (StepOf q)) p
 step-tags start b (Ticks t) small p =
     if_is (Tagged start) (nat_lt last_moment t) _ _ (λ e. unfold nothing in tt)
-    (λ e. unfold ticked all_rows in said-own (IsTag start) (times_out start.place b.boxes (max b.clock t)) (times_out-own (IsTag start) start.place b.boxes (max b.clock t)) b.rows p)
-step-tags start b Shuts small p = unfold shut all_rows in said-own (IsTag start) (stops start.place b.boxes b.clock) (stops-own (IsTag start) start.place b.boxes b.clock) b.rows p
+    (λ e. unfold ticked all_rows in said-own (IsTag start) (times_out (told_from start.place b.boxes (max b.clock t))) (times_out-own (IsTag start) start.place b.boxes (max b.clock t)) b.rows p)
+step-tags start b Shuts small p = unfold shut all_rows in said-own (IsTag start) (stops (telling start.place b)) (stops-own (IsTag start) start.place b.boxes b.clock) b.rows p
 
 -- ---- a run
 

@@ -30,8 +30,8 @@ use Rattle.life.proofs.Rows.{row_of, sub_of, want_of, usage_of, target_of, accep
 use Rattle.life.proofs.Deeds.{lived-progresses}
 use Rattle.life.proofs.NextLives.{Ranges, births-of_none}
 use Rattle.life.proofs.SoundLives.{sound_of, came, lived-birth, next-birth}
-use Rattle.life.proofs.Turns.{Follows, told_follows}
-use Rattle.life.proofs.AllRows.{Turned, Rules}
+use Rattle.life.proofs.Turns.{told_from, Follows, told_follows}
+use Rattle.life.proofs.AllRows.{TurnsInto, Rules}
 use Rattle.life.proofs.Invariant.{Holdings, Holds, Goes, Transfers}
 use Rattle.life.proofs.RepliesAndTicks.{by_all_rows, by_nothing, content-same, body-is, ended_follows}
 
@@ -133,7 +133,7 @@ untouched_follows start past p s l alive same = record {
 progress_nothing : (start : Start) (past : List Event) (p : Progress) (boxes : List Seen) → Ranges start.place.limits → Holdings start past boxes → is_change (change_first boxes (Step p)).0 ≡ false → Rules start past (Progresses p) stays
 progress_nothing start past p boxes ok hold e s l is alive = rw (lived-progresses start s past p l) (by_tests (bytes_eq (tag_of start.place s) p.tag) (is_refer (birth l)) refl refl)
   where
-    by_tests : (a c : Bool) → bytes_eq (tag_of start.place s) p.tag ≡ a → is_refer (birth l) ≡ c → Turned start s (Progresses p ∷ past) (stays (row_of start s l)) l (when (a && c) (Then (now past) (Progressed p) l))
+    by_tests : (a c : Bool) → bytes_eq (tag_of start.place s) p.tag ≡ a → is_refer (birth l) ≡ c → TurnsInto start s (Progresses p ∷ past) (stays (row_of start s l)) l (when (a && c) (Then (now past) (Progressed p) l))
     by_tests true true f g = untouched_follows start past p s l alive (outcome-is start past p boxes s l ok hold is alive g f ∙ e)
     by_tests true false f g = refl
     by_tests false c f g = refl
@@ -147,30 +147,30 @@ progress_body start past p boxes s l ok hold is alive refers e =
     ∙ (ap (stepped p) (hold.transfers s l is alive refers) ∙ stepped-open p (status l).0 (status l).1 ((sound_of start past s l ok is).unfinished alive))))
 
 progressed_follows : (start : Start) (past : List Event) (p : Progress) (b : Book) (s : ℕ) (l : Life) → Ranges start.place.limits → b.clock ≡ now past → Holdings start past b.boxes → life start past s ≡ Some l → is_gone start.place.limits l ≡ false → is_refer (birth l) ≡ true → bytes_eq (tag_of start.place s) p.tag ≡ true → is_news p (status l) ≡ true
-    → Follows start s (Progresses p ∷ past) (tells start.place (change_first b.boxes (Step p)).1 b.clock (row_of start s l) (changed (row_of start s l).sub b.clock (is_final p.code))) (Then (now past) (Progressed p) l)
+    → Follows start s (Progresses p ∷ past) (tells (told_from start.place (change_first b.boxes (Step p)).1 b.clock) (row_of start s l) (changed (row_of start s l).sub b.clock (is_final p.code))) (Then (now past) (Progressed p) l)
 progressed_follows start past p b s l ok clock hold is alive refers e differs = by_final (is_final p.code) refl
   where
     same_body : body_of_held (content_in (change_first b.boxes (Step p)).1 (want_of start s l).event.package (want_of start s l).resource) ≡ body start (Progresses p ∷ past) (Then (now past) (Progressed p) l)
     same_body = progress_body start past p b.boxes s l ok hold is alive refers e
 
-    told_on : is_final p.code ≡ false → Follows start s (Progresses p ∷ past) (tells start.place (change_first b.boxes (Step p)).1 b.clock (row_of start s l) (told (record (row_of start s l).sub { count = (row_of start s l).sub.count + 1 }) ((row_of start s l).sub.due - b.clock))) (Then (now past) (Progressed p) l)
+    told_on : is_final p.code ≡ false → Follows start s (Progresses p ∷ past) (tells (told_from start.place (change_first b.boxes (Step p)).1 b.clock) (row_of start s l) (told (record (row_of start s l).sub { count = (row_of start s l).sub.count + 1 }) ((row_of start s l).sub.due - b.clock))) (Then (now past) (Progressed p) l)
     told_on f = unfold tells opened unanswered just_made row_of sub_of usage_of want_of target_of accepted_cseq number is_touched address end_of_grant last_heard birth last_cseq now in
-        told_follows start (change_first b.boxes (Step p)).1 b.clock (address start.place.limits l) (want_of start s l) (with_sub (row_of start s l)) (record (sub_of start s l) { count = number start.place.limits l + 1 }) (end_of_grant start.place.limits l - b.clock) s (Progresses p ∷ past) (Then (now past) (Progressed p) l)
+        told_follows start (change_first b.boxes (Step p)).1 b.clock (address start.place.limits l) (with_sub (row_of start s l)) (record (sub_of start s l) { count = number start.place.limits l + 1 }) (end_of_grant start.place.limits l - b.clock) s (Progresses p ∷ past) (Then (now past) (Progressed p) l)
         (rw differs refl) refl same_body (rw (differs, clock) refl) (ap (λ (n : ℕ). end_of_grant start.place.limits l - n) clock) (unfold is_touched in differs) (unfold ended in (rw f refl)) (unfold is_removed in refl)
 
-    by_final : (d : Bool) → is_final p.code ≡ d → Follows start s (Progresses p ∷ past) (tells start.place (change_first b.boxes (Step p)).1 b.clock (row_of start s l) (changed (row_of start s l).sub b.clock d)) (Then (now past) (Progressed p) l)
+    by_final : (d : Bool) → is_final p.code ≡ d → Follows start s (Progresses p ∷ past) (tells (told_from start.place (change_first b.boxes (Step p)).1 b.clock) (row_of start s l) (changed (row_of start s l).sub b.clock d)) (Then (now past) (Progressed p) l)
     by_final true f = unfold changed in ended_follows start (Progresses p ∷ past) (change_first b.boxes (Step p)).1 b.clock s l (Then (now past) (Progressed p) l) Noresource (unfold number is_touched in (rw differs refl)) (unfold address last_heard birth in refl) same_body (unfold is_touched in differs) (unfold terminated is_touched ended in (rw (differs, f) refl))
     by_final false f = unfold changed in told_on f
 
-progress_turns : (start : Start) (past : List Event) (p : Progress) (b : Book) → Ranges start.place.limits → b.clock ≡ now past → Holdings start past b.boxes → is_change (change_first b.boxes (Step p)).0 ≡ true → Rules start past (Progresses p) (tells_watcher start.place (change_first b.boxes (Step p)).1 b.clock refer_package p.tag (is_final p.code))
+progress_turns : (start : Start) (past : List Event) (p : Progress) (b : Book) → Ranges start.place.limits → b.clock ≡ now past → Holdings start past b.boxes → is_change (change_first b.boxes (Step p)).0 ≡ true → Rules start past (Progresses p) (tells_watcher (told_from start.place (change_first b.boxes (Step p)).1 b.clock) refer_package p.tag (is_final p.code))
 unfolding tells_watcher tells_change wherever
 progress_turns start past p b ok clock hold e s l is alive = unfold row_of sub_of want_of in rw (lived-progresses start s past p l) (by_refer (is_refer (birth l)) refl)
   where
-    by_tag : is_refer (birth l) ≡ true → (c : Bool) → bytes_eq (tag_of start.place s) p.tag ≡ c → Turned start s (Progresses p ∷ past) (if c then tells start.place (change_first b.boxes (Step p)).1 b.clock (row_of start s l) (changed (row_of start s l).sub b.clock (is_final p.code)) else stays (row_of start s l)) l (when (c && true) (Then (now past) (Progressed p) l))
+    by_tag : is_refer (birth l) ≡ true → (c : Bool) → bytes_eq (tag_of start.place s) p.tag ≡ c → TurnsInto start s (Progresses p ∷ past) (if c then tells (told_from start.place (change_first b.boxes (Step p)).1 b.clock) (row_of start s l) (changed (row_of start s l).sub b.clock (is_final p.code)) else stays (row_of start s l)) l (when (c && true) (Then (now past) (Progressed p) l))
     by_tag refers true f = progressed_follows start past p b s l ok clock hold is alive refers f (outcome-is start past p b.boxes s l ok hold is alive refers f ∙ e)
     by_tag refers false f = refl
 
-    by_refer : (d : Bool) → is_refer (birth l) ≡ d → Turned start s (Progresses p ∷ past) (if bytes_eq (event_of (birth l)).package refer_package && bytes_eq (if d then tag_of start.place s else user_part (birth l).uri) p.tag then tells start.place (change_first b.boxes (Step p)).1 b.clock (row_of start s l) (changed (row_of start s l).sub b.clock (is_final p.code)) else stays (row_of start s l)) l (when (bytes_eq (tag_of start.place s) p.tag && d) (Then (now past) (Progressed p) l))
+    by_refer : (d : Bool) → is_refer (birth l) ≡ d → TurnsInto start s (Progresses p ∷ past) (if bytes_eq (event_of (birth l)).package refer_package && bytes_eq (if d then tag_of start.place s else user_part (birth l).uri) p.tag then tells (told_from start.place (change_first b.boxes (Step p)).1 b.clock) (row_of start s l) (changed (row_of start s l).sub b.clock (is_final p.code)) else stays (row_of start s l)) l (when (bytes_eq (tag_of start.place s) p.tag && d) (Then (now past) (Progressed p) l))
     by_refer true g =
         let named : bytes_eq (event_of (birth l)).package refer_package ≡ true = unfold event_of in (rw g refl) in
         rw named (by_tag g (bytes_eq (tag_of start.place s) p.tag) refl)
@@ -188,7 +188,7 @@ progress_goes start past p b ok h = by_outcome (change_first b.boxes (Step p)).0
 
     by_outcome : (o : Outcome) → (change_first b.boxes (Step p)).0 ≡ o → Goes start past (Progresses p) (content_changed start.place b refer_package p.tag (is_final p.code) (o, (change_first b.boxes (Step p)).1))
     by_outcome Changed e =
-        by_all_rows start past (Progresses p) (record b { boxes = (change_first b.boxes (Step p)).1 }) (tells_watcher start.place (change_first b.boxes (Step p)).1 b.clock refer_package p.tag (is_final p.code)) [] ok refl h.clock_is h.next_is h.rows_are after h.ring_is (λ tag more. refl)
+        by_all_rows start past (Progresses p) (record b { boxes = (change_first b.boxes (Step p)).1 }) (tells_watcher (told_from start.place (change_first b.boxes (Step p)).1 b.clock) refer_package p.tag (is_final p.code)) [] ok refl h.clock_is h.next_is h.rows_are after h.ring_is (λ tag more. refl)
         (progress_turns start past p b ok h.clock_is h.boxes_hold (ap is_change e))
     by_outcome Same e = unchanged (ap is_change e)
     by_outcome Unknown e = unchanged (ap is_change e)

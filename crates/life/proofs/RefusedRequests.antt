@@ -18,7 +18,7 @@ use Rattle.sip_write.specs.Answer.{answer_text}
 use Rattle.notifier_model.specs.declared.row.Row.{Row}
 use Rattle.notifier_model.specs.declared.row.Kept.{Kept}
 use Rattle.notifier_model.specs.Book.{Book, keeping, refused}
-use Rattle.notifier_model.specs.Rows.{Told, stays, wherever, only, is_dialog}
+use Rattle.notifier_model.specs.Rows.{Turned, stays, wherever, only, is_dialog}
 use Rattle.notifier_model.specs.Answers.{has_key, kept_answer, ring_with, refusal_answer}
 use Rattle.notifier_model.specs.Out.{Send, Answers, notifications}
 use Rattle.life.specs.Past.{now, is_among, is_new, with_key, keys_with, keys, is_fresh, fits}
@@ -28,7 +28,7 @@ use Rattle.life.proofs.Rows.{usage_of, sub_of, row_of, live_row, rows_to}
 use Rattle.life.proofs.Deeds.{hears, lived-comes}
 use Rattle.life.proofs.NextLives.{no_life, Ranges}
 use Rattle.life.proofs.Turns.{Follows}
-use Rattle.life.proofs.AllRows.{Turned, Rules, apart}
+use Rattle.life.proofs.AllRows.{TurnsInto, Rules, apart}
 use Rattle.life.proofs.Invariant.{keys_of, Holds, Goes, life_small}
 use Rattle.life.proofs.RepliesAndTicks.{by_nothing, holdings_quiet}
 
@@ -94,9 +94,9 @@ birth-unfit start past source r unfit = rw unfit (by_tag (is_none r.head.to.tag)
     by_tag true = refl
     by_tag false = refl
 
-pub unfit-unheard : (start : Start) (past : List Event) (r : Request) → (is_fresh start.place.limits past r && is_none (misfit r)) ≡ false → Nobody_hears start past r
+pub unfit-denial : (start : Start) (past : List Event) (r : Request) → (is_fresh start.place.limits past r && is_none (misfit r)) ≡ false → Nobody_hears start past r
 unfolding hears may_hear
-unfit-unheard start past r unfit s l is alive = by_tests (is_in_dialog (tag_of start.place s) (birth l) r) (is_fresh start.place.limits past r) (is_none (misfit r)) (is_above l r.head.cseq) unfit
+unfit-denial start past r unfit s l is alive = by_tests (is_in_dialog (tag_of start.place s) (birth l) r) (is_fresh start.place.limits past r) (is_none (misfit r)) (is_above l r.head.cseq) unfit
   where
     by_tests : (a b c d : Bool) → (b && c) ≡ false → (a && (b && (c && d))) ≡ false
     by_tests a true true d e = absurd (cc)
@@ -109,8 +109,8 @@ unfolding now
 stale_goes start past b source r outs ok h stale silent =
     let unfit : fits start past r ≡ false = unfold fits in (rw stale refl) in
     let none = birth-unfit start past source r unfit in
-    let unheard : (is_fresh start.place.limits past r && is_none (misfit r)) ≡ false = rw stale refl in
-    by_nothing start past (Comes source r) b outs ok none h.clock_is h.next_is h.rows_are (holdings_quiet start past (Comes source r) b.boxes none refl h.boxes_hold) (h.ring_is ∙ sym same_keys) silent (λ s l is alive. rw (lived-comes start s past source r l, unfit-unheard start past r unheard s l is alive) refl)
+    let denial : (is_fresh start.place.limits past r && is_none (misfit r)) ≡ false = rw stale refl in
+    by_nothing start past (Comes source r) b outs ok none h.clock_is h.next_is h.rows_are (holdings_quiet start past (Comes source r) b.boxes none refl h.boxes_hold) (h.ring_is ∙ sym same_keys) silent (λ s l is alive. rw (lived-comes start s past source r l, unfit-denial start past r denial s l is alive) refl)
   where
     same_keys : take start.place.limits.kept (keys start.place.limits (Comes source r ∷ past)) ≡ take start.place.limits.kept (keys start.place.limits past)
     same_keys = unfold keys keys_with is_fresh in (let e : (not (is_ack r) && is_new (key_of_request r) (take start.place.limits.kept (keys start.place.limits past))) ≡ false = stale in rw e refl)
@@ -204,22 +204,22 @@ range_of start past s l is = by_place (where_is s (births start past))
     by_place (inr inside) = inside
 
 -- the rule for the dialog's row alone
-pub dialog_rules : (start : Start) (past : List Event) (source : Addr) (r : Request) (tag : Bytes) (k : ℕ) (who : Life) (rule : Row → Told) → Ranges start.place.limits → is_fresh start.place.limits past r ≡ true → is_none (misfit r) ≡ true → r.head.to.tag ≡ Some tag → life start past k ≡ Some who → is_dialog r tag (row_of start k who) ≡ true → is_above who r.head.cseq ≡ true
+pub dialog_rules : (start : Start) (past : List Event) (source : Addr) (r : Request) (tag : Bytes) (k : ℕ) (who : Life) (rule : Row → Turned) → Ranges start.place.limits → is_fresh start.place.limits past r ≡ true → is_none (misfit r) ≡ true → r.head.to.tag ≡ Some tag → life start past k ≡ Some who → is_dialog r tag (row_of start k who) ≡ true → is_above who r.head.cseq ≡ true
     → Follows start k (Comes source r ∷ past) (rule (row_of start k who)) (Then (now past) (Heard source r) who) → Rules start past (Comes source r) (only k rule)
 unfolding only wherever row_of
 dialog_rules start past source r tag k who rule ok fresh good to lives dialog above follows s l is alive = rw (lived-comes start s past source r l) (by_serial (s == k) refl)
   where
-    here : k ≡ s → who ≡ l → Turned start s (Comes source r ∷ past) (rule (row_of start s l)) l (when (hears start s past r l) (Then (now past) (Heard source r) l))
+    here : k ≡ s → who ≡ l → TurnsInto start s (Comes source r ∷ past) (rule (row_of start s l)) l (when (hears start s past r l) (Then (now past) (Heard source r) l))
     here at same =
-        subst (λ (x : ℕ). Turned start x (Comes source r ∷ past) (rule (row_of start x l)) l (when (hears start x past r l) (Then (now past) (Heard source r) l))) at
-        (subst (λ (x : Life). Turned start k (Comes source r ∷ past) (rule (row_of start k x)) x (when (hears start k past r x) (Then (now past) (Heard source r) x))) same
+        subst (λ (x : ℕ). TurnsInto start x (Comes source r ∷ past) (rule (row_of start x l)) l (when (hears start x past r l) (Then (now past) (Heard source r) l))) at
+        (subst (λ (x : Life). TurnsInto start k (Comes source r ∷ past) (rule (row_of start k x)) x (when (hears start k past r x) (Then (now past) (Heard source r) x))) same
         (let heard_here : hears start k past r who ≡ true = heard-is start past r tag k who fresh good to ∙ rw (dialog, above) refl in rw heard_here follows))
 
-    by_serial : (d : Bool) → (s == k) ≡ d → Turned start s (Comes source r ∷ past) (if d then rule (row_of start s l) else stays (row_of start s l)) l (when (hears start s past r l) (Then (now past) (Heard source r) l))
+    by_serial : (d : Bool) → (s == k) ≡ d → TurnsInto start s (Comes source r ∷ past) (if d then rule (row_of start s l) else stays (row_of start s l)) l (when (hears start s past r l) (Then (now past) (Heard source r) l))
     by_serial true e =
         let at : s ≡ k = grind (arith, nat_tests) in
         let is_k : life start past k ≡ Some l = subst (λ (x : ℕ). life start past x ≡ Some l) at is in
         here (sym at) (let same : who ≡ l = cc in same)
     by_serial false e =
-        let unheard_here : hears start s past r l ≡ false = heard-is start past r tag s l fresh good to ∙ rw (others_not start r tag k s who l (life_small start past k who ok lives) (life_small start past s l ok is) dialog (λ at. absurd (grind (arith, nat_tests)))) refl in
-        rw unheard_here refl
+        let denial_here : hears start s past r l ≡ false = heard-is start past r tag s l fresh good to ∙ rw (others_not start r tag k s who l (life_small start past k who ok lives) (life_small start past s l ok is) dialog (λ at. absurd (grind (arith, nat_tests)))) refl in
+        rw denial_here refl

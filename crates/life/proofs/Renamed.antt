@@ -4,7 +4,7 @@ use Rattle.std.specs.Prelude.{if◌then◌else◌, nat_lt, is_none, filter, ◌=
 use Rattle.std.specs.List.{list_all}
 use Rattle.sip_read.specs.declared.message.Request.{Request}
 use Rattle.notifier_model.specs.Limits.{Limits}
-use Rattle.notifier_model.specs.Requests.{event_of, asked, granted, asks_nothing, unheard, is_unwatched, birth_of as kind_of, is_malformed, misfit, key_of_request}
+use Rattle.notifier_model.specs.Requests.{event_of, asked, granted, asks_nothing, denial, is_unwatched, birth_of as kind_of, is_malformed, misfit, key_of_request}
 use Rattle.notifier_model.specs.declared.row.Unanswered.{Unanswered}
 use Rattle.life.specs.Life.{Deed, Life, Hearing, Born, Then, Heard, MailChanged, Progressed, Due, Answered, Disowned, Lost, Stopped, hearing, birth, last_heard, cseqs, accepts, grants, last_grant, is_above, end_of, end_of_grant, address, status, is_touched, one_if, number, just_made, unanswered, is_overdue, ended, terminated, is_removed, is_gone}
 use Rattle.life.specs.Renaming.{renamed_request, renamed_tag, other_tag}
@@ -105,7 +105,7 @@ module _ (old new : List ℕ) where
   last-renamed test test' same (Then t Stopped l) = last-renamed test test' same l
 
   heard-accepted : (limits : Limits) (l : Life) → AreAlike (accepts limits l) (accepts limits (renamed_life l))
-  unfolding unheard event_of asked
+  unfolding denial event_of asked
   heard-accepted limits l r = rw (birth-renamed l) refl
 
   heard-granted : (limits : Limits) (l : Life) → AreAlike (λ r. grants limits l r) (λ r. grants limits (renamed_life l) r)

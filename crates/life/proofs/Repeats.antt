@@ -17,7 +17,7 @@ use Rattle.life.proofs.Texts.{Bytes, never_both, and-left, and-right, and-false,
 use Rattle.life.proofs.Deeds.{hears, lived-comes, lived_is}
 use Rattle.life.proofs.NextLives.{befell-born, life-next}
 use Rattle.life.specs.Own.{is_own, born_of}
-use Rattle.life.specs.Apart.{all_keys, has_new_key, matters, are_apart}
+use Rattle.life.specs.Apart.{all_keys, has_new_key, matters, own_requests_are_new}
 use Rattle.life.specs.IsolationLaws.{AgainLaw}
 use Rattle.life.proofs.Mine.{fresh-apart}
 use Rattle.life.proofs.IsolationLaw.{once, apart_here}
@@ -134,13 +134,13 @@ born-of start serial x past None h = absurd (cc)
 born-of start serial x past (Some l) h = (l, refl, cc)
 
 pub again_law : AgainLaw
-unfolding born_of are_apart matters is_own concerns has_new_key
+unfolding born_of own_requests_are_new matters is_own concerns has_new_key
 again_law start serial x later past source again r born own apart =
     let b = born-of start serial x past (life start past serial) born in
     let here = once start serial past (Comes source r) b.0 b.1 in
     let dialog : is_in_dialog (tag_of start.place serial) x r ≡ true = first (is_in_dialog (tag_of start.place serial) x r) (is_born_at start serial past (Comes source r)) here own in
     let q = quiet-on start serial later (Comes source r ∷ past) r (quiet-first start serial past source r b.0 b.1 (subst (λ (y : Request). is_in_dialog (tag_of start.place serial) y r ≡ true) (sym b.2) dialog)
-    (λ h. apart_here (matters start serial x past (Comes source r)) (is_new (key_of_request r) (all_keys past)) (are_apart start serial x past) apart (counted b.0 b.1 own h))) in
+    (λ h. apart_here (matters start serial x past (Comes source r)) (is_new (key_of_request r) (all_keys past)) (own_requests_are_new start serial x past) apart (counted b.0 b.1 own h))) in
     let late = once start serial (later ++ Comes source r ∷ past) (Comes again r) q.l q.is in
     rw (late, q.is, q.still) (and-false (is_in_dialog (tag_of start.place serial) x r || false))
   where

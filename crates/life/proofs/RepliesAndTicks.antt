@@ -20,23 +20,23 @@ use Rattle.notifier_model.specs.declared.event.Event.TheVariants.{Request as Com
 use Rattle.notifier_model.specs.Requests.{is_refer, user_part, event_of, is_of_refer}
 use Rattle.notifier_model.specs.declared.row.Row.{Row}
 use Rattle.notifier_model.specs.declared.row.Unanswered.{Unanswered}
-use Rattle.notifier_model.specs.Book.{Book, nothing, all_rows, replied, ticked, shut, step}
-use Rattle.notifier_model.specs.Rows.{Told, stays, goes, wherever, with_sub, tells, ends, left, said, closed, takes_answer, answered, is_overdue as is_overdue_row, times_out, stops}
+use Rattle.notifier_model.specs.Book.{Book, nothing, all_rows, telling, replied, ticked, shut, step}
+use Rattle.notifier_model.specs.Rows.{Turned, stays, goes, wherever, with_sub, tells, ends, sweep, closed, takes_answer, answered, is_overdue as is_overdue_row, times_out, stops}
 use Rattle.notifier_model.specs.Out.{Send, notifications}
 use Rattle.life.specs.Past.{now, content, mail_content, last_counts, keys}
 use Rattle.life.specs.Life.{Deed, Life, Then, Due, Answered, Disowned, Lost, Stopped, birth, last_heard, address, number, end_of_grant, status, is_touched, unanswered, is_overdue, ended, terminated, is_removed, is_gone}
 use Rattle.life.specs.Lives.{is_answer_in_dialog, is_to_notify, answer_deed, tick_deed, is_due, when, lived, births, life, birth_at, begun}
 use Rattle.life.specs.Notices.{notices_at, body}
-use Rattle.life.proofs.Rows.{row_of, sub_of, want_of, usage_of, target_of, accepted_cseq, last_cseq, live_row, rows_to}
+use Rattle.life.proofs.Rows.{row_of, sub_of, want_of, usage_of, target_of, accepted_cseq, last_cseq, live_row, rows_to, left, said}
 use Rattle.life.proofs.Deeds.{lived-replies, lived-ticks, lived-shuts}
 use Rattle.life.proofs.NextLives.{births-of_none, Ranges}
 use Rattle.life.proofs.SoundLives.{sound_of, came, lived-birth, lived-status, next-birth, next-status, is_progress}
-use Rattle.life.proofs.Turns.{Follows, over_follows}
-use Rattle.life.proofs.AllRows.{Turned, Rules, by_rule}
+use Rattle.life.proofs.Turns.{told_from, Follows, over_follows}
+use Rattle.life.proofs.AllRows.{TurnsInto, Rules, by_rule}
 use Rattle.life.proofs.Invariant.{forgot, forgot-is, keys_of, Transfers, Holdings, Holds, Goes, forget_holdings}
 
 -- a rule for all rows, of a book that is otherwise as after e
-pub by_all_rows : (start : Start) (past : List Event) (e : Event) (b : Book) (rule : Row → Told) (outs : List Send) → Ranges start.place.limits → birth_at start past e ≡ None
+pub by_all_rows : (start : Start) (past : List Event) (e : Event) (b : Book) (rule : Row → Turned) (outs : List Send) → Ranges start.place.limits → birth_at start past e ≡ None
     → b.clock ≡ now (e ∷ past) → b.next ≡ births start past + 1 → b.rows ≡ rows_to start (life start past) (births start past) → Holdings start (e ∷ past) b.boxes → keys_of b.ring ≡ take start.place.limits.kept (keys start.place.limits (e ∷ past))
     → ((tag : Bytes) (more : List Send) → notifications tag (outs ++ more) ≡ notifications tag more) → Rules start past e rule → Goes start past e (all_rows b rule outs)
 unfolding all_rows
@@ -54,12 +54,12 @@ by_all_rows start past e b rule outs ok none clock next rows hold ring silent h 
     }
 
 left-stays : (rows : List Row) → left stays rows ≡ rows
-unfolding left stays
+unfolding sweep stays
 left-stays [] = refl
 left-stays (r ∷ rows) = ap (λ (rs : List Row). r ∷ rs) (left-stays rows)
 
 said-stays : (rows : List Row) → said stays rows ≡ []
-unfolding said stays
+unfolding sweep stays
 said-stays [] = refl
 said-stays (r ∷ rows) = said-stays rows
 
@@ -174,12 +174,12 @@ reply_turns : (start : Start) (past : List Event) (r : Response) → Rules start
 unfolding answered wherever takes_answer answer_deed
 reply_turns start past r s l is alive = rw (lived-replies start s past r l, answer-is start r s l) (by_test (is_answer_in_dialog (tag_of start.place s) (birth l) r && is_to_notify start.place.limits r l))
   where
-    by_status : (a b : Bool) → Turned start s (Replies r ∷ past) (if a then goes else if b then stays (closed r.head.cseq (row_of start s l)) else stays (row_of start s l)) l (option_map (λ d. Then (now past) d l) (if a then Some Disowned else when b (Answered r.head.cseq)))
+    by_status : (a b : Bool) → TurnsInto start s (Replies r ∷ past) (if a then goes else if b then stays (closed r.head.cseq (row_of start s l)) else stays (row_of start s l)) l (option_map (λ d. Then (now past) d l) (if a then Some Disowned else when b (Answered r.head.cseq)))
     by_status true b = goes_follows start s (Replies r ∷ past) (Then (now past) Disowned l) (unfold is_touched in refl) (unfold is_removed in refl)
     by_status false true = answered_follows start s (Replies r ∷ past) (now past) r.head.cseq l alive
     by_status false false = refl
 
-    by_test : (d : Bool) → Turned start s (Replies r ∷ past) (if d then takes_answer r (row_of start s l) else stays (row_of start s l)) l (if d then option_map (λ x. Then (now past) x l) (answer_deed r) else None)
+    by_test : (d : Bool) → TurnsInto start s (Replies r ∷ past) (if d then takes_answer r (row_of start s l) else stays (row_of start s l)) l (if d then option_map (λ x. Then (now past) x l) (answer_deed r) else None)
     by_test true = by_status (refuses r) (is_final r.status)
     by_test false = refl
 
@@ -192,10 +192,10 @@ reply_goes start past r b ok h =
 
 -- it ends with a last NOTIFY
 pub ended_follows : (start : Start) (es : List Event) (boxes : List Seen) (clock s : ℕ) (l m : Life) (reason : Reason) → number start.place.limits l + 1 ≡ number start.place.limits m → address start.place.limits l ≡ address start.place.limits m → body_of_held (content_in boxes (want_of start s l).event.package (want_of start s l).resource) ≡ body start es m
-    → is_touched start.place.limits m ≡ true → terminated start.place.limits m ≡ Some reason → Follows start s es (tells start.place boxes clock (row_of start s l) (over (end (row_of start s l).sub reason))) m
+    → is_touched start.place.limits m ≡ true → terminated start.place.limits m ≡ Some reason → Follows start s es (tells (told_from start.place boxes clock) (row_of start s l) (over (end (row_of start s l).sub reason))) m
 unfolding tells end row_of sub_of usage_of want_of
 ended_follows start es boxes clock s l m reason num at b touched out =
-    over_follows start boxes clock (address start.place.limits l) (want_of start s l) (with_sub (row_of start s l)) (usage_of start s l) (want_of start s l) (number start.place.limits l + 1) reason s es m refl num at b touched out
+    over_follows start boxes clock (address start.place.limits l) (with_sub (row_of start s l)) (usage_of start s l) (want_of start s l) (number start.place.limits l + 1) reason s es m refl num at b touched out
 
 -- the body after an event that changes no content, without a birth
 quiet_body : (start : Start) (past : List Event) (e : Event) (boxes : List Seen) (s : ℕ) (l : Life) (moment : ℕ) (deed : Deed) → Ranges start.place.limits → birth_at start past e ≡ None → is_quiet e ≡ true → Holdings start past boxes → life start past s ≡ Some l → is_gone start.place.limits l ≡ false → status (Then moment deed l) ≡ status l
@@ -206,7 +206,7 @@ quiet_body start past e boxes s l moment deed ok none quiet hold is alive same =
 
 -- ---- the planned stop
 
-shut_turns : (start : Start) (past : List Event) (b : Book) → Ranges start.place.limits → Holdings start past b.boxes → Rules start past Shuts (stops start.place b.boxes b.clock)
+shut_turns : (start : Start) (past : List Event) (b : Book) → Ranges start.place.limits → Holdings start past b.boxes → Rules start past Shuts (stops (telling start.place b))
 unfolding stops ends
 shut_turns start past b ok hold s l is alive = rw (lived-shuts start s past l)
     (ended_follows start (Shuts ∷ past) b.boxes b.clock s l (Then (now past) Stopped l) Deactivated (unfold number is_touched in refl) (unfold address last_heard birth in refl)
@@ -215,7 +215,7 @@ shut_turns start past b ok hold s l is alive = rw (lived-shuts start s past l)
 pub shut_goes : (start : Start) (past : List Event) (b : Book) → Ranges start.place.limits → Holds start past b → Goes start past Shuts (step start.place b Shuts)
 unfolding step shut now keys birth_at begun
 shut_goes start past b ok h =
-    by_all_rows start past Shuts b (stops start.place b.boxes b.clock) [] ok refl h.clock_is h.next_is h.rows_are (holdings_quiet start past Shuts b.boxes refl refl h.boxes_hold) h.ring_is (λ tag more. refl) (shut_turns start past b ok h.boxes_hold)
+    by_all_rows start past Shuts b (stops (telling start.place b)) [] ok refl h.clock_is h.next_is h.rows_are (holdings_quiet start past Shuts b.boxes refl refl h.boxes_hold) h.ring_is (λ tag more. refl) (shut_turns start past b ok h.boxes_hold)
 
 -- ---- a Tick
 
@@ -231,15 +231,15 @@ overdue-is start s l clock = any-same _ _ (unanswered start.place.limits l) (λ 
     since : (moment : ℕ) → nat_le patience (clock - moment) ≡ nat_le (moment + patience) clock
     since moment = grind (arith, nat_tests)
 
-tick_turns : (start : Start) (past : List Event) (t : ℕ) (b : Book) → Ranges start.place.limits → b.clock ≡ now (Ticks t ∷ past) → Holdings start past b.boxes → Rules start past (Ticks t) (times_out start.place b.boxes b.clock)
+tick_turns : (start : Start) (past : List Event) (t : ℕ) (b : Book) → Ranges start.place.limits → b.clock ≡ now (Ticks t ∷ past) → Holdings start past b.boxes → Rules start past (Ticks t) (times_out (telling start.place b))
 unfolding times_out wherever ends tick_deed is_due
 tick_turns start past t b ok clock hold s l is alive = unfold row_of sub_of in rw (lived-ticks start s past t l, overdue-is start s l b.clock, clock) (by_tests (is_overdue start.place.limits (now (Ticks t ∷ past)) l) (nat_le (end_of_grant start.place.limits l) (now (Ticks t ∷ past))))
   where
-    follows : Follows start s (Ticks t ∷ past) (tells start.place b.boxes (now (Ticks t ∷ past)) (row_of start s l) (over (end (row_of start s l).sub Timeout))) (Then (now (Ticks t ∷ past)) Due l)
+    follows : Follows start s (Ticks t ∷ past) (tells (told_from start.place b.boxes (now (Ticks t ∷ past))) (row_of start s l) (over (end (row_of start s l).sub Timeout))) (Then (now (Ticks t ∷ past)) Due l)
     follows = ended_follows start (Ticks t ∷ past) b.boxes (now (Ticks t ∷ past)) s l (Then (now (Ticks t ∷ past)) Due l) Timeout (unfold number is_touched in refl) (unfold address last_heard birth in refl)
         (quiet_body start past (Ticks t) b.boxes s l (now (Ticks t ∷ past)) Due ok (unfold birth_at begun in refl) refl hold is alive (unfold status in refl)) (unfold is_touched in refl) (unfold terminated is_touched ended in refl)
 
-    by_tests : (a d : Bool) → Turned start s (Ticks t ∷ past) (if a then goes else if d then tells start.place b.boxes (now (Ticks t ∷ past)) (row_of start s l) (over (end (row_of start s l).sub Timeout)) else stays (row_of start s l)) l (option_map (λ x. Then (now (Ticks t ∷ past)) x l) (if a then Some Lost else when d Due))
+    by_tests : (a d : Bool) → TurnsInto start s (Ticks t ∷ past) (if a then goes else if d then tells (told_from start.place b.boxes (now (Ticks t ∷ past))) (row_of start s l) (over (end (row_of start s l).sub Timeout)) else stays (row_of start s l)) l (option_map (λ x. Then (now (Ticks t ∷ past)) x l) (if a then Some Lost else when d Due))
     by_tests true d = goes_follows start s (Ticks t ∷ past) (Then (now (Ticks t ∷ past)) Lost l) (unfold is_touched in refl) (unfold is_removed in refl)
     by_tests false true = follows
     by_tests false false = refl
@@ -272,9 +272,9 @@ tick_goes start past t b ok h = by_time (nat_lt last_moment t) refl
     clock : nat_lt last_moment t ≡ false → max b.clock t ≡ now (Ticks t ∷ past)
     clock e = ap (λ (n : ℕ). max n t) h.clock_is ∙ sym (now-early past t e)
 
-    by_time : (d : Bool) → nat_lt last_moment t ≡ d → Goes start past (Ticks t) (if d then record { book = b; outs = [] } else all_rows (record b { clock = max b.clock t }) (times_out start.place b.boxes (max b.clock t)) [])
+    by_time : (d : Bool) → nat_lt last_moment t ≡ d → Goes start past (Ticks t) (if d then record { book = b; outs = [] } else all_rows (record b { clock = max b.clock t }) (times_out (told_from start.place b.boxes (max b.clock t))) [])
     by_time true e =
         by_nothing start past (Ticks t) b [] ok refl (h.clock_is ∙ sym (now-late past t e)) h.next_is h.rows_are after h.ring_is (λ tag. unfold notifications in refl) (tick_nothing start past t e ok)
     by_time false e =
-        by_all_rows start past (Ticks t) (record b { clock = max b.clock t }) (times_out start.place b.boxes (max b.clock t)) [] ok refl (clock e) h.next_is h.rows_are after h.ring_is (λ tag more. refl)
+        by_all_rows start past (Ticks t) (record b { clock = max b.clock t }) (times_out (told_from start.place b.boxes (max b.clock t))) [] ok refl (clock e) h.next_is h.rows_are after h.ring_is (λ tag more. refl)
         (tick_turns start past t (record b { clock = max b.clock t }) ok (clock e) h.boxes_hold)

@@ -17,7 +17,7 @@ use Rattle.notifier_model.specs.declared.event.Event.{Event}
 use Rattle.notifier_model.specs.Start.{Start, tag_of}
 use Rattle.notifier_model.specs.Requests.{is_refer, user_part, event_of}
 use Rattle.notifier_model.specs.declared.row.Row.{Row}
-use Rattle.notifier_model.specs.Rows.{Told, left, said}
+use Rattle.notifier_model.specs.Rows.{Turned, sweep}
 use Rattle.notifier_model.specs.Out.{Send, Answers, Notifies, Starts, Notification, notification, notifications}
 use Rattle.life.specs.Life.{Life, Born, Then, Heard, birth, address, number, end_of_grant, accepts, is_gone, last_accepted, one_if, unanswered}
 use Rattle.life.specs.Lives.{count_alive, lives, births, life}
@@ -82,38 +82,48 @@ unfoldable pub rows_to : Start → (ℕ → Option Life) → ℕ → List Row
 rows_to start life zero = []
 rows_to start life (suc n) = rows_to start life n ++ option_to_list (live_row start (suc n) (life (suc n)))
 
+-- what a rule leaves of all rows, says of them, and takes with those that go
+abbrev pub left : (Row → Turned) → List Row → List Row
+left rule rows = (sweep rule rows).rows
+
+abbrev pub said : (Row → Turned) → List Row → List Send
+said rule rows = (sweep rule rows).notifies
+
+abbrev pub gone : (Row → Turned) → List Row → List Bytes
+gone rule rows = (sweep rule rows).gone
+
 -- what a rule makes of a row that may be there
-unfoldable pub left_of : (Row → Told) → Option Row → Option Row
+unfoldable pub left_of : (Row → Turned) → Option Row → Option Row
 left_of rule None = None
 left_of rule (Some row) = (rule row).row
 
-unfoldable pub said_of : (Row → Told) → Option Row → List Send
+unfoldable pub said_of : (Row → Turned) → Option Row → List Send
 said_of rule None = []
 said_of rule (Some row) = (rule row).notifies
 
-left-append : (rule : Row → Told) (xs ys : List Row) → left rule (xs ++ ys) ≡ left rule xs ++ left rule ys
-unfolding left
+left-append : (rule : Row → Turned) (xs ys : List Row) → left rule (xs ++ ys) ≡ left rule xs ++ left rule ys
+unfolding sweep
 left-append rule [] ys = refl
 left-append rule (x ∷ xs) ys = rw (left-append rule xs ys) (sym (append_assoc (option_to_list (rule x).row) (left rule xs) (left rule ys)))
 
-said-append : (rule : Row → Told) (xs ys : List Row) → said rule (xs ++ ys) ≡ said rule xs ++ said rule ys
-unfolding said
+said-append : (rule : Row → Turned) (xs ys : List Row) → said rule (xs ++ ys) ≡ said rule xs ++ said rule ys
+unfolding sweep
 said-append rule [] ys = refl
 said-append rule (x ∷ xs) ys = rw (said-append rule xs ys) (sym (append_assoc (rule x).notifies (said rule xs) (said rule ys)))
 
-left-option : (rule : Row → Told) (o : Option Row) → left rule (option_to_list o) ≡ option_to_list (left_of rule o)
-unfolding left left_of
+left-option : (rule : Row → Turned) (o : Option Row) → left rule (option_to_list o) ≡ option_to_list (left_of rule o)
+unfolding sweep left_of
 left-option rule None = refl
 left-option rule (Some row) = append-nil (option_to_list (rule row).row)
 
-said-option : (rule : Row → Told) (o : Option Row) → said rule (option_to_list o) ≡ said_of rule o
-unfolding said said_of
+said-option : (rule : Row → Turned) (o : Option Row) → said rule (option_to_list o) ≡ said_of rule o
+unfolding sweep said_of
 said-option rule None = refl
 said-option rule (Some row) = append-nil (rule row).notifies
 
 -- the rows after a rule, where each life goes on as the rule says
-pub left-rows_to : (start : Start) (rule : Row → Told) (life after : ℕ → Option Life) (n : ℕ) → ((s : ℕ) → s ≤ n → left_of rule (live_row start s (life s)) ≡ live_row start s (after s)) → left rule (rows_to start life n) ≡ rows_to start after n
-unfolding rows_to left
+pub left-rows_to : (start : Start) (rule : Row → Turned) (life after : ℕ → Option Life) (n : ℕ) → ((s : ℕ) → s ≤ n → left_of rule (live_row start s (life s)) ≡ live_row start s (after s)) → left rule (rows_to start life n) ≡ rows_to start after n
+unfolding rows_to sweep
 left-rows_to start rule life after zero h = refl
 left-rows_to start rule life after (suc n) h =
     rw (left-append rule (rows_to start life n) (option_to_list (live_row start (suc n) (life (suc n)))), left-option rule (live_row start (suc n) (life (suc n))), h (suc n) (omega arith), left-rows_to start rule life after n (λ s le. h s (omega arith))) refl
@@ -178,8 +188,8 @@ is_within_n : ℕ → ℕ → Bool
 is_within_n k n = nat_lt 0 k && nat_le k n
 
 -- what is said of k: nothing by the row of anybody else
-said-within : (start : Start) (rule : Row → Told) (life : ℕ → Option Life) (tag : Bytes) (k n : ℕ) → ((s : ℕ) → s ≤ n → (s ≡ k → ⊥) → notifications tag (said_of rule (live_row start s (life s))) ≡ []) → notifications tag (said rule (rows_to start life n)) ≡ (if is_within_n k n then notifications tag (said_of rule (live_row start k (life k))) else [])
-unfolding rows_to said is_within_n notifications
+said-within : (start : Start) (rule : Row → Turned) (life : ℕ → Option Life) (tag : Bytes) (k n : ℕ) → ((s : ℕ) → s ≤ n → (s ≡ k → ⊥) → notifications tag (said_of rule (live_row start s (life s))) ≡ []) → notifications tag (said rule (rows_to start life n)) ≡ (if is_within_n k n then notifications tag (said_of rule (live_row start k (life k))) else [])
+unfolding rows_to sweep is_within_n notifications
 said-within start rule life tag k zero others = by_test (nat_lt 0 k && nat_le k 0) (let e : (nat_lt 0 k && nat_le k 0) ≡ false = grind (arith, nat_tests) in e)
   where
     by_test : (d : Bool) → d ≡ false → ◌≡◌ {A = List Notification} [] (if d then notifications tag (said_of rule (live_row start k (life k))) else [])
@@ -206,7 +216,7 @@ said-within start rule life tag k (suc n) others =
         rw (others (suc n) (omega arith) other, same) (append-nil (if nat_lt 0 k && nat_le k n then notifications tag (said_of rule (live_row start k (life k))) else []))
 
 -- the same, where no one else has a life
-pub said-rows_to : (start : Start) (rule : Row → Told) (life : ℕ → Option Life) (tag : Bytes) (k n : ℕ) → ((s : ℕ) → s ≤ n → (s ≡ k → ⊥) → notifications tag (said_of rule (live_row start s (life s))) ≡ []) → ((s : ℕ) → (s ≡ 0) ⊎ (n < s) → life s ≡ None) → notifications tag (said rule (rows_to start life n)) ≡ notifications tag (said_of rule (live_row start k (life k)))
+pub said-rows_to : (start : Start) (rule : Row → Turned) (life : ℕ → Option Life) (tag : Bytes) (k n : ℕ) → ((s : ℕ) → s ≤ n → (s ≡ k → ⊥) → notifications tag (said_of rule (live_row start s (life s))) ≡ []) → ((s : ℕ) → (s ≡ 0) ⊎ (n < s) → life s ≡ None) → notifications tag (said rule (rows_to start life n)) ≡ notifications tag (said_of rule (live_row start k (life k)))
 unfolding live_row said_of is_within_n notifications
 said-rows_to start rule life tag k n others none = said-within start rule life tag k n others ∙ by_place (nat_lt 0 k && nat_le k n) refl
   where

@@ -21,15 +21,20 @@ use Rattle.notifier_model.specs.Start.{Start, tag_of}
 use Rattle.notifier_model.specs.declared.event.Event.{Event}
 use Rattle.sip_write.specs.Notify.{NotifyText}
 use Rattle.notifier_model.specs.declared.row.Row.{Row}
-use Rattle.notifier_model.specs.Rows.{Told, opened, turned, notify}
+use Rattle.package.specs.Content.{finite_maps}
+use Rattle.notifier_model.specs.declared.place.Place.{Place}
+use Rattle.notifier_model.specs.Rows.{Telling, Turned, opened, turned, notify}
 use Rattle.notifier_model.specs.Out.{Notifies, Notification, notification, notifications}
 use Rattle.life.specs.Past.{now}
 use Rattle.life.specs.Life.{Life, address, number, end_of_grant, is_touched, ended, terminated, is_removed, is_gone}
 use Rattle.life.specs.Notices.{phase, body, notice_of, notices_at}
 use Rattle.life.proofs.Rows.{usage_of, want_of, sub_of, row_of, live_row}
 
+abbrev pub told_from : Place → List Seen → ℕ → Telling finite_maps
+told_from place boxes clock = record { place = place; boxes = boxes; clock = clock }
+
 -- a row after it was told, and what the life says then
-pub record Follows (start : Start) (serial : ℕ) (es : List Event) (told : Told) (l : Life) : Type 0 where
+pub record Follows (start : Start) (serial : ℕ) (es : List Event) (told : Turned) (l : Life) : Type 0 where
   pub row : told.row ≡ live_row start serial (Some l)
   pub own : notifications (tag_of start.place serial) told.notifies ≡ notices_at start es (Some l)
   pub others : (tag : Bytes) → bytes_eq (tag_of start.place serial) tag ≡ false → notifications tag told.notifies ≡ []
@@ -56,26 +61,26 @@ others_notify tag mine to n e h =
     ap (λ (d : Bool). if d then notification to n ∷ [] else []) other
 
 -- a turn after which no state is left
-pub over_follows : (start : Start) (boxes : List Seen) (clock : ℕ) (to : Addr) (want : Want) (mk : State → Row) (usage : Usage) (asked : Want) (n : ℕ) (reason : Reason) (serial : ℕ) (es : List Event) (l : Life)
-    → usage.local_tag ≡ tag_of start.place serial → n ≡ number start.place.limits l → to ≡ address start.place.limits l → body_of_held (content_in boxes want.event.package want.resource) ≡ body start es l
-    → is_touched start.place.limits l ≡ true → terminated start.place.limits l ≡ Some reason → Follows start serial es (turned start.place boxes clock to want mk (Over usage asked (record { number = n; phase = Terminated reason }))) l
+pub over_follows : (start : Start) (boxes : List Seen) (clock : ℕ) (to : Addr) (mk : State → Row) (usage : Usage) (asked : Want) (n : ℕ) (reason : Reason) (serial : ℕ) (es : List Event) (l : Life)
+    → usage.local_tag ≡ tag_of start.place serial → n ≡ number start.place.limits l → to ≡ address start.place.limits l → body_of_held (content_in boxes asked.event.package asked.resource) ≡ body start es l
+    → is_touched start.place.limits l ≡ true → terminated start.place.limits l ≡ Some reason → Follows start serial es (turned (told_from start.place boxes clock) to mk (Over usage asked (record { number = n; phase = Terminated reason }))) l
 unfolding turned notify live_row is_gone phase
-over_follows start boxes clock to want mk usage asked n reason serial es l tag num at b touched out = record {
+over_follows start boxes clock to mk usage asked n reason serial es l tag num at b touched out = record {
   row = rw out refl;
-  own = own_notify start serial es l to (notify start.place boxes usage want (record { number = n; phase = Terminated reason })) touched tag (notice-is start es l to (notify start.place boxes usage want (record { number = n; phase = Terminated reason })) num (rw out refl) b at);
-  others = λ other h. others_notify other (tag_of start.place serial) to (notify start.place boxes usage want (record { number = n; phase = Terminated reason })) tag h;
+  own = own_notify start serial es l to (notify (told_from start.place boxes clock) usage asked (record { number = n; phase = Terminated reason })) touched tag (notice-is start es l to (notify (told_from start.place boxes clock) usage asked (record { number = n; phase = Terminated reason })) num (rw out refl) b at);
+  others = λ other h. others_notify other (tag_of start.place serial) to (notify (told_from start.place boxes clock) usage asked (record { number = n; phase = Terminated reason })) tag h;
 }
 
 -- a turn after which it goes on
-live_follows : (start : Start) (boxes : List Seen) (clock : ℕ) (to : Addr) (want : Want) (mk : State → Row) (sub : State) (n left : ℕ) (serial : ℕ) (es : List Event) (l : Life)
-    → sub.usage.local_tag ≡ tag_of start.place serial → n ≡ number start.place.limits l → to ≡ address start.place.limits l → body_of_held (content_in boxes want.event.package want.resource) ≡ body start es l
+live_follows : (start : Start) (boxes : List Seen) (clock : ℕ) (to : Addr) (mk : State → Row) (sub : State) (n left : ℕ) (serial : ℕ) (es : List Event) (l : Life)
+    → sub.usage.local_tag ≡ tag_of start.place serial → n ≡ number start.place.limits l → to ≡ address start.place.limits l → body_of_held (content_in boxes sub.want.event.package sub.want.resource) ≡ body start es l
     → opened clock (record { number = n; phase = Active left }) (mk sub) ≡ row_of start serial l → left ≡ end_of_grant start.place.limits l - now es
-    → is_touched start.place.limits l ≡ true → terminated start.place.limits l ≡ None → is_removed l ≡ false → Follows start serial es (turned start.place boxes clock to want mk (Live sub (record { number = n; phase = Active left }))) l
+    → is_touched start.place.limits l ≡ true → terminated start.place.limits l ≡ None → is_removed l ≡ false → Follows start serial es (turned (told_from start.place boxes clock) to mk (Live sub (record { number = n; phase = Active left }))) l
 unfolding turned notify live_row is_gone phase
-live_follows start boxes clock to want mk sub n left serial es l tag num at b row time touched out not_removed = record {
+live_follows start boxes clock to mk sub n left serial es l tag num at b row time touched out not_removed = record {
   row = rw (out, not_removed) (ap Some row);
-  own = own_notify start serial es l to (notify start.place boxes sub.usage want (record { number = n; phase = Active left })) touched tag (notice-is start es l to (notify start.place boxes sub.usage want (record { number = n; phase = Active left })) num (rw (out, time) refl) b at);
-  others = λ other h. others_notify other (tag_of start.place serial) to (notify start.place boxes sub.usage want (record { number = n; phase = Active left })) tag h;
+  own = own_notify start serial es l to (notify (told_from start.place boxes clock) sub.usage sub.want (record { number = n; phase = Active left })) touched tag (notice-is start es l to (notify (told_from start.place boxes clock) sub.usage sub.want (record { number = n; phase = Active left })) num (rw (out, time) refl) b at);
+  others = λ other h. others_notify other (tag_of start.place serial) to (notify (told_from start.place boxes clock) sub.usage sub.want (record { number = n; phase = Active left })) tag h;
 }
 
 terminated-told : (limits : Limits) (l : Life) (d : Bool) → is_touched limits l ≡ true → ended limits l ≡ None → (number limits l == limits.max_cseq) ≡ d → terminated limits l ≡ (if d then Some Deactivated else None)
@@ -83,20 +88,20 @@ unfolding terminated
 terminated-told limits l d touched goes_on e = rw (touched, goes_on, e) refl
 
 -- a turn that tells of something that doesn't end it: the last number does
-told_at : (start : Start) (boxes : List Seen) (clock : ℕ) (to : Addr) (want : Want) (mk : State → Row) (left : ℕ) (serial : ℕ) (es : List Event) (l : Life)
-    → to ≡ address start.place.limits l → body_of_held (content_in boxes want.event.package want.resource) ≡ body start es l
+told_at : (start : Start) (boxes : List Seen) (clock : ℕ) (to : Addr) (mk : State → Row) (left : ℕ) (serial : ℕ) (es : List Event) (l : Life)
+    → to ≡ address start.place.limits l → body_of_held (content_in boxes (want_of start serial l).event.package (want_of start serial l).resource) ≡ body start es l
     → opened clock (record { number = number start.place.limits l; phase = Active left }) (mk (sub_of start serial l)) ≡ row_of start serial l → left ≡ end_of_grant start.place.limits l - now es
-    → is_touched start.place.limits l ≡ true → ended start.place.limits l ≡ None → is_removed l ≡ false → Follows start serial es (turned start.place boxes clock to want mk (told (sub_of start serial l) left)) l
+    → is_touched start.place.limits l ≡ true → ended start.place.limits l ≡ None → is_removed l ≡ false → Follows start serial es (turned (told_from start.place boxes clock) to mk (told (sub_of start serial l) left)) l
 unfolding told
-told_at start boxes clock to want mk left serial es l at b row time touched goes_on not_removed = unfold sub_of want_of in by_max (number start.place.limits l == start.place.limits.max_cseq) refl
+told_at start boxes clock to mk left serial es l at b row time touched goes_on not_removed = unfold sub_of want_of in by_max (number start.place.limits l == start.place.limits.max_cseq) refl
   where
-    by_max : (d : Bool) → (number start.place.limits l == start.place.limits.max_cseq) ≡ d → Follows start serial es (turned start.place boxes clock to want mk (if d then Over (sub_of start serial l).usage (sub_of start serial l).want (record { number = (sub_of start serial l).count; phase = Terminated Deactivated }) else Live (sub_of start serial l) (record { number = (sub_of start serial l).count; phase = Active left }))) l
-    by_max true e = unfold sub_of usage_of in over_follows start boxes clock to want mk (sub_of start serial l).usage (sub_of start serial l).want (sub_of start serial l).count Deactivated serial es l refl refl at b touched (terminated-told start.place.limits l true touched goes_on e)
-    by_max false e = unfold sub_of usage_of in live_follows start boxes clock to want mk (sub_of start serial l) (sub_of start serial l).count left serial es l refl refl at b row time touched (terminated-told start.place.limits l false touched goes_on e) not_removed
+    by_max : (d : Bool) → (number start.place.limits l == start.place.limits.max_cseq) ≡ d → Follows start serial es (turned (told_from start.place boxes clock) to mk (if d then Over (sub_of start serial l).usage (sub_of start serial l).want (record { number = (sub_of start serial l).count; phase = Terminated Deactivated }) else Live (sub_of start serial l) (record { number = (sub_of start serial l).count; phase = Active left }))) l
+    by_max true e = unfold sub_of usage_of in over_follows start boxes clock to mk (sub_of start serial l).usage (sub_of start serial l).want (sub_of start serial l).count Deactivated serial es l refl refl at b touched (terminated-told start.place.limits l true touched goes_on e)
+    by_max false e = unfold sub_of usage_of in live_follows start boxes clock to mk (sub_of start serial l) (sub_of start serial l).count left serial es l refl refl at b row time touched (terminated-told start.place.limits l false touched goes_on e) not_removed
 
-pub told_follows : (start : Start) (boxes : List Seen) (clock : ℕ) (to : Addr) (want : Want) (mk : State → Row) (sub : State) (left : ℕ) (serial : ℕ) (es : List Event) (l : Life)
-    → sub ≡ sub_of start serial l → to ≡ address start.place.limits l → body_of_held (content_in boxes want.event.package want.resource) ≡ body start es l
+pub told_follows : (start : Start) (boxes : List Seen) (clock : ℕ) (to : Addr) (mk : State → Row) (sub : State) (left : ℕ) (serial : ℕ) (es : List Event) (l : Life)
+    → sub ≡ sub_of start serial l → to ≡ address start.place.limits l → body_of_held (content_in boxes (want_of start serial l).event.package (want_of start serial l).resource) ≡ body start es l
     → opened clock (record { number = number start.place.limits l; phase = Active left }) (mk (sub_of start serial l)) ≡ row_of start serial l → left ≡ end_of_grant start.place.limits l - now es
-    → is_touched start.place.limits l ≡ true → ended start.place.limits l ≡ None → is_removed l ≡ false → Follows start serial es (turned start.place boxes clock to want mk (told sub left)) l
-told_follows start boxes clock to want mk sub left serial es l is at b row time touched goes_on not_removed =
-    subst (λ (x : State). Follows start serial es (turned start.place boxes clock to want mk (told x left)) l) (sym is) (told_at start boxes clock to want mk left serial es l at b row time touched goes_on not_removed)
+    → is_touched start.place.limits l ≡ true → ended start.place.limits l ≡ None → is_removed l ≡ false → Follows start serial es (turned (told_from start.place boxes clock) to mk (told sub left)) l
+told_follows start boxes clock to mk sub left serial es l is at b row time touched goes_on not_removed =
+    subst (λ (x : State). Follows start serial es (turned (told_from start.place boxes clock) to mk (told x left)) l) (sym is) (told_at start boxes clock to mk left serial es l at b row time touched goes_on not_removed)

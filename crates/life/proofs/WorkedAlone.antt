@@ -27,7 +27,7 @@ use Rattle.life.specs.Renaming
 use Rattle.life.specs.Apart
 use Rattle.life.specs.Own.{own}
 use Rattle.life.specs.Renaming.{renamed, renamed_event, renamed_request}
-use Rattle.life.specs.Apart.{are_apart}
+use Rattle.life.specs.Apart.{own_requests_are_new}
 use Rattle.life.specs.Notices.{notices, newest_first}
 
 -- ---- what is shown of a notice: its number, its Subscription-State, its body, and the port that it goes to
@@ -40,27 +40,27 @@ shown n = Told n.number (state_text n.state) n.body n.to.port
 
 -- what the watcher of this subscription is told of these events
 unfoldable told : Start → ℕ → List Event → List Shown
-unfolding Tag.local_tag Tag.refusal_tag Requests.key_of_request Requests.is_sip_uri Requests.user_part Requests.event_of Requests.asked Requests.granted Requests.asks_nothing Requests.is_unwatched Requests.birth_of Requests.is_malformed Requests.misfit Requests.misplaced_at Requests.is_full Requests.unheard Table.told Table.accept Table.fetch Table.refresh Table.end Table.changed Table.is_answer_to Block.block_word Block.double_rounds Block.diagonal_round Block.column_round Block.quarter_round Steps.u32_at Hex.encode_with Fmt.digits Past.now Past.last_counts Past.mail_content Past.content Past.is_among Past.keys_with Past.keys Past.is_fresh Past.fits Life.birth Life.last_heard Life.cseqs Life.is_above Life.address Life.end_of_grant Life.status Life.is_touched Life.number Life.just_made Life.unanswered Life.is_overdue Life.ended Life.terminated Life.is_removed Life.is_gone Lives.is_in_dialog Lives.is_answer_in_dialog Lives.concerns Lives.may_hear Lives.is_to_notify Lives.answer_deed Lives.is_due Lives.tick_deed Lives.is_changed Lives.deed_at Lives.lived Lives.count_alive Lives.is_birth Lives.begun Lives.befalls Lives.go_on Lives.after Lives.lives Lives.births Lives.life Lives.birth_at Lives.befell Notices.phase Notices.body Notices.notice_of Notices.notices_at Notices.notices
+unfolding Tag.local_tag Tag.refusal_tag Requests.key_of_request Requests.is_sip_uri Requests.user_part Requests.event_of Requests.asked Requests.granted Requests.asks_nothing Requests.is_unwatched Requests.birth_of Requests.is_malformed Requests.misfit Requests.misplaced_at Requests.is_full Requests.denial Table.told Table.accept Table.fetch Table.refresh Table.end Table.changed Table.is_answer_to Block.block_word Block.double_rounds Block.diagonal_round Block.column_round Block.quarter_round Steps.u32_at Hex.encode_with Fmt.digits Past.now Past.last_counts Past.mail_content Past.content Past.is_among Past.keys_with Past.keys Past.is_fresh Past.fits Life.birth Life.last_heard Life.cseqs Life.is_above Life.address Life.end_of_grant Life.status Life.is_touched Life.number Life.just_made Life.unanswered Life.is_overdue Life.ended Life.terminated Life.is_removed Life.is_gone Lives.is_in_dialog Lives.is_answer_in_dialog Lives.concerns Lives.may_hear Lives.is_to_notify Lives.answer_deed Lives.is_due Lives.tick_deed Lives.is_changed Lives.deed_at Lives.lived Lives.count_alive Lives.is_birth Lives.begun Lives.befalls Lives.go_on Lives.after Lives.lives Lives.births Lives.life Lives.birth_at Lives.befell Notices.phase Notices.body Notices.notice_of Notices.notices_at Notices.notices
 told start serial es = map shown (notices start serial (newest_first es))
 
 -- its own events, renamed, newest first
 unfoldable alone_of : Start → Start → ℕ → Request → List Event → List Event
-unfolding Tag.local_tag Tag.refusal_tag Requests.key_of_request Requests.is_sip_uri Requests.user_part Requests.event_of Requests.asked Requests.granted Requests.asks_nothing Requests.is_unwatched Requests.birth_of Requests.is_malformed Requests.misfit Requests.misplaced_at Requests.is_full Requests.unheard Table.told Table.accept Table.fetch Table.refresh Table.end Table.changed Table.is_answer_to Block.block_word Block.double_rounds Block.diagonal_round Block.column_round Block.quarter_round Steps.u32_at Hex.encode_with Fmt.digits Past.now Past.last_counts Past.mail_content Past.content Past.is_among Past.keys_with Past.keys Past.is_fresh Past.fits Life.birth Life.last_heard Life.cseqs Life.is_above Life.address Life.end_of_grant Life.status Life.is_touched Life.number Life.just_made Life.unanswered Life.is_overdue Life.ended Life.terminated Life.is_removed Life.is_gone Lives.is_in_dialog Lives.is_answer_in_dialog Lives.concerns Lives.may_hear Lives.is_to_notify Lives.answer_deed Lives.is_due Lives.tick_deed Lives.is_changed Lives.deed_at Lives.lived Lives.count_alive Lives.is_birth Lives.begun Lives.befalls Lives.go_on Lives.after Lives.lives Lives.births Lives.life Lives.birth_at Lives.befell Notices.phase Notices.body Notices.notice_of Notices.notices_at Notices.notices Lives.is_born_at Own.is_own Own.own Renaming.renamed_event Renaming.renamed Apart.all_keys Apart.has_new_key Apart.matters Apart.are_apart
+unfolding Tag.local_tag Tag.refusal_tag Requests.key_of_request Requests.is_sip_uri Requests.user_part Requests.event_of Requests.asked Requests.granted Requests.asks_nothing Requests.is_unwatched Requests.birth_of Requests.is_malformed Requests.misfit Requests.misplaced_at Requests.is_full Requests.denial Table.told Table.accept Table.fetch Table.refresh Table.end Table.changed Table.is_answer_to Block.block_word Block.double_rounds Block.diagonal_round Block.column_round Block.quarter_round Steps.u32_at Hex.encode_with Fmt.digits Past.now Past.last_counts Past.mail_content Past.content Past.is_among Past.keys_with Past.keys Past.is_fresh Past.fits Life.birth Life.last_heard Life.cseqs Life.is_above Life.address Life.end_of_grant Life.status Life.is_touched Life.number Life.just_made Life.unanswered Life.is_overdue Life.ended Life.terminated Life.is_removed Life.is_gone Lives.is_in_dialog Lives.is_answer_in_dialog Lives.concerns Lives.may_hear Lives.is_to_notify Lives.answer_deed Lives.is_due Lives.tick_deed Lives.is_changed Lives.deed_at Lives.lived Lives.count_alive Lives.is_birth Lives.begun Lives.befalls Lives.go_on Lives.after Lives.lives Lives.births Lives.life Lives.birth_at Lives.befell Notices.phase Notices.body Notices.notice_of Notices.notices_at Notices.notices Lives.is_born_at Own.is_own Own.own Renaming.renamed_event Renaming.renamed Apart.all_keys Apart.has_new_key Apart.matters Apart.own_requests_are_new
 alone_of start other serial x es = renamed (tag_of start.place serial) (tag_of other.place 1) (own start serial x (newest_first es))
 
 -- the same under any tag
 unfoldable own_under : Bytes → Start → ℕ → Request → List Event → List Event
-unfolding Tag.local_tag Tag.refusal_tag Requests.key_of_request Requests.is_sip_uri Requests.user_part Requests.event_of Requests.asked Requests.granted Requests.asks_nothing Requests.is_unwatched Requests.birth_of Requests.is_malformed Requests.misfit Requests.misplaced_at Requests.is_full Requests.unheard Table.told Table.accept Table.fetch Table.refresh Table.end Table.changed Table.is_answer_to Block.block_word Block.double_rounds Block.diagonal_round Block.column_round Block.quarter_round Steps.u32_at Hex.encode_with Fmt.digits Past.now Past.last_counts Past.mail_content Past.content Past.is_among Past.keys_with Past.keys Past.is_fresh Past.fits Life.birth Life.last_heard Life.cseqs Life.is_above Life.address Life.end_of_grant Life.status Life.is_touched Life.number Life.just_made Life.unanswered Life.is_overdue Life.ended Life.terminated Life.is_removed Life.is_gone Lives.is_in_dialog Lives.is_answer_in_dialog Lives.concerns Lives.may_hear Lives.is_to_notify Lives.answer_deed Lives.is_due Lives.tick_deed Lives.is_changed Lives.deed_at Lives.lived Lives.count_alive Lives.is_birth Lives.begun Lives.befalls Lives.go_on Lives.after Lives.lives Lives.births Lives.life Lives.birth_at Lives.befell Notices.phase Notices.body Notices.notice_of Notices.notices_at Notices.notices Lives.is_born_at Own.is_own Own.own Renaming.renamed_event Renaming.renamed Apart.all_keys Apart.has_new_key Apart.matters Apart.are_apart
+unfolding Tag.local_tag Tag.refusal_tag Requests.key_of_request Requests.is_sip_uri Requests.user_part Requests.event_of Requests.asked Requests.granted Requests.asks_nothing Requests.is_unwatched Requests.birth_of Requests.is_malformed Requests.misfit Requests.misplaced_at Requests.is_full Requests.denial Table.told Table.accept Table.fetch Table.refresh Table.end Table.changed Table.is_answer_to Block.block_word Block.double_rounds Block.diagonal_round Block.column_round Block.quarter_round Steps.u32_at Hex.encode_with Fmt.digits Past.now Past.last_counts Past.mail_content Past.content Past.is_among Past.keys_with Past.keys Past.is_fresh Past.fits Life.birth Life.last_heard Life.cseqs Life.is_above Life.address Life.end_of_grant Life.status Life.is_touched Life.number Life.just_made Life.unanswered Life.is_overdue Life.ended Life.terminated Life.is_removed Life.is_gone Lives.is_in_dialog Lives.is_answer_in_dialog Lives.concerns Lives.may_hear Lives.is_to_notify Lives.answer_deed Lives.is_due Lives.tick_deed Lives.is_changed Lives.deed_at Lives.lived Lives.count_alive Lives.is_birth Lives.begun Lives.befalls Lives.go_on Lives.after Lives.lives Lives.births Lives.life Lives.birth_at Lives.befell Notices.phase Notices.body Notices.notice_of Notices.notices_at Notices.notices Lives.is_born_at Own.is_own Own.own Renaming.renamed_event Renaming.renamed Apart.all_keys Apart.has_new_key Apart.matters Apart.own_requests_are_new
 own_under tag start serial x es = renamed (tag_of start.place serial) tag (own start serial x (newest_first es))
 
 -- what it is told of its own events alone, by another start
 unfoldable told_alone : Start → Start → ℕ → Request → List Event → List Shown
-unfolding Tag.local_tag Tag.refusal_tag Requests.key_of_request Requests.is_sip_uri Requests.user_part Requests.event_of Requests.asked Requests.granted Requests.asks_nothing Requests.is_unwatched Requests.birth_of Requests.is_malformed Requests.misfit Requests.misplaced_at Requests.is_full Requests.unheard Table.told Table.accept Table.fetch Table.refresh Table.end Table.changed Table.is_answer_to Block.block_word Block.double_rounds Block.diagonal_round Block.column_round Block.quarter_round Steps.u32_at Hex.encode_with Fmt.digits Past.now Past.last_counts Past.mail_content Past.content Past.is_among Past.keys_with Past.keys Past.is_fresh Past.fits Life.birth Life.last_heard Life.cseqs Life.is_above Life.address Life.end_of_grant Life.status Life.is_touched Life.number Life.just_made Life.unanswered Life.is_overdue Life.ended Life.terminated Life.is_removed Life.is_gone Lives.is_in_dialog Lives.is_answer_in_dialog Lives.concerns Lives.may_hear Lives.is_to_notify Lives.answer_deed Lives.is_due Lives.tick_deed Lives.is_changed Lives.deed_at Lives.lived Lives.count_alive Lives.is_birth Lives.begun Lives.befalls Lives.go_on Lives.after Lives.lives Lives.births Lives.life Lives.birth_at Lives.befell Notices.phase Notices.body Notices.notice_of Notices.notices_at Notices.notices Lives.is_born_at Own.is_own Own.own Renaming.renamed_event Renaming.renamed Apart.all_keys Apart.has_new_key Apart.matters Apart.are_apart
+unfolding Tag.local_tag Tag.refusal_tag Requests.key_of_request Requests.is_sip_uri Requests.user_part Requests.event_of Requests.asked Requests.granted Requests.asks_nothing Requests.is_unwatched Requests.birth_of Requests.is_malformed Requests.misfit Requests.misplaced_at Requests.is_full Requests.denial Table.told Table.accept Table.fetch Table.refresh Table.end Table.changed Table.is_answer_to Block.block_word Block.double_rounds Block.diagonal_round Block.column_round Block.quarter_round Steps.u32_at Hex.encode_with Fmt.digits Past.now Past.last_counts Past.mail_content Past.content Past.is_among Past.keys_with Past.keys Past.is_fresh Past.fits Life.birth Life.last_heard Life.cseqs Life.is_above Life.address Life.end_of_grant Life.status Life.is_touched Life.number Life.just_made Life.unanswered Life.is_overdue Life.ended Life.terminated Life.is_removed Life.is_gone Lives.is_in_dialog Lives.is_answer_in_dialog Lives.concerns Lives.may_hear Lives.is_to_notify Lives.answer_deed Lives.is_due Lives.tick_deed Lives.is_changed Lives.deed_at Lives.lived Lives.count_alive Lives.is_birth Lives.begun Lives.befalls Lives.go_on Lives.after Lives.lives Lives.births Lives.life Lives.birth_at Lives.befell Notices.phase Notices.body Notices.notice_of Notices.notices_at Notices.notices Lives.is_born_at Own.is_own Own.own Renaming.renamed_event Renaming.renamed Apart.all_keys Apart.has_new_key Apart.matters Apart.own_requests_are_new
 told_alone start other serial x es = map shown (notices other 1 (renamed (tag_of start.place serial) (tag_of other.place 1) (own start serial x (newest_first es))))
 
 unfoldable apart : Start → ℕ → Request → List Event → Bool
-unfolding Tag.local_tag Tag.refusal_tag Requests.key_of_request Requests.is_sip_uri Requests.user_part Requests.event_of Requests.asked Requests.granted Requests.asks_nothing Requests.is_unwatched Requests.birth_of Requests.is_malformed Requests.misfit Requests.misplaced_at Requests.is_full Requests.unheard Table.told Table.accept Table.fetch Table.refresh Table.end Table.changed Table.is_answer_to Block.block_word Block.double_rounds Block.diagonal_round Block.column_round Block.quarter_round Steps.u32_at Hex.encode_with Fmt.digits Past.now Past.last_counts Past.mail_content Past.content Past.is_among Past.keys_with Past.keys Past.is_fresh Past.fits Life.birth Life.last_heard Life.cseqs Life.is_above Life.address Life.end_of_grant Life.status Life.is_touched Life.number Life.just_made Life.unanswered Life.is_overdue Life.ended Life.terminated Life.is_removed Life.is_gone Lives.is_in_dialog Lives.is_answer_in_dialog Lives.concerns Lives.may_hear Lives.is_to_notify Lives.answer_deed Lives.is_due Lives.tick_deed Lives.is_changed Lives.deed_at Lives.lived Lives.count_alive Lives.is_birth Lives.begun Lives.befalls Lives.go_on Lives.after Lives.lives Lives.births Lives.life Lives.birth_at Lives.befell Notices.phase Notices.body Notices.notice_of Notices.notices_at Notices.notices Lives.is_born_at Own.is_own Own.own Renaming.renamed_event Renaming.renamed Apart.all_keys Apart.has_new_key Apart.matters Apart.are_apart
-apart start serial x es = are_apart start serial x (newest_first es)
+unfolding Tag.local_tag Tag.refusal_tag Requests.key_of_request Requests.is_sip_uri Requests.user_part Requests.event_of Requests.asked Requests.granted Requests.asks_nothing Requests.is_unwatched Requests.birth_of Requests.is_malformed Requests.misfit Requests.misplaced_at Requests.is_full Requests.denial Table.told Table.accept Table.fetch Table.refresh Table.end Table.changed Table.is_answer_to Block.block_word Block.double_rounds Block.diagonal_round Block.column_round Block.quarter_round Steps.u32_at Hex.encode_with Fmt.digits Past.now Past.last_counts Past.mail_content Past.content Past.is_among Past.keys_with Past.keys Past.is_fresh Past.fits Life.birth Life.last_heard Life.cseqs Life.is_above Life.address Life.end_of_grant Life.status Life.is_touched Life.number Life.just_made Life.unanswered Life.is_overdue Life.ended Life.terminated Life.is_removed Life.is_gone Lives.is_in_dialog Lives.is_answer_in_dialog Lives.concerns Lives.may_hear Lives.is_to_notify Lives.answer_deed Lives.is_due Lives.tick_deed Lives.is_changed Lives.deed_at Lives.lived Lives.count_alive Lives.is_birth Lives.begun Lives.befalls Lives.go_on Lives.after Lives.lives Lives.births Lives.life Lives.birth_at Lives.befell Notices.phase Notices.body Notices.notice_of Notices.notices_at Notices.notices Lives.is_born_at Own.is_own Own.own Renaming.renamed_event Renaming.renamed Apart.all_keys Apart.has_new_key Apart.matters Apart.own_requests_are_new
+apart start serial x es = own_requests_are_new start serial x (newest_first es)
 
 -- ---- starts and requests
 

@@ -54,9 +54,9 @@ module _ {maps : Maps} where
 
   -- Each request that matters to it names no transaction, or one that no request before it names. A request that comes again
   -- doesn't matter, so whoever retransmits does no harm.
-  unfoldable pub are_apart : StartBy maps → ℕ → Request → List Event → Bool
-  are_apart start serial x [] = true
-  are_apart start serial x (e ∷ past) = (not (matters start serial x past e) || has_new_key past e) && are_apart start serial x past
+  unfoldable pub own_requests_are_new : StartBy maps → ℕ → Request → List Event → Bool
+  own_requests_are_new start serial x [] = true
+  own_requests_are_new start serial x (e ∷ past) = (not (matters start serial x past e) || has_new_key past e) && own_requests_are_new start serial x past
 
 -- ---- no key twice
 
@@ -71,9 +71,9 @@ has_none_of keys Shuts = true
 
 module _ {maps : Maps} where
   -- Each request of its own names no transaction, or one that no other request names: none before it, and none of those after
-  -- it, whose keys are these. That is simpler to say than `are_apart`, and asks more: it leaves out whoever retransmits.
-  unfoldable pub have_own_keys : StartBy maps → ℕ → Request → List Key → List Event → Bool
-  have_own_keys start serial x later [] = true
-  have_own_keys start serial x later (e ∷ past) =
+  -- it, whose keys are these. That is simpler to say than `own_requests_are_new`, and asks more: it leaves out whoever retransmits.
+  unfoldable pub own_keys_are_unique : StartBy maps → ℕ → Request → List Key → List Event → Bool
+  own_keys_are_unique start serial x later [] = true
+  own_keys_are_unique start serial x later (e ∷ past) =
       (not (is_own start serial x past e) || (has_none_of later e && has_none_of (all_keys past) e))
-      && have_own_keys start serial x (all_keys (e ∷ []) ++ later) past
+      && own_keys_are_unique start serial x (all_keys (e ∷ []) ++ later) past

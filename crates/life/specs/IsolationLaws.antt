@@ -11,7 +11,7 @@ use Rattle.life.specs.Notices.{newest_first, notices}
 use Rattle.life.specs.Laws.{IsStart, notifies_with, AreNotifies, outs}
 use Rattle.life.specs.Own.{is_own, own, born_of}
 use Rattle.life.specs.Renaming.{renamed}
-use Rattle.life.specs.Apart.{matters, are_apart, have_own_keys}
+use Rattle.life.specs.Apart.{matters, own_requests_are_new, own_keys_are_unique}
 
 -- ---- its own events alone
 
@@ -25,21 +25,23 @@ pub record IsLike (start other : Start) (x : Request) : Type 0 where
       content_in other.boxes (event_of x).package (user_part x.uri)
       ≡ content_in start.boxes (event_of x).package (user_part x.uri)
 
+-- its own events, as they come to a notifier where nothing else happens: there it is the first, and so has serial 1
+abbrev pub alone : Start → Start → ℕ → Request → List Event → List Event
+alone start other serial x past = renamed (tag_of start.place serial) (tag_of other.place 1) (own start serial x past)
+
 -- What its watcher is told of all events is what it is told of its own events alone, under the tag that it has there.
 abbrev pub AloneLaw : Type 0
 AloneLaw = (start other : Start) (serial : ℕ) (x : Request) (past : List Event) →
-    born_of start serial past ≡ Some x → IsLike start other x → are_apart start serial x past ≡ true →
-    notices start serial past
-    ≡ notices other 1 (renamed (tag_of start.place serial) (tag_of other.place 1) (own start serial x past))
+    born_of start serial past ≡ Some x → IsLike start other x → own_requests_are_new start serial x past ≡ true →
+    notices start serial past ≡ notices other 1 (alone start other serial x past)
 
 -- The same of what goes out: all NOTIFYs that this notifier sends with its tag are those of its own events alone.
 abbrev pub OutsLaw : Type 0
 OutsLaw = (start other : Start) (serial : ℕ) (x : Request) (es : List Event) →
     let past : List Event = newest_first es in
-    let tag : List ℕ = tag_of start.place serial in
     IsStart start → serial < 2 ^ 64 →
-    born_of start serial past ≡ Some x → IsLike start other x → are_apart start serial x past ≡ true →
-    AreNotifies tag (notices other 1 (renamed tag (tag_of other.place 1) (own start serial x past))) (notifies_with tag (outs start es))
+    born_of start serial past ≡ Some x → IsLike start other x → own_requests_are_new start serial x past ≡ true →
+    AreNotifies (tag_of start.place serial) (notices other 1 (alone start other serial x past)) (notifies_with (tag_of start.place serial) (outs start es))
 
 -- ---- requests that come again
 
@@ -47,7 +49,7 @@ OutsLaw = (start other : Start) (serial : ℕ) (x : Request) (es : List Event) �
 abbrev pub AgainLaw : Type 0
 AgainLaw = (start : Start) (serial : ℕ) (x : Request) (later past : List Event) (source again : Addr) (r : Request) →
     born_of start serial past ≡ Some x → is_own start serial x past (Comes source r) ≡ true →
-    are_apart start serial x (Comes source r ∷ past) ≡ true →
+    own_requests_are_new start serial x (Comes source r ∷ past) ≡ true →
     matters start serial x (later ++ Comes source r ∷ past) (Comes again r) ≡ false
 
 -- ---- two runs
@@ -58,8 +60,8 @@ pub record HasSameOwn (start other : Start) (serial serial' : ℕ) (x : Request)
   pub born : born_of start serial past ≡ Some x
   pub born_too : born_of other serial' past' ≡ Some x
   pub like : IsLike start other x
-  pub apart : are_apart start serial x past ≡ true
-  pub apart_too : are_apart other serial' x past' ≡ true
+  pub apart : own_requests_are_new start serial x past ≡ true
+  pub apart_too : own_requests_are_new other serial' x past' ≡ true
   pub same : (tag : List ℕ) →
       renamed (tag_of start.place serial) tag (own start serial x past)
       ≡ renamed (tag_of other.place serial') tag (own other serial' x past')
@@ -75,6 +77,5 @@ SameLaw = (start other : Start) (serial serial' : ℕ) (x : Request) (past past'
 -- the first law, with the simpler premise
 abbrev pub OwnKeysLaw : Type 0
 OwnKeysLaw = (start other : Start) (serial : ℕ) (x : Request) (past : List Event) →
-    born_of start serial past ≡ Some x → IsLike start other x → have_own_keys start serial x [] past ≡ true →
-    notices start serial past
-    ≡ notices other 1 (renamed (tag_of start.place serial) (tag_of other.place 1) (own start serial x past))
+    born_of start serial past ≡ Some x → IsLike start other x → own_keys_are_unique start serial x [] past ≡ true →
+    notices start serial past ≡ notices other 1 (alone start other serial x past)

@@ -12,7 +12,7 @@ use Rattle.subscription.specs.declared.notify.Reason.TheVariants.{Timeout, Nores
 use Rattle.notifier_model.specs.Limits.{Limits}
 use Rattle.notifier_model.specs.Start.{patience}
 use Rattle.notifier_model.specs.declared.row.Unanswered.{Unanswered}
-use Rattle.notifier_model.specs.Requests.{event_of, asked, granted, asks_nothing, is_unwatched, unheard}
+use Rattle.notifier_model.specs.Requests.{event_of, asked, granted, asks_nothing, is_unwatched, denial}
 
 -- What may befall it once it is born: it hears a request in its dialog; what its mailbox holds changes; there is word of its
 -- transfer; its time is up; the NOTIFY with this number is answered; a 481 to a NOTIFY disowns it; a NOTIFY stays unanswered
@@ -72,7 +72,7 @@ is_above l cseq = list_all (λ heard. nat_lt heard cseq) (cseqs l)
 
 -- Does it accept this request? A SUBSCRIBE with its own package and `id`, which asks for no time or for enough.
 abbrev pub accepts : Limits → Life → Request → Bool
-accepts limits l r = is_none (unheard limits (event_of_life l) r)
+accepts limits l r = is_none (denial limits (event_of_life l) r)
 
 -- does this request grant it time: it accepts it, and more than 0 is asked for?
 abbrev pub grants : Limits → Life → Request → Bool

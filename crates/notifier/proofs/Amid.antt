@@ -5,11 +5,11 @@ use Rattle.std.proofs.lemmas.List.{append-nil}
 use Rattle.notifier_model.specs.declared.row.Row.{Row}
 use Rattle.notifier_model.specs.Out.{Send}
 use Rattle.notifier_model.specs.Requests.{is_of_refer}
-use Rattle.notifier_model.specs.Rows.{Told, stays, left, said, gone, gone_at, only}
+use Rattle.notifier_model.specs.Rows.{Turned, stays, sweep, gone_at, only}
 use Rattle.notifier.specs.Stored.{with_serial}
 use Rattle.notifier.specs.Among.{has, among, Cover, said_at, gone_with}
 use Rattle.notifier.proofs.Rising.{Rises, neq-eqb, with_serial-same, with_serial-other, with_serial-below}
-use Rattle.notifier.proofs.Passes.{KeepsSerials, only-same, only-other, left-stays, left-told}
+use Rattle.notifier.proofs.Passes.{left, said, gone, KeepsSerials, only-same, only-other, left-stays, left-told}
 
 pub has-push : (t s : ℕ) (ss : List ℕ) → has t (ss ++ s ∷ []) ≡ (has t ss || (s == t))
 has-push t s [] = or_false (s == t)
@@ -23,11 +23,11 @@ has-push t s (x ∷ ss) = ap (λ b. (x == t) || b) (has-push t s ss) ∙ assoc (
     assoc true b c = refl
     assoc false b c = refl
 
-pub among-in : (ss : List ℕ) (rule : Row → Told) (row : Row) → has row.serial ss ≡ true → among ss rule row ≡ rule row
+pub among-in : (ss : List ℕ) (rule : Row → Turned) (row : Row) → has row.serial ss ≡ true → among ss rule row ≡ rule row
 unfolding among
 among-in ss rule row h = rw h refl
 
-pub among-out : (ss : List ℕ) (rule : Row → Told) (row : Row) → has row.serial ss ≡ false → among ss rule row ≡ stays row
+pub among-out : (ss : List ℕ) (rule : Row → Turned) (row : Row) → has row.serial ss ≡ false → among ss rule row ≡ stays row
 unfolding among
 among-out ss rule row h = rw h refl
 
@@ -35,7 +35,7 @@ tested : (b : Bool) → (b ≡ true) ⊎ (b ≡ false)
 tested true = inl refl
 tested false = inr refl
 
-module _ (s : ℕ) (rule : Row → Told) (keeps : KeepsSerials rule) where
+module _ (s : ℕ) (rule : Row → Turned) (keeps : KeepsSerials rule) where
   -- a row of another serial stays
   skip_option : (key : ℕ) (o : Option Row) (rows : List Row) → key ≢ s → IfSome o (λ r. r.serial ≡ key) → left (only s rule) (option_to_list o ++ rows) ≡ option_to_list o ++ left (only s rule) rows
   skip_option key None rows d h = refl
@@ -59,7 +59,7 @@ module _ (s : ℕ) (rule : Row → Told) (keeps : KeepsSerials rule) where
     not_s t h e = let x : has s ss ≡ true = ap (λ k. has k ss) (sym e) ∙ h in absurd (cc)
 
     pub left-more : (rows : List Row) → left (only s rule) (left (among ss rule) rows) ≡ left (among (ss ++ s ∷ []) rule) rows
-    unfolding left
+    unfolding sweep
     left-more [] = refl
     left-more (row ∷ rows) = elim (tested (has row.serial ss)) [
       | inl h ↦
@@ -79,41 +79,41 @@ module _ (s : ℕ) (rule : Row → Told) (keeps : KeepsSerials rule) where
       ]
     ]
 
-same_rule : (rule : Row → Told) (ss : List ℕ) (row : Row) → (has row.serial ss ≡ true) ⊎ (rule row ≡ stays row) → among ss rule row ≡ rule row
+same_rule : (rule : Row → Turned) (ss : List ℕ) (row : Row) → (has row.serial ss ≡ true) ⊎ (rule row ≡ stays row) → among ss rule row ≡ rule row
 same_rule rule ss row (inl h) = among-in ss rule row h
 same_rule rule ss row (inr e) = elim (tested (has row.serial ss)) [
   | inl h ↦ among-in ss rule row h
   | inr h ↦ among-out ss rule row h ∙ sym e
 ]
 
-covered_tail : (rule : Row → Told) (ss : List ℕ) (row : Row) (rows : List Row) (low : ℕ) → Rises low (row ∷ rows) → ((s : ℕ) (r : Row) → with_serial s (row ∷ rows) ≡ Some r → (has s ss ≡ true) ⊎ (rule r ≡ stays r)) → (s : ℕ) (r : Row) → with_serial s rows ≡ Some r → (has s ss ≡ true) ⊎ (rule r ≡ stays r)
+covered_tail : (rule : Row → Turned) (ss : List ℕ) (row : Row) (rows : List Row) (low : ℕ) → Rises low (row ∷ rows) → ((s : ℕ) (r : Row) → with_serial s (row ∷ rows) ≡ Some r → (has s ss ≡ true) ⊎ (rule r ≡ stays r)) → (s : ℕ) (r : Row) → with_serial s rows ≡ Some r → (has s ss ≡ true) ⊎ (rule r ≡ stays r)
 covered_tail rule ss row rows low rises h s r found = elim (cases_eq row.serial s) [
   | inl e ↦ let n = with_serial-below (row.serial + 1) s rows rises.1 (omega arith) in absurd (cc)
   | inr d ↦ h s r (with_serial-other s row rows d ∙ found)
 ]
 
 -- ---- what is gathered from the rows in their order
-module _ {X : Type 0} (part : Row → Told → List X) where
-  pub gather : (Row → Told) → List Row → List X
+module _ {X : Type 0} (part : Row → Turned → List X) where
+  pub gather : (Row → Turned) → List Row → List X
   gather rule [] = []
   gather rule (row ∷ rows) = part row (rule row) ++ gather rule rows
 
-  pub part_at : (Row → Told) → Option Row → List X
+  pub part_at : (Row → Turned) → Option Row → List X
   part_at rule None = []
   part_at rule (Some row) = part row (rule row)
 
   module _ (quiet : (row : Row) → part row (stays row) ≡ []) where
-    gather-stays : (rule : Row → Told) (row : Row) (rows : List Row) → rule row ≡ stays row → gather rule (row ∷ rows) ≡ gather rule rows
+    gather-stays : (rule : Row → Turned) (row : Row) (rows : List Row) → rule row ≡ stays row → gather rule (row ∷ rows) ≡ gather rule rows
     unfolding gather
     gather-stays rule row rows e = ap (λ l. l ++ gather rule rows) (ap (part row) e ∙ quiet row)
 
-    gather-told : (rule : Row → Told) (row : Row) (rows : List Row) (t : Told) → rule row ≡ t → gather rule (row ∷ rows) ≡ part row t ++ gather rule rows
+    gather-told : (rule : Row → Turned) (row : Row) (rows : List Row) (t : Turned) → rule row ≡ t → gather rule (row ∷ rows) ≡ part row t ++ gather rule rows
     unfolding gather
     gather-told rule row rows t e = ap (λ t. part row t ++ gather rule rows) e
 
     -- a rule by which all rows from low on stay
-    none : (rule : Row → Told) (low : ℕ) (rows : List Row) → Rises low rows → ((row : Row) → low ≤ row.serial → rule row ≡ stays row) → (gather rule rows ≡ []) × (left rule rows ≡ rows)
-    unfolding gather left
+    none : (rule : Row → Turned) (low : ℕ) (rows : List Row) → Rises low rows → ((row : Row) → low ≤ row.serial → rule row ≡ stays row) → (gather rule rows ≡ []) × (left rule rows ≡ rows)
+    unfolding gather sweep
     none rule low [] rises h = (refl, refl)
     none rule low (row ∷ rows) rises h =
         let e = h row rises.0 in
@@ -121,13 +121,13 @@ module _ {X : Type 0} (part : Row → Told → List X) where
         (gather-stays rule row rows e ∙ rest.0, left-stays rule row rows e ∙ ap (λ l. row ∷ l) rest.1)
 
     -- a rule by which every row stays
-    pub gather-none : (rule : Row → Told) (rows : List Row) → ((row : Row) → rule row ≡ stays row) → gather rule rows ≡ []
+    pub gather-none : (rule : Row → Turned) (rows : List Row) → ((row : Row) → rule row ≡ stays row) → gather rule rows ≡ []
     unfolding gather
     gather-none rule [] h = refl
     gather-none rule (row ∷ rows) h = gather-stays rule row rows (h row) ∙ gather-none rule rows h
 
     -- a rule for one serial
-    pub gather-one : (s : ℕ) (rule : Row → Told) (low : ℕ) (rows : List Row) → Rises low rows → gather (only s rule) rows ≡ part_at rule (with_serial s rows)
+    pub gather-one : (s : ℕ) (rule : Row → Turned) (low : ℕ) (rows : List Row) → Rises low rows → gather (only s rule) rows ≡ part_at rule (with_serial s rows)
     unfolding gather part_at
     gather-one s rule low [] rises = refl
     gather-one s rule low (row ∷ rows) rises = elim (cases_eq row.serial s) [
@@ -142,7 +142,7 @@ module _ {X : Type 0} (part : Row → Told → List X) where
           ∙ sym (ap (part_at rule) (with_serial-other s row rows d))
     ]
 
-    module _ (s : ℕ) (rule : Row → Told) (keeps : KeepsSerials rule) (ss : List ℕ) (above : (t : ℕ) → has t ss ≡ true → t < s) where
+    module _ (s : ℕ) (rule : Row → Turned) (keeps : KeepsSerials rule) (ss : List ℕ) (above : (t : ℕ) → has t ss ≡ true → t < s) where
       past : (t : ℕ) → s ≤ t → has t ss ≡ false
       past t l = elim (tested (has t ss)) [
         | inl h ↦ let x = above t h in absurd (omega arith)
@@ -154,7 +154,7 @@ module _ {X : Type 0} (part : Row → Told → List X) where
       gather_skip key (Some r) rows d h = gather-stays (only s rule) r rows (only-other s rule r (λ q. d (sym h ∙ q)))
 
       pub gather-more : (low : ℕ) (rows : List Row) → Rises low rows → gather (among ss rule) rows ++ gather (only s rule) (left (among ss rule) rows) ≡ gather (among (ss ++ s ∷ []) rule) rows
-      unfolding gather left
+      unfolding gather sweep
       gather-more low [] rises = refl
       gather-more low (row ∷ rows) rises = elim (cases_eq row.serial s) [
         | inl e ↦ at_it e
@@ -195,34 +195,34 @@ module _ {X : Type 0} (part : Row → Told → List X) where
               ∙ sym (gather-told (among (ss ++ s ∷ []) rule) row rows (rule row) (among-in (ss ++ s ∷ []) rule row here))
 
     -- ---- serials that cover the rule
-    pub gather-covered : (rule : Row → Told) (ss : List ℕ) (low : ℕ) (rows : List Row) → Rises low rows → ((s : ℕ) (row : Row) → with_serial s rows ≡ Some row → (has s ss ≡ true) ⊎ (rule row ≡ stays row)) → gather (among ss rule) rows ≡ gather rule rows
+    pub gather-covered : (rule : Row → Turned) (ss : List ℕ) (low : ℕ) (rows : List Row) → Rises low rows → ((s : ℕ) (row : Row) → with_serial s rows ≡ Some row → (has s ss ≡ true) ⊎ (rule row ≡ stays row)) → gather (among ss rule) rows ≡ gather rule rows
     unfolding gather
     gather-covered rule ss low [] rises h = refl
     gather-covered rule ss low (row ∷ rows) rises h =
         ap (λ t. part row t ++ gather (among ss rule) rows) (same_rule rule ss row (h row.serial row (with_serial-same row.serial row rows refl)))
         ∙ ap (λ l. part row (rule row) ++ l) (gather-covered rule ss (row.serial + 1) rows rises.1 (covered_tail rule ss row rows low rises h))
 
-pub left-covered : (rule : Row → Told) (ss : List ℕ) (low : ℕ) (rows : List Row) → Rises low rows → ((s : ℕ) (row : Row) → with_serial s rows ≡ Some row → (has s ss ≡ true) ⊎ (rule row ≡ stays row)) → left (among ss rule) rows ≡ left rule rows
-unfolding left
+pub left-covered : (rule : Row → Turned) (ss : List ℕ) (low : ℕ) (rows : List Row) → Rises low rows → ((s : ℕ) (row : Row) → with_serial s rows ≡ Some row → (has s ss ≡ true) ⊎ (rule row ≡ stays row)) → left (among ss rule) rows ≡ left rule rows
+unfolding sweep
 left-covered rule ss low [] rises h = refl
 left-covered rule ss low (row ∷ rows) rises h =
     ap (λ t. option_to_list t.row ++ left (among ss rule) rows) (same_rule rule ss row (h row.serial row (with_serial-same row.serial row rows refl)))
     ∙ ap (λ l. option_to_list (rule row).row ++ l) (left-covered rule ss (row.serial + 1) rows rises.1 (covered_tail rule ss row rows low rises h))
 
 -- ---- the NOTIFYs, and the transfers that go
-pub notifies_of : Row → Told → List Send
+pub notifies_of : Row → Turned → List Send
 notifies_of row t = t.notifies
 
-pub said-gather : (rule : Row → Told) (rows : List Row) → said rule rows ≡ gather notifies_of rule rows
-unfolding said gather notifies_of
+pub said-gather : (rule : Row → Turned) (rows : List Row) → said rule rows ≡ gather notifies_of rule rows
+unfolding sweep gather notifies_of
 said-gather rule [] = refl
 said-gather rule (row ∷ rows) = ap (λ l. (rule row).notifies ++ l) (said-gather rule rows)
 
-pub gone_of : Row → Told → List (List ℕ)
+pub gone_of : Row → Turned → List (List ℕ)
 gone_of row t = if is_of_refer row.sub.want.event && is_none t.row then row.sub.usage.local_tag ∷ [] else []
 
-pub gone-gather : (rule : Row → Told) (rows : List Row) → gone rule rows ≡ gather gone_of rule rows
-unfolding gone gone_at gather gone_of
+pub gone-gather : (rule : Row → Turned) (rows : List Row) → gone rule rows ≡ gather gone_of rule rows
+unfolding sweep gone_at gather gone_of
 gone-gather rule [] = refl
 gone-gather rule (row ∷ rows) = ap (λ l. gone_at rule row ++ l) (gone-gather rule rows)
 
@@ -238,20 +238,20 @@ gone_quiet row = no (is_of_refer row.sub.want.event)
     no true = refl
     no false = refl
 
-module _ (s : ℕ) (rule : Row → Told) (keeps : KeepsSerials rule) (ss : List ℕ) (above : (t : ℕ) → has t ss ≡ true → t < s) (low : ℕ) (rows : List Row) (rises : Rises low rows) where
+module _ (s : ℕ) (rule : Row → Turned) (keeps : KeepsSerials rule) (ss : List ℕ) (above : (t : ℕ) → has t ss ≡ true → t < s) (low : ℕ) (rows : List Row) (rises : Rises low rows) where
   pub said-more : said (among ss rule) rows ++ said (only s rule) (left (among ss rule) rows) ≡ said (among (ss ++ s ∷ []) rule) rows
   said-more = rw (said-gather, said-gather, said-gather) (gather-more notifies_of said_quiet s rule keeps ss above low rows rises)
 
   pub gone-more : gone (among ss rule) rows ++ gone (only s rule) (left (among ss rule) rows) ≡ gone (among (ss ++ s ∷ []) rule) rows
   gone-more = rw (gone-gather, gone-gather, gone-gather) (gather-more gone_of gone_quiet s rule keeps ss above low rows rises)
 
-pub said-none : (rule : Row → Told) (rows : List Row) → ((row : Row) → rule row ≡ stays row) → said rule rows ≡ []
+pub said-none : (rule : Row → Turned) (rows : List Row) → ((row : Row) → rule row ≡ stays row) → said rule rows ≡ []
 said-none rule rows h = said-gather rule rows ∙ gather-none notifies_of said_quiet rule rows h
 
-pub gone-none : (rule : Row → Told) (rows : List Row) → ((row : Row) → rule row ≡ stays row) → gone rule rows ≡ []
+pub gone-none : (rule : Row → Turned) (rows : List Row) → ((row : Row) → rule row ≡ stays row) → gone rule rows ≡ []
 gone-none rule rows h = gone-gather rule rows ∙ gather-none gone_of gone_quiet rule rows h
 
-pub said-one : (s : ℕ) (rule : Row → Told) (low : ℕ) (rows : List Row) → Rises low rows → said (only s rule) rows ≡ said_at rule (with_serial s rows)
+pub said-one : (s : ℕ) (rule : Row → Turned) (low : ℕ) (rows : List Row) → Rises low rows → said (only s rule) rows ≡ said_at rule (with_serial s rows)
 unfolding part_at notifies_of
 said-one s rule low rows rises = said-gather (only s rule) rows ∙ gather-one notifies_of said_quiet s rule low rows rises ∙ at_some (with_serial s rows)
   where
@@ -259,7 +259,7 @@ said-one s rule low rows rises = said-gather (only s rule) rows ∙ gather-one n
     at_some None = refl
     at_some (Some row) = refl
 
-pub gone-one : (s : ℕ) (rule : Row → Told) (low : ℕ) (rows : List Row) → Rises low rows → gone (only s rule) rows ≡ gone_with rule (with_serial s rows)
+pub gone-one : (s : ℕ) (rule : Row → Turned) (low : ℕ) (rows : List Row) → Rises low rows → gone (only s rule) rows ≡ gone_with rule (with_serial s rows)
 unfolding part_at gone_of gone_at
 gone-one s rule low rows rises = gone-gather (only s rule) rows ∙ gather-one gone_of gone_quiet s rule low rows rises ∙ at_some (with_serial s rows)
   where
@@ -268,8 +268,8 @@ gone-one s rule low rows rises = gone-gather (only s rule) rows ∙ gather-one g
     at_some (Some row) = refl
 
 -- serials that cover the rule
-pub said-covered : (rule : Row → Told) (ss : List ℕ) (low : ℕ) (rows : List Row) → Rises low rows → Cover ss rule rows → said (among ss rule) rows ≡ said rule rows
+pub said-covered : (rule : Row → Turned) (ss : List ℕ) (low : ℕ) (rows : List Row) → Rises low rows → Cover ss rule rows → said (among ss rule) rows ≡ said rule rows
 said-covered rule ss low rows rises h = said-gather (among ss rule) rows ∙ gather-covered notifies_of said_quiet rule ss low rows rises h ∙ sym (said-gather rule rows)
 
-pub gone-covered : (rule : Row → Told) (ss : List ℕ) (low : ℕ) (rows : List Row) → Rises low rows → Cover ss rule rows → gone (among ss rule) rows ≡ gone rule rows
+pub gone-covered : (rule : Row → Turned) (ss : List ℕ) (low : ℕ) (rows : List Row) → Rises low rows → Cover ss rule rows → gone (among ss rule) rows ≡ gone rule rows
 gone-covered rule ss low rows rises h = gone-gather (among ss rule) rows ∙ gather-covered gone_of gone_quiet rule ss low rows rises h ∙ sym (gone-gather rule rows)

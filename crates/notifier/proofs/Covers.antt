@@ -6,12 +6,11 @@ use Rattle.std.specs.List.{list_any}
 use Rattle.std.specs.BTreeSet as sorted
 use Rattle.sip_read.specs.declared.message.Response.{Response}
 use Rattle.subscription.specs.Table.{is_answer_to, is_tag}
-use Rattle.package.specs.Content.{Maps, SeenBy}
-use Rattle.notifier_model.specs.declared.place.Place.{Place}
+use Rattle.package.specs.Content.{Maps}
 use Rattle.notifier_model.specs.declared.row.Row.{Row}
 use Rattle.notifier_model.specs.declared.row.Unanswered.{Unanswered}
 use Rattle.notifier.specs.declared.store.rows.Rows.{Rows}
-use Rattle.notifier_model.specs.Rows.{Told, wherever, stays, only, answered, takes_answer, is_answered_by, watches, tells_change, tells_watcher, is_due, is_late, is_overdue, ends, times_out}
+use Rattle.notifier_model.specs.Rows.{Telling, Turned, wherever, stays, only, answered, takes_answer, is_answered_by, watches, tells_change, tells_watcher, is_due, is_late, is_overdue, ends, times_out}
 use Rattle.subscription.specs.declared.notify.Reason.TheVariants.{Timeout}
 use Rattle.notifier.specs.Among.{has, Cover}
 use Rattle.notifier.specs.Stored.{rows_of, row_at, with_serial, by_time, gives_up, alarm_with, alarm_of, is_timed_at, is_of, IsIndexed, IsTimed}
@@ -33,7 +32,7 @@ split_and false b e = absurd (cc)
 same_number : (a b : ℕ) → (a == b) ≡ true → a ≡ b
 same_number a b e = grind (arith, nat_tests)
 
-other_stays : (test : Row → Bool) (rule : Row → Told) (row : Row) → test row ≡ false → wherever test rule row ≡ stays row
+other_stays : (test : Row → Bool) (rule : Row → Turned) (row : Row) → test row ≡ false → wherever test rule row ≡ stays row
 unfolding wherever
 other_stays test rule row e = rw e refl
 
@@ -79,15 +78,16 @@ found_all P s (r ∷ rows) row all e = by_test (r.serial == s) refl (found_all P
 
 -- ---- one serial
 
-any_true : (rows : List Row) → All (λ row. Unit {0}) rows
-any_true [] = All-nil (λ row. Unit {0})
-any_true (row ∷ rows) = All-cons (λ row. Unit {0}) row rows tt (any_true rows)
+-- what holds whatever the row holds of all rows
+pub everywhere : {A : Type 0} → A → (rows : List Row) → All (λ row. A) rows
+everywhere {A} a [] = All-nil (λ row. A)
+everywhere {A} a (row ∷ rows) = All-cons (λ row. A) row rows a (everywhere a rows)
 
-pub only_covers : (serial : ℕ) (rule : Row → Told) (rows : List Row) → Cover (serial ∷ []) (only serial rule) rows
+pub only_covers : (serial : ℕ) (rule : Row → Turned) (rows : List Row) → Cover (serial ∷ []) (only serial rule) rows
 only_covers serial rule rows s row found = by_test (serial == s) refl
   where
     own : row.serial ≡ s
-    own = (found_all (λ row. Unit {0}) s rows row (any_true rows) found).1
+    own = (found_all (λ row. Unit {0}) s rows row (everywhere tt rows) found).1
 
     by_test : (b : Bool) → (serial == s) ≡ b → (has s (serial ∷ []) ≡ true) ⊎ (only serial rule row ≡ stays row)
     by_test true e = inl (rw e refl)
@@ -123,34 +123,34 @@ module _ (response : Response) (serial : Option ℕ) where
 
 -- ---- a change
 
-module _ {maps : Maps} (place : Place) (boxes : List (SeenBy maps)) (clock : ℕ) (old : Rows) (i : IsIndexed old) (serials : List ℕ) where
+module _ {maps : Maps} (t : Telling maps) (old : Rows) (i : IsIndexed old) (serials : List ℕ) where
   there : (s : ℕ) (row : Row) → with_serial s (rows_of old) ≡ Some row → row_at old s ≡ Some row
   there s row found = sym (with_serial-rows old s i) ∙ found
 
-  pub change_covers : (name resource : List ℕ) (is_over : Bool) → ((s : ℕ) → has s serials ≡ is_watched old.watchers name resource s) → Cover serials (tells_watcher place boxes clock name resource is_over) (rows_of old)
+  pub change_covers : (name resource : List ℕ) (is_over : Bool) → ((s : ℕ) → has s serials ≡ is_watched old.watchers name resource s) → Cover serials (tells_watcher t name resource is_over) (rows_of old)
   unfolding tells_watcher
   change_covers name resource is_over all s row found = elim (tested (watches name resource row)) [
     | inl e ↦
         inl (all s ∙ i.watching name resource s ∙ ap (is_of name resource) (there s row found) ∙ e)
-    | inr e ↦ inr (other_stays (watches name resource) (tells_change place boxes clock is_over) row e)
+    | inr e ↦ inr (other_stays (watches name resource) (tells_change t is_over) row e)
   ]
 
   -- ---- time
 
-  pub time_covers : clock < 2 ^ 63 → All (λ row. AreInOrder row.unanswered) (rows_of old) → ((s : ℕ) → IsTrue (has s serials) ↔ IsTimed old.timers clock s) → Cover serials (times_out place boxes clock) (rows_of old)
+  pub time_covers : t.clock < 2 ^ 63 → All (λ row. AreInOrder row.unanswered) (rows_of old) → ((s : ℕ) → IsTrue (has s serials) ↔ IsTimed old.timers t.clock s) → Cover serials (times_out t) (rows_of old)
   unfolding times_out
-  time_covers fits in_order all s row found = elim (tested (nat_le (alarm_of row) clock)) [
+  time_covers fits in_order all s row found = elim (tested (nat_le (alarm_of row) t.clock)) [
     | inl e ↦
         let timer : sorted.contains by_time old.timers (alarm_of row, s) ≡ true =
         i.timed (alarm_of row) s ∙ ap (is_timed_at (alarm_of row)) (there s row found) ∙ eq-eqb (alarm_of row) (alarm_of row) refl in
-        inl ((all s).1 (alarm_of row, (upto (alarm_of row) clock e, timer)))
+        inl ((all s).1 (alarm_of row, (upto (alarm_of row) t.clock e, timer)))
     | inr e ↦
         let order = (found_all (λ row. AreInOrder row.unanswered) s (rows_of old) row in_order found).0 in
-        let quiet = before_alarm clock row fits order e in
-        inr (rw quiet.1 (other_stays (is_due clock) (ends place boxes clock Timeout) row quiet.0))
+        let quiet = before_alarm t.clock row fits order e in
+        inr (rw quiet.1 (other_stays (is_due t.clock) (ends t Timeout) row quiet.0))
   ]
 
   -- ---- the planned stop
 
-  pub stop_covers : (rule : Row → Told) → ((s : ℕ) → IsTrue (is_some (row_at old s)) → IsTrue (has s serials)) → Cover serials rule (rows_of old)
+  pub stop_covers : (rule : Row → Turned) → ((s : ℕ) → IsTrue (is_some (row_at old s)) → IsTrue (has s serials)) → Cover serials rule (rows_of old)
   stop_covers rule all s row found = inl (all s (ap is_some (there s row found)))

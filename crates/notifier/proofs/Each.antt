@@ -5,10 +5,10 @@ use Rattle.std.proofs.lemmas.Bool.Decides.{nat_tests}
 use Rattle.notifier_model.specs.declared.event.Out.{Out}
 use Rattle.notifier_model.specs.declared.row.Row.{Row}
 use Rattle.notifier_model.specs.Out.{out_of}
-use Rattle.notifier_model.specs.Rows.{Told, left, said, gone, only}
+use Rattle.notifier_model.specs.Rows.{Turned, sweep, only}
 use Rattle.notifier.specs.Among.{has, among, RiseFrom}
 use Rattle.notifier.proofs.Rising.{Rises}
-use Rattle.notifier.proofs.Passes.{KeepsSerials, left-stays}
+use Rattle.notifier.proofs.Passes.{left, said, gone, KeepsSerials, left-stays}
 use Rattle.notifier.proofs.Amid.{among-out, left-more, said-more, gone-more, said-none, gone-none}
 
 same_number : (a b : ℕ) → (a == b) ≡ true → a ≡ b
@@ -30,19 +30,19 @@ rise_above low (s ∷ ss) (suc i) d t rise l h = by_test (s == t) refl (rise_abo
     by_test false e f = f (rw e at h)
 
 -- no serials
-pub none_left : (rule : Row → Told) (rows : List Row) → left (among [] rule) rows ≡ rows
-unfolding left
+pub none_left : (rule : Row → Turned) (rows : List Row) → left (among [] rule) rows ≡ rows
+unfolding sweep
 none_left rule [] = refl
 none_left rule (row ∷ rows) = left-stays (among [] rule) row rows (among-out [] rule row refl) ∙ ap (λ l. row ∷ l) (none_left rule rows)
 
-pub none_said : (rule : Row → Told) (outs : List Out) (rows : List Row) → outs ≡ outs ++ map out_of (said (among [] rule) rows)
+pub none_said : (rule : Row → Turned) (outs : List Out) (rows : List Row) → outs ≡ outs ++ map out_of (said (among [] rule) rows)
 none_said rule outs rows = sym (append-nil outs) ∙ ap (λ l. outs ++ map out_of l) (sym (said-none (among [] rule) rows (λ row. among-out [] rule row refl)))
 
-pub none_gone : (rule : Row → Told) (rows : List Row) → [] ≡ gone (among [] rule) rows
+pub none_gone : (rule : Row → Turned) (rows : List Row) → [] ≡ gone (among [] rule) rows
 none_gone rule rows = sym (gone-none (among [] rule) rows (λ row. among-out [] rule row refl))
 
 -- one serial more
-module _ (rule : Row → Told) (keeps : KeepsSerials rule) (ss : List ℕ) (i : ℕ) (rise : RiseFrom 0 ss) (l : i < length ss) where
+module _ (rule : Row → Turned) (keeps : KeepsSerials rule) (ss : List ℕ) (i : ℕ) (rise : RiseFrom 0 ss) (l : i < length ss) where
   fresh : has (get_or ss i 0) (take i ss) ≡ false
   fresh = by_test (has (get_or ss i 0) (take i ss)) refl
     where

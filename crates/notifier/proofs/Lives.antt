@@ -14,18 +14,20 @@ use Rattle.subscription.specs.declared.life.Step.{Step}
 use Rattle.subscription.specs.declared.life.Step.TheVariants.{Live, Over}
 use Rattle.subscription.specs.State.{State}
 use Rattle.subscription.specs.Table.{told, accept, fetch, refresh, end, over, changed, is_answer_to, refuses}
-use Rattle.package.specs.Content.{Maps, SeenBy, is_final}
+use Rattle.package.specs.Content.{Maps, is_final}
 use Rattle.notifier_model.specs.declared.place.Place.{Place}
 use Rattle.notifier_model.specs.declared.row.Row.{Row}
 use Rattle.notifier_model.specs.Limits.{Limits, AreLimits}
 use Rattle.notifier_model.specs.Requests.{is_refer, asked, granted, asks_nothing, birth_of}
 use Rattle.notifier_model.specs.declared.birth.Birth.{Birth}
+use Rattle.notifier_model.specs.declared.birth.Newborn.{Newborn}
 use Rattle.notifier_model.specs.declared.birth.Birth.TheVariants.{Watch, Fetch, Transfer, Unwatched}
 use Rattle.notifier.proofs.Births.{watch_asks, transfer_asks}
-use Rattle.notifier_model.specs.Rows.{Told, wherever, opened, with_sub, turned, tells, stays, goes, left, only, counted, closed, takes_answer, answered, renewed, renewed_sub, watches, tells_change, tells_watcher, is_overdue, ends, times_out, stops}
+use Rattle.notifier_model.specs.Rows.{Telling, Turned, wherever, opened, with_sub, turned, tells, stays, goes, sweep, only, counted, closed, takes_answer, answered, renewed, renewed_sub, watches, tells_change, tells_watcher, is_overdue, ends, times_out, stops}
 use Rattle.notifier_model.specs.Fields.{value_of}
-use Rattle.notifier_model.specs.Book.{new_usage, new_want, new_row, first_step, first_told}
+use Rattle.notifier_model.specs.Book.{new_usage, new_want, new_row, first_step, first_turned, first_told}
 use Rattle.notifier.specs.Sound.{IsLive, AreTimely, AreInOrder}
+use Rattle.notifier.proofs.Passes.{left}
 use Rattle.notifier.proofs.Timely.{timely_none, timely_push, timely_filter}
 
 -- ---- all rows
@@ -34,8 +36,8 @@ all_some : (P : Row → Type 0) (o : Option Row) (rows : List Row) → IfSome o 
 all_some P None rows h t = t
 all_some P (Some row) rows h t = All-cons P row rows h t
 
-pub all_left : (rule : Row → Told) (P Q : Row → Type 0) → ((row : Row) → P row → IfSome (rule row).row Q) → (rows : List Row) → All P rows → All Q (left rule rows)
-unfolding left
+pub all_left : (rule : Row → Turned) (P Q : Row → Type 0) → ((row : Row) → P row → IfSome (rule row).row Q) → (rows : List Row) → All P rows → All Q (left rule rows)
+unfolding sweep
 all_left rule P Q keep [] h = All-nil Q
 all_left rule P Q keep (row ∷ rows) h = all_some Q (rule row).row (left rule rows) (keep row (All-head P row rows h)) (all_left rule P Q keep rows (All-tail P row rows h))
 
@@ -45,7 +47,7 @@ all_more P rows (Some row) h s = All-push P rows row h s
 
 -- ---- one row
 
-pub only_keeps : (serial : ℕ) (rule : Row → Told) (P : Row → Type 0) (row : Row) → P row → IfSome (rule row).row P → IfSome (only serial rule row).row P
+pub only_keeps : (serial : ℕ) (rule : Row → Turned) (P : Row → Type 0) (row : Row) → P row → IfSome (rule row).row P → IfSome (only serial rule row).row P
 unfolding only wherever stays
 only_keeps serial rule P row h k = by (row.serial == serial)
   where
@@ -67,15 +69,15 @@ told_lives clock s time a b = by (s.count == s.want.max_cseq) _ _
     by false m n = (a, b)
 
 module _ {maps : Maps} where
-  pub turned_lives : (place : Place) (boxes : List (SeenBy maps)) (to : Addr) (want : Want) (row_of : State → Row) (clock : ℕ) (next : Step)
-      → ((s : State) → ((row_of s).sub ≡ s) × AreTimely clock (row_of s).unanswered) → StepLives clock next → IfSome (turned place boxes clock to want row_of next).row (IsLive clock)
+  pub turned_lives : (t : Telling maps) (to : Addr) (row_of : State → Row) (next : Step)
+      → ((s : State) → ((row_of s).sub ≡ s) × AreTimely t.clock (row_of s).unanswered) → StepLives t.clock next → IfSome (turned t to row_of next).row (IsLive t.clock)
   unfolding turned opened
-  turned_lives place boxes to want row_of clock (Live s notice) same h = record {
-    has_time = subst (λ x. clock < x.due) (sym (same s).0) h.0;
-    time_fits = subst (λ x. x.due ≤ clock + 4294967295) (sym (same s).0) h.1;
-    timely = timely_push clock (row_of s).unanswered _ refl (same s).1;
+  turned_lives t to row_of (Live s notice) same h = record {
+    has_time = subst (λ x. t.clock < x.due) (sym (same s).0) h.0;
+    time_fits = subst (λ x. x.due ≤ t.clock + 4294967295) (sym (same s).0) h.1;
+    timely = timely_push t.clock (row_of s).unanswered _ refl (same s).1;
   }
-  turned_lives place boxes to want row_of clock (Over usage asked notice) same h = tt
+  turned_lives t to row_of (Over usage asked notice) same h = tt
 
 -- what is granted is some time, and a u32
 not_zero : (n : ℕ) → (n == 0) ≡ false → 1 ≤ n
@@ -116,47 +118,47 @@ refreshed_lives place clock source r s l = by (asks_nothing place.limits r) refl
     by false e = let g = granted_fits place.limits r l e in told_lives clock _ _ (omega arith) (omega arith)
 
 module _ {maps : Maps} where
-  pub renewed_lives : (place : Place) (boxes : List (SeenBy maps)) (clock serial : ℕ) (source : Addr) (r : Request) (row : Row) → AreLimits place.limits → IsLive clock row → IfSome (only serial (renewed place boxes clock source r) row).row (IsLive clock)
+  pub renewed_lives : (t : Telling maps) (serial : ℕ) (source : Addr) (r : Request) (row : Row) → AreLimits t.place.limits → IsLive t.clock row → IfSome (only serial (renewed t source r) row).row (IsLive t.clock)
   unfolding renewed
-  renewed_lives place boxes clock serial source r row l h =
-      only_keeps serial (renewed place boxes clock source r) (IsLive clock) row h (turned_lives place boxes source row.sub.want _ clock _ (λ s. (refl, h.timely)) (refreshed_lives place clock source r row.sub l))
+  renewed_lives t serial source r row l h =
+      only_keeps serial (renewed t source r) (IsLive t.clock) row h (turned_lives t source _ _ (λ s. (refl, h.timely)) (refreshed_lives t.place t.clock source r row.sub l))
 
-  pub watcher_lives : (place : Place) (boxes : List (SeenBy maps)) (clock : ℕ) (name resource : List ℕ) (is_over : Bool) (row : Row) → IsLive clock row → IfSome (tells_watcher place boxes clock name resource is_over row).row (IsLive clock)
+  pub watcher_lives : (t : Telling maps) (name resource : List ℕ) (is_over : Bool) (row : Row) → IsLive t.clock row → IfSome (tells_watcher t name resource is_over row).row (IsLive t.clock)
   unfolding tells_watcher wherever tells_change tells stays changed end
-  watcher_lives place boxes clock name resource is_over row h = by (watches name resource row) is_over
+  watcher_lives t name resource is_over row h = by (watches name resource row) is_over
     where
-      step : (o : Bool) → StepLives clock (changed row.sub clock o)
+      step : (o : Bool) → StepLives t.clock (changed row.sub t.clock o)
       step true = tt
-      step false = told_lives clock _ _ h.has_time h.time_fits
+      step false = told_lives t.clock _ _ h.has_time h.time_fits
 
-      by : (b o : Bool) → IfSome (if b then tells place boxes clock row (changed row.sub clock o) else stays row).row (IsLive clock)
-      by true o = turned_lives place boxes row.sub.want.to row.sub.want (with_sub row) clock _ (λ s. (refl, h.timely)) (step o)
+      by : (b o : Bool) → IfSome (if b then tells t row (changed row.sub t.clock o) else stays row).row (IsLive t.clock)
+      by true o = turned_lives t row.sub.want.to (with_sub row) _ (λ s. (refl, h.timely)) (step o)
       by false o = h
 
   -- a row whose time may be up by now
-  pub due_lives : (place : Place) (boxes : List (SeenBy maps)) (clock : ℕ) (row : Row) → row.sub.due ≤ clock + 4294967295 → AreTimely clock row.unanswered → IfSome (times_out place boxes clock row).row (IsLive clock)
+  pub due_lives : (t : Telling maps) (row : Row) → row.sub.due ≤ t.clock + 4294967295 → AreTimely t.clock row.unanswered → IfSome (times_out t row).row (IsLive t.clock)
   unfolding times_out wherever ends tells stays goes end
-  due_lives place boxes clock row h timely = by (is_overdue clock row) (nat_le row.sub.due clock) refl
+  due_lives t row h timely = by (is_overdue t.clock row) (nat_le row.sub.due t.clock) refl
     where
-      by : (a b : Bool) → nat_le row.sub.due clock ≡ b → IfSome (if a then goes else if b then ends place boxes clock Timeout row else stays row).row (IsLive clock)
+      by : (a b : Bool) → nat_le row.sub.due t.clock ≡ b → IfSome (if a then goes else if b then ends t Timeout row else stays row).row (IsLive t.clock)
       by true b e = tt
-      by false true e = turned_lives place boxes row.sub.want.to row.sub.want (with_sub row) clock _ (λ s. (refl, timely)) tt
+      by false true e = turned_lives t row.sub.want.to (with_sub row) _ (λ s. (refl, timely)) tt
       by false false e = record { has_time = grind (arith, nat_tests); time_fits = h; timely = timely }
 
   -- it stays as it is
-  pub due_in_order : (place : Place) (boxes : List (SeenBy maps)) (clock : ℕ) (row : Row) → AreInOrder row.unanswered → IfSome (times_out place boxes clock row).row (λ after. AreInOrder after.unanswered)
+  pub due_in_order : (t : Telling maps) (row : Row) → AreInOrder row.unanswered → IfSome (times_out t row).row (λ after. AreInOrder after.unanswered)
   unfolding times_out wherever ends tells turned stays goes end
-  due_in_order place boxes clock row h = by (is_overdue clock row) (nat_le row.sub.due clock)
+  due_in_order t row h = by (is_overdue t.clock row) (nat_le row.sub.due t.clock)
     where
-      by : (a b : Bool) → IfSome (if a then goes else if b then ends place boxes clock Timeout row else stays row).row (λ after. AreInOrder after.unanswered)
+      by : (a b : Bool) → IfSome (if a then goes else if b then ends t Timeout row else stays row).row (λ after. AreInOrder after.unanswered)
       by true b = tt
       by false true = tt
       by false false = h
 
   -- no row stays
-  pub stops_lives : (place : Place) (boxes : List (SeenBy maps)) (clock : ℕ) (row : Row) → IsLive clock row → IfSome (stops place boxes clock row).row (IsLive clock)
+  pub stops_lives : (t : Telling maps) (row : Row) → IsLive t.clock row → IfSome (stops t row).row (IsLive t.clock)
   unfolding stops ends tells end
-  stops_lives place boxes clock row h = turned_lives place boxes row.sub.want.to row.sub.want (with_sub row) clock _ (λ s. (refl, h.timely)) tt
+  stops_lives t row h = turned_lives t row.sub.want.to (with_sub row) _ (λ s. (refl, h.timely)) tt
 
 -- ---- a new row has the time that is granted
 
@@ -165,7 +167,7 @@ FirstLives clock None = Unit {0}
 FirstLives clock (Some next) = StepLives clock next
 
 first_lives : (limits : Limits) (clock : ℕ) (usage : Usage) (want : Want) (r : Request) (kind : Birth) → AreLimits limits → kind ≡ birth_of limits r
-    → FirstLives clock (first_step limits clock usage want r kind)
+    → FirstLives clock (first_step kind usage want clock (granted limits r))
 unfolding first_step accept fetch
 first_lives limits clock usage want r Watch l k = let g = granted_fits limits r l (watch_asks limits r k) in told_lives clock _ _ (omega arith) (omega arith)
 first_lives limits clock usage want r Fetch l k = tt
@@ -173,13 +175,14 @@ first_lives limits clock usage want r Transfer l k = let g = granted_fits limits
 first_lives limits clock usage want r Unwatched l k = tt
 
 module _ {maps : Maps} where
-  first_row_lives : (place : Place) (boxes : List (SeenBy maps)) (clock serial : ℕ) (tag : List ℕ) (source : Addr) (r : Request) (next : Option Step) → FirstLives clock next
-      → IfSome (first_told place boxes clock tag source r serial next).row (IsLive clock)
-  unfolding first_told goes new_row
-  first_row_lives place boxes clock serial tag source r None h = tt
-  first_row_lives place boxes clock serial tag source r (Some next) h = turned_lives place boxes source (new_want place tag source r) (new_row serial r) clock next (λ s. (refl, timely_none clock)) h
+  first_row_lives : (t : Telling maps) (source : Addr) (r : Request) (n : Newborn) (next : Option Step) → FirstLives t.clock next
+      → IfSome (first_turned t source r n next).row (IsLive t.clock)
+  unfolding first_turned goes new_row
+  first_row_lives t source r n None h = tt
+  first_row_lives t source r n (Some next) h = turned_lives t source (new_row n.serial r) next (λ s. (refl, timely_none t.clock)) h
 
-  pub born_lives : (place : Place) (boxes : List (SeenBy maps)) (clock serial : ℕ) (tag : List ℕ) (source : Addr) (r : Request) (kind : Birth) → AreLimits place.limits → kind ≡ birth_of place.limits r
-      → IfSome (first_told place boxes clock tag source r serial (first_step place.limits clock (new_usage tag r) (new_want place tag source r) r kind)).row (IsLive clock)
-  born_lives place boxes clock serial tag source r kind l k =
-      first_row_lives place boxes clock serial tag source r (first_step place.limits clock (new_usage tag r) (new_want place tag source r) r kind) (first_lives place.limits clock _ _ r kind l k)
+  pub born_lives : (t : Telling maps) (source : Addr) (r : Request) (n : Newborn) → AreLimits t.place.limits → n.kind ≡ birth_of t.place.limits r
+      → IfSome (first_told t source r n).row (IsLive t.clock)
+  unfolding first_told
+  born_lives t source r n l k =
+      first_row_lives t source r n (first_step n.kind (new_usage n.tag r) (new_want t.place n.tag source r) t.clock (granted t.place.limits r)) (first_lives t.place.limits t.clock _ _ r n.kind l k)

@@ -14,24 +14,26 @@ use Rattle.subscription.specs.declared.life.Step.{Step}
 use Rattle.subscription.specs.declared.life.Step.TheVariants.{Live, Over}
 use Rattle.subscription.specs.State.{State}
 use Rattle.subscription.specs.Table.{accept, fetch, end, over, changed, refuses}
-use Rattle.package.specs.Content.{Maps, SeenBy, is_final}
+use Rattle.package.specs.Content.{Maps, is_final}
 use Rattle.notifier_model.specs.declared.place.Place.{Place}
 use Rattle.notifier_model.specs.declared.row.Row.{Row}
 use Rattle.notifier_model.specs.declared.birth.Birth.{Birth}
+use Rattle.notifier_model.specs.declared.birth.Newborn.{Newborn}
 use Rattle.notifier_model.specs.declared.birth.Birth.TheVariants.{Watch, Fetch, Transfer, Unwatched}
-use Rattle.notifier_model.specs.Limits.{Limits}
+use Rattle.notifier_model.specs.Requests.{granted}
 use Rattle.notifier_model.specs.Start.{tag_of}
-use Rattle.notifier_model.specs.Rows.{Told, wherever, has_serial, opened, with_sub, turned, tells, stays, goes, left, only, counted, closed, takes_answer, is_answered_by, answered, renewed, watches, tells_change, tells_watcher, is_due, is_overdue, ends, times_out, stops, usage_after}
-use Rattle.notifier_model.specs.Book.{new_usage, new_want, new_row, first_step, first_told}
+use Rattle.notifier_model.specs.Rows.{Telling, Turned, wherever, has_serial, opened, with_sub, turned, tells, stays, goes, sweep, only, counted, closed, takes_answer, is_answered_by, answered, renewed, watches, tells_change, tells_watcher, is_due, is_overdue, ends, times_out, stops, usage_after}
+use Rattle.notifier_model.specs.Book.{new_usage, new_want, new_row, first_step, first_turned, first_told}
 use Rattle.notifier.specs.Sound.{IsOwn, AreRising}
 use Rattle.notifier.proofs.Lives.{all_left, all_more}
+use Rattle.notifier.proofs.Passes.{left}
 use Rattle.notifier.proofs.Renewal.{tag_told, tag_renewed}
 
 -- the row that stays has this serial and this tag
 abbrev pub IsStill : ℕ → List ℕ → Row → Type 0
 IsStill serial tag after = (after.serial ≡ serial) × (after.sub.usage.local_tag ≡ tag)
 
-abbrev pub Keeps : (Row → Told) → Type 0
+abbrev pub Keeps : (Row → Turned) → Type 0
 Keeps rule = (row : Row) → IfSome (rule row).row (IsStill row.serial row.sub.usage.local_tag)
 
 pub some_weaker : {A : Type 0} (P Q : A → Type 0) (o : Option A) → IfSome o P → ((a : A) → P a → Q a) → IfSome o Q
@@ -53,7 +55,7 @@ own_still place next row after own still = record {
   tagged = still.1 ∙ own.tagged ∙ ap (tag_of place) (sym still.0);
 }
 
-pub own_left : (place : Place) (next : ℕ) (rule : Row → Told) → Keeps rule → (rows : List Row) → All (IsOwn place next) rows → All (IsOwn place next) (left rule rows)
+pub own_left : (place : Place) (next : ℕ) (rule : Row → Turned) → Keeps rule → (rows : List Row) → All (IsOwn place next) rows → All (IsOwn place next) (left rule rows)
 own_left place next rule keeps rows h =
     all_left rule (IsOwn place next) (IsOwn place next) (λ row own. some_weaker (IsStill row.serial row.sub.usage.local_tag) (IsOwn place next) (rule row).row (keeps row) (λ after still. own_still place next row after own still)) rows h
 
@@ -61,8 +63,8 @@ rising_some : (n : ℕ) (tag : List ℕ) (o : Option Row) (rows : List Row) → 
 rising_some n tag None rows still above rising = rising
 rising_some n tag (Some row) rows still above rising = (subst (λ m. All (λ other. m < other.serial) rows) (sym still.0) above, rising)
 
-pub rising_left : (rule : Row → Told) → Keeps rule → (rows : List Row) → AreRising rows → AreRising (left rule rows)
-unfolding left
+pub rising_left : (rule : Row → Turned) → Keeps rule → (rows : List Row) → AreRising rows → AreRising (left rule rows)
+unfolding sweep
 rising_left rule keeps [] h = tt
 rising_left rule keeps (row ∷ rows) h =
     rising_some row.serial row.sub.usage.local_tag (rule row).row (left rule rows) (keeps row)
@@ -88,7 +90,7 @@ rising_more place next tag rows (Some row) h own still = rising_push rows row h 
 
 -- ---- the rules
 
-wherever_keeps : (test : Row → Bool) (rule : Row → Told) → Keeps rule → Keeps (wherever test rule)
+wherever_keeps : (test : Row → Bool) (rule : Row → Turned) → Keeps rule → Keeps (wherever test rule)
 unfolding wherever stays
 wherever_keeps test rule keeps row = by (test row)
   where
@@ -96,7 +98,7 @@ wherever_keeps test rule keeps row = by (test row)
     by true = keeps row
     by false = (refl, refl)
 
-only_keeps : (serial : ℕ) (rule : Row → Told) → Keeps rule → Keeps (only serial rule)
+only_keeps : (serial : ℕ) (rule : Row → Turned) → Keeps rule → Keeps (only serial rule)
 unfolding only
 only_keeps serial rule keeps = wherever_keeps (has_serial serial) rule keeps
 
@@ -122,65 +124,64 @@ unfolding changed end
 tag_changed s clock true = refl
 tag_changed s clock false = tag_told _ _
 
-step_keeps : (limits : Limits) (clock : ℕ) (usage : Usage) (want : Want) (r : Request) (kind : Birth) → IfSome (first_step limits clock usage want r kind) (λ step. (usage_after step).local_tag ≡ usage.local_tag)
+step_keeps : (kind : Birth) (usage : Usage) (want : Want) (clock time : ℕ) → IfSome (first_step kind usage want clock time) (λ step. (usage_after step).local_tag ≡ usage.local_tag)
 unfolding first_step accept fetch
-step_keeps limits clock usage want r Watch = tag_told _ _
-step_keeps limits clock usage want r Fetch = refl
-step_keeps limits clock usage want r Transfer = tag_told _ _
-step_keeps limits clock usage want r Unwatched = tt
+step_keeps Watch usage want clock time = tag_told _ _
+step_keeps Fetch usage want clock time = refl
+step_keeps Transfer usage want clock time = tag_told _ _
+step_keeps Unwatched usage want clock time = tt
 
 module _ {maps : Maps} where
-  turned_keeps : (place : Place) (boxes : List (SeenBy maps)) (clock : ℕ) (to : Addr) (want : Want) (row_of : State → Row) (next : Step) (serial : ℕ) (tag : List ℕ)
-      → ((s : State) → ((row_of s).serial ≡ serial) × ((row_of s).sub ≡ s)) → (usage_after next).local_tag ≡ tag → IfSome (turned place boxes clock to want row_of next).row (IsStill serial tag)
+  turned_keeps : (t : Telling maps) (to : Addr) (row_of : State → Row) (next : Step) (serial : ℕ) (tag : List ℕ)
+      → ((s : State) → ((row_of s).serial ≡ serial) × ((row_of s).sub ≡ s)) → (usage_after next).local_tag ≡ tag → IfSome (turned t to row_of next).row (IsStill serial tag)
   unfolding turned opened
-  turned_keeps place boxes clock to want row_of (Live s notice) serial tag same t = ((same s).0, ap (λ x. x.usage.local_tag) (same s).1 ∙ t)
-  turned_keeps place boxes clock to want row_of (Over usage asked notice) serial tag same t = tt
+  turned_keeps t to row_of (Live s notice) serial tag same own = ((same s).0, ap (λ x. x.usage.local_tag) (same s).1 ∙ own)
+  turned_keeps t to row_of (Over usage want notice) serial tag same own = tt
 
-  pub renewed_keeps : (place : Place) (boxes : List (SeenBy maps)) (clock serial : ℕ) (source : Addr) (r : Request) → Keeps (only serial (renewed place boxes clock source r))
+  pub renewed_keeps : (t : Telling maps) (serial : ℕ) (source : Addr) (r : Request) → Keeps (only serial (renewed t source r))
   unfolding renewed
-  renewed_keeps place boxes clock serial source r =
-      only_keeps serial (renewed place boxes clock source r) (λ row. turned_keeps place boxes clock source row.sub.want _ _ row.serial row.sub.usage.local_tag (λ s. (refl, refl)) (tag_renewed place clock source r row.sub))
+  renewed_keeps t serial source r =
+      only_keeps serial (renewed t source r) (λ row. turned_keeps t source _ _ row.serial row.sub.usage.local_tag (λ s. (refl, refl)) (tag_renewed t.place t.clock source r row.sub))
 
-  tells_keeps : (place : Place) (boxes : List (SeenBy maps)) (clock : ℕ) (row : Row) (next : Step) → (usage_after next).local_tag ≡ row.sub.usage.local_tag
-      → IfSome (tells place boxes clock row next).row (IsStill row.serial row.sub.usage.local_tag)
+  tells_keeps : (t : Telling maps) (row : Row) (next : Step) → (usage_after next).local_tag ≡ row.sub.usage.local_tag
+      → IfSome (tells t row next).row (IsStill row.serial row.sub.usage.local_tag)
   unfolding tells
-  tells_keeps place boxes clock row next t = turned_keeps place boxes clock row.sub.want.to row.sub.want (with_sub row) next row.serial row.sub.usage.local_tag (λ s. (refl, refl)) t
+  tells_keeps t row next own = turned_keeps t row.sub.want.to (with_sub row) next row.serial row.sub.usage.local_tag (λ s. (refl, refl)) own
 
-  pub watcher_keeps : (place : Place) (boxes : List (SeenBy maps)) (clock : ℕ) (name resource : List ℕ) (is_over : Bool) → Keeps (tells_watcher place boxes clock name resource is_over)
+  pub watcher_keeps : (t : Telling maps) (name resource : List ℕ) (is_over : Bool) → Keeps (tells_watcher t name resource is_over)
   unfolding tells_watcher tells_change
-  watcher_keeps place boxes clock name resource is_over =
-      wherever_keeps (watches name resource) (tells_change place boxes clock is_over) (λ row. tells_keeps place boxes clock row (changed row.sub clock is_over) (tag_changed row.sub clock is_over))
+  watcher_keeps t name resource is_over =
+      wherever_keeps (watches name resource) (tells_change t is_over) (λ row. tells_keeps t row (changed row.sub t.clock is_over) (tag_changed row.sub t.clock is_over))
 
-  ends_keeps : (place : Place) (boxes : List (SeenBy maps)) (clock : ℕ) (reason : Reason) → Keeps (ends place boxes clock reason)
+  ends_keeps : (t : Telling maps) (reason : Reason) → Keeps (ends t reason)
   unfolding ends end
-  ends_keeps place boxes clock reason row = tells_keeps place boxes clock row (over (end row.sub reason)) refl
+  ends_keeps t reason row = tells_keeps t row (over (end row.sub reason)) refl
 
-  pub due_keeps : (place : Place) (boxes : List (SeenBy maps)) (clock : ℕ) → Keeps (times_out place boxes clock)
+  pub due_keeps : (t : Telling maps) → Keeps (times_out t)
   unfolding times_out goes
-  due_keeps place boxes clock row = by (is_overdue clock row)
+  due_keeps t row = by (is_overdue t.clock row)
     where
-      by : (b : Bool) → IfSome (if b then goes else wherever (is_due clock) (ends place boxes clock Timeout) row).row (IsStill row.serial row.sub.usage.local_tag)
+      by : (b : Bool) → IfSome (if b then goes else wherever (is_due t.clock) (ends t Timeout) row).row (IsStill row.serial row.sub.usage.local_tag)
       by true = tt
-      by false = wherever_keeps (is_due clock) (ends place boxes clock Timeout) (ends_keeps place boxes clock Timeout) row
+      by false = wherever_keeps (is_due t.clock) (ends t Timeout) (ends_keeps t Timeout) row
 
-  pub stops_keeps : (place : Place) (boxes : List (SeenBy maps)) (clock : ℕ) → Keeps (stops place boxes clock)
+  pub stops_keeps : (t : Telling maps) → Keeps (stops t)
   unfolding stops
-  stops_keeps place boxes clock = ends_keeps place boxes clock Deactivated
+  stops_keeps t = ends_keeps t Deactivated
 
   -- ---- a new row
 
-  first_row_keeps : (place : Place) (boxes : List (SeenBy maps)) (clock serial : ℕ) (tag : List ℕ) (source : Addr) (r : Request) (next : Option Step) → IfSome next (λ step. (usage_after step).local_tag ≡ tag)
-      → IfSome (first_told place boxes clock tag source r serial next).row (IsStill serial tag)
-  unfolding first_told goes new_row
-  first_row_keeps place boxes clock serial tag source r None t = tt
-  first_row_keeps place boxes clock serial tag source r (Some next) t = turned_keeps place boxes clock source (new_want place tag source r) (new_row serial r) next serial tag (λ s. (refl, refl)) t
+  first_row_keeps : (t : Telling maps) (source : Addr) (r : Request) (n : Newborn) (next : Option Step) → IfSome next (λ step. (usage_after step).local_tag ≡ n.tag)
+      → IfSome (first_turned t source r n next).row (IsStill n.serial n.tag)
+  unfolding first_turned goes new_row
+  first_row_keeps t source r n None own = tt
+  first_row_keeps t source r n (Some next) own = turned_keeps t source (new_row n.serial r) next n.serial n.tag (λ s. (refl, refl)) own
 
-  pub born_keeps : (place : Place) (boxes : List (SeenBy maps)) (clock serial : ℕ) (tag : List ℕ) (source : Addr) (r : Request) (kind : Birth)
-      → IfSome (first_told place boxes clock tag source r serial (first_step place.limits clock (new_usage tag r) (new_want place tag source r) r kind)).row (IsStill serial tag)
-  unfolding new_usage
-  born_keeps place boxes clock serial tag source r kind =
-      first_row_keeps place boxes clock serial tag source r (first_step place.limits clock (new_usage tag r) (new_want place tag source r) r kind)
-      (step_keeps place.limits clock (new_usage tag r) (new_want place tag source r) r kind)
+  pub born_keeps : (t : Telling maps) (source : Addr) (r : Request) (n : Newborn) → IfSome (first_told t source r n).row (IsStill n.serial n.tag)
+  unfolding first_told new_usage
+  born_keeps t source r n =
+      first_row_keeps t source r n (first_step n.kind (new_usage n.tag r) (new_want t.place n.tag source r) t.clock (granted t.place.limits r))
+      (step_keeps n.kind (new_usage n.tag r) (new_want t.place n.tag source r) t.clock (granted t.place.limits r))
 
 -- the new row is of its serial, and so are the others as before
 pub own_more : (place : Place) (next : ℕ) (rows : List Row) (o : Option Row) → All (IsOwn place next) rows → IfSome o (IsStill next (tag_of place next)) → All (IsOwn place (next + 1)) (rows ++ option_to_list o)

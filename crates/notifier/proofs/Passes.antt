@@ -3,17 +3,28 @@ use Rattle.std.proofs.Common.{◌≡◌, ◌≢◌, ◌∙◌, sym, ap, refl, in
 use Rattle.std.proofs.lemmas.Bool.{cases_eq}
 use Rattle.std.specs.Option.{option_and_then}
 use Rattle.notifier_model.specs.declared.row.Row.{Row}
-use Rattle.notifier_model.specs.Rows.{Told, wherever, stays, left, only}
+use Rattle.notifier_model.specs.Out.{Send}
+use Rattle.notifier_model.specs.Rows.{Turned, wherever, stays, sweep, only}
 use Rattle.notifier.specs.declared.store.rows.Rows.{Rows}
 use Rattle.notifier.specs.Stored.{rows_of, row_at, with_serial, IsIndexed, Turns}
 use Rattle.notifier.proofs.Rising.{Rises, neq-eqb, with_serial-same, with_serial-other, with_serial-below}
 use Rattle.notifier.proofs.Turning.{rows_rise, with_serial-rows, rows_are}
 
+-- what a rule leaves of all rows, says of them, and takes with those that go
+abbrev pub left : (Row → Turned) → List Row → List Row
+left rule rows = (sweep rule rows).rows
+
+abbrev pub said : (Row → Turned) → List Row → List Send
+said rule rows = (sweep rule rows).notifies
+
+abbrev pub gone : (Row → Turned) → List Row → List (List ℕ)
+gone rule rows = (sweep rule rows).gone
+
 -- a rule that lets each row that stays keep its serial
-abbrev pub KeepsSerials : (Row → Told) → Type 0
+abbrev pub KeepsSerials : (Row → Turned) → Type 0
 KeepsSerials rule = (row : Row) → IfSome (rule row).row (λ r. r.serial ≡ row.serial)
 
-module _ (serial : ℕ) (rule : Row → Told) where
+module _ (serial : ℕ) (rule : Row → Turned) where
   pub only-same : (row : Row) → row.serial ≡ serial → only serial rule row ≡ rule row
   unfolding only wherever
   only-same row e = rw (eq-eqb row.serial serial e) refl
@@ -23,18 +34,18 @@ module _ (serial : ℕ) (rule : Row → Told) where
   only-other row d = rw (neq-eqb row.serial serial d) refl
 
 -- a row before others
-pub left-stays : (rule : Row → Told) (row : Row) (rows : List Row) → rule row ≡ stays row → left rule (row ∷ rows) ≡ row ∷ left rule rows
-unfolding left stays
+pub left-stays : (rule : Row → Turned) (row : Row) (rows : List Row) → rule row ≡ stays row → left rule (row ∷ rows) ≡ row ∷ left rule rows
+unfolding sweep stays
 left-stays rule row rows e = ap (λ t. option_to_list t.row ++ left rule rows) e
 
-pub left-told : (rule : Row → Told) (row : Row) (rows : List Row) (t : Told) → rule row ≡ t → left rule (row ∷ rows) ≡ option_to_list t.row ++ left rule rows
-unfolding left
+pub left-told : (rule : Row → Turned) (row : Row) (rows : List Row) (t : Turned) → rule row ≡ t → left rule (row ∷ rows) ≡ option_to_list t.row ++ left rule rows
+unfolding sweep
 left-told rule row rows t e = ap (λ t. option_to_list t.row ++ left rule rows) e
 
 -- ---- one serial
-module _ (serial : ℕ) (rule : Row → Told) (keeps : KeepsSerials rule) where
+module _ (serial : ℕ) (rule : Row → Turned) (keeps : KeepsSerials rule) where
   none_left : (low : ℕ) (rows : List Row) → Rises low rows → serial < low → left (only serial rule) rows ≡ rows
-  unfolding left
+  unfolding sweep
   none_left low [] rises below = refl
   none_left low (row ∷ rows) rises below =
       let d : row.serial ≢ serial = omega arith in
@@ -49,7 +60,7 @@ module _ (serial : ℕ) (rule : Row → Told) (keeps : KeepsSerials rule) where
   rises_option low key (Some row) rows l h rises = (omega arith, rw h rises)
 
   pub rises_left : (low : ℕ) (rows : List Row) → Rises low rows → Rises low (left (only serial rule) rows)
-  unfolding left
+  unfolding sweep
   rises_left low [] rises = tt
   rises_left low (row ∷ rows) rises = elim (cases_eq row.serial serial) [
     | inl e ↦ rw (left-told (only serial rule) row rows (rule row) (only-same serial rule row e)) (rises_option low row.serial (rule row).row (left (only serial rule) rows) rises.0 (keeps row) (rises_left (row.serial + 1) rows rises.1))
@@ -67,7 +78,7 @@ module _ (serial : ℕ) (rule : Row → Told) (keeps : KeepsSerials rule) where
   ]
 
   pub with_serial-left : (s low : ℕ) (rows : List Row) → Rises low rows → with_serial s (left (only serial rule) rows) ≡ cond (serial == s) (option_and_then (λ r. (rule r).row) (with_serial serial rows)) (with_serial s rows)
-  unfolding left
+  unfolding sweep
   with_serial-left s low [] rises = at_none (serial == s)
     where
       at_none : (b : Bool) → None ≡ cond b (option_and_then {T = Row} {U = Row} (λ r. (rule r).row) None) None

@@ -3,7 +3,6 @@ use Rattle.std.proofs.Common.{◌≡◌, ℕ, List, [], ◌∷◌, Bool, true, f
 use Rattle.std.specs.Prelude.{IfOk}
 use Rattle.sip_text.specs.declared.address.Addr.{Addr}
 use Rattle.sip_read.specs.declared.message.Request.{Request}
-use Rattle.sip_write.specs.Notify.{NotifyText}
 use Rattle.subscription.specs.declared.life.Step.{Step}
 use Rattle.subscription.specs.declared.life.Step.TheVariants.{Live, Over}
 use Rattle.subscription.specs.declared.notify.Notice.{Notice}
@@ -13,12 +12,12 @@ use Rattle.subscription.specs.declared.terms.Want.{Want}
 use Rattle.subscription.specs.State.{State}
 use Rattle.subscription.specs.Table.{told, changed, refresh, end}
 use Rattle.notifier_model.specs.declared.place.Place.{Place}
-use Rattle.package.specs.Content.{Maps, SeenBy}
+use Rattle.package.specs.Content.{Maps}
 use Rattle.notifier_model.specs.declared.row.Row.{Row}
-use Rattle.notifier.specs.declared.sweep.rules.After.TheVariants.{Stays, Goes}
+use Rattle.notifier.specs.declared.sweep.row.After.TheVariants.{Stays, Goes}
 use Rattle.notifier_model.specs.Requests.{asks_nothing, is_of_refer}
 use Rattle.notifier_model.specs.Out.{out_of, Notifies}
-use Rattle.notifier_model.specs.Rows.{Told, notify, opened, with_sub, turned, tells, ends, usage_after, renewed, renewed_sub, tells_change, gone_at}
+use Rattle.notifier_model.specs.Rows.{Telling, Turned, notify, opened, with_sub, turned, tells, ends, usage_after, renewed, renewed_sub, tells_change, gone_at}
 use Rattle.notifier.specs.Told.{IsTold, gone_from, want_after}
 
 -- ---- what a step leaves of a subscription
@@ -63,97 +62,73 @@ one_goes true false tag own o e t n = absurd (cc)
 one_goes false true tag own o e t n = absurd (cc)
 one_goes false false tag own o e t n = refl
 
-abbrev told_by : Addr → Option Row → NotifyText → Told
-told_by to row n = record { row = row; notifies = Notifies to n ∷ [] }
+module _ {maps : Maps} (t : Telling maps) (to : Addr) (rule : Row → Turned) (row : Row) (mk : State → Row) where
+  -- it goes on
+  pub stays_told : (s : State) (notice : Notice) → rule row ≡ turned t to mk (Live s notice)
+      → IsTold rule row (Stays (opened t.clock notice (mk s)) (Some (out_of (Notifies to (notify t s.usage s.want notice)))))
+  unfolding turned gone_at
+  stays_told s notice r = record {
+    stays = sym (ap (λ told. told.row) r);
+    sends = sym (ap (λ told. map out_of told.notifies) r);
+    forgets = none_goes (is_of_refer row.sub.want.event) row.sub.usage.local_tag (rule row).row (opened t.clock notice (mk s)) (ap (λ told. told.row) r);
+    names = tt;
+  }
 
-module _ {maps : Maps} (place : Place) (boxes : List (SeenBy maps)) where
-  -- a NOTIFY tells of the event and the resource
-  pub same_notify : (usage : Usage) (a b : Want) (notice : Notice) → a.event ≡ b.event → a.resource ≡ b.resource → notify place boxes usage a notice ≡ notify place boxes usage b notice
-  unfolding notify
-  same_notify usage a b notice event resource =
-      ap (λ e. notify place boxes usage (record a { event = e }) notice) event
-      ∙ ap (λ x. notify place boxes usage (record a { event = b.event; resource = x }) notice) resource
-
-  -- and so does what is told of a step
-  pub same_turned : (clock : ℕ) (to : Addr) (a b : Want) (mk : State → Row) (next : Step) → a.event ≡ b.event → a.resource ≡ b.resource
-      → turned place boxes clock to a mk next ≡ turned place boxes clock to b mk next
-  unfolding turned
-  same_turned clock to a b mk (Live s notice) event resource =
-      ap (told_by to (Some (opened clock notice (mk s)))) (same_notify s.usage a b notice event resource)
-  same_turned clock to a b mk (Over usage want notice) event resource =
-      ap (told_by to None) (same_notify usage a b notice event resource)
-
-  module _ (clock : ℕ) (to : Addr) (rule : Row → Told) (row : Row) (mk : State → Row) where
-    -- it goes on
-    pub stays_told : (s : State) (notice : Notice) → rule row ≡ turned place boxes clock to row.sub.want mk (Live s notice) → IsOf row.sub (Live s notice)
-        → IsTold rule row (Stays (opened clock notice (mk s)) (Some (out_of (Notifies to (notify place boxes s.usage s.want notice)))))
-    unfolding turned gone_at
-    stays_told s notice r is = record {
-      stays = sym (ap (λ t. t.row) r);
-      sends = ap (λ n. map out_of (Notifies to n ∷ [])) (same_notify s.usage s.want row.sub.want notice is.1 is.2) ∙ sym (ap (λ t. map out_of t.notifies) r);
-      forgets = none_goes (is_of_refer row.sub.want.event) row.sub.usage.local_tag (rule row).row (opened clock notice (mk s)) (ap (λ t. t.row) r);
-      names = tt;
-    }
-
-    -- it is over
-    pub goes_told : (usage : Usage) (want : Want) (notice : Notice) → rule row ≡ turned place boxes clock to row.sub.want mk (Over usage want notice) → IsOf row.sub (Over usage want notice)
-        → IsTold rule row (Goes (gone_from usage want) (Some (out_of (Notifies to (notify place boxes usage want notice)))))
-    unfolding turned gone_at
-    goes_told usage want notice r is = record {
-      stays = sym (ap (λ t. t.row) r);
-      sends = ap (λ n. map out_of (Notifies to n ∷ [])) (same_notify usage want row.sub.want notice is.1 is.2) ∙ sym (ap (λ t. map out_of t.notifies) r);
-      forgets = one_goes (is_of_refer want.event) (is_of_refer row.sub.want.event) usage.local_tag row.sub.usage.local_tag (rule row).row (ap is_of_refer is.1) is.0 (ap (λ t. t.row) r);
-      names = λ i. ((is.1 i).package, is.2 i);
-    }
+  -- it is over
+  pub goes_told : (usage : Usage) (want : Want) (notice : Notice) → rule row ≡ turned t to mk (Over usage want notice) → IsOf row.sub (Over usage want notice)
+      → IsTold rule row (Goes (gone_from usage want) (Some (out_of (Notifies to (notify t usage want notice)))))
+  unfolding turned gone_at
+  goes_told usage want notice r is = record {
+    stays = sym (ap (λ told. told.row) r);
+    sends = sym (ap (λ told. map out_of told.notifies) r);
+    forgets = one_goes (is_of_refer want.event) (is_of_refer row.sub.want.event) usage.local_tag row.sub.usage.local_tag (rule row).row (ap is_of_refer is.1) is.0 (ap (λ told. told.row) r);
+    names = λ i. ((is.1 i).package, is.2 i);
+  }
 
 -- ---- the rules that step a subscription
 
-module _ {maps : Maps} (place : Place) (boxes : List (SeenBy maps)) (clock : ℕ) (row : Row) where
+module _ {maps : Maps} (t : Telling maps) (row : Row) where
   -- a change, after which it goes on
-  pub change_stays : (is_over : Bool) (to : Addr) (next : Step) (s : State) (notice : Notice) → to ≡ row.sub.want.to → next ≡ changed row.sub clock is_over → next ≡ Live s notice
-      → IsTold (tells_change place boxes clock is_over) row (Stays (opened clock notice (with_sub row s)) (Some (out_of (Notifies to (notify place boxes s.usage s.want notice)))))
+  pub change_stays : (is_over : Bool) (to : Addr) (next : Step) (s : State) (notice : Notice) → to ≡ row.sub.want.to → next ≡ changed row.sub t.clock is_over → next ≡ Live s notice
+      → IsTold (tells_change t is_over) row (Stays (opened t.clock notice (with_sub row s)) (Some (out_of (Notifies to (notify t s.usage s.want notice)))))
   unfolding tells_change tells
   change_stays is_over to next s notice at e n =
-      stays_told place boxes clock to (tells_change place boxes clock is_over) row (with_sub row) s notice
-      (ap (λ a. turned place boxes clock a row.sub.want (with_sub row) (changed row.sub clock is_over)) (sym at)
-      ∙ ap (turned place boxes clock to row.sub.want (with_sub row)) (sym e ∙ n))
-      (subst (IsOf row.sub) (sym e ∙ n) (is_of_changed row.sub clock is_over))
+      stays_told t to (tells_change t is_over) row (with_sub row) s notice
+      (ap (λ a. turned t a (with_sub row) (changed row.sub t.clock is_over)) (sym at) ∙ ap (turned t to (with_sub row)) (sym e ∙ n))
 
   -- or is over
-  pub change_goes : (is_over : Bool) (to : Addr) (next : Step) (usage : Usage) (want : Want) (notice : Notice) → to ≡ row.sub.want.to → next ≡ changed row.sub clock is_over → next ≡ Over usage want notice
-      → IsTold (tells_change place boxes clock is_over) row (Goes (gone_from usage want) (Some (out_of (Notifies to (notify place boxes usage want notice)))))
+  pub change_goes : (is_over : Bool) (to : Addr) (next : Step) (usage : Usage) (want : Want) (notice : Notice) → to ≡ row.sub.want.to → next ≡ changed row.sub t.clock is_over → next ≡ Over usage want notice
+      → IsTold (tells_change t is_over) row (Goes (gone_from usage want) (Some (out_of (Notifies to (notify t usage want notice)))))
   unfolding tells_change tells
   change_goes is_over to next usage want notice at e n =
-      goes_told place boxes clock to (tells_change place boxes clock is_over) row (with_sub row) usage want notice
-      (ap (λ a. turned place boxes clock a row.sub.want (with_sub row) (changed row.sub clock is_over)) (sym at)
-      ∙ ap (turned place boxes clock to row.sub.want (with_sub row)) (sym e ∙ n))
-      (subst (IsOf row.sub) (sym e ∙ n) (is_of_changed row.sub clock is_over))
+      goes_told t to (tells_change t is_over) row (with_sub row) usage want notice
+      (ap (λ a. turned t a (with_sub row) (changed row.sub t.clock is_over)) (sym at) ∙ ap (turned t to (with_sub row)) (sym e ∙ n))
+      (subst (IsOf row.sub) (sym e ∙ n) (is_of_changed row.sub t.clock is_over))
 
   -- a renewal, after which it goes on
-  pub renewal_stays : (source : Addr) (r : Request) (next : Step) (s : State) (notice : Notice) → next ≡ renewed_sub place clock source r row.sub → next ≡ Live s notice
-      → IsTold (renewed place boxes clock source r) row (Stays (opened clock notice (with_sub (record row { last_cseq = r.head.cseq }) s)) (Some (out_of (Notifies source (notify place boxes s.usage s.want notice)))))
+  pub renewal_stays : (source : Addr) (r : Request) (next : Step) (s : State) (notice : Notice) → next ≡ renewed_sub t.place t.clock source r row.sub → next ≡ Live s notice
+      → IsTold (renewed t source r) row (Stays (opened t.clock notice (with_sub (record row { last_cseq = r.head.cseq }) s)) (Some (out_of (Notifies source (notify t s.usage s.want notice)))))
   unfolding renewed
   renewal_stays source r next s notice e n =
-      stays_told place boxes clock source (renewed place boxes clock source r) row (with_sub (record row { last_cseq = r.head.cseq })) s notice
-      (ap (turned place boxes clock source row.sub.want (with_sub (record row { last_cseq = r.head.cseq }))) (sym e ∙ n))
-      (subst (IsOf row.sub) (sym e ∙ n) (is_of_renewed place clock source r row.sub))
+      stays_told t source (renewed t source r) row (with_sub (record row { last_cseq = r.head.cseq })) s notice
+      (ap (turned t source (with_sub (record row { last_cseq = r.head.cseq }))) (sym e ∙ n))
 
   -- or is over
-  pub renewal_goes : (source : Addr) (r : Request) (next : Step) (usage : Usage) (want : Want) (notice : Notice) → next ≡ renewed_sub place clock source r row.sub → next ≡ Over usage want notice
-      → IsTold (renewed place boxes clock source r) row (Goes (gone_from usage want) (Some (out_of (Notifies source (notify place boxes usage want notice)))))
+  pub renewal_goes : (source : Addr) (r : Request) (next : Step) (usage : Usage) (want : Want) (notice : Notice) → next ≡ renewed_sub t.place t.clock source r row.sub → next ≡ Over usage want notice
+      → IsTold (renewed t source r) row (Goes (gone_from usage want) (Some (out_of (Notifies source (notify t usage want notice)))))
   unfolding renewed
   renewal_goes source r next usage want notice e n =
-      goes_told place boxes clock source (renewed place boxes clock source r) row (with_sub (record row { last_cseq = r.head.cseq })) usage want notice
-      (ap (turned place boxes clock source row.sub.want (with_sub (record row { last_cseq = r.head.cseq }))) (sym e ∙ n))
-      (subst (IsOf row.sub) (sym e ∙ n) (is_of_renewed place clock source r row.sub))
+      goes_told t source (renewed t source r) row (with_sub (record row { last_cseq = r.head.cseq })) usage want notice
+      (ap (turned t source (with_sub (record row { last_cseq = r.head.cseq }))) (sym e ∙ n))
+      (subst (IsOf row.sub) (sym e ∙ n) (is_of_renewed t.place t.clock source r row.sub))
 
   -- the end
   pub end_goes : (reason : Reason) (ended : Usage × Want × Notice) → ended ≡ end row.sub reason
-      → IsTold (ends place boxes clock reason) row (Goes (gone_from ended.0 ended.1) (Some (out_of (Notifies ended.1.to (notify place boxes ended.0 ended.1 ended.2)))))
+      → IsTold (ends t reason) row (Goes (gone_from ended.0 ended.1) (Some (out_of (Notifies ended.1.to (notify t ended.0 ended.1 ended.2)))))
   unfolding ends tells end
   end_goes reason ended e =
-      subst (λ (x : Usage × Want × Notice). IsTold (ends place boxes clock reason) row (Goes (gone_from x.0 x.1) (Some (out_of (Notifies x.1.to (notify place boxes x.0 x.1 x.2)))))) (sym e)
-      (goes_told place boxes clock row.sub.want.to (ends place boxes clock reason) row (with_sub row) row.sub.usage row.sub.want _ refl (refl, refl, refl))
+      subst (λ (x : Usage × Want × Notice). IsTold (ends t reason) row (Goes (gone_from x.0 x.1) (Some (out_of (Notifies x.1.to (notify t x.0 x.1 x.2)))))) (sym e)
+      (goes_told t row.sub.want.to (ends t reason) row (with_sub row) row.sub.usage row.sub.want _ refl (refl, refl, refl))
 
 -- a result that is this
 pub if_is : {T E : Type 0} (P : T → Type 0) (r : Result T E) (x : T) → IfOk r (λ a. a ≡ x) → P x → IfOk r P

@@ -8,7 +8,7 @@ use Rattle.notifier_model.specs.declared.refusal.Refusal.{Refusal}
 use Rattle.notifier_model.specs.declared.refusal.Refusal.TheVariants.{OldCseq, Full}
 use Rattle.notifier_model.specs.declared.row.Row.{Row}
 use Rattle.notifier_model.specs.Limits.{Limits}
-use Rattle.notifier_model.specs.Requests.{is_ack, key_of_request, misfit, misplaced, unheard, birth_of, needs_place, is_full}
+use Rattle.notifier_model.specs.Requests.{is_ack, key_of_request, misfit, misplaced, denial, birth_of, needs_place, is_full}
 use Rattle.notifier_model.specs.Answers.{kept_answer}
 use Rattle.notifier_model.specs.Rows.{is_dialog}
 use Rattle.notifier_model.specs.Book.{Book, Silent, Refused, Born, unless, unless_denied, in_dialog, outside, by_to_tag, by_kept, verdict}
@@ -40,8 +40,8 @@ module _ (limits : Limits) (b : Book) (r : Request) (kind : Birth) where
   never_in_dialog None e = cc
   never_in_dialog (Some row) e = by (nat_lt row.last_cseq r.head.cseq) e
     where
-      by : (d : Bool) → (if d then unless_denied row.serial (unheard limits row.sub.want.event r) else Refused OldCseq) ≡ Born kind → ⊥
-      by true h = never_denied row.serial (unheard limits row.sub.want.event r) h
+      by : (d : Bool) → (if d then unless_denied row.serial (denial limits row.sub.want.event r) else Refused OldCseq) ≡ Born kind → ⊥
+      by true h = never_denied row.serial (denial limits row.sub.want.event r) h
       by false h = cc
 
   of_outside : misfit r ≡ None → outside limits b r ≡ Born kind → Bears limits b.next r kind

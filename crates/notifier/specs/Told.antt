@@ -2,16 +2,16 @@
 use Rattle.std.specs.Prelude.{◌≡◌, ℕ, List, map, Option, Some, None, option_to_list, if◌then◌else◌}
 use Rattle.notifier_model.specs.declared.event.Out.{Out}
 use Rattle.notifier_model.specs.declared.row.Row.{Row}
-use Rattle.notifier.specs.declared.sweep.rules.After.{After}
-use Rattle.notifier.specs.declared.sweep.rules.After.TheVariants.{Stays, Goes}
-use Rattle.notifier.specs.declared.sweep.rules.Gone.{Gone}
+use Rattle.notifier.specs.declared.sweep.row.After.{After}
+use Rattle.notifier.specs.declared.sweep.row.After.TheVariants.{Stays, Goes}
+use Rattle.notifier.specs.declared.sweep.row.Gone.{Gone}
 use Rattle.subscription.specs.declared.life.Step.{Step}
 use Rattle.subscription.specs.declared.life.Step.TheVariants.{Live, Over}
 use Rattle.subscription.specs.declared.terms.Usage.{Usage}
 use Rattle.subscription.specs.declared.terms.Want.{Want}
 use Rattle.notifier_model.specs.Out.{out_of}
 use Rattle.notifier_model.specs.Requests.{is_of_refer}
-use Rattle.notifier_model.specs.Rows.{Told, gone_at}
+use Rattle.notifier_model.specs.Rows.{Turned, gone_at}
 use Rattle.notifier.specs.Watchers.{topic}
 
 -- what was asked for, after a step
@@ -53,7 +53,7 @@ abbrev pub Names : List ℕ × List ℕ → After → Type 0
 Names watch (Stays row out) = Unit {0}
 Names watch (Goes gone out) = topic gone.want ≡ watch
 
-pub record IsTold (rule : Row → Told) (row : Row) (after : After) : Type 0 where
+pub record IsTold (rule : Row → Turned) (row : Row) (after : After) : Type 0 where
   pub stays : row_after after ≡ (rule row).row
   pub sends : option_to_list (out_after after) ≡ map out_of (rule row).notifies
   pub forgets : option_to_list (transfer_after after) ≡ gone_at rule row

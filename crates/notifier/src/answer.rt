@@ -15,7 +15,6 @@ use crate::store::kept::KeptAnswers;
 use crate::tag::refusal_tag;
 use notifier_model::event::Out;
 use notifier_model::limits::Limits;
-use notifier_model::place::Place;
 use notifier_model::refusal::Refusal;
 use package::Package;
 use sip_read::Addr;
@@ -53,31 +52,22 @@ fn bare_answer<'a>(incoming: &Incoming<'a>, status: Status, tag: Option<&'a str>
 }
 
 /// The 200 to a SUBSCRIBE in a dialog.
-pub fn renewal_answer(
-    alloc: Global,
-    place: &Place,
-    incoming: &Incoming<'_>,
-) -> Result<Octets, NoMemory>
+pub fn renewal_answer(alloc: Global, incoming: &Incoming<'_>) -> Result<Octets, NoMemory>
     ensures { IfOk result (λ bytes.
-        bytes ≡ answer_text (spec.renewal_answer place.now incoming.now.source incoming.now.request.now)) }
+        bytes ≡ answer_text (spec.renewal_answer incoming.now.place.now incoming.now.source incoming.now.request.now)) }
 {
     let answer = Answer {
-        contact: Some(place.me),
-        expires: Some(incoming.granted(&place.limits)),
+        contact: Some(incoming.place.me),
+        expires: Some(incoming.granted()),
         ..bare_answer(incoming, Status::Ok, None)
     };
     answer_bytes(alloc, &answer)
 }
 
 /// The 200 or 202 that makes a dialog with this local tag.
-pub fn birth_answer(
-    alloc: Global,
-    place: &Place,
-    incoming: &Incoming<'_>,
-    tag: &Text,
-) -> Result<Octets, NoMemory>
+pub fn birth_answer(alloc: Global, incoming: &Incoming<'_>, tag: &Text) -> Result<Octets, NoMemory>
     ensures { IfOk result (λ bytes.
-        bytes ≡ answer_text (spec.birth_answer place.now incoming.now.source incoming.now.request.now tag.now)) }
+        bytes ≡ answer_text (spec.birth_answer incoming.now.place.now incoming.now.source incoming.now.request.now tag.now)) }
 {
     let status = if incoming.refers {
         Status::Accepted
@@ -86,11 +76,11 @@ pub fn birth_answer(
     };
     let answer = Answer {
         record_routes: incoming.request.record_routes.as_slice(),
-        contact: Some(place.me),
+        contact: Some(incoming.place.me),
         expires: if incoming.refers {
             None
         } else {
-            Some(incoming.granted(&place.limits))
+            Some(incoming.granted())
         },
         without_subscription: incoming.is_unwatched(),
         ..bare_answer(incoming, status, Some(tag.as_str()))
@@ -180,18 +170,17 @@ struct Words<'a> {
 /// The answer to a refused request, where the words that it may say are at hand.
 fn refusal_bytes(
     alloc: Global,
-    place: &Place,
     incoming: &Incoming<'_>,
     refused: Refusal,
     words: &Words<'_>,
 ) -> Result<Octets, NoMemory>
     requires { map (λ n. n.now) words.now.strange.now ≡ filter is_strange_word incoming.now.request.now.require }
-    ensures { IfOk result (λ bytes. bytes ≡ answer_text (spec.refusal_text place.now
+    ensures { IfOk result (λ bytes. bytes ≡ answer_text (spec.refusal_text incoming.now.place.now
         (map (λ n. n.now) words.now.names.now) words.now.tag.now
         incoming.now.source incoming.now.request.now refused)) }
 {
     let answer = Answer {
-        min_expires: min_expires(&place.limits, refused),
+        min_expires: min_expires(&incoming.place.limits, refused),
         allow: allow(refused),
         allow_events: allow_events(words.names, refused),
         unsupported: unsupported(words.strange, refused),
@@ -204,15 +193,14 @@ fn refusal_bytes(
 /// section 8.2.2).
 pub fn refusal_answer<P: Package>(
     alloc: Global,
-    place: &Place,
     boxes: &Vec<P>,
     incoming: &Incoming<'_>,
     refused: Refusal,
 ) -> Result<Octets, NoMemory>
-    ensures { IfOk result (λ bytes. bytes ≡ answer_text (spec.refusal_answer place.now (map P.seen boxes.now.items)
+    ensures { IfOk result (λ bytes. bytes ≡ answer_text (spec.refusal_answer incoming.now.place.now (map P.seen boxes.now.items)
         incoming.now.source incoming.now.request.now refused)) }
 {
-    let tag = refusal_tag(alloc, place.worker)?;
+    let tag = refusal_tag(alloc, incoming.place.worker)?;
     let names = package_names(alloc, boxes)?;
     let strange = strange_words(alloc, incoming.request.require.as_slice())?;
     let words = Words {
@@ -220,7 +208,7 @@ pub fn refusal_answer<P: Package>(
         names: names.as_slice(),
         strange: strange.as_slice(),
     };
-    refusal_bytes(alloc, place, incoming, refused, &words)
+    refusal_bytes(alloc, incoming, refused, &words)
 }
 
 /// Answers a retransmission with these bytes.

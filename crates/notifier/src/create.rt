@@ -1,9 +1,9 @@
 //! A request that makes a dialog, as a step of a ledger: [`birth`] makes its row and tells of it first.
-#![tactic(auto, unfolding(notifier_model::specs::Book::keeping, notifier_model::specs::Book::born, notifier_model::specs::Book::born_with, notifier_model::specs::Book::served, notifier_model::specs::Book::first_gone, notifier_model::specs::Book::first_word, notifier_model::specs::Rows::forgetting, notifier_model::specs::Out::out_of))]
+#![tactic(auto, unfolding(notifier_model::specs::Book::keeping, notifier_model::specs::Book::born, notifier_model::specs::Book::served, notifier_model::specs::Book::first_gone, notifier_model::specs::Book::first_word, notifier_model::specs::Rows::forgetting, notifier_model::specs::Out::out_of))]
 
 ghost use Rattle.std.specs.Prelude.{◌≡◌, ◌≤◌, ◌<◌, ◌+◌, ◌++◌, true, map, All, IfOk, IfSome, OnOk, None, is_none, option_to_list};
 ghost use Rattle.notifier_model.specs.Book as spec;
-ghost use Rattle.notifier.specs.Incoming.{Serves, first_told_of};
+ghost use Rattle.notifier.specs.Incoming.{Serves, begun};
 ghost use Rattle.notifier.specs.Ledger.{book_of, IsSound};
 ghost use Rattle.notifier_model.specs.Out.{out_of};
 ghost use Rattle.notifier_model.specs.Requests as requests;
@@ -16,16 +16,15 @@ pub mod birth;
 
 use crate::answer::{birth_answer, respond};
 use crate::boxes::tell_first;
-use crate::create::birth::{Newborn, begin, value_or_empty};
+use crate::create::birth::{begin, value_or_empty};
 use crate::incoming::{Incoming, Pending};
+use crate::notice::Teller;
 use crate::store::Ledger;
-use crate::sweep::rule::push_some;
-use crate::sweep::rules::After;
+use crate::sweep::cause::push_some;
+use crate::sweep::row::After;
 use crate::tag::local_tag;
-use crate::teller::Teller;
-use notifier_model::birth::Birth;
+use notifier_model::birth::{Birth, Newborn};
 use notifier_model::event::Out;
-use notifier_model::place::Place;
 use package::{Change, Package};
 use sip_text::{NoMemory, Text};
 use std::alloc::Global;
@@ -101,37 +100,35 @@ impl<P: Package> Ledger<P> {
     fn establish(
         &mut self,
         alloc: Global,
-        place: &Place,
         incoming: &Incoming<'_>,
         newborn: &Newborn,
         outs: &mut Vec<Out>,
     ) -> Result<(), NoMemory>
         requires fits { requests.misfit incoming.now.request.now ≡ None }
-        requires kind { newborn.now.kind ≡ requests.birth_of place.now.limits incoming.now.request.now }
-        requires sound { IsSound place.now self.old }
+        requires kind { newborn.now.kind ≡ requests.birth_of incoming.now.place.now.limits incoming.now.request.now }
+        requires sound { IsSound incoming.now.place.now self.old }
         requires serial { newborn.now.serial ≡ self.old.next }
-        requires tag { newborn.now.tag ≡ tag_of place.now self.old.next }
-        requires room { self.old.next ≤ place.now.limits.serials }
+        requires tag { newborn.now.tag ≡ tag_of incoming.now.place.now self.old.next }
+        requires room { self.old.next ≤ incoming.now.place.now.limits.serials }
         ensures rows { OnOk result (rows_of self.new.rows ≡ rows_of self.old.rows ++ option_to_list
-            (first_told_of place.now
-            (spec.first_boxes (map P.seen self.old.boxes.items) newborn.now.tag newborn.now.kind) self.old.clock
+            (spec.first_told (begun P.seen incoming.now.place.now self.old newborn.now)
             incoming.now.source incoming.now.request.now newborn.now).row) }
         ensures boxes { OnOk result (map P.seen self.new.boxes.items ≡ rows.forgetting
-            (spec.first_gone newborn.now.tag newborn.now.kind (is_none (first_told_of place.now
-            (spec.first_boxes (map P.seen self.old.boxes.items) newborn.now.tag newborn.now.kind) self.old.clock
+            (spec.first_gone newborn.now.tag newborn.now.kind (is_none
+            (spec.first_told (begun P.seen incoming.now.place.now self.old newborn.now)
             incoming.now.source incoming.now.request.now newborn.now).row))
-            (spec.first_boxes (map P.seen self.old.boxes.items) newborn.now.tag newborn.now.kind)) }
-        ensures outs { OnOk result (outs.new.items ≡ outs.old.items ++ map out_of (first_told_of place.now
-            (spec.first_boxes (map P.seen self.old.boxes.items) newborn.now.tag newborn.now.kind) self.old.clock
+            (begun P.seen incoming.now.place.now self.old newborn.now).boxes) }
+        ensures outs { OnOk result (outs.new.items ≡ outs.old.items ++ map out_of
+            (spec.first_told (begun P.seen incoming.now.place.now self.old newborn.now)
             incoming.now.source incoming.now.request.now newborn.now).notifies) }
         ensures same { OnOk result ((self.new.clock ≡ self.old.clock) × (self.new.next ≡ self.old.next + 1)
             × (self.new.ring ≡ self.old.ring)) }
-        ensures sound { OnOk result (IsSound place.now self.new) }
+        ensures sound { OnOk result (IsSound incoming.now.place.now self.new) }
     {
-        place.limits.are_in_range();
+        incoming.place.limits.are_in_range();
         begin(alloc, &mut self.boxes, &newborn.tag, newborn.kind)?;
         let teller = Teller {
-            place,
+            place: incoming.place,
             boxes: &self.boxes,
             clock: self.clock,
         };
@@ -145,26 +142,25 @@ impl<P: Package> Ledger<P> {
     pub fn bear(
         &mut self,
         alloc: Global,
-        place: &Place,
         pending: Pending<'_>,
         kind: Birth,
     ) -> Result<Vec<Out>, NoMemory>
         requires fits { requests.misfit pending.incoming.now.request.now ≡ None }
-        requires kind { kind ≡ requests.birth_of place.now.limits pending.incoming.now.request.now }
-        requires sound { IsSound place.now self.old }
-        requires room { self.old.next ≤ place.now.limits.serials }
+        requires kind { kind ≡ requests.birth_of pending.incoming.now.place.now.limits pending.incoming.now.request.now }
+        requires sound { IsSound pending.incoming.now.place.now self.old }
+        requires room { self.old.next ≤ pending.incoming.now.place.now.limits.serials }
         ensures step { IfOk result (λ outs.
-            Serves P.seen place.now self.old pending.entry (spec.Born kind) self.new outs.items) }
-        ensures sound { OnOk result (IsSound place.now self.new) }
+            Serves P.seen self.old pending.entry (spec.Born kind) self.new outs.items) }
+        ensures sound { OnOk result (IsSound pending.entry.incoming.now.place.now self.new) }
     {
-        place.limits.are_in_range();
         let incoming = pending.incoming;
+        incoming.place.limits.are_in_range();
         let serial = self.next as u32;
-        let tag = local_tag(alloc, place, serial)?;
-        let bytes = birth_answer(alloc, place, incoming, &tag)?;
+        let tag = local_tag(alloc, incoming.place, serial)?;
+        let bytes = birth_answer(alloc, incoming, &tag)?;
         let mut outs = respond(alloc, &mut self.ring, pending, bytes)?;
         let newborn = Newborn { kind, serial, tag };
-        self.establish(alloc, place, incoming, &newborn, &mut outs)?;
+        self.establish(alloc, incoming, &newborn, &mut outs)?;
         if !incoming.refers {
             return Ok(outs);
         }

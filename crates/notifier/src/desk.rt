@@ -1,11 +1,13 @@
 //! The desk.
 #![tactic(auto, unfolding(notifier_model::specs::Run::empty))]
 
-ghost use Rattle.std.specs.Prelude.{◌≡◌, ◌↔◌, map, is_none, IfOk, OnErr, Some, None};
+ghost use Rattle.std.specs.Prelude.{◌≡◌, ◌↔◌, map, is_none, IfOk, OnOk, OnErr, Some, None};
 ghost use Rattle.notifier.specs.Standing.{Standing, first_standing, IsHandled};
 ghost use Rattle.notifier.specs.Held.{seen_by};
 ghost use Rattle.notifier.specs.Errors.{number_of};
+ghost use Rattle.notifier_model.specs.Book.{step};
 ghost use Rattle.notifier_model.specs.Start.{place_of};
+ghost use Rattle.notifier.specs.Ledger.{book_of, IsStep, IsSound};
 
 use crate::store::Ledger;
 use crate::store::kept::KeptAnswers;
@@ -130,6 +132,26 @@ impl<P: Package> Desk<P> {
                 self.spent = false;
                 Ok(outs)
             }
+        }
+    }
+}
+
+impl<P: Package> Ledger<P> {
+    /// One event: what it makes of the book, and what goes out.
+    #[tactic(auto, unfolding(notifier_model::specs::Book::step))]
+    fn act(&mut self, alloc: Global, place: &Place, event: &Event) -> Result<Vec<Out>, NoMemory>
+        requires { IsSound place.now self.old }
+        ensures step { IfOk result (λ outs. IsStep (step place.now (book_of P.seen self.old) event.now)
+            (book_of P.seen self.new) outs.items) }
+        ensures sound { OnOk result (IsSound place.now self.new) }
+    {
+        match event {
+            Event::Request(source, request) => self.serve(alloc, place, *source, request),
+            Event::Reply(response) => self.reply(alloc, place, response),
+            Event::Mail(change) => self.mail(alloc, place, change),
+            Event::Progress(change) => self.progress(alloc, place, change),
+            Event::Tick(moment) => self.time(alloc, place, *moment),
+            Event::Shut => self.shut(alloc, place),
         }
     }
 }

@@ -13,9 +13,8 @@ ghost use Rattle.notifier.specs.Ledger.{book_of, IsSound};
 use crate::answer::{refusal_answer, renewal_answer, respond};
 use crate::incoming::Pending;
 use crate::store::Ledger;
-use crate::sweep::rule::Cause;
+use crate::sweep::cause::Cause;
 use notifier_model::event::Out;
-use notifier_model::place::Place;
 use notifier_model::refusal::Refusal;
 use package::Package;
 use sip_text::NoMemory;
@@ -26,16 +25,15 @@ impl<P: Package> Ledger<P> {
     pub fn refuse(
         &mut self,
         alloc: Global,
-        place: &Place,
         pending: Pending<'_>,
         cause: Refusal,
     ) -> Result<Vec<Out>, NoMemory>
-        requires sound { IsSound place.now self.old }
+        requires sound { IsSound pending.incoming.now.place.now self.old }
         ensures step { IfOk result (λ outs.
-            Serves P.seen place.now self.old pending.entry (spec.Refused cause) self.new outs.items) }
-        ensures sound { OnOk result (IsSound place.now self.new) }
+            Serves P.seen self.old pending.entry (spec.Refused cause) self.new outs.items) }
+        ensures sound { OnOk result (IsSound pending.entry.incoming.now.place.now self.new) }
     {
-        let bytes = refusal_answer(alloc, place, &self.boxes, pending.incoming, cause)?;
+        let bytes = refusal_answer(alloc, &self.boxes, pending.incoming, cause)?;
         respond(alloc, &mut self.ring, pending, bytes)
     }
 
@@ -43,42 +41,41 @@ impl<P: Package> Ledger<P> {
     pub fn deny(
         &mut self,
         alloc: Global,
-        place: &Place,
         pending: Pending<'_>,
         serial: u32,
         cause: Refusal,
     ) -> Result<Vec<Out>, NoMemory>
-        requires sound { IsSound place.now self.old }
+        requires sound { IsSound pending.incoming.now.place.now self.old }
         ensures step { IfOk result (λ outs.
-            Serves P.seen place.now self.old pending.entry (spec.Denied serial cause)
+            Serves P.seen self.old pending.entry (spec.Denied serial cause)
             self.new outs.items) }
-        ensures sound { OnOk result (IsSound place.now self.new) }
+        ensures sound { OnOk result (IsSound pending.entry.incoming.now.place.now self.new) }
     {
-        let request = pending.incoming.request;
-        let mut outs = self.refuse(alloc, place, pending, cause)?;
-        self.all_rows(alloc, place, &Cause::Refused(serial, request), &mut outs)?;
+        let incoming = pending.incoming;
+        let mut outs = self.refuse(alloc, pending, cause)?;
+        self.all_rows(
+            alloc,
+            incoming.place,
+            &Cause::Refused(serial, incoming.request),
+            &mut outs,
+        )?;
         Ok(outs)
     }
 
     /// The 200 to a SUBSCRIBE in a dialog.
-    fn answer_renewal(
-        &mut self,
-        alloc: Global,
-        place: &Place,
-        pending: Pending<'_>,
-    ) -> Result<Vec<Out>, NoMemory>
-        requires sound { IsSound place.now self.old }
+    fn answer_renewal(&mut self, alloc: Global, pending: Pending<'_>) -> Result<Vec<Out>, NoMemory>
+        requires sound { IsSound pending.incoming.now.place.now self.old }
         ensures book { let came = pending.entry.incoming.now in
-            OnOk result (book_of P.seen self.new ≡ spec.keeping place.now (book_of P.seen self.old)
-            came.request.now (answers.renewal_answer place.now came.source came.request.now)) }
+            OnOk result (book_of P.seen self.new ≡ spec.keeping came.place.now (book_of P.seen self.old)
+            came.request.now (answers.renewal_answer came.place.now came.source came.request.now)) }
         ensures outs { let came = pending.entry.incoming.now in
             IfOk result (λ outs. outs.items ≡ map out_of (Answers came.source
-            (answer_text (answers.renewal_answer place.now came.source came.request.now)) ∷ [])) }
-        ensures sound { OnOk result (IsSound place.now self.new) }
-        ensures limits { OnOk result (AreLimits place.now.limits) }
+            (answer_text (answers.renewal_answer came.place.now came.source came.request.now)) ∷ [])) }
+        ensures sound { OnOk result (IsSound pending.entry.incoming.now.place.now self.new) }
+        ensures limits { OnOk result (AreLimits pending.entry.incoming.now.place.now.limits) }
     {
-        place.limits.are_in_range();
-        let bytes = renewal_answer(alloc, place, pending.incoming)?;
+        pending.incoming.place.limits.are_in_range();
+        let bytes = renewal_answer(alloc, pending.incoming)?;
         respond(alloc, &mut self.ring, pending, bytes)
     }
 
@@ -86,18 +83,22 @@ impl<P: Package> Ledger<P> {
     pub fn renew(
         &mut self,
         alloc: Global,
-        place: &Place,
         pending: Pending<'_>,
         serial: u32,
     ) -> Result<Vec<Out>, NoMemory>
-        requires sound { IsSound place.now self.old }
+        requires sound { IsSound pending.incoming.now.place.now self.old }
         ensures step { IfOk result (λ outs.
-            Serves P.seen place.now self.old pending.entry (spec.Renewed serial) self.new outs.items) }
-        ensures sound { OnOk result (IsSound place.now self.new) }
+            Serves P.seen self.old pending.entry (spec.Renewed serial) self.new outs.items) }
+        ensures sound { OnOk result (IsSound pending.entry.incoming.now.place.now self.new) }
     {
         let incoming = pending.incoming;
-        let mut outs = self.answer_renewal(alloc, place, pending)?;
-        self.all_rows(alloc, place, &Cause::Renewal(serial, incoming), &mut outs)?;
+        let mut outs = self.answer_renewal(alloc, pending)?;
+        self.all_rows(
+            alloc,
+            incoming.place,
+            &Cause::Renewal(serial, incoming),
+            &mut outs,
+        )?;
         Ok(outs)
     }
 }

@@ -1,5 +1,5 @@
 //! Requests that came in, and what is decided of each once.
-#![tactic(auto, unfolding(notifier_model::specs::Requests::event_of, notifier_model::specs::Requests::asked, notifier_model::specs::Requests::granted, notifier_model::specs::Requests::asks_nothing, notifier_model::specs::Requests::is_unwatched, notifier_model::specs::Requests::birth_of, notifier_model::specs::Requests::is_malformed, notifier_model::specs::Requests::misfit, notifier_model::specs::Requests::misplaced_at, notifier_model::specs::Requests::is_full, notifier_model::specs::Requests::unheard))]
+#![tactic(auto, unfolding(notifier_model::specs::Requests::event_of, notifier_model::specs::Requests::asked, notifier_model::specs::Requests::granted, notifier_model::specs::Requests::asks_nothing, notifier_model::specs::Requests::is_unwatched, notifier_model::specs::Requests::birth_of, notifier_model::specs::Requests::is_malformed, notifier_model::specs::Requests::misfit, notifier_model::specs::Requests::misplaced_at, notifier_model::specs::Requests::is_full, notifier_model::specs::Requests::denial))]
 
 ghost use Rattle.std.specs.List.{list_any};
 ghost use Rattle.std.specs.Prelude.{◌≡◌, ◌≤◌, false, map, option_map, Some};
@@ -14,6 +14,7 @@ use crate::store::transaction::Transaction;
 use event_headers::{EventValue, Range, covers};
 use notifier_model::birth::Birth;
 use notifier_model::limits::Limits;
+use notifier_model::place::Place;
 use notifier_model::refusal::Refusal;
 use notifier_model::uri::{is_sip_uri, user_part};
 use package::Package;
@@ -23,6 +24,8 @@ use sip_text::{Field, Text, Values};
 /// A request that came in, with what is decided of it once.
 #[derive(Drop)]
 pub struct Incoming<'a> {
+    /// The place of the desk to which it came, by whose limits it is judged.
+    pub place: &'a Place,
     /// Where it came from.
     pub source: Addr,
     pub request: &'a Request,
@@ -34,10 +37,16 @@ pub struct Incoming<'a> {
     pub package: &'a str,
     /// The user part of its Request-URI.
     pub user: &'a str,
+    /// The time that it asks for, in seconds.
+    asked: u32,
+    /// Whether it asks for some time, but for too brief a one.
+    is_too_brief: bool,
     ghost of_subscribe: { subscribes ≡ spec.is_subscribe request.now },
     ghost of_refer: { refers ≡ spec.is_refer request.now },
     ghost of_package: { «package».now ≡ (spec.event_of request.now).package },
     ghost of_user: { user.now ≡ spec.user_part request.now.uri },
+    ghost of_asked: { asked ≡ spec.asked place.now.limits request.now },
+    ghost of_brief: { is_too_brief ≡ spec.is_too_brief place.now.limits request.now },
 }
 
 /// A request that waits for its answer.
@@ -60,6 +69,23 @@ fn wanted_package(request: &Request, refers: bool) -> &str
     match &request.event {
         Field::Value(event) => event.package(),
         _ => "",
+    }
+}
+
+/// The time that a request for this package asks for, in seconds.
+fn asked(limits: &Limits, request: &Request, package: &str) -> u32
+    requires { «package».now ≡ (spec.event_of request.now).package }
+    ensures { result ≡ spec.asked limits.now request.now }
+{
+    match request.expires {
+        Field::Value(seconds) => seconds,
+        _ => {
+            if package == "refer" {
+                limits.refer_time()
+            } else {
+                limits.default_time()
+            }
+        }
     }
 }
 
@@ -136,69 +162,45 @@ fn needs_place(birth: Birth) -> bool
 
 impl<'a> Incoming<'a> {
     /// A request from this address, with what the tests below look at.
-    pub fn new(source: Addr, request: &'a Request) -> Incoming<'a>
+    pub fn new(place: &'a Place, source: Addr, request: &'a Request) -> Incoming<'a>
+        ensures place { result.place.now ≡ place.now }
         ensures source { result.source ≡ source }
         ensures request { result.request.now ≡ request.now }
     {
         let refers = request.method.is("REFER");
+        let package = wanted_package(request, refers);
+        let asked = asked(&place.limits, request, package);
+        let least = place.limits.min_time();
         Incoming {
+            place,
             source,
             request,
             subscribes: request.method.is("SUBSCRIBE"),
             refers,
-            package: wanted_package(request, refers),
+            package,
             user: user_part(request.uri.as_str()),
-        }
-    }
-
-    /// Whether it is an ACK.
-    pub fn is_ack(&self) -> bool
-        ensures { result ≡ spec.is_ack self.now.request.now }
-    {
-        self.request.method.is("ACK")
-    }
-
-    /// The time that it asks for, in seconds.
-    fn asked(&self, limits: &Limits) -> u32
-        ensures { result ≡ spec.asked limits.now self.now.request.now }
-    {
-        match self.request.expires {
-            Field::Value(seconds) => seconds,
-            _ => {
-                if self.package == "refer" {
-                    limits.refer_time()
-                } else {
-                    limits.default_time()
-                }
-            }
+            asked,
+            is_too_brief: 0 < asked && asked < least,
         }
     }
 
     /// The time that is granted, in seconds (RFC 6665 section 4.2.1.1).
-    pub fn granted(&self, limits: &Limits) -> u32
-        ensures value { result ≡ spec.granted limits.now self.now.request.now }
-        ensures some_time { spec.asks_nothing limits.now self.now.request.now ≡ false → 1 ≤ result }
+    pub fn granted(&self) -> u32
+        ensures value { result ≡ spec.granted self.now.place.now.limits self.now.request.now }
+        ensures some_time { spec.asks_nothing self.now.place.now.limits self.now.request.now ≡ false → 1 ≤ result }
     {
         if self.refers {
-            limits.refer_time()
+            self.place.limits.refer_time()
         } else {
-            self.asked(limits).min(limits.max_time())
+            self.asked.min(self.place.limits.max_time())
         }
     }
 
     /// Whether it is a SUBSCRIBE that asks for no time.
-    pub fn asks_nothing(&self, limits: &Limits) -> bool
-        ensures { result ≡ spec.asks_nothing limits.now self.now.request.now }
+    pub fn asks_nothing(&self) -> bool
+        ensures { result ≡ spec.asks_nothing self.now.place.now.limits self.now.request.now }
     {
-        !self.refers && self.asked(limits) == 0
-    }
-
-    /// Whether it asks for some time, but for too brief a one.
-    fn is_too_brief(&self, limits: &Limits) -> bool
-        ensures { result ≡ spec.is_too_brief limits.now self.now.request.now }
-    {
-        let seconds = self.asked(limits);
-        0 < seconds && seconds < limits.min_time()
+        !self.refers && self.asked == 0
     }
 
     /// Whether it is a REFER that asks for no subscription (RFC 4488).
@@ -209,8 +211,8 @@ impl<'a> Incoming<'a> {
     }
 
     /// What it makes, where nothing stands against it.
-    pub fn birth(&self, limits: &Limits) -> Birth
-        ensures { result ≡ spec.birth_of limits.now self.now.request.now }
+    pub fn birth(&self) -> Birth
+        ensures { result ≡ spec.birth_of self.now.place.now.limits self.now.request.now }
     {
         if self.refers {
             if self.is_unwatched() {
@@ -218,7 +220,7 @@ impl<'a> Incoming<'a> {
             } else {
                 Birth::Transfer
             }
-        } else if self.asks_nothing(limits) {
+        } else if self.asks_nothing() {
             Birth::Fetch
         } else {
             Birth::Watch
@@ -273,24 +275,27 @@ impl<'a> Incoming<'a> {
     }
 
     /// Why it is refused in the dialog of this event, if so.
-    pub fn unheard(&self, limits: &Limits, event: &EventValue) -> Option<Refusal>
-        ensures { result ≡ spec.unheard limits.now event.now self.now.request.now }
+    pub fn denial(&self, event: &EventValue) -> Option<Refusal>
+        ensures { result ≡ spec.denial self.now.place.now.limits event.now self.now.request.now }
     {
         if self.refers {
             Some(Refusal::ReferInDialog)
         } else if !self.has_event(event) {
             Some(Refusal::OtherEvent)
-        } else if self.is_too_brief(limits) {
+        } else if self.is_too_brief {
             Some(Refusal::TooBrief)
         } else {
             None
         }
     }
 
-    /// Why its package refuses it, if so.
-    fn refused_there<P: Package>(&self, limits: &Limits, found: &P) -> Option<Refusal>
-        ensures { result ≡ spec.misplaced_at limits.now self.now.request.now (Some (P.seen found.now)) }
+    /// Why the packages refuse it outside a dialog, if so, by the first box of its package.
+    pub fn misplaced<P: Package>(&self, boxes: &Vec<P>) -> Option<Refusal>
+        ensures { result ≡ spec.misplaced self.now.place.now.limits (map P.seen boxes.now.items) self.now.request.now }
     {
+        let Some(found) = first_box(boxes, self.package) else {
+            return Some(Refusal::NoPackage);
+        };
         if self.refers {
             None
         } else if self.package == "refer" {
@@ -299,28 +304,19 @@ impl<'a> Incoming<'a> {
             Some(Refusal::NotAcceptable)
         } else if !found.holds(self.user) {
             Some(Refusal::NoResource)
-        } else if self.is_too_brief(limits) {
+        } else if self.is_too_brief {
             Some(Refusal::TooBrief)
         } else {
             None
         }
     }
 
-    /// Why the packages refuse it outside a dialog, if so.
-    pub fn misplaced<P: Package>(&self, limits: &Limits, boxes: &Vec<P>) -> Option<Refusal>
-        ensures { result ≡ spec.misplaced limits.now (map P.seen boxes.now.items) self.now.request.now }
+    /// Whether no serial is left for what it makes, or that needs a place in the table and there is none.
+    pub fn is_full(&self, kind: Birth, next: u64, alive: usize) -> bool
+        requires { kind ≡ spec.birth_of self.now.place.now.limits self.now.request.now }
+        ensures { result ≡ spec.is_full self.now.place.now.limits next alive self.now.request.now }
     {
-        match first_box(boxes, self.package) {
-            None => Some(Refusal::NoPackage),
-            Some(found) => self.refused_there(limits, found),
-        }
-    }
-
-    /// Whether no serial is left for it, or it needs a place in the table and there is none.
-    pub fn is_full(&self, limits: &Limits, next: u64, alive: usize) -> bool
-        ensures { result ≡ spec.is_full limits.now next alive self.now.request.now }
-    {
-        u64::from(limits.serials()) < next
-            || limits.table() as usize <= alive && needs_place(self.birth(limits))
+        let limits = &self.place.limits;
+        u64::from(limits.serials()) < next || limits.table() as usize <= alive && needs_place(kind)
     }
 }

@@ -12,7 +12,6 @@ mod answer;
 mod boxes;
 mod create;
 pub mod desk;
-mod event_steps;
 mod in_dialog;
 mod incoming;
 pub mod laws;
@@ -20,7 +19,6 @@ mod notice;
 mod store;
 mod sweep;
 mod tag;
-mod teller;
 mod verdict;
 pub mod whole_run;
 

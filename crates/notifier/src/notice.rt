@@ -6,12 +6,12 @@ ghost use Rattle.event_headers.specs.Values.{StateValue as State};
 ghost use Rattle.subscription.specs.Written.{state_of};
 ghost use Rattle.notifier_model.specs.Out.{Notifies, out_of};
 ghost use Rattle.notifier_model.specs.Rows as spec;
-ghost use Rattle.notifier.specs.Tellers.{boxes_of};
+ghost use Rattle.notifier.specs.Tellers.{telling};
 
 use crate::boxes::{body, content_type, first_box};
-use crate::teller::Teller;
 use event_headers::StateValue;
 use notifier_model::event::Out;
+use notifier_model::place::Place;
 use package::Package;
 use sip_read::Addr;
 use sip_text::{NoMemory, Octets};
@@ -31,6 +31,15 @@ fn state_value(alloc: Global, phase: Phase) -> Result<StateValue, NoMemory>
     }
 }
 
+/// What a NOTIFY is written from: the place of the desk, what its boxes hold, and the moment.
+#[derive(Drop)]
+pub struct Teller<'a, P: Package> {
+    pub place: &'a Place,
+    pub boxes: &'a Vec<P>,
+    /// The moment, in seconds.
+    pub clock: u64,
+}
+
 impl<P: Package> Teller<'_, P> {
     /// The NOTIFY that tells of a subscription, to this address.
     pub fn notice_out(
@@ -42,7 +51,7 @@ impl<P: Package> Teller<'_, P> {
         notice: Notice,
     ) -> Result<Out, NoMemory>
         ensures { IfOk result (λ out. out ≡ out_of (Notifies to
-            (spec.notify self.now.place.now (boxes_of P.seen self.now) usage.now want.now notice))) }
+            (spec.notify (telling P.seen self.now) usage.now want.now notice))) }
     {
         let package = want.event.package();
         let tag = usage.local_tag.copy(alloc)?;

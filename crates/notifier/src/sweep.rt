@@ -1,6 +1,6 @@
 //! What is done with all rows at once: changes, answers to NOTIFYs, time and the stop. [`telling`] goes through the rows that
-//! [`touched`] names, [`rule`] turns each by its cause, and [`rules`] says what a cause makes of one row.
-#![tactic(auto, unfolding(notifier_model::specs::Book::nothing, notifier_model::specs::Book::content_changed, notifier_model::specs::Book::ticked, notifier_model::specs::Book::shut, notifier_model::specs::Book::replied))]
+//! [`touched`] names, [`cause`] turns each by its cause, and [`row`] says what a cause makes of one row.
+#![tactic(auto, unfolding(notifier_model::specs::Book::step, notifier_model::specs::Book::nothing, notifier_model::specs::Book::content_changed, notifier_model::specs::Book::ticked, notifier_model::specs::Book::shut, notifier_model::specs::Book::replied))]
 
 ghost use Rattle.std.specs.Prelude.{◌≤◌, ◌<◌, ◌^◌, [], map, IfOk, OnOk};
 ghost use Rattle.package.specs.Boxes.{change_first as changed_boxes};
@@ -8,17 +8,17 @@ ghost use Rattle.notifier_model.specs.Book as spec;
 ghost use Rattle.notifier_model.specs.Rows.{tells_watcher};
 ghost use Rattle.notifier.specs.Ledger.{book_of, IsStep, IsSound};
 
-pub mod rule;
-pub mod rules;
+pub mod cause;
+pub mod row;
 pub mod telling;
 pub mod touched;
 
 use crate::boxes::change_first;
 use crate::store::Ledger;
-use crate::sweep::rule::Cause;
-use notifier_model::event::Out;
+use crate::sweep::cause::Cause;
+use notifier_model::event::{Event, Out};
 use notifier_model::place::Place;
-use package::{Change, Outcome, Package};
+use package::{Change, MailChange, Outcome, Package, Progress};
 use sip_read::Response;
 use sip_text::NoMemory;
 use std::alloc::Global;
@@ -88,8 +88,7 @@ impl<P: Package> Ledger<P> {
         requires { IsSound place.now self.old }
         ensures step { IfOk result (λ outs. IsStep
             (spec.all_rows (book_of P.seen self.old)
-            (tells_watcher place.now
-            (map P.seen self.old.boxes.items) self.old.clock
+            (tells_watcher (spec.telling place.now (book_of P.seen self.old))
             news.now.package.now news.now.resource.now news.now.is_over) [])
             (book_of P.seen self.new) outs.items) }
         ensures sound { OnOk result (IsSound place.now self.new) }
@@ -124,5 +123,61 @@ impl<P: Package> Ledger<P> {
             Outcome::Same => Ok(Vec::new(alloc)),
             Outcome::Unknown => Ok(Vec::new(alloc)),
         }
+    }
+    /// A mailbox has changed.
+    pub fn mail(
+        &mut self,
+        alloc: Global,
+        place: &Place,
+        change: &MailChange,
+    ) -> Result<Vec<Out>, NoMemory>
+        requires { IsSound place.now self.old }
+        ensures step { IfOk result (λ outs. IsStep
+            (spec.step place.now (book_of P.seen self.old) (Event.Mail change.now)) (book_of P.seen self.new) outs.items) }
+        ensures sound { OnOk result (IsSound place.now self.new) }
+    {
+        let copy = Change::Mail(change.copy(alloc)?);
+        let news = News {
+            package: "message-summary",
+            resource: change.mailbox(),
+            is_over: false,
+        };
+        self.content_changed(alloc, place, &news, &copy)
+    }
+
+    /// A transfer goes on, or is over.
+    pub fn progress(
+        &mut self,
+        alloc: Global,
+        place: &Place,
+        change: &Progress,
+    ) -> Result<Vec<Out>, NoMemory>
+        requires { IsSound place.now self.old }
+        ensures step { IfOk result (λ outs. IsStep
+            (spec.step place.now (book_of P.seen self.old) (Event.Progress change.now))
+            (book_of P.seen self.new) outs.items) }
+        ensures sound { OnOk result (IsSound place.now self.new) }
+    {
+        let copy = Change::Step(change.copy(alloc)?);
+        let news = News {
+            package: "refer",
+            resource: change.tag(),
+            is_over: 200 <= change.code(),
+        };
+        self.content_changed(alloc, place, &news, &copy)
+    }
+
+    /// A moment comes. One after the last that a clock may show does nothing, and an earlier one moves no clock.
+    pub fn time(&mut self, alloc: Global, place: &Place, moment: u64) -> Result<Vec<Out>, NoMemory>
+        requires { IsSound place.now self.old }
+        ensures step { IfOk result (λ outs. IsStep (spec.step place.now (book_of P.seen self.old) (Event.Tick moment))
+            (book_of P.seen self.new) outs.items) }
+        ensures sound { OnOk result (IsSound place.now self.new) }
+    {
+        if moment > 9223372036854775807 {
+            return Ok(Vec::new(alloc));
+        }
+        let clock = self.clock.max(moment);
+        self.tick(alloc, place, clock)
     }
 }

@@ -18,7 +18,6 @@ use crate::store::transaction::Transaction;
 use crate::sweep::touched::own_serial;
 use notifier_model::birth::Birth;
 use notifier_model::event::Out;
-use notifier_model::limits::Limits;
 use notifier_model::place::Place;
 use notifier_model::refusal::Refusal;
 use notifier_model::row::Row;
@@ -79,45 +78,31 @@ fn find_dialog<'a>(place: &Place, live: &'a Rows, request: &Request, tag: &Text)
 
 impl<P: Package> Ledger<P> {
     /// A request with this To tag (RFC 3261 section 12.2.2).
-    fn in_dialog(&self, place: &Place, incoming: &Incoming<'_>, tag: &Text) -> Verdict<'_>
-        requires { IsSound place.now self.now }
-        ensures { verdict_of result ≡ spec.in_dialog place.now.limits incoming.now.request.now
+    fn in_dialog(&self, incoming: &Incoming<'_>, tag: &Text) -> Verdict<'_>
+        requires { IsSound incoming.now.place.now self.now }
+        ensures { verdict_of result ≡ spec.in_dialog incoming.now.place.now.limits incoming.now.request.now
             (find (rows.is_dialog incoming.now.request.now tag.now) (rows_of self.now.rows)) }
     {
-        let Some(row) = find_dialog(place, &self.rows, incoming.request, tag) else {
+        let Some(row) = find_dialog(incoming.place, &self.rows, incoming.request, tag) else {
             return Verdict::Refused(Refusal::NoDialog);
         };
         if incoming.request.head.cseq <= row.last_cseq {
             return Verdict::Refused(Refusal::OldCseq);
         }
-        match incoming.unheard(&place.limits, &row.sub.want().event) {
+        match incoming.denial(&row.sub.want().event) {
             Some(cause) => Verdict::Denied(row.serial, cause),
             None => Verdict::Renewed(row.serial),
         }
     }
 
-    /// A request without a To tag.
-    fn outside(&self, limits: &Limits, incoming: &Incoming<'_>) -> Verdict<'_>
-        requires { IsIndexed self.now.rows }
-        ensures { verdict_of result ≡ spec.outside limits.now (book_of P.seen self.now) incoming.now.request.now }
-    {
-        if let Some(cause) = incoming.misplaced(limits, &self.boxes) {
-            return Verdict::Refused(cause);
-        }
-        if incoming.is_full(limits, self.next, self.rows.len()) {
-            return Verdict::Refused(Refusal::Full);
-        }
-        Verdict::Born(incoming.birth(limits))
-    }
-
     /// What to do with a request: the first case that applies (RFC 6665 section 4.2.1).
-    fn verdict(&self, place: &Place, pending: &Pending<'_>) -> Verdict<'_>
-        requires { IsSound place.now self.now }
-        ensures { verdict_of result
-            ≡ spec.verdict place.now.limits (book_of P.seen self.now) pending.now.incoming.now.request.now }
+    fn verdict(&self, pending: &Pending<'_>) -> Verdict<'_>
+        requires { IsSound pending.now.incoming.now.place.now self.now }
+        ensures { verdict_of result ≡ spec.verdict pending.now.incoming.now.place.now.limits (book_of P.seen self.now)
+            pending.now.incoming.now.request.now }
     {
         let incoming = pending.incoming;
-        if incoming.is_ack() {
+        if incoming.request.method.is("ACK") {
             return Verdict::Silent;
         }
         if let Some(bytes) = self.ring.answer_to(&pending.transaction) {
@@ -126,10 +111,17 @@ impl<P: Package> Ledger<P> {
         if let Some(cause) = incoming.misfit() {
             return Verdict::Refused(cause);
         }
-        match &incoming.request.head.to.tag {
-            None => self.outside(&place.limits, incoming),
-            Some(tag) => self.in_dialog(place, incoming, tag),
+        if let Some(tag) = &incoming.request.head.to.tag {
+            return self.in_dialog(incoming, tag);
         }
+        if let Some(cause) = incoming.misplaced(&self.boxes) {
+            return Verdict::Refused(cause);
+        }
+        let kind = incoming.birth();
+        if incoming.is_full(kind, self.next, self.rows.len()) {
+            return Verdict::Refused(Refusal::Full);
+        }
+        Verdict::Born(kind)
     }
 
     /// A request: what is to be done with it is done.
@@ -147,18 +139,18 @@ impl<P: Package> Ledger<P> {
         ensures sound { OnOk result (IsSound place.now self.new) }
     {
         let transaction = Transaction::of(alloc, request)?;
-        let incoming = Incoming::new(source, request);
+        let incoming = Incoming::new(place, source, request);
         let pending = Pending {
             incoming: &incoming,
             transaction,
         };
-        match self.verdict(place, &pending) {
+        match self.verdict(&pending) {
             Verdict::Silent => Ok(Vec::new(alloc)),
             Verdict::Repeated(bytes) => repeat(alloc, source, bytes),
-            Verdict::Refused(cause) => self.refuse(alloc, place, pending, cause),
-            Verdict::Denied(serial, cause) => self.deny(alloc, place, pending, serial, cause),
-            Verdict::Renewed(serial) => self.renew(alloc, place, pending, serial),
-            Verdict::Born(kind) => self.bear(alloc, place, pending, kind),
+            Verdict::Refused(cause) => self.refuse(alloc, pending, cause),
+            Verdict::Denied(serial, cause) => self.deny(alloc, pending, serial, cause),
+            Verdict::Renewed(serial) => self.renew(alloc, pending, serial),
+            Verdict::Born(kind) => self.bear(alloc, pending, kind),
         }
     }
 }

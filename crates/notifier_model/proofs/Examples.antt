@@ -260,14 +260,14 @@ bytes_of_out (Begins tag refer_to) = []
 
 -- what the book makes of these events, in brief and in bytes
 unfoldable pub outs : Start → List Event → List Brief
-unfolding Tag.local_tag Tag.refusal_tag Requests.key_of_request Requests.is_sip_uri Requests.user_part Requests.event_of Requests.asked Requests.granted Requests.asks_nothing Requests.is_unwatched Requests.birth_of Requests.is_malformed Requests.misfit Requests.misplaced_at Requests.is_full Requests.unheard Answers.refusal_text Answers.refusal_answer Answers.renewal_answer Answers.birth_answer Answers.kept_answer Answers.ring_with Out.out_of Out.notifications Rows.notify Rows.stays Rows.goes Rows.wherever Rows.opened Rows.turned Rows.tells Rows.left Rows.said Rows.gone_at Rows.gone Rows.forgetting Rows.only Rows.is_dialog Rows.counted Rows.renewed_sub Rows.renewed Rows.tells_change Rows.tells_watcher Rows.ends Rows.is_overdue Rows.times_out Rows.stops Rows.closed Rows.takes_answer Rows.answered Book.new_usage Book.new_want Book.first_step Book.nothing Book.keeping Book.refused Book.all_rows Book.denied Book.accepted Book.new_row Book.first_word Book.first_boxes Book.first_told Book.first_gone Book.born_with Book.born Book.unless Book.unless_denied Book.in_dialog Book.outside Book.by_to_tag Book.by_kept Book.verdict Book.served Book.content_changed Book.replied Book.ticked Book.shut Book.step Run.empty Run.run_from Run.made_from Run.run Run.made Table.told Table.accept Table.fetch Table.refresh Table.end Table.changed Table.is_answer_to Table.is_refusal_of Table.refused_by AnswerLayout.answer_lines AnswerLayout.answer_text NotifyLayout.notify_lines NotifyLayout.notify_text ViaLayout.with_character ViaLayout.parts_from ViaLayout.marked_parameter ViaLayout.marked_parts ViaLayout.top_via_text HeaderTexts.comma_joined Block.block_word Block.double_rounds Block.diagonal_round Block.column_round Block.quarter_round Steps.u32_at Hex.encode_with Fmt.digits
+unfolding Tag.local_tag Tag.refusal_tag Requests.key_of_request Requests.is_sip_uri Requests.user_part Requests.event_of Requests.asked Requests.granted Requests.asks_nothing Requests.is_unwatched Requests.birth_of Requests.is_malformed Requests.misfit Requests.misplaced_at Requests.is_full Requests.denial Answers.refusal_text Answers.refusal_answer Answers.renewal_answer Answers.birth_answer Answers.kept_answer Answers.ring_with Out.out_of Out.notifications Rows.notify Rows.stays Rows.goes Rows.wherever Rows.opened Rows.turned Rows.tells Rows.sweep Rows.gone_at Rows.forgetting Rows.only Rows.is_dialog Rows.counted Rows.renewed_sub Rows.renewed Rows.tells_change Rows.tells_watcher Rows.ends Rows.is_overdue Rows.times_out Rows.stops Rows.closed Rows.takes_answer Rows.answered Book.new_usage Book.new_want Book.first_step Book.nothing Book.keeping Book.refused Book.all_rows Book.denied Book.accepted Book.new_row Book.first_word Book.first_boxes Book.first_told Book.first_gone Book.first_turned Book.born Book.unless Book.unless_denied Book.in_dialog Book.outside Book.by_to_tag Book.by_kept Book.verdict Book.served Book.content_changed Book.replied Book.ticked Book.shut Book.step Run.empty Run.run_from Run.made_from Run.run Run.made Table.told Table.accept Table.fetch Table.refresh Table.end Table.changed Table.is_answer_to Table.is_refusal_of Table.refused_by AnswerLayout.answer_lines AnswerLayout.answer_text NotifyLayout.notify_lines NotifyLayout.notify_text ViaLayout.with_character ViaLayout.parts_from ViaLayout.marked_parameter ViaLayout.marked_parts ViaLayout.top_via_text HeaderTexts.comma_joined Block.block_word Block.double_rounds Block.diagonal_round Block.column_round Block.quarter_round Steps.u32_at Hex.encode_with Fmt.digits
 outs start es = map brief (made start es)
 
 unfoldable pub texts : Start → List Event → List Bytes
-unfolding Tag.local_tag Tag.refusal_tag Requests.key_of_request Requests.is_sip_uri Requests.user_part Requests.event_of Requests.asked Requests.granted Requests.asks_nothing Requests.is_unwatched Requests.birth_of Requests.is_malformed Requests.misfit Requests.misplaced_at Requests.is_full Requests.unheard Answers.refusal_text Answers.refusal_answer Answers.renewal_answer Answers.birth_answer Answers.kept_answer Answers.ring_with Out.out_of Out.notifications Rows.notify Rows.stays Rows.goes Rows.wherever Rows.opened Rows.turned Rows.tells Rows.left Rows.said Rows.gone_at Rows.gone Rows.forgetting Rows.only Rows.is_dialog Rows.counted Rows.renewed_sub Rows.renewed Rows.tells_change Rows.tells_watcher Rows.ends Rows.is_overdue Rows.times_out Rows.stops Rows.closed Rows.takes_answer Rows.answered Book.new_usage Book.new_want Book.first_step Book.nothing Book.keeping Book.refused Book.all_rows Book.denied Book.accepted Book.new_row Book.first_word Book.first_boxes Book.first_told Book.first_gone Book.born_with Book.born Book.unless Book.unless_denied Book.in_dialog Book.outside Book.by_to_tag Book.by_kept Book.verdict Book.served Book.content_changed Book.replied Book.ticked Book.shut Book.step Run.empty Run.run_from Run.made_from Run.run Run.made Table.told Table.accept Table.fetch Table.refresh Table.end Table.changed Table.is_answer_to Table.is_refusal_of Table.refused_by AnswerLayout.answer_lines AnswerLayout.answer_text NotifyLayout.notify_lines NotifyLayout.notify_text ViaLayout.with_character ViaLayout.parts_from ViaLayout.marked_parameter ViaLayout.marked_parts ViaLayout.top_via_text HeaderTexts.comma_joined Block.block_word Block.double_rounds Block.diagonal_round Block.column_round Block.quarter_round Steps.u32_at Hex.encode_with Fmt.digits
+unfolding Tag.local_tag Tag.refusal_tag Requests.key_of_request Requests.is_sip_uri Requests.user_part Requests.event_of Requests.asked Requests.granted Requests.asks_nothing Requests.is_unwatched Requests.birth_of Requests.is_malformed Requests.misfit Requests.misplaced_at Requests.is_full Requests.denial Answers.refusal_text Answers.refusal_answer Answers.renewal_answer Answers.birth_answer Answers.kept_answer Answers.ring_with Out.out_of Out.notifications Rows.notify Rows.stays Rows.goes Rows.wherever Rows.opened Rows.turned Rows.tells Rows.sweep Rows.gone_at Rows.forgetting Rows.only Rows.is_dialog Rows.counted Rows.renewed_sub Rows.renewed Rows.tells_change Rows.tells_watcher Rows.ends Rows.is_overdue Rows.times_out Rows.stops Rows.closed Rows.takes_answer Rows.answered Book.new_usage Book.new_want Book.first_step Book.nothing Book.keeping Book.refused Book.all_rows Book.denied Book.accepted Book.new_row Book.first_word Book.first_boxes Book.first_told Book.first_gone Book.first_turned Book.born Book.unless Book.unless_denied Book.in_dialog Book.outside Book.by_to_tag Book.by_kept Book.verdict Book.served Book.content_changed Book.replied Book.ticked Book.shut Book.step Run.empty Run.run_from Run.made_from Run.run Run.made Table.told Table.accept Table.fetch Table.refresh Table.end Table.changed Table.is_answer_to Table.is_refusal_of Table.refused_by AnswerLayout.answer_lines AnswerLayout.answer_text NotifyLayout.notify_lines NotifyLayout.notify_text ViaLayout.with_character ViaLayout.parts_from ViaLayout.marked_parameter ViaLayout.marked_parts ViaLayout.top_via_text HeaderTexts.comma_joined Block.block_word Block.double_rounds Block.diagonal_round Block.column_round Block.quarter_round Steps.u32_at Hex.encode_with Fmt.digits
 texts start es = map (λ s. bytes_of_out (out_of s)) (made start es)
 
 -- what the book holds in the end of the first transfer
 unfoldable pub transfer_after : Start → List Event → Option Content
-unfolding Tag.local_tag Tag.refusal_tag Requests.key_of_request Requests.is_sip_uri Requests.user_part Requests.event_of Requests.asked Requests.granted Requests.asks_nothing Requests.is_unwatched Requests.birth_of Requests.is_malformed Requests.misfit Requests.misplaced_at Requests.is_full Requests.unheard Answers.refusal_text Answers.refusal_answer Answers.renewal_answer Answers.birth_answer Answers.kept_answer Answers.ring_with Out.out_of Out.notifications Rows.notify Rows.stays Rows.goes Rows.wherever Rows.opened Rows.turned Rows.tells Rows.left Rows.said Rows.gone_at Rows.gone Rows.forgetting Rows.only Rows.is_dialog Rows.counted Rows.renewed_sub Rows.renewed Rows.tells_change Rows.tells_watcher Rows.ends Rows.is_overdue Rows.times_out Rows.stops Rows.closed Rows.takes_answer Rows.answered Book.new_usage Book.new_want Book.first_step Book.nothing Book.keeping Book.refused Book.all_rows Book.denied Book.accepted Book.new_row Book.first_word Book.first_boxes Book.first_told Book.first_gone Book.born_with Book.born Book.unless Book.unless_denied Book.in_dialog Book.outside Book.by_to_tag Book.by_kept Book.verdict Book.served Book.content_changed Book.replied Book.ticked Book.shut Book.step Run.empty Run.run_from Run.made_from Run.run Run.made Table.told Table.accept Table.fetch Table.refresh Table.end Table.changed Table.is_answer_to Table.is_refusal_of Table.refused_by AnswerLayout.answer_lines AnswerLayout.answer_text NotifyLayout.notify_lines NotifyLayout.notify_text ViaLayout.with_character ViaLayout.parts_from ViaLayout.marked_parameter ViaLayout.marked_parts ViaLayout.top_via_text HeaderTexts.comma_joined Block.block_word Block.double_rounds Block.diagonal_round Block.column_round Block.quarter_round Steps.u32_at Hex.encode_with Fmt.digits
+unfolding Tag.local_tag Tag.refusal_tag Requests.key_of_request Requests.is_sip_uri Requests.user_part Requests.event_of Requests.asked Requests.granted Requests.asks_nothing Requests.is_unwatched Requests.birth_of Requests.is_malformed Requests.misfit Requests.misplaced_at Requests.is_full Requests.denial Answers.refusal_text Answers.refusal_answer Answers.renewal_answer Answers.birth_answer Answers.kept_answer Answers.ring_with Out.out_of Out.notifications Rows.notify Rows.stays Rows.goes Rows.wherever Rows.opened Rows.turned Rows.tells Rows.sweep Rows.gone_at Rows.forgetting Rows.only Rows.is_dialog Rows.counted Rows.renewed_sub Rows.renewed Rows.tells_change Rows.tells_watcher Rows.ends Rows.is_overdue Rows.times_out Rows.stops Rows.closed Rows.takes_answer Rows.answered Book.new_usage Book.new_want Book.first_step Book.nothing Book.keeping Book.refused Book.all_rows Book.denied Book.accepted Book.new_row Book.first_word Book.first_boxes Book.first_told Book.first_gone Book.first_turned Book.born Book.unless Book.unless_denied Book.in_dialog Book.outside Book.by_to_tag Book.by_kept Book.verdict Book.served Book.content_changed Book.replied Book.ticked Book.shut Book.step Run.empty Run.run_from Run.made_from Run.run Run.made Table.told Table.accept Table.fetch Table.refresh Table.end Table.changed Table.is_answer_to Table.is_refusal_of Table.refused_by AnswerLayout.answer_lines AnswerLayout.answer_text NotifyLayout.notify_lines NotifyLayout.notify_text ViaLayout.with_character ViaLayout.parts_from ViaLayout.marked_parameter ViaLayout.marked_parts ViaLayout.top_via_text HeaderTexts.comma_joined Block.block_word Block.double_rounds Block.diagonal_round Block.column_round Block.quarter_round Steps.u32_at Hex.encode_with Fmt.digits
 transfer_after start es = content_in (run start es).boxes refer_package tag_1

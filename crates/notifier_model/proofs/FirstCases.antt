@@ -9,7 +9,7 @@ use Rattle.notifier_model.specs.declared.refusal.Refusal.TheVariants.{OtherMetho
 use Rattle.notifier_model.specs.declared.row.Row.{Row}
 use Rattle.notifier_model.specs.Fields.{value_of, or_empty, same_event}
 use Rattle.notifier_model.specs.Limits.{Limits}
-use Rattle.notifier_model.specs.Requests.{is_ack, is_subscribe, is_refer, key_of_request, is_sip_uri, user_part, event_of, is_of_refer, is_too_brief, is_strange, is_malformed, is_acceptable as is_acceptable_type, misfit, misplaced_at, unheard, birth_of, is_full}
+use Rattle.notifier_model.specs.Requests.{is_ack, is_subscribe, is_refer, key_of_request, is_sip_uri, user_part, event_of, is_of_refer, is_too_brief, is_strange, is_malformed, is_acceptable as is_acceptable_type, misfit, misplaced_at, denial, birth_of, is_full}
 use Rattle.notifier_model.specs.Answers.{kept_answer}
 use Rattle.notifier_model.specs.Rows.{is_dialog}
 use Rattle.notifier_model.specs.Book.{BookBy, Verdict, Silent, Repeated, Refused, Denied, Renewed, Born, unless, unless_denied, in_dialog, outside, by_to_tag, by_kept, verdict}
@@ -107,7 +107,7 @@ module _ {maps : Maps} (limits : Limits) (b : BookBy maps) (r : Request) where
 
   by_row : (row : Option Row) (more : Cases) → first_of (with_tag true row more) last ≡ in_dialog limits r row
   by_row None more = unfold first_of in_dialog in refl
-  by_row (Some row) more = unfold in_dialog unheard in
+  by_row (Some row) more = unfold in_dialog denial in
       if_first false (Refused NoDialog) _ last _
       (dialog_first (nat_lt row.last_cseq r.head.cseq) (is_refer r) (same_event (event_of r) row.sub.want.event) (is_too_brief limits r) row.serial last more)
 

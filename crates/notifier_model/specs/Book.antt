@@ -21,15 +21,16 @@ use Rattle.notifier_model.specs.declared.refusal.Refusal.{Refusal}
 use Rattle.notifier_model.specs.declared.refusal.Refusal.TheVariants.{NoDialog, OldCseq, Full}
 use Rattle.notifier_model.specs.declared.birth.Birth.{Birth}
 use Rattle.notifier_model.specs.declared.birth.Birth.TheVariants.{Watch, Fetch, Transfer, Unwatched}
+use Rattle.notifier_model.specs.declared.birth.Newborn.{Newborn}
 use Rattle.notifier_model.specs.declared.row.Row.{Row}
 use Rattle.notifier_model.specs.declared.row.Kept.{Kept}
 use Rattle.notifier_model.specs.Fields.{value_of, or_empty}
 use Rattle.notifier_model.specs.Limits.{Limits}
 use Rattle.notifier_model.specs.Start.{tag_of, last_moment}
-use Rattle.notifier_model.specs.Requests.{is_ack, is_refer, key_of_request, user_part, event_of, granted, misfit, misplaced, unheard, birth_of, is_full}
+use Rattle.notifier_model.specs.Requests.{is_ack, is_refer, key_of_request, user_part, event_of, granted, misfit, misplaced, denial, birth_of, is_full}
 use Rattle.notifier_model.specs.Answers.{refusal_answer, renewal_answer, birth_answer, kept_answer, ring_with}
 use Rattle.notifier_model.specs.Out.{Send, Answers, Starts}
-use Rattle.notifier_model.specs.Rows.{Told, goes, turned, left, said, gone, forgetting, only, is_dialog, counted, renewed, tells_watcher, times_out, stops, answered}
+use Rattle.notifier_model.specs.Rows.{Telling, Turned, goes, turned, sweep, forgetting, only, is_dialog, counted, renewed, tells_watcher, times_out, stops, answered}
 
 module _ (maps : Maps) where
   -- the moment in seconds, the next serial, the rows by rising serial, the packages, and the kept answers, newest first
@@ -78,7 +79,7 @@ unless_denied serial None = Renewed serial
 unfoldable pub in_dialog : Limits → Request → Option Row → Verdict
 in_dialog limits r None = Refused NoDialog
 in_dialog limits r (Some row) =
-    if nat_lt row.last_cseq r.head.cseq then unless_denied row.serial (unheard limits row.sub.want.event r) else Refused OldCseq
+    if nat_lt row.last_cseq r.head.cseq then unless_denied row.serial (denial limits row.sub.want.event r) else Refused OldCseq
 
 module _ {maps : Maps} where
   -- outside a dialog: no package takes it, there is no room, or it makes a dialog
@@ -102,6 +103,10 @@ module _ {maps : Maps} where
 
 -- ---- a request that makes a dialog
 
+-- the subscription that it makes of this kind, with the next serial
+abbrev pub newborn : Place → ℕ → Birth → Newborn
+newborn place next kind = record { kind = kind; serial = next; tag = tag_of place next }
+
 -- RFC 3261 section 12.1.1
 unfoldable pub new_usage : List ℕ → Request → Usage
 new_usage tag r = record {
@@ -124,12 +129,12 @@ new_want place tag source r = record {
   max_cseq = place.limits.max_cseq;
 }
 
--- how its subscription begins, if it makes one
-unfoldable pub first_step : Limits → ℕ → Usage → Want → Request → Birth → Option Step
-first_step limits clock usage want r Watch = Some (accept usage want clock (granted limits r))
-first_step limits clock usage want r Fetch = Some (over (fetch usage want))
-first_step limits clock usage want r Transfer = Some (accept usage want clock (granted limits r))
-first_step limits clock usage want r Unwatched = None
+-- by its kind a subscription begins at this moment for the time granted, is told once, or is none
+unfoldable pub first_step : Birth → Usage → Want → ℕ → ℕ → Option Step
+first_step Watch usage want clock time = Some (accept usage want clock time)
+first_step Fetch usage want clock time = Some (over (fetch usage want))
+first_step Transfer usage want clock time = Some (accept usage want clock time)
+first_step Unwatched usage want clock time = None
 
 -- its row, of which no NOTIFY was sent yet
 unfoldable pub new_row : ℕ → Request → State → Row
@@ -162,11 +167,17 @@ module _ {maps : Maps} where
   }
 
   -- all rows by one rule: their NOTIFYs after these outs. Then the transfers of the rows that go are forgotten
-  unfoldable pub all_rows : BookBy maps → (Row → Told) → List Send → SteppedBy maps
-  all_rows b rule outs = record {
-    book = record b { rows = left rule b.rows; boxes = forgetting (gone rule b.rows) b.boxes };
-    outs = outs ++ said rule b.rows;
-  }
+  unfoldable pub all_rows : BookBy maps → (Row → Turned) → List Send → SteppedBy maps
+  all_rows b rule outs =
+      let swept = sweep rule b.rows in
+      record {
+        book = record b { rows = swept.rows; boxes = forgetting swept.gone b.boxes };
+        outs = outs ++ swept.notifies;
+      }
+
+  -- from this book its subscriptions are told
+  abbrev pub telling : Place → BookBy maps → Telling maps
+  telling place b = record { place = place; boxes = b.boxes; clock = b.clock }
 
   -- refused in the dialog of the row with this serial
   unfoldable pub denied : Place → BookBy maps → Addr → Request → ℕ → Refusal → SteppedBy maps
@@ -177,7 +188,7 @@ module _ {maps : Maps} where
   unfoldable pub accepted : Place → BookBy maps → Addr → Request → ℕ → SteppedBy maps
   accepted place b source r serial =
       all_rows (keeping place b r (renewal_answer place source r))
-      (only serial (renewed place b.boxes b.clock source r))
+      (only serial (renewed (telling place b) source r))
       (Answers source (answer_text (renewal_answer place source r)) ∷ [])
 
   -- a transfer that is watched begins (RFC 3515 section 2.4.4)
@@ -185,27 +196,29 @@ module _ {maps : Maps} where
   first_boxes boxes tag Transfer = (change_first boxes (Begin tag)).1
   first_boxes boxes tag _ = boxes
 
-  -- its row, if one stays, and its first NOTIFY, if there is one
-  unfoldable pub first_told : Place → List (SeenBy maps) → ℕ → List ℕ → Addr → Request → ℕ → Option Step → Told
-  first_told place boxes clock tag source r serial None = goes
-  first_told place boxes clock tag source r serial (Some next) =
-      turned place boxes clock source (new_want place tag source r) (new_row serial r) next
+  -- by its first step, if it makes one: its row, if one stays, and its first NOTIFY
+  unfoldable pub first_turned : Telling maps → Addr → Request → Newborn → Option Step → Turned
+  first_turned t source r n None = goes
+  first_turned t source r n (Some next) = turned t source (new_row n.serial r) next
 
-  unfoldable pub born_with : Place → BookBy maps → Addr → Request → Birth → List ℕ → Told → SteppedBy maps
-  born_with place b source r kind tag told = record {
-    book = record (keeping place b r (birth_answer place source r tag)) {
-      next = b.next + 1;
-      rows = b.rows ++ option_to_list told.row;
-      boxes = forgetting (first_gone tag kind (is_none told.row)) (first_boxes b.boxes tag kind);
-    };
-    outs = Answers source (answer_text (birth_answer place source r tag)) ∷ (told.notifies ++ first_word tag r);
-  }
+  -- what is told of it first
+  unfoldable pub first_told : Telling maps → Addr → Request → Newborn → Turned
+  first_told t source r n =
+      first_turned t source r n (first_step n.kind (new_usage n.tag r) (new_want t.place n.tag source r) t.clock (granted t.place.limits r))
 
-  unfoldable pub born : Place → BookBy maps → Addr → Request → Birth → SteppedBy maps
-  born place b source r kind =
-      born_with place b source r kind (tag_of place b.next)
-      (first_told place (first_boxes b.boxes (tag_of place b.next) kind) b.clock (tag_of place b.next) source r b.next
-      (first_step place.limits b.clock (new_usage (tag_of place b.next) r) (new_want place (tag_of place b.next) source r) r kind))
+  -- Its transfer begins, if it is watched. The answer goes out, then its first NOTIFY, then the word that its transfer may start.
+  unfoldable pub born : Place → BookBy maps → Addr → Request → Newborn → SteppedBy maps
+  born place b source r n =
+      let boxes = first_boxes b.boxes n.tag n.kind in
+      let told = first_told (telling place (record b { boxes = boxes })) source r n in
+      record {
+        book = record (keeping place b r (birth_answer place source r n.tag)) {
+          next = b.next + 1;
+          rows = b.rows ++ option_to_list told.row;
+          boxes = forgetting (first_gone n.tag n.kind (is_none told.row)) boxes;
+        };
+        outs = Answers source (answer_text (birth_answer place source r n.tag)) ∷ (told.notifies ++ first_word n.tag r);
+      }
 
   unfoldable pub served : Place → BookBy maps → Addr → Request → Verdict → SteppedBy maps
   served place b source r Silent = nothing b
@@ -213,14 +226,14 @@ module _ {maps : Maps} where
   served place b source r (Refused cause) = refused place b source r cause
   served place b source r (Denied serial cause) = denied place b source r serial cause
   served place b source r (Renewed serial) = accepted place b source r serial
-  served place b source r (Born kind) = born place b source r kind
+  served place b source r (Born kind) = born place b source r (newborn place b.next kind)
 
   -- ---- other events
 
   -- by what the package answers to the change
   unfoldable pub content_changed : Place → BookBy maps → List ℕ → List ℕ → Bool → Outcome × List (SeenBy maps) → SteppedBy maps
   content_changed place b name resource is_over (Changed, boxes) =
-      all_rows (record b { boxes = boxes }) (tells_watcher place boxes b.clock name resource is_over) []
+      let after = record b { boxes = boxes } in all_rows after (tells_watcher (telling place after) name resource is_over) []
   content_changed place b name resource is_over (Same, boxes) = nothing (record b { boxes = boxes })
   content_changed place b name resource is_over (Unknown, boxes) = nothing (record b { boxes = boxes })
 
@@ -229,11 +242,11 @@ module _ {maps : Maps} where
 
   -- time goes on to this moment
   unfoldable pub ticked : Place → BookBy maps → ℕ → SteppedBy maps
-  ticked place b clock = all_rows (record b { clock = clock }) (times_out place b.boxes clock) []
+  ticked place b clock = let after = record b { clock = clock } in all_rows after (times_out (telling place after)) []
 
   -- the planned stop
   unfoldable pub shut : Place → BookBy maps → SteppedBy maps
-  shut place b = all_rows b (stops place b.boxes b.clock) []
+  shut place b = all_rows b (stops (telling place b)) []
 
   -- ---- the step
 

@@ -167,8 +167,8 @@ is_full limits serial alive r = nat_lt limits.serials serial || (nat_le limits.t
 -- ---- a request in a dialog of this event
 
 -- a REFER, another package or id, too brief a time (RFC 6665 section 4.2.1.4)
-unfoldable pub unheard : Limits → EventValue → Request → Option Refusal
-unheard limits event r =
+unfoldable pub denial : Limits → EventValue → Request → Option Refusal
+denial limits event r =
     if is_refer r then Some ReferInDialog
     else if not (same_event (event_of r) event) then Some OtherEvent
     else if is_too_brief limits r then Some TooBrief

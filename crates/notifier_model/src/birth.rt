@@ -1,5 +1,7 @@
 //! What a request makes.
 
+use sip_text::Text;
+
 /// What a request makes outside a dialog.
 #[derive(Clone, Copy)]
 pub enum Birth {
@@ -11,4 +13,12 @@ pub enum Birth {
     Transfer,
     /// A transfer without a subscription (RFC 4488).
     Unwatched,
+}
+
+/// What a request makes: of which kind it is, its serial and its local tag.
+#[derive(Drop)]
+pub struct Newborn {
+    pub kind: Birth,
+    pub serial: u32,
+    pub tag: Text,
 }

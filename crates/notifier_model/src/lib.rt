@@ -19,7 +19,7 @@ pub mod refusal;
 pub mod row;
 pub mod uri;
 
-pub use birth::Birth;
+pub use birth::{Birth, Newborn};
 pub use event::{Event, NotifyOut, Out};
 pub use limits::Limits;
 pub use place::{Place, Setup};

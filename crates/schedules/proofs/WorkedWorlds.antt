@@ -46,7 +46,7 @@ shown w End = EndOf w
 
 -- what the taker got after these steps
 unfoldable got : CrewBy lists → List Step → List Shown
-unfolding Tag.local_tag Tag.refusal_tag Requests.key_of_request Requests.is_sip_uri Requests.user_part Requests.event_of Requests.asked Requests.granted Requests.asks_nothing Requests.is_unwatched Requests.birth_of Requests.is_malformed Requests.misfit Requests.misplaced_at Requests.is_full Requests.unheard Answers.refusal_text Answers.refusal_answer Answers.renewal_answer Answers.birth_answer Answers.kept_answer Answers.ring_with Out.out_of Out.notifications Rows.notify Rows.stays Rows.goes Rows.wherever Rows.opened Rows.turned Rows.tells Rows.left Rows.said Rows.gone_at Rows.gone Rows.forgetting Rows.only Rows.is_dialog Rows.counted Rows.renewed_sub Rows.renewed Rows.tells_change Rows.tells_watcher Rows.ends Rows.is_overdue Rows.times_out Rows.stops Rows.closed Rows.takes_answer Rows.answered Book.new_usage Book.new_want Book.first_step Book.nothing Book.keeping Book.refused Book.all_rows Book.denied Book.accepted Book.new_row Book.first_word Book.first_boxes Book.first_told Book.first_gone Book.born_with Book.born Book.unless Book.unless_denied Book.in_dialog Book.outside Book.by_to_tag Book.by_kept Book.verdict Book.served Book.content_changed Book.replied Book.ticked Book.shut Book.step Run.empty Run.run_from Run.made_from Run.run Run.made Table.told Table.accept Table.fetch Table.refresh Table.end Table.changed Table.is_answer_to Table.is_refusal_of Table.refused_by AnswerLayout.answer_lines AnswerLayout.answer_text NotifyLayout.notify_lines NotifyLayout.notify_text ViaLayout.with_character ViaLayout.parts_from ViaLayout.marked_parameter ViaLayout.marked_parts ViaLayout.top_via_text HeaderTexts.comma_joined Block.block_word Block.double_rounds Block.diagonal_round Block.column_round Block.quarter_round Steps.u32_at Hex.encode_with Fmt.digits
+unfolding Tag.local_tag Tag.refusal_tag Requests.key_of_request Requests.is_sip_uri Requests.user_part Requests.event_of Requests.asked Requests.granted Requests.asks_nothing Requests.is_unwatched Requests.birth_of Requests.is_malformed Requests.misfit Requests.misplaced_at Requests.is_full Requests.denial Answers.refusal_text Answers.refusal_answer Answers.renewal_answer Answers.birth_answer Answers.kept_answer Answers.ring_with Out.out_of Out.notifications Rows.notify Rows.stays Rows.goes Rows.wherever Rows.opened Rows.turned Rows.tells Rows.sweep Rows.gone_at Rows.forgetting Rows.only Rows.is_dialog Rows.counted Rows.renewed_sub Rows.renewed Rows.tells_change Rows.tells_watcher Rows.ends Rows.is_overdue Rows.times_out Rows.stops Rows.closed Rows.takes_answer Rows.answered Book.new_usage Book.new_want Book.first_step Book.nothing Book.keeping Book.refused Book.all_rows Book.denied Book.accepted Book.new_row Book.first_word Book.first_boxes Book.first_told Book.first_gone Book.first_turned Book.born Book.unless Book.unless_denied Book.in_dialog Book.outside Book.by_to_tag Book.by_kept Book.verdict Book.served Book.content_changed Book.replied Book.ticked Book.shut Book.step Run.empty Run.run_from Run.made_from Run.run Run.made Table.told Table.accept Table.fetch Table.refresh Table.end Table.changed Table.is_answer_to Table.is_refusal_of Table.refused_by AnswerLayout.answer_lines AnswerLayout.answer_text NotifyLayout.notify_lines NotifyLayout.notify_text ViaLayout.with_character ViaLayout.parts_from ViaLayout.marked_parameter ViaLayout.marked_parts ViaLayout.top_via_text HeaderTexts.comma_joined Block.block_word Block.double_rounds Block.diagonal_round Block.column_round Block.quarter_round Steps.u32_at Hex.encode_with Fmt.digits
 got crew steps = map (λ (x : Item Out). shown x.from x.entry) (world crew steps).got
 
 -- ---- a crew of two workers with two ports: alice's mailbox is the first worker's, bob's the second's

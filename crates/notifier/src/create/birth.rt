@@ -1,38 +1,28 @@
 //! Requests that make a dialog (RFC 3261 section 12.1.1).
-#![tactic(auto, unfolding(notifier_model::specs::Book::new_usage, notifier_model::specs::Book::new_want, notifier_model::specs::Book::first_step, notifier_model::specs::Book::first_boxes, notifier_model::specs::Book::first_told, notifier_model::specs::Book::new_row, notifier_model::specs::Rows::goes, notifier_model::specs::Rows::turned, notifier_model::specs::Requests::event_of))]
+#![tactic(auto, unfolding(notifier_model::specs::Book::new_usage, notifier_model::specs::Book::new_want, notifier_model::specs::Book::first_step, notifier_model::specs::Book::first_boxes, notifier_model::specs::Book::first_told, notifier_model::specs::Book::first_turned, notifier_model::specs::Book::new_row, notifier_model::specs::Rows::goes, notifier_model::specs::Rows::turned, notifier_model::specs::Requests::event_of))]
 
 ghost use Rattle.std.specs.Prelude.{◌≡◌, ◌≤◌, ◌<◌, ◌^◌, map, IfOk, OnOk, option_to_list, None};
 ghost use Rattle.notifier_model.specs.Book as spec;
 ghost use Rattle.notifier_model.specs.Fields as fields;
-ghost use Rattle.notifier.specs.Incoming.{first_told_of};
 ghost use Rattle.notifier_model.specs.Out.{out_of};
 ghost use Rattle.notifier_model.specs.Requests as requests;
 ghost use Rattle.notifier_model.specs.Rows as rows;
-ghost use Rattle.notifier.specs.Tellers.{boxes_of};
+ghost use Rattle.notifier.specs.Tellers.{telling};
 ghost use Rattle.notifier.specs.Told.{first_row, first_out};
 
 use crate::boxes::tell_first;
 use crate::incoming::Incoming;
-use crate::sweep::rules::After;
-use crate::teller::Teller;
+use crate::notice::Teller;
+use crate::sweep::row::After;
 use crate::verdict::tag_or_empty;
 use event_headers::EventValue;
-use notifier_model::birth::Birth;
-use notifier_model::place::Place;
+use notifier_model::birth::{Birth, Newborn};
 use notifier_model::row::Row;
 use package::{Change, Package};
 use sip_read::Request;
 use sip_text::{Field, NoMemory, Text, Values};
 use std::alloc::Global;
 use subscription::{Step, Sub, Usage, Want};
-
-/// What a request makes: of which kind it is, its serial and its local tag.
-#[derive(Drop)]
-pub struct Newborn {
-    pub kind: Birth,
-    pub serial: u32,
-    pub tag: Text,
-}
 
 fn copy_texts(alloc: Global, texts: &[Text]) -> Result<Values<Text>, NoMemory>
     ensures { IfOk result (λ copies. copies ≡ texts.now) }
@@ -90,15 +80,10 @@ fn event(alloc: Global, incoming: &Incoming<'_>) -> Result<EventValue, NoMemory>
 }
 
 /// What the subscription of a request that fits is about: a mailbox, or the tag of a transfer.
-fn new_want(
-    alloc: Global,
-    place: &Place,
-    tag: &Text,
-    incoming: &Incoming<'_>,
-) -> Result<Want, NoMemory>
+fn new_want(alloc: Global, tag: &Text, incoming: &Incoming<'_>) -> Result<Want, NoMemory>
     requires fits { requests.misfit incoming.now.request.now ≡ None }
     ensures want { IfOk result (λ want.
-        want ≡ spec.new_want place.now tag.now incoming.now.source incoming.now.request.now) }
+        want ≡ spec.new_want incoming.now.place.now tag.now incoming.now.source incoming.now.request.now) }
     ensures some_number { IfOk result (λ want. 1 ≤ want.max_cseq) }
 {
     let event = event(alloc, incoming)?;
@@ -112,7 +97,7 @@ fn new_want(
         event,
         resource,
         to: incoming.source,
-        max_cseq: place.limits.max_cseq(),
+        max_cseq: incoming.place.limits.max_cseq(),
     })
 }
 
@@ -125,16 +110,17 @@ impl<P: Package> Teller<'_, P> {
         newborn: &Newborn,
     ) -> Result<Option<Step>, NoMemory>
         requires clock { self.now.clock < 2 ^ 63 }
+        requires here { incoming.now.place.now ≡ self.now.place.now }
         requires fits { requests.misfit incoming.now.request.now ≡ None }
-        requires kind { newborn.now.kind ≡ requests.birth_of self.now.place.now.limits incoming.now.request.now }
-        ensures { IfOk result (λ next. next ≡ spec.first_step self.now.place.now.limits self.now.clock
+        requires kind { newborn.now.kind ≡ requests.birth_of incoming.now.place.now.limits incoming.now.request.now }
+        ensures { IfOk result (λ next. next ≡ spec.first_step newborn.now.kind
             (spec.new_usage newborn.now.tag incoming.now.request.now)
             (spec.new_want self.now.place.now newborn.now.tag incoming.now.source incoming.now.request.now)
-            incoming.now.request.now newborn.now.kind) }
+            self.now.clock (requests.granted self.now.place.now.limits incoming.now.request.now)) }
     {
-        let want = new_want(alloc, self.place, &newborn.tag, incoming)?;
+        let want = new_want(alloc, &newborn.tag, incoming)?;
         let usage = new_usage(alloc, &newborn.tag, incoming.request)?;
-        let seconds = incoming.granted(&self.place.limits);
+        let seconds = incoming.granted();
         match newborn.kind {
             Birth::Watch => Ok(Some(Sub::accept(usage, want, self.clock, seconds))),
             Birth::Fetch => {
@@ -154,12 +140,13 @@ impl<P: Package> Teller<'_, P> {
         newborn: &Newborn,
     ) -> Result<Option<After>, NoMemory>
         requires clock { self.now.clock < 2 ^ 63 }
+        requires here { incoming.now.place.now ≡ self.now.place.now }
         requires fits { requests.misfit incoming.now.request.now ≡ None }
-        requires kind { newborn.now.kind ≡ requests.birth_of self.now.place.now.limits incoming.now.request.now }
-        ensures row { IfOk result (λ first. first_row first ≡ (first_told_of self.now.place.now (boxes_of P.seen self.now)
-            self.now.clock incoming.now.source incoming.now.request.now newborn.now).row) }
-        ensures out { IfOk result (λ first. option_to_list (first_out first) ≡ map out_of (first_told_of self.now.place.now
-            (boxes_of P.seen self.now) self.now.clock incoming.now.source incoming.now.request.now
+        requires kind { newborn.now.kind ≡ requests.birth_of incoming.now.place.now.limits incoming.now.request.now }
+        ensures row { IfOk result (λ first. first_row first ≡ (spec.first_told (telling P.seen self.now)
+            incoming.now.source incoming.now.request.now newborn.now).row) }
+        ensures out { IfOk result (λ first. option_to_list (first_out first) ≡ map out_of
+            (spec.first_told (telling P.seen self.now) incoming.now.source incoming.now.request.now
             newborn.now).notifies) }
     {
         let begun = self.first_step(alloc, incoming, newborn)?;

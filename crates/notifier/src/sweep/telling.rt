@@ -12,11 +12,11 @@ ghost use Rattle.notifier.specs.Stored.{rows_of, IsIndexed};
 ghost use Rattle.notifier.specs.Tellers.{rule_by};
 
 use crate::boxes::tell_first;
+use crate::notice::Teller;
 use crate::store::Ledger;
 use crate::store::rows::Rows;
-use crate::sweep::rule::Cause;
+use crate::sweep::cause::Cause;
 use crate::sweep::touched::touched;
-use crate::teller::Teller;
 use notifier_model::event::Out;
 use notifier_model::place::Place;
 use package::{Change, Package};
@@ -50,16 +50,17 @@ impl<P: Package> Teller<'_, P> {
         requires clock { self.now.clock < 2 ^ 63 }
         requires indexed { IsIndexed rows.old }
         requires own { All (IsOwn self.now.place.now (2 ^ 32)) (rows_of rows.old) }
-        requires live { All (CanTell self.now.clock cause.now) (rows_of rows.old) }
+        requires live { All (CanTell self.now.place.now self.now.clock cause.now) (rows_of rows.old) }
         ensures indexed { OnOk result (IsIndexed rows.new) }
         ensures rows { OnOk result (rows_of rows.new
-            ≡ spec.left (rule_by P.seen self.now cause.now) (rows_of rows.old)) }
+            ≡ (spec.sweep (rule_by P.seen self.now cause.now) (rows_of rows.old)).rows) }
         ensures gone { IfOk result (λ tags. tags.items
-            ≡ spec.gone (rule_by P.seen self.now cause.now) (rows_of rows.old)) }
+            ≡ (spec.sweep (rule_by P.seen self.now cause.now) (rows_of rows.old)).gone) }
         ensures outs { OnOk result (outs.new.items
-            ≡ outs.old.items ++ map out_of (spec.said (rule_by P.seen self.now cause.now) (rows_of rows.old))) }
+            ≡ outs.old.items
+            ++ map out_of (spec.sweep (rule_by P.seen self.now cause.now) (rows_of rows.old)).notifies) }
     {
-        let serials = touched(alloc, self.place.worker, rows, self.clock, cause)?;
+        let serials = touched(alloc, self.place, rows, self.clock, cause)?;
         self.tell_each(alloc, cause, rows, serials.as_slice(), outs)
     }
 }
@@ -77,14 +78,14 @@ impl<P: Package> Ledger<P> {
         requires next { self.old.next ≤ 2 ^ 32 }
         requires indexed { IsIndexed self.old.rows }
         requires own { All (IsOwn place.now self.old.next) (rows_of self.old.rows) }
-        requires live { All (CanTell self.old.clock cause.now) (rows_of self.old.rows) }
+        requires live { All (CanTell place.now self.old.clock cause.now) (rows_of self.old.rows) }
         ensures step { OnOk result ((sends : List Send) → outs.old.items ≡ map out_of sends
             → IsStep (book.all_rows (book_of P.seen self.old)
-            (rule_of place.now (map P.seen self.old.boxes.items) self.old.clock cause.now) sends)
+            (rule_of (book.telling place.now (book_of P.seen self.old)) cause.now) sends)
             (book_of P.seen self.new) outs.new.items) }
         ensures rows { OnOk result (rows_of self.new.rows
-            ≡ spec.left (rule_of place.now (map P.seen self.old.boxes.items) self.old.clock cause.now)
-            (rows_of self.old.rows)) }
+            ≡ (spec.sweep (rule_of (book.telling place.now (book_of P.seen self.old)) cause.now)
+            (rows_of self.old.rows)).rows) }
         ensures indexed { OnOk result (IsIndexed self.new.rows) }
         ensures same { OnOk result ((self.new.clock ≡ self.old.clock) × (self.new.next ≡ self.old.next)
             × (self.new.ring ≡ self.old.ring)) }

@@ -3,15 +3,15 @@
 
 ghost use Rattle.std.specs.Prelude.{◌≡◌, ◌<◌, ◌^◌, ℕ, List, All, IfOk, Some, option_to_list};
 ghost use Rattle.package.specs.Content.{Seen};
-ghost use Rattle.notifier_model.specs.declared.place.Place.{Place as AnyPlace};
 ghost use Rattle.notifier.specs.Among.{Cover, RiseFrom};
 ghost use Rattle.notifier.specs.Causes.{rule_of, CanTell};
 ghost use Rattle.notifier.specs.Sound.{IsOwn};
 ghost use Rattle.notifier.specs.Stored.{rows_of, Gives, IsIndexed};
 
 use crate::store::rows::{Rows, Serials};
-use crate::sweep::rule::Cause;
+use crate::sweep::cause::Cause;
 use notifier_model::homes::TagNumbers;
+use notifier_model::place::Place;
 use sip_read::Response;
 use sip_text::NoMemory;
 use smallvec::SmallVec;
@@ -53,21 +53,21 @@ fn one_serial(alloc: Global, serial: Option<u32>) -> Result<Serials, NoMemory>
 /// The serials of the rows that a cause may change, rising.
 pub fn touched(
     alloc: Global,
-    worker: u32,
+    place: &Place,
     rows: &Rows,
     clock: u64,
     cause: &Cause<'_>,
 ) -> Result<Serials, NoMemory>
     requires clock { clock < 2 ^ 63 }
     requires indexed { IsIndexed rows.now }
-    requires live { All (CanTell clock cause.now) (rows_of rows.now) }
+    requires live { All (CanTell place.now clock cause.now) (rows_of rows.now) }
     ensures rise { IfOk result (λ serials. RiseFrom 0 serials.items) }
-    ensures covers { IfOk result (λ serials. (place : AnyPlace) (boxes : List Seen) → place.worker ≡ worker
-        → All (IsOwn place (2 ^ 32)) (rows_of rows.now)
-        → Cover serials.items (rule_of place boxes clock cause.now) (rows_of rows.now)) }
+    ensures covers { IfOk result (λ serials. (boxes : List Seen) → All (IsOwn place.now (2 ^ 32)) (rows_of rows.now)
+        → Cover serials.items (rule_of (record { place = place.now; boxes = boxes; clock = clock }) cause.now)
+        (rows_of rows.now)) }
 {
     match cause {
-        Cause::Response(response) => one_serial(alloc, answered_serial(worker, response)),
+        Cause::Response(response) => one_serial(alloc, answered_serial(place.worker, response)),
         Cause::Refused(serial, _) => one_serial(alloc, Some(*serial)),
         Cause::Renewal(serial, _) => one_serial(alloc, Some(*serial)),
         Cause::Change(name, resource, _) => rows.watching(alloc, name, resource),

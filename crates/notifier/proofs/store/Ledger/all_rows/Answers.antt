@@ -1,6 +1,7 @@
 use Rattle.std.proofs.Common.{◌^◌, ◌∙◌, ap, map}
 use Rattle.notifier.specs.Causes.{rule_of}
 use Rattle.notifier.specs.Ledger.{book_of}
+use Rattle.notifier_model.specs.Book.{telling}
 use Rattle.notifier_model.specs.Rows.{forgetting}
 use Rattle.notifier.specs.Stored.{rows_of}
 use Rattle.notifier.proofs.Dialogs.{own_upto}
@@ -15,7 +16,7 @@ pub returns-clause-step : goal.returns-clause-step
 returns-clause-step g c =
     let boxes = map g.P.Package.seen c.args.self.now.boxes.items in
     on_ok c.forget_all.result c.forget_all.ensures (λ e sends same.
-    all_rows_step (book_of g.P.Package.seen c.args.self.now) (rule_of c.args.place.now boxes c.args.self.now.clock c.args.cause.now) sends _ _ _ _
+    all_rows_step (book_of g.P.Package.seen c.args.self.now) (rule_of (telling c.args.place.now (book_of g.P.Package.seen c.args.self.now)) c.args.cause.now) sends _ _ _ _
     c.in_ok-tags.ensures.rows (e ∙ ap (λ tags. forgetting tags boxes) c.in_ok-tags.ensures.gone) same c.in_ok-tags.ensures.outs)
 
 pub returns-clause-rows : goal.returns-clause-rows

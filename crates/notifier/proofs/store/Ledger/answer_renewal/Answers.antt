@@ -13,5 +13,5 @@ returns-clause-sound g c =
       rows_live = s.rows_live;
       rows_own = s.rows_own;
       rows_rise = s.rows_rise;
-      ring_fits = ap (λ r. r.capacity) (ring c.args.place.now.limits s.ring_fits) ∙ s.ring_fits;
+      ring_fits = ap (λ r. r.capacity) (ring c.args.pending.incoming.now.place.now.limits s.ring_fits) ∙ s.ring_fits;
     })

@@ -1,11 +1,11 @@
-use Rattle.std.proofs.Common.{◌≡◌, ◌+◌, ◌<◌, ◌^◌, ◌++◌, ap, sym, subst, ◌∙◌, List, Option, map, is_none, arith, All, option_to_list}
+use Rattle.std.proofs.Common.{◌≡◌, ℕ, ◌+◌, ◌<◌, ◌^◌, ◌++◌, ap, sym, subst, ◌∙◌, List, Option, map, is_none, arith, All, option_to_list}
 use Rattle.std.specs.Prelude.{IfSome}
-use Rattle.package.specs.Content.{Seen}
-use Rattle.notifier_model.specs.Book.{first_boxes, first_gone}
+use Rattle.package.specs.Content.{Seen, finite_maps}
+use Rattle.notifier_model.specs.Book.{first_boxes, first_gone, first_told}
 use Rattle.notifier_model.specs.Out.{out_of}
-use Rattle.notifier.specs.Incoming.{first_told_of}
 use Rattle.notifier_model.specs.declared.row.Row.{Row}
-use Rattle.notifier_model.specs.Rows.{forgetting}
+use Rattle.notifier_model.specs.declared.place.Place.{Place}
+use Rattle.notifier_model.specs.Rows.{Telling, forgetting}
 use Rattle.notifier.specs.Sound.{IsLive, IsOwn, AreRising}
 use Rattle.notifier_model.specs.Start.{tag_of}
 use Rattle.notifier.specs.Stored.{rows_of}
@@ -14,29 +14,32 @@ use Rattle.notifier.proofs.Owned.{IsStill, some_weaker, all_below, born_keeps, o
 use Rattle.notifier.specs.Told.{first_row}
 use Rattle.notifier.proofs.store.Ledger.establish.Goals as goal
 
+abbrev told_from : Place → List Seen → ℕ → Telling finite_maps
+told_from place boxes clock = record { place = place; boxes = boxes; clock = clock }
+
 pub take_in-requires-clause-last : goal.take_in-requires-clause-last
 take_in-requires-clause-last g c = λ κs lives.
     let next = c.args.self.now.next in
     let rows = rows_of c.args.self.now.rows in
     let newborn = c.args.newborn.now in
-    let told = λ (boxes : List Seen). first_told_of c.args.place.now boxes c.args.self.now.clock c.args.incoming.now.source c.args.incoming.now.request.now newborn in
+    let told = λ (boxes : List Seen). first_told (told_from c.args.incoming.now.place.now boxes c.args.self.now.clock) c.args.incoming.now.source c.args.incoming.now.request.now newborn in
     let row : Option Row = first_row c.in_ok-first.first in
     let is : row ≡ (told (first_boxes (map g.P.Package.seen c.args.self.now.boxes.items) newborn.tag newborn.kind)).row = c.in_ok-first.ensures.row ∙ ap (λ boxes. (told boxes).row) c.in_ok-begin.ensures in
-    let keeps = born_keeps c.args.place.now (first_boxes (map g.P.Package.seen c.args.self.now.boxes.items) newborn.tag newborn.kind) c.args.self.now.clock newborn.serial newborn.tag c.args.incoming.now.source c.args.incoming.now.request.now newborn.kind in
+    let keeps = born_keeps (told_from c.args.incoming.now.place.now (first_boxes (map g.P.Package.seen c.args.self.now.boxes.items) newborn.tag newborn.kind) c.args.self.now.clock) c.args.incoming.now.source c.args.incoming.now.request.now newborn in
     let still : IfSome row (IsStill newborn.serial newborn.tag) = subst (λ o. IfSome o (IsStill newborn.serial newborn.tag)) (sym is) keeps in
     some_weaker (IsStill newborn.serial newborn.tag) (λ row. All (λ r. r.serial < row.serial) rows) row still
-    (λ row is. all_below c.args.place.now next row (is.0 ∙ c.requires.serial) rows c.requires.sound.rows_own)
+    (λ row is. all_below c.args.incoming.now.place.now next row (is.0 ∙ c.requires.serial) rows c.requires.sound.rows_own)
 
 pub returns-clause-rows : goal.returns-clause-rows
 returns-clause-rows g c =
     let newborn = c.args.newborn.now in
-    let told = λ (boxes : List Seen). first_told_of c.args.place.now boxes c.args.self.now.clock c.args.incoming.now.source c.args.incoming.now.request.now newborn in
+    let told = λ (boxes : List Seen). first_told (told_from c.args.incoming.now.place.now boxes c.args.self.now.clock) c.args.incoming.now.source c.args.incoming.now.request.now newborn in
     c.in_ok-take_in.ensures.rows ∙ ap (λ o. rows_of c.args.self.now.rows ++ option_to_list o) (c.in_ok-first.ensures.row ∙ ap (λ boxes. (told boxes).row) c.in_ok-begin.ensures)
 
 pub returns-clause-boxes : goal.returns-clause-boxes
 returns-clause-boxes g c =
     let newborn = c.args.newborn.now in
-    let told = λ (boxes : List Seen). first_told_of c.args.place.now boxes c.args.self.now.clock c.args.incoming.now.source c.args.incoming.now.request.now newborn in
+    let told = λ (boxes : List Seen). first_told (told_from c.args.incoming.now.place.now boxes c.args.self.now.clock) c.args.incoming.now.source c.args.incoming.now.request.now newborn in
     let boxes = first_boxes (map g.P.Package.seen c.args.self.now.boxes.items) newborn.tag newborn.kind in
     c.in_ok-take_in.ensures.boxes
     ∙ ap (λ o. forgetting (first_gone newborn.tag newborn.kind (is_none o)) (map g.P.Package.seen c.begin.new.boxes.items)) (c.in_ok-first.ensures.row ∙ ap (λ boxes. (told boxes).row) c.in_ok-begin.ensures)
@@ -45,13 +48,13 @@ returns-clause-boxes g c =
 pub returns-clause-outs : goal.returns-clause-outs
 returns-clause-outs g c =
     let newborn = c.args.newborn.now in
-    let told = λ (boxes : List Seen). first_told_of c.args.place.now boxes c.args.self.now.clock c.args.incoming.now.source c.args.incoming.now.request.now newborn in
+    let told = λ (boxes : List Seen). first_told (told_from c.args.incoming.now.place.now boxes c.args.self.now.clock) c.args.incoming.now.source c.args.incoming.now.request.now newborn in
     c.in_ok-take_in.ensures.outs ∙ ap (λ l. c.args.outs.now.items ++ l) (c.in_ok-first.ensures.out ∙ ap (λ boxes. map out_of (told boxes).notifies) c.in_ok-begin.ensures)
 
 pub returns-clause-sound : goal.returns-clause-sound
 returns-clause-sound g c =
     let limits = c.are_in_range.ensures in
-    let place = c.args.place.now in
+    let place = c.args.incoming.now.place.now in
     let before = c.args.self.now in
     let after = c.take_in.new.self in
     let next = before.next in
@@ -59,12 +62,12 @@ returns-clause-sound g c =
     let source = c.args.incoming.now.source in
     let r = c.args.incoming.now.request.now in
     let boxes = first_boxes (map g.P.Package.seen before.boxes.items) newborn.tag newborn.kind in
-    let told = λ (boxes : List Seen). first_told_of place boxes before.clock source r newborn in
+    let told = λ (boxes : List Seen). first_told (told_from place boxes before.clock) source r newborn in
     let row : Option Row = first_row c.in_ok-first.first in
     let is : row ≡ (told boxes).row = c.in_ok-first.ensures.row ∙ ap (λ boxes. (told boxes).row) c.in_ok-begin.ensures in
-    let lives = born_lives place boxes before.clock newborn.serial newborn.tag source r newborn.kind limits c.requires.kind in
+    let lives = born_lives (told_from place boxes before.clock) source r newborn limits c.requires.kind in
     let live : IfSome row (IsLive before.clock) = subst (λ o. IfSome o (IsLive before.clock)) (sym is) lives in
-    let keeps = born_keeps place boxes before.clock newborn.serial newborn.tag source r newborn.kind in
+    let keeps = born_keeps (told_from place boxes before.clock) source r newborn in
     let still : IfSome row (IsStill newborn.serial newborn.tag) = subst (λ o. IfSome o (IsStill newborn.serial newborn.tag)) (sym is) keeps in
     let own : IfSome row (IsStill next (tag_of place next)) =
     subst (λ n. IfSome row (IsStill n (tag_of place next))) c.requires.serial (subst (λ t. IfSome row (IsStill newborn.serial t)) c.requires.tag still) in

@@ -6,12 +6,12 @@ use Rattle.notifier.proofs.store.Ledger.serve.Goals as goal
 
 pub bear-requires-clause-fits : goal.bear-requires-clause-fits
 bear-requires-clause-fits g c κs within =
-    (bears c.args.place.now.limits (book_of g.P.Package.seen c.args.self.now) c.new-incoming.result.request.now c.in-Born.kind (sym c.verdict.ensures ∙ ap verdict_of c.in-Born.is)).fits
+    (bears c.new-incoming.result.place.now.limits (book_of g.P.Package.seen c.args.self.now) c.new-incoming.result.request.now c.in-Born.kind (sym c.verdict.ensures ∙ ap verdict_of c.in-Born.is)).fits
 
 pub bear-requires-clause-kind : goal.bear-requires-clause-kind
 bear-requires-clause-kind g c κs within =
-    (bears c.args.place.now.limits (book_of g.P.Package.seen c.args.self.now) c.new-incoming.result.request.now c.in-Born.kind (sym c.verdict.ensures ∙ ap verdict_of c.in-Born.is)).is
+    (bears c.new-incoming.result.place.now.limits (book_of g.P.Package.seen c.args.self.now) c.new-incoming.result.request.now c.in-Born.kind (sym c.verdict.ensures ∙ ap verdict_of c.in-Born.is)).is
 
 pub bear-requires-clause-room : goal.bear-requires-clause-room
 bear-requires-clause-room g c κs within =
-    (bears c.args.place.now.limits (book_of g.P.Package.seen c.args.self.now) c.new-incoming.result.request.now c.in-Born.kind (sym c.verdict.ensures ∙ ap verdict_of c.in-Born.is)).room
+    (bears c.new-incoming.result.place.now.limits (book_of g.P.Package.seen c.args.self.now) c.new-incoming.result.request.now c.in-Born.kind (sym c.verdict.ensures ∙ ap verdict_of c.in-Born.is)).room

@@ -1,5 +1,7 @@
-use Rattle.std.proofs.Common.{map, []}
+use Rattle.std.proofs.Common.{[]}
 use Rattle.notifier_model.specs.Rows.{tells_watcher}
+use Rattle.notifier_model.specs.Book.{telling}
+use Rattle.notifier.specs.Ledger.{book_of}
 use Rattle.notifier.proofs.Lives.{watcher_lives}
 use Rattle.notifier.proofs.Owned.{watcher_keeps}
 use Rattle.notifier.proofs.Soundness.{sound_told}
@@ -10,9 +12,9 @@ returns-clause-step g c = c.in_ok-all_rows.ensures.step [] c.new-outs.ensures.it
 
 pub returns-clause-sound : goal.returns-clause-sound
 returns-clause-sound g c =
-    let boxes = map g.P.Package.seen c.args.self.now.boxes.items in
+    let t = telling c.args.place.now (book_of g.P.Package.seen c.args.self.now) in
     sound_told c.args.place.now c.args.self.now c.all_rows.new.self
-    (tells_watcher c.args.place.now boxes c.args.self.now.clock c.args.news.now.package.now c.args.news.now.resource.now c.args.news.now.is_over)
-    (watcher_lives c.args.place.now boxes c.args.self.now.clock c.args.news.now.package.now c.args.news.now.resource.now c.args.news.now.is_over)
-    (watcher_keeps c.args.place.now boxes c.args.self.now.clock c.args.news.now.package.now c.args.news.now.resource.now c.args.news.now.is_over)
+    (tells_watcher t c.args.news.now.package.now c.args.news.now.resource.now c.args.news.now.is_over)
+    (watcher_lives t c.args.news.now.package.now c.args.news.now.resource.now c.args.news.now.is_over)
+    (watcher_keeps t c.args.news.now.package.now c.args.news.now.resource.now c.args.news.now.is_over)
     c.requires c.in_ok-all_rows.ensures.rows c.in_ok-all_rows.ensures.indexed c.in_ok-all_rows.ensures.same

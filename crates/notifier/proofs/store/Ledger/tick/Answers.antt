@@ -1,8 +1,9 @@
-use Rattle.std.proofs.Common.{map, []}
+use Rattle.std.proofs.Common.{[]}
 use Rattle.std.proofs.lemmas.List.Elements.{All-weaker}
 use Rattle.notifier.specs.Sound.{IsLive, AreInOrder}
 use Rattle.notifier.specs.Stored.{rows_of}
-use Rattle.notifier_model.specs.Book.{ticked}
+use Rattle.notifier_model.specs.Book.{telling, ticked}
+use Rattle.notifier.specs.Ledger.{book_of}
 use Rattle.notifier.proofs.Soundness.{sound_ticked}
 use Rattle.notifier.proofs.store.Ledger.tick.Goals as goal
 
@@ -16,5 +17,5 @@ returns-clause-step g c = c.in_ok-all_rows.ensures.step [] c.new-outs.ensures.it
 
 pub returns-clause-sound : goal.returns-clause-sound
 returns-clause-sound g c =
-    sound_ticked c.args.place.now c.args.self.now c.all_rows.new.self (map g.P.Package.seen c.args.self.now.boxes.items) c.args.clock
+    sound_ticked c.args.place.now c.args.self.now c.all_rows.new.self (telling c.args.place.now (record (book_of g.P.Package.seen c.args.self.now) { clock = c.args.clock }))
     c.requires.on c.requires.fits c.requires.sound c.in_ok-all_rows.ensures.rows c.in_ok-all_rows.ensures.indexed c.in_ok-all_rows.ensures.same

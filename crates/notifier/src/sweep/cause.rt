@@ -1,4 +1,4 @@
-//! What an event makes of the live subscriptions, by one rule for each row.
+//! Why rows are told, and each row that a cause may change, turned by it.
 #![tactic(auto)]
 
 ghost use Rattle.std.specs.Prelude.{◌≡◌, ◌++◌, [], ◌<◌, ◌^◌, map, All, IfOk, IfSome, OnOk, option_to_list};
@@ -12,10 +12,10 @@ ghost use Rattle.notifier.specs.Tellers.{rule_by};
 ghost use Rattle.notifier.specs.Told.{IsTold};
 
 use crate::incoming::Incoming;
+use crate::notice::Teller;
 use crate::store::rows::Rows;
 use crate::store::timers::alarm;
-use crate::sweep::rules::{After, count, take_answer};
-use crate::teller::Teller;
+use crate::sweep::row::{After, count, take_answer};
 use notifier_model::event::Out;
 use notifier_model::row::Row;
 use package::Package;
@@ -73,7 +73,7 @@ impl<P: Package> Teller<'_, P> {
     /// Tells one row.
     fn tell(&self, alloc: Global, cause: &Cause<'_>, row: Row) -> Result<After, NoMemory>
         requires clock { self.now.clock < 2 ^ 63 }
-        requires live { CanTell self.now.clock cause.now row }
+        requires live { CanTell self.now.place.now self.now.clock cause.now row }
         ensures { IfOk result (λ after. IsTold (rule_by P.seen self.now cause.now) row after) }
     {
         match cause {
@@ -98,7 +98,7 @@ impl<P: Package> Teller<'_, P> {
     ) -> Result<Word, NoMemory>
         requires clock { self.now.clock < 2 ^ 63 }
         requires indexed { IsIndexed rows.old }
-        requires live { IfSome (row_at rows.old serial) (CanTell self.now.clock cause.now) }
+        requires live { IfSome (row_at rows.old serial) (CanTell self.now.place.now self.now.clock cause.now) }
         ensures turns { OnOk result (Turns rows.old rows.new serial
             (option_and_then (λ r. (rule_by P.seen self.now cause.now r).row)
             (row_at rows.old serial))) }
@@ -144,18 +144,16 @@ impl<P: Package> Teller<'_, P> {
     ) -> Result<Vec<Text>, NoMemory>
         requires clock { self.now.clock < 2 ^ 63 }
         requires indexed { IsIndexed rows.old }
-        requires live { All (CanTell self.now.clock cause.now) (rows_of rows.old) }
+        requires live { All (CanTell self.now.place.now self.now.clock cause.now) (rows_of rows.old) }
         requires rise { RiseFrom 0 serials.now }
         ensures rows { OnOk result (rows_of rows.new
-            ≡ spec.left (among serials.now (rule_by P.seen self.now cause.now))
-            (rows_of rows.old)) }
+            ≡ (spec.sweep (among serials.now (rule_by P.seen self.now cause.now)) (rows_of rows.old)).rows) }
         ensures indexed { OnOk result (IsIndexed rows.new) }
         ensures gone { IfOk result (λ tags. tags.items
-            ≡ spec.gone (among serials.now (rule_by P.seen self.now cause.now))
-            (rows_of rows.old)) }
+            ≡ (spec.sweep (among serials.now (rule_by P.seen self.now cause.now)) (rows_of rows.old)).gone) }
         ensures outs { OnOk result (outs.new.items ≡ outs.old.items
-            ++ map out_of (spec.said (among serials.now (rule_by P.seen self.now cause.now))
-            (rows_of rows.old))) }
+            ++ map out_of (spec.sweep (among serials.now (rule_by P.seen self.now cause.now))
+            (rows_of rows.old)).notifies) }
     {
         let mut tags = Vec::new(alloc);
         for serial in serials {

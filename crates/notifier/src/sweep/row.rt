@@ -1,4 +1,4 @@
-//! The rule of each event for one row.
+//! What each cause makes of one row.
 #![tactic(auto, unfolding(notifier_model::specs::Rows::stays, notifier_model::specs::Rows::goes, notifier_model::specs::Rows::gone_at, notifier_model::specs::Rows::wherever, notifier_model::specs::Rows::opened, notifier_model::specs::Rows::closed, notifier_model::specs::Rows::only, notifier_model::specs::Rows::takes_answer, notifier_model::specs::Rows::answered, notifier_model::specs::Rows::is_overdue, notifier_model::specs::Rows::counted, notifier_model::specs::Rows::turned, notifier_model::specs::Rows::tells, notifier_model::specs::Rows::ends, notifier_model::specs::Rows::times_out, notifier_model::specs::Rows::stops, notifier_model::specs::Rows::tells_change, notifier_model::specs::Rows::tells_watcher, notifier_model::specs::Rows::renewed, notifier_model::specs::Rows::renewed_sub, subscription::specs::Table::told, subscription::specs::Table::end, subscription::specs::Table::changed, subscription::specs::Table::refresh, subscription::specs::Table::is_refusal_of, subscription::specs::Table::refused_by, subscription::specs::Table::lost))]
 
 ghost use Rattle.std.specs.Prelude.{◌≡◌, ◌<◌, ◌^◌, filter, not, IfOk, Some, None};
@@ -7,11 +7,11 @@ ghost use Rattle.notifier_model.specs.Rows as spec;
 ghost use Rattle.notifier_model.specs.Fields.{value_of};
 ghost use Rattle.notifier_model.specs.Out.{Notifies, out_of};
 ghost use Rattle.notifier.specs.Sound.{IsLive};
-ghost use Rattle.notifier.specs.Tellers.{boxes_of};
+ghost use Rattle.notifier.specs.Tellers.{telling};
 ghost use Rattle.notifier.specs.Told.{IsTold, gone_from};
 
 use crate::incoming::Incoming;
-use crate::teller::Teller;
+use crate::notice::Teller;
 use notifier_model::event::Out;
 use notifier_model::row::{Row, Unanswered};
 use package::Package;
@@ -168,7 +168,7 @@ impl<P: Package> Teller<'_, P> {
         notice: Notice,
     ) -> Result<After, NoMemory>
         ensures { IfOk result (λ after. after ≡ After.Stays (spec.opened self.now.clock notice row) (Some (out_of (Notifies to
-            (spec.notify self.now.place.now (boxes_of P.seen self.now) row.sub.usage row.sub.want notice))))) }
+            (spec.notify (telling P.seen self.now) row.sub.usage row.sub.want notice))))) }
     {
         let out = self.notice_out(alloc, to, row.sub.usage(), row.sub.want(), notice)?;
         let mut unanswered = row.unanswered.into_vec();
@@ -193,7 +193,7 @@ impl<P: Package> Teller<'_, P> {
         notice: Notice,
     ) -> Result<After, NoMemory>
         ensures { IfOk result (λ after. after ≡ After.Goes (gone_from usage want) (Some (out_of (Notifies to
-            (spec.notify self.now.place.now (boxes_of P.seen self.now) usage want notice))))) }
+            (spec.notify (telling P.seen self.now) usage want notice))))) }
     {
         let out = self.notice_out(alloc, to, &usage, &want, notice)?;
         Ok(After::Goes(Gone::new(usage, want), Some(out)))
@@ -202,7 +202,7 @@ impl<P: Package> Teller<'_, P> {
     /// The end of a row, with a last NOTIFY that says why.
     fn end(&self, alloc: Global, reason: Reason, row: Row) -> Result<After, NoMemory>
         ensures { IfOk result (λ after. IsTold
-            (spec.ends self.now.place.now (boxes_of P.seen self.now) self.now.clock reason) row after) }
+            (spec.ends (telling P.seen self.now) reason) row after) }
     {
         let Row { sub, .. } = row;
         let (usage, want, notice) = sub.end(reason);
@@ -212,7 +212,7 @@ impl<P: Package> Teller<'_, P> {
     /// Time: a row of which a NOTIFY was unanswered for too long goes, else one whose time is up gets a last NOTIFY.
     pub fn time_out(&self, alloc: Global, row: Row) -> Result<After, NoMemory>
         ensures { IfOk result (λ after. IsTold
-            (spec.times_out self.now.place.now (boxes_of P.seen self.now) self.now.clock) row after) }
+            (spec.times_out (telling P.seen self.now)) row after) }
     {
         if is_overdue(self.clock, &row) {
             return Ok(goes(row));
@@ -226,7 +226,7 @@ impl<P: Package> Teller<'_, P> {
     /// The planned stop: each row gets a last NOTIFY.
     pub fn stop(&self, alloc: Global, row: Row) -> Result<After, NoMemory>
         ensures { IfOk result (λ after. IsTold
-            (spec.stops self.now.place.now (boxes_of P.seen self.now) self.now.clock) row after) }
+            (spec.stops (telling P.seen self.now)) row after) }
     {
         self.end(alloc, Reason::Deactivated, row)
     }
@@ -235,7 +235,7 @@ impl<P: Package> Teller<'_, P> {
     fn tell_change(&self, alloc: Global, is_over: bool, row: Row) -> Result<After, NoMemory>
         requires { IsLive self.now.clock row }
         ensures { IfOk result (λ after. IsTold
-            (spec.tells_change self.now.place.now (boxes_of P.seen self.now) self.now.clock is_over) row after) }
+            (spec.tells_change (telling P.seen self.now) is_over) row after) }
     {
         let to = row.sub.want().to;
         let next = row.sub.changed(self.clock, is_over);
@@ -256,7 +256,7 @@ impl<P: Package> Teller<'_, P> {
     ) -> Result<After, NoMemory>
         requires { IsLive self.now.clock row }
         ensures { IfOk result (λ after. IsTold
-            (spec.tells_watcher self.now.place.now (boxes_of P.seen self.now) self.now.clock
+            (spec.tells_watcher (telling P.seen self.now)
             name.now resource.now is_over) row after) }
     {
         if !watches(&row, name, resource) {
@@ -272,11 +272,12 @@ impl<P: Package> Teller<'_, P> {
         incoming: &Incoming<'_>,
         sub: Sub,
     ) -> Result<Step, NoMemory>
-        requires { self.now.clock < 2 ^ 63 }
+        requires clock { self.now.clock < 2 ^ 63 }
+        requires here { incoming.now.place.now ≡ self.now.place.now }
         ensures { IfOk result (λ next. next
             ≡ spec.renewed_sub self.now.place.now self.now.clock incoming.now.source incoming.now.request.now sub) }
     {
-        if incoming.asks_nothing(&self.place.limits) {
+        if incoming.asks_nothing() {
             let (usage, want, notice) = sub.end(Reason::Timeout);
             return Ok(Step::Over(usage, want, notice));
         }
@@ -286,15 +287,16 @@ impl<P: Package> Teller<'_, P> {
             target,
             incoming.source,
             self.clock,
-            incoming.granted(&self.place.limits),
+            incoming.granted(),
         ))
     }
 
     /// A SUBSCRIBE in its dialog renews a row, or ends it.
     fn renew_row(&self, alloc: Global, incoming: &Incoming<'_>, row: Row) -> Result<After, NoMemory>
-        requires { self.now.clock < 2 ^ 63 }
+        requires clock { self.now.clock < 2 ^ 63 }
+        requires here { incoming.now.place.now ≡ self.now.place.now }
         ensures { IfOk result (λ after. IsTold
-            (spec.renewed self.now.place.now (boxes_of P.seen self.now) self.now.clock
+            (spec.renewed (telling P.seen self.now)
             incoming.now.source incoming.now.request.now) row after) }
     {
         let last_cseq = incoming.request.head.cseq;
@@ -322,10 +324,11 @@ impl<P: Package> Teller<'_, P> {
         incoming: &Incoming<'_>,
         row: Row,
     ) -> Result<After, NoMemory>
-        requires { self.now.clock < 2 ^ 63 }
+        requires clock { self.now.clock < 2 ^ 63 }
+        requires here { incoming.now.place.now ≡ self.now.place.now }
         ensures { IfOk result (λ after. IsTold
             (spec.only wanted
-            (spec.renewed self.now.place.now (boxes_of P.seen self.now) self.now.clock
+            (spec.renewed (telling P.seen self.now)
             incoming.now.source incoming.now.request.now)) row after) }
     {
         if row.serial != wanted {

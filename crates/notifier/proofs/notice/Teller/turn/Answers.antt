@@ -3,16 +3,16 @@ use Rattle.std.specs.Ordering.{nat_cmp}
 use Rattle.std.specs.BTreeMap as tree
 use Rattle.slab.specs.Slab as slab
 use Rattle.notifier.specs.declared.store.rows.Rows.{Rows}
-use Rattle.notifier.specs.declared.sweep.rules.After.TheVariants.{Stays, Goes}
+use Rattle.notifier.specs.declared.sweep.row.After.TheVariants.{Stays, Goes}
 use Rattle.notifier.specs.Among.{said_at, gone_with}
-use Rattle.notifier.specs.Causes.{rule_of}
+use Rattle.notifier.specs.Tellers.{telling, rule_by}
 use Rattle.notifier.specs.Told.{IsTold}
 use Rattle.notifier.specs.Watchers.{topic, is_topic, is_watched}
 use Rattle.notifier_model.specs.Out.{out_of}
 use Rattle.notifier.specs.Stored.{alarm_of}
 use Rattle.notifier.proofs.Keeping.{cause_serials, cause_same}
 use Rattle.notifier.proofs.Turning.{indexed, turns, stay_moves, go_moves, row_there, turns_by}
-use Rattle.notifier.proofs.teller.Teller.turn.Goals as goal
+use Rattle.notifier.proofs.notice.Teller.turn.Goals as goal
 
 -- ---- the row goes
 
@@ -21,7 +21,7 @@ returns-in-Goes-clause-indexed g c =
     let old = c.args.rows.now in
     let new : Rows = c.let_go.new.self in
     let row = c.in-Some-try_remove.row in
-    let rule = rule_of c.args.self.now.place.now (map g.P.Package.seen c.args.self.now.boxes.now.items) c.args.self.now.clock c.args.cause.now in
+    let rule = rule_by g.P.Package.seen c.args.self.now c.args.cause.now in
     let told : IsTold rule row (Goes c.in-Goes.gone c.in-Goes.out) = subst (IsTold rule row) c.in-Goes.is c.in_ok-after.ensures in
     let found : tree.get nat_cmp old.order c.args.serial ≡ Some c.in-Some.key = cc in
     indexed _ _ _ _ _ c.requires.indexed
@@ -35,7 +35,7 @@ returns-in-Goes-clause-turns g c =
     let old = c.args.rows.now in
     let new : Rows = c.let_go.new.self in
     let row = c.in-Some-try_remove.row in
-    let rule = rule_of c.args.self.now.place.now (map g.P.Package.seen c.args.self.now.boxes.now.items) c.args.self.now.clock c.args.cause.now in
+    let rule = rule_by g.P.Package.seen c.args.self.now c.args.cause.now in
     let told : IsTold rule row (Goes c.in-Goes.gone c.in-Goes.out) = subst (IsTold rule row) c.in-Goes.is c.in_ok-after.ensures in
     let found : tree.get nat_cmp old.order c.args.serial ≡ Some c.in-Some.key = cc in
     let there = row_there old old c.args.serial c.in-Some.key row c.requires.indexed found (sym c.in-Some-try_remove.ensures.value) in
@@ -50,7 +50,7 @@ pub returns-in-Goes-clause-out : goal.returns-in-Goes-clause-out
 returns-in-Goes-clause-out g c =
     let old = c.args.rows.now in
     let row = c.in-Some-try_remove.row in
-    let rule = rule_of c.args.self.now.place.now (map g.P.Package.seen c.args.self.now.boxes.now.items) c.args.self.now.clock c.args.cause.now in
+    let rule = rule_by g.P.Package.seen c.args.self.now c.args.cause.now in
     let told : IsTold rule row (Goes c.in-Goes.gone c.in-Goes.out) = subst (IsTold rule row) c.in-Goes.is c.in_ok-after.ensures in
     let found : tree.get nat_cmp old.order c.args.serial ≡ Some c.in-Some.key = cc in
     let there = row_there old old c.args.serial c.in-Some.key row c.requires.indexed found (sym c.in-Some-try_remove.ensures.value) in
@@ -60,7 +60,7 @@ pub returns-in-Goes-clause-gone : goal.returns-in-Goes-clause-gone
 returns-in-Goes-clause-gone g c =
     let old = c.args.rows.now in
     let row = c.in-Some-try_remove.row in
-    let rule = rule_of c.args.self.now.place.now (map g.P.Package.seen c.args.self.now.boxes.now.items) c.args.self.now.clock c.args.cause.now in
+    let rule = rule_by g.P.Package.seen c.args.self.now c.args.cause.now in
     let told : IsTold rule row (Goes c.in-Goes.gone c.in-Goes.out) = subst (IsTold rule row) c.in-Goes.is c.in_ok-after.ensures in
     let found : tree.get nat_cmp old.order c.args.serial ≡ Some c.in-Some.key = cc in
     let there = row_there old old c.args.serial c.in-Some.key row c.requires.indexed found (sym c.in-Some-try_remove.ensures.value) in
@@ -72,7 +72,7 @@ pub returns-in_ok-put_back-in-Stays-clause-out : goal.returns-in_ok-put_back-in-
 returns-in_ok-put_back-in-Stays-clause-out g c =
     let old = c.args.rows.now in
     let row = c.in-Some-try_remove.row in
-    let rule = rule_of c.args.self.now.place.now (map g.P.Package.seen c.args.self.now.boxes.now.items) c.args.self.now.clock c.args.cause.now in
+    let rule = rule_by g.P.Package.seen c.args.self.now c.args.cause.now in
     let told : IsTold rule row (Stays c.in-Stays.row c.in-Stays.out) = subst (IsTold rule row) c.in-Stays.is c.in_ok-after.ensures in
     let found : tree.get nat_cmp old.order c.args.serial ≡ Some c.in-Some.key = cc in
     let there = row_there old old c.args.serial c.in-Some.key row c.requires.indexed found (sym c.in-Some-try_remove.ensures.value) in
@@ -82,7 +82,7 @@ pub returns-in_ok-put_back-in-Stays-clause-gone : goal.returns-in_ok-put_back-in
 returns-in_ok-put_back-in-Stays-clause-gone g c =
     let old = c.args.rows.now in
     let row = c.in-Some-try_remove.row in
-    let rule = rule_of c.args.self.now.place.now (map g.P.Package.seen c.args.self.now.boxes.now.items) c.args.self.now.clock c.args.cause.now in
+    let rule = rule_by g.P.Package.seen c.args.self.now c.args.cause.now in
     let told : IsTold rule row (Stays c.in-Stays.row c.in-Stays.out) = subst (IsTold rule row) c.in-Stays.is c.in_ok-after.ensures in
     let found : tree.get nat_cmp old.order c.args.serial ≡ Some c.in-Some.key = cc in
     let there = row_there old old c.args.serial c.in-Some.key row c.requires.indexed found (sym c.in-Some-try_remove.ensures.value) in
@@ -94,12 +94,11 @@ returns-in_ok-put_back-in-Stays-clause-indexed g c =
     let new : Rows = c.put_back.new.self in
     let back = c.in_ok-put_back-in-Stays.ensures in
     let row = c.in-Some-try_remove.row in
-    let boxes = map g.P.Package.seen c.args.self.now.boxes.now.items in
-    let rule = rule_of c.args.self.now.place.now boxes c.args.self.now.clock c.args.cause.now in
+    let rule = rule_by g.P.Package.seen c.args.self.now c.args.cause.now in
     let told : IsTold rule row (Stays c.in-Stays.row c.in-Stays.out) = subst (IsTold rule row) c.in-Stays.is c.in_ok-after.ensures in
     let found : tree.get nat_cmp old.order c.args.serial ≡ Some c.in-Some.key = cc in
-    let serial : c.in-Stays.row.serial ≡ row.serial = subst (λ o. IfSome o (λ r. r.serial ≡ row.serial)) (sym told.stays) (cause_serials c.args.self.now.place.now boxes c.args.self.now.clock c.args.cause.now row) in
-    let watch : topic c.in-Stays.row.sub.want ≡ topic row.sub.want = subst (λ o. IfSome o (λ r. topic r.sub.want ≡ topic row.sub.want)) (sym told.stays) (cause_same c.args.self.now.place.now boxes c.args.self.now.clock c.args.cause.now row) in
+    let serial : c.in-Stays.row.serial ≡ row.serial = subst (λ o. IfSome o (λ r. r.serial ≡ row.serial)) (sym told.stays) (cause_serials (telling g.P.Package.seen c.args.self.now) c.args.cause.now row) in
+    let watch : topic c.in-Stays.row.sub.want ≡ topic row.sub.want = subst (λ o. IfSome o (λ r. topic r.sub.want ≡ topic row.sub.want)) (sym told.stays) (cause_same (telling g.P.Package.seen c.args.self.now) c.args.cause.now row) in
     indexed _ _ _ _ _ c.requires.indexed
     (stay_moves old new c.args.serial c.in-Some.key row c.requires.indexed found (sym c.in-Some-try_remove.ensures.value)
     c.try_remove.new.self (alarm_of c.in-Stays.row) c.try_remove.new.self.vacant_key c.in-Stays.row back.order c.in-Some-try_remove.ensures.updates c.in-Some-try_remove.ensures.key_is_next back.slab
@@ -111,13 +110,12 @@ returns-in_ok-put_back-in-Stays-clause-turns g c =
     let new : Rows = c.put_back.new.self in
     let back = c.in_ok-put_back-in-Stays.ensures in
     let row = c.in-Some-try_remove.row in
-    let boxes = map g.P.Package.seen c.args.self.now.boxes.now.items in
-    let rule = rule_of c.args.self.now.place.now boxes c.args.self.now.clock c.args.cause.now in
+    let rule = rule_by g.P.Package.seen c.args.self.now c.args.cause.now in
     let told : IsTold rule row (Stays c.in-Stays.row c.in-Stays.out) = subst (IsTold rule row) c.in-Stays.is c.in_ok-after.ensures in
     let found : tree.get nat_cmp old.order c.args.serial ≡ Some c.in-Some.key = cc in
     let there = row_there old old c.args.serial c.in-Some.key row c.requires.indexed found (sym c.in-Some-try_remove.ensures.value) in
-    let serial : c.in-Stays.row.serial ≡ row.serial = subst (λ o. IfSome o (λ r. r.serial ≡ row.serial)) (sym told.stays) (cause_serials c.args.self.now.place.now boxes c.args.self.now.clock c.args.cause.now row) in
-    let watch : topic c.in-Stays.row.sub.want ≡ topic row.sub.want = subst (λ o. IfSome o (λ r. topic r.sub.want ≡ topic row.sub.want)) (sym told.stays) (cause_same c.args.self.now.place.now boxes c.args.self.now.clock c.args.cause.now row) in
+    let serial : c.in-Stays.row.serial ≡ row.serial = subst (λ o. IfSome o (λ r. r.serial ≡ row.serial)) (sym told.stays) (cause_serials (telling g.P.Package.seen c.args.self.now) c.args.cause.now row) in
+    let watch : topic c.in-Stays.row.sub.want ≡ topic row.sub.want = subst (λ o. IfSome o (λ r. topic r.sub.want ≡ topic row.sub.want)) (sym told.stays) (cause_same (telling g.P.Package.seen c.args.self.now) c.args.cause.now row) in
     turns_by old new c.args.serial (λ r. (rule r).row) row (Some c.in-Stays.row) there told.stays
     (turns _ _ _ _ _ c.requires.indexed
     (stay_moves old new c.args.serial c.in-Some.key row c.requires.indexed found (sym c.in-Some-try_remove.ensures.value)
