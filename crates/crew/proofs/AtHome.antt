@@ -53,7 +53,7 @@ stood [] v s x e = absurd cc
 stood (t ∷ seats) zero s x e = cc
 stood (t ∷ seats) (suc v) s x e = stood seats v s x e
 
-fits : (seats : List SenderSeat) (v : ℕ) (x : SenderSeat) → slice_get seats v ≡ Some x → v < length seats
+pub fits : (seats : List SenderSeat) (v : ℕ) (x : SenderSeat) → slice_get seats v ≡ Some x → v < length seats
 fits [] v x e = absurd cc
 fits (t ∷ seats) zero x e = omega arith
 fits (t ∷ seats) (suc v) x e = let k = fits seats v x e in omega arith
@@ -77,7 +77,7 @@ send_law old new n e was sent w s low =
 
 -- ---- a tick
 
-len_first : (i : ℕ) (e : Event) (seats : List SenderSeat) → length (sent_first i e seats) ≡ length seats
+pub len_first : (i : ℕ) (e : Event) (seats : List SenderSeat) → length (sent_first i e seats) ≡ length seats
 len_first zero e seats = refl
 len_first (suc i) e [] = refl
 len_first (suc i) e (s ∷ seats) = ap suc (len_first i e seats)
@@ -113,15 +113,14 @@ some_at n o (suc w) (t ∷ old) new s (u, rest, is, told, more) was low =
     let inside : w < length rest = let e = ap length is in omega arith in
     subst Q (sym at) (some_at n o w old rest s more (λ k. was (omega arith)) inside)
 
-all_at : (n w k : ℕ) (old new : PortSeats) (s : SenderSeat) → k ≡ old.still_open → Closes old new → (w < length old.seats → Comes n w (get_or old.seats w s)) → w < length new.seats → Comes n w (get_or new.seats w s)
-all_at n w zero old new s e closes was low =
-    let same = closes.1 (sym e) in
-    let P : PortSeats → Type 0 = λ p. w < length p.seats → Comes n w (get_or p.seats w s) in subst P (sym same) was low
-all_at n w (suc k) old new s e closes was low =
-    let is = closes.0 (omega arith) in
+all_at : (n w : ℕ) (b : Bool) (old new : PortSeats) (s : SenderSeat) → old.is_open ≡ b → Closes old new → (w < length old.seats → Comes n w (get_or old.seats w s)) → w < length new.seats → Comes n w (get_or new.seats w s)
+all_at n w false old new s e closes was low =
+    let P : PortSeats → Type 0 = λ p. w < length p.seats → Comes n w (get_or p.seats w s) in subst P (sym (closes.1 e)) was low
+all_at n w true old new s e closes was low =
+    let is : new.seats ≡ map (λ x. with_sent x (end_item x.number)) old.seats = ap (λ (p : PortSeats). p.seats) (closes.0 e) in
     let inside : w < length old.seats = let l = ap length is ∙ length-map old.seats (λ x. with_sent x (end_item x.number)) in omega arith in
     let P : List SenderSeat → Type 0 = λ l. Comes n w (get_or l w s) in subst P (sym is) (ended_at n w w old.seats s was inside)
 
 pub close_law : CloseLaw
 close_law old new n was closes w s low =
-    ⊎_elim (λ k. all_at n w old.still_open old new s refl k (was w s) low) (λ k. some_at n w w old.seats new.seats s k (was w s) low) closes
+    ⊎_elim (λ k. all_at n w old.is_open old new s refl k (was w s) low) (λ k. some_at n w w old.seats new.seats s k (was w s) low) closes

@@ -1,5 +1,6 @@
 -- How the seats of a port are closed one by one.
-use Rattle.std.proofs.Common.{◌≡◌, ◌⊎◌, Bool, true, false, List, [], ◌∷◌, ◌++◌, map, reverse, ap, ◌∙◌, refl, sym, inl, inr, append_assoc, MatchBool}
+use Rattle.std.proofs.Common.{◌≡◌, ◌⊎◌, ℕ, nat_lt, Bool, true, false, List, [], ◌∷◌, ◌++◌, map, reverse, ap, ◌∙◌, refl, sym, inl, inr, append_assoc, arith, MatchBool}
+use Rattle.std.proofs.lemmas.Bool.{ltb-false}
 use Rattle.std.proofs.lemmas.List.{reverse-append}
 use Rattle.queues.specs.Values.{end_item}
 use Rattle.queues.specs.InboxSeats.{SenderSeat, with_sent}
@@ -22,6 +23,9 @@ when_true P Q false q e = cc e
 
 pub none_ends : (xs : List SenderSeat) → xs ≡ [] → reverse xs ≡ map ended (reverse xs)
 none_ends xs none = ap reverse none ∙ sym (ap (λ l. map ended (reverse l)) none)
+
+pub none_left : (n : ℕ) → nat_lt 0 n ≡ false → n ≡ 0
+none_left n none = let low = ltb-false 0 n none in omega arith
 
 stays_one : (olds done : List SenderSeat) (s t : SenderSeat) (b was : Bool) → MatchBool b (t ≡ ended s) (t ≡ s) → (was ≡ false → OneStays olds done) → (was ≡ false) ⊎ (b ≡ false)
     → OneStays (s ∷ olds) (t ∷ done)

@@ -1,6 +1,7 @@
 -- What ports keep, and how a taker comes to all ends.
-use Rattle.std.proofs.Common.{◌≡◌, inl, inr, ⊎_elim, ℕ, zero, suc, ◌+◌, ◌<◌, ◌≤◌, List, [], ◌∷◌, ◌++◌, length, map, get_or, take, drop, true, refl, ap, sym, ◌∙◌, subst, arith}
+use Rattle.std.proofs.Common.{◌≡◌, inl, inr, ⊎_elim, ℕ, zero, suc, ◌+◌, ◌<◌, ◌≤◌, Bool, false, List, [], ◌∷◌, ◌++◌, length, map, get_or, take, drop, true, refl, ap, sym, ◌∙◌, subst, arith}
 use Rattle.std.specs.Prelude.{MatchResult, OnErr, Result, Ok, Err, Some, slice_get, slice_set}
+use Rattle.std.proofs.lemmas.Bool.{lt-ltb}
 use Rattle.std.proofs.lemmas.List.{get_or-map, length-map}
 use Rattle.queues.specs.declared.items.Item.{Item}
 use Rattle.queues.specs.Items.{items_of, has_end}
@@ -15,7 +16,7 @@ use Rattle.queues.specs.OutboxSeats.{TakerSeat, PosterSeat}
 use Rattle.queues.specs.OutboxTook.{Took}
 use Rattle.queues.specs.declared.outbox.Posted.{Posted}
 use Rattle.queues.specs.declared.outbox.Posted.TheVariants as posted
-use Rattle.crew.specs.Ports.{PortSeats, new_seat, Closes, ClosesSome, OneStays, IsShut, SendsTo, sends_first}
+use Rattle.crew.specs.Ports.{PortSeats, new_seat, Closes, ClosesSome, OneStays, IsLeftByClose, SendsTo, sends_first}
 use Rattle.crew.specs.PortErrors.{GivesBack, TicksFirst}
 use Rattle.crew.specs.declared.errors.SendError.{SendError}
 use Rattle.crew.specs.declared.errors.TickError.{TickError}
@@ -36,17 +37,17 @@ ended_keep : (old : List SenderSeat) → map emptied (map (λ s. with_sent s (en
 ended_keep [] = refl
 ended_keep (s ∷ old) = ap (λ l. emptied s ∷ l) (ended_keep old)
 
-by_count : (n : ℕ) (old new : PortSeats) → n ≡ old.still_open → Closes old new → SameSeats old new
-by_count zero old new e k = ap (λ (p : PortSeats). map emptied p.seats) (k.1 (sym e))
-by_count (suc n) old new e k = ap (map emptied) (k.0 (omega arith)) ∙ ended_keep old.seats
+ends_keep : (b : Bool) (old new : PortSeats) → old.is_open ≡ b → Closes old new → SameSeats old new
+ends_keep true old new e k = ap (λ (p : PortSeats). map emptied p.seats) (k.0 e) ∙ ended_keep old.seats
+ends_keep false old new e k = ap (λ (p : PortSeats). map emptied p.seats) (k.1 e)
 
 pub close_keeps : {A B : Type 0} (r : Result A B) (old new : PortSeats) → MatchResult r (λ _. Closes old new) (λ _. ClosesSome old.seats new.seats) → SameSeats old new
-close_keeps (Ok x) old new k = by_count old.still_open old new refl k
+close_keeps (Ok x) old new k = ends_keep old.is_open old new refl k
 close_keeps (Err x) old new k = some_keep old.seats new.seats k
 
 -- however `close` answers
 pub is_shut : {A B : Type 0} (r : Result A B) (old new : PortSeats) → MatchResult r (λ _. Closes old new) (λ _. ClosesSome old.seats new.seats)
-    → OnErr r (OneStays old.seats new.seats) → IsShut old new
+    → OnErr r (OneStays old.seats new.seats) → IsLeftByClose old new
 is_shut (Ok x) old new ends left = inl ends
 is_shut (Err x) old new ends left = inr (ends, left)
 
@@ -55,7 +56,7 @@ is_shut (Err x) old new ends left = inr (ends, left)
 -- the first n ports are closed, and the others are as they were
 pub record Closing (old new : List PortSeats) (n : ℕ) : Type 0 where
   pub len : length new ≡ length old
-  pub closed : (k : ℕ) (p : PortSeats) → k < n → (get_or new k p).still_open ≡ 0
+  pub closed : (k : ℕ) (p : PortSeats) → k < n → (get_or new k p).is_open ≡ false
   pub seats : (k : ℕ) (p : PortSeats) → k < n → SameSeats (get_or old k p) (get_or new k p)
   pub rest : (k : ℕ) (p : PortSeats) → n ≤ k → get_or new k p ≡ get_or old k p
 
@@ -94,6 +95,17 @@ all_taken t0 t left was none = all_ended t0.workers t.got (let l = was.left_is i
 
 pub took_as : (t u : TakerSeat) (x y : Posted) → x ≡ y → Took t x u → Took t y u
 took_as t u x y is took = let P : Posted → Type 0 = λ z. Took t z u in subst P is took
+
+-- ---- what was dealt
+
+-- the ports of a crew that was just started are open
+pub started_open : {start : ℕ → Start} {workers n : ℕ} {crew : List Hired} {ports : List PortSeats} {taker : TakerSeat}
+    → IsStarted start workers n crew ports taker → 0 < workers → (k : ℕ) (p : PortSeats) → k < n → (get_or ports k p).is_open ≡ true
+started_open {crew = crew} is some k p low =
+    let size = length-map crew (λ (h : Hired). h.reads.inbox) in
+    let len = is.len in
+    ap (λ (x : PortSeats). x.is_open) (is.dealt.each k p low)
+    ∙ lt-ltb 0 (length (map (λ (h : Hired). h.reads.inbox) crew)) (omega (arith, size, len, some))
 
 -- ---- what `join` asks
 
@@ -150,7 +162,7 @@ pub tick_keeps : (i : ℕ) (event : Event) (old : PortSeats) → SameSeats old (
 tick_keeps i event old = first_keep i event old.seats
 
 -- whatever a port's calls answer
-pub sent_keeps : (r : Result (Unit {0}) SendError) (old new : PortSeats) (w : ℕ) (e : Event) → MatchResult r (λ _. (0 < old.still_open) × SendsTo old w e new) (λ error. (new ≡ old) × GivesBack old e error) → SameSeats old new
+pub sent_keeps : (r : Result (Unit {0}) SendError) (old new : PortSeats) (w : ℕ) (e : Event) → MatchResult r (λ _. (old.is_open ≡ true) × SendsTo old w e new) (λ error. (new ≡ old) × GivesBack old e error) → SameSeats old new
 sent_keeps (Ok x) old new w e k = send_keeps old w e new k.1
 sent_keeps (Err x) old new w e k = ap (λ (p : PortSeats). map emptied p.seats) k.0
 
@@ -158,6 +170,6 @@ ticked_less : (old new : PortSeats) (e : Event) (error : TickError) → TicksFir
 ticked_less old new e tick.Closed k = ap (λ (p : PortSeats). map emptied p.seats) k.0
 ticked_less old new e (tick.Gone i) k = ap (λ (p : PortSeats). map emptied p.seats) k.0 ∙ tick_keeps i e old
 
-pub ticked_keeps : (r : Result (Unit {0}) TickError) (old new : PortSeats) (e : Event) → MatchResult r (λ _. (0 < old.still_open) × (new ≡ sends_first old.still_open e old)) (λ error. TicksFirst old e new error) → SameSeats old new
-ticked_keeps (Ok x) old new e k = ap (λ (p : PortSeats). map emptied p.seats) k.1 ∙ tick_keeps old.still_open e old
+pub ticked_keeps : (r : Result (Unit {0}) TickError) (old new : PortSeats) (e : Event) → MatchResult r (λ _. (old.is_open ≡ true) × (new ≡ sends_first (length old.seats) e old)) (λ error. TicksFirst old e new error) → SameSeats old new
+ticked_keeps (Ok x) old new e k = ap (λ (p : PortSeats). map emptied p.seats) k.1 ∙ tick_keeps (length old.seats) e old
 ticked_keeps (Err x) old new e k = ticked_less old new e x k

@@ -7,7 +7,7 @@ mod Sending
 pub mod Reporting
 pub mod Keeping
 pub mod OnePort
-mod AtHome
+pub mod AtHome
 pub mod Joined
 pub mod Elsewhere
 pub mod Others

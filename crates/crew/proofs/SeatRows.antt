@@ -1,5 +1,6 @@
 -- How seats are made for all workers.
-use Rattle.std.proofs.Common.{◌≡◌, ℕ, zero, suc, ◌+◌, ◌<◌, List, [], ◌∷◌, ◌++◌, length, get_or, refl, ap, sym, ◌∙◌, subst, arith, below_more, length-append}
+use Rattle.std.proofs.Common.{◌≡◌, ℕ, zero, suc, ◌+◌, ◌<◌, true, nat_lt, List, [], ◌∷◌, ◌++◌, length, get_or, refl, ap, sym, ◌∙◌, subst, arith, below_more, length-append}
+use Rattle.std.proofs.lemmas.Bool.{lt-ltb}
 use Rattle.std.proofs.lemmas.List.{get_or_append_left, map-append}
 use Rattle.std.proofs.Math.Seq.{get_or-append_seam}
 use Rattle.queues.specs.InboxSeats.{Inbox, SenderSeat, new_senders}
@@ -31,6 +32,9 @@ each_more {S} R xs ys x n m len one is old here k e low =
     let Q : S → Type 0 = λ y. R j y in subst Q (sym same) (old j e less))
     (let Q : S → Type 0 = λ y. R n y in subst Q (sym last) here) k (omega arith)
 
+open_more : (inboxes : List Inbox) (inbox : Inbox) → nat_lt 0 (length (inboxes ++ inbox ∷ [])) ≡ true
+open_more inboxes inbox = lt-ltb 0 (length (inboxes ++ inbox ∷ [])) (let l = length-append inboxes (inbox ∷ []) in omega arith)
+
 -- each port with a seat of one inbox more
 pub dealt_more : (old new : List PortSeats) (inboxes : List Inbox) (inbox : Inbox) (n : ℕ) → length new ≡ length old → AreDealt old inboxes n
     → TakeSeats old new (new_senders inbox n) n → AreDealt new (inboxes ++ inbox ∷ []) n
@@ -41,7 +45,7 @@ dealt_more old new inboxes inbox n size was taken = record {
       ∙ ap (λ p. seated p (get_or (new_senders inbox n) s (new_seat inbox s))) (was.each s d low)
       ∙ ap (λ q. seated (port_of inboxes s) q) (new_senders-at inbox n s (new_seat inbox s) low)
       ∙ (λ i. record {
-        still_open = sym (length-append inboxes (inbox ∷ [])) i;
+        is_open = sym (open_more inboxes inbox) i;
         seats = sym (map-append (λ b. new_seat b s) inboxes (inbox ∷ [])) i;
       });
 }

@@ -6,7 +6,7 @@ use Rattle.notifier_model.specs.Start.{Start}
 use Rattle.notifier.specs.Standing.{first_standing}
 use Rattle.queues.specs.InboxSeats.{ReceiverSeat}
 use Rattle.queues.specs.OutboxSeats.{Outbox, PosterSeat, TakerSeat, new_posters}
-use Rattle.crew.specs.Ready.{SeatSeen, IsReady, IsFit}
+use Rattle.crew.specs.Ready.{NewWorkerSeen, IsReady, IsFit}
 use Rattle.crew.specs.Started.{Hired, IsHired}
 
 abbrev pub new_poster : Outbox → ℕ → PosterSeat
@@ -31,17 +31,17 @@ pub element : {A : Type 0} (xs : List A) (k : ℕ) → k < length xs → A
 element [] k low = absurd (omega arith)
 element (x ∷ xs) k low = x
 
-pub ready_fit : (start : Start) (n : ℕ) (p : PosterSeat) (seat : SeatSeen) → p.posted ≡ [] → IsReady start n p seat → IsFit seat
-ready_fit start n p seat none k = record {
+pub ready_fit : (start : Start) (n : ℕ) (p : PosterSeat) (worker : NewWorkerSeen) → p.posted ≡ [] → IsReady start n p worker → IsFit worker
+ready_fit start n p worker none k = record {
   stops = k.stops ∙ ap (λ (s : Start). s.place.stop) (sym k.begins);
   stands = k.stands ∙ ap (λ (s : Start). Some (first_standing s)) (sym k.begins);
   untaken = ap (λ (w : ReceiverSeat). w.taken) k.hears;
   unposted = ap (λ (w : PosterSeat). w.posted) k.tells ∙ none;
 }
 
-pub hired_is : (start : Start) (n w : ℕ) (taker : TakerSeat) (seat : SeatSeen) (x : Hired) → x ≡ record { start = seat.start; reads = seat.reads; posts = seat.posts }
-    → taker.outbox.capacity ≡ start.place.limits.outbox → IsReady start n (new_poster taker.outbox w) seat → IsHired start n taker w x
-hired_is start n w taker seat x is holds k =
+pub hired_is : (start : Start) (n w : ℕ) (taker : TakerSeat) (worker : NewWorkerSeen) (x : Hired) → x ≡ record { start = worker.start; reads = worker.reads; posts = worker.posts }
+    → taker.outbox.capacity ≡ start.place.limits.outbox → IsReady start n (new_poster taker.outbox w) worker → IsHired start n taker w x
+hired_is start n w taker worker x is holds k =
     let P : Hired → Type 0 = λ y. IsHired start n taker w y in
     subst P (sym is) (record { begins = k.begins; hears = k.hears; tells = k.tells; inbox_holds = k.holds; outbox_holds = holds })
 

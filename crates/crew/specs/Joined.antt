@@ -1,5 +1,5 @@
 -- What the report of a crew tells.
-use Rattle.std.specs.Prelude.{◌≡◌, ◌<◌, ℕ, true, List, length}
+use Rattle.std.specs.Prelude.{◌≡◌, ◌<◌, true, false, List, length}
 use Rattle.std.specs.List.{All, AllZip}
 use Rattle.queues.specs.declared.items.Item.{Item}
 use Rattle.queues.specs.Items.{items_of, has_end, StartsWith, TookInOrder}
@@ -27,7 +27,7 @@ pub record IsSeatOf (h : Hired) (seat : SenderSeat) : Type 0 where
 
 -- a closed port of the crew: its seats are of the workers' inboxes, one each, in their order
 pub record IsPortOf (crew : List Hired) (port : PortSeats) : Type 0 where
-  pub closed : port.still_open ≡ 0
+  pub closed : port.is_open ≡ false
   pub seats : AllZip IsSeatOf crew port.seats
 
 -- what the report tells of its worker: what it took is of its inbox, how it ended, and that the taker got all outs of the

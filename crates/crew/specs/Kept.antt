@@ -1,5 +1,5 @@
 -- What a port keeps.
-use Rattle.std.specs.Prelude.{◌≡◌, ◌<◌, ℕ, List, length, map, get_or}
+use Rattle.std.specs.Prelude.{◌≡◌, ◌<◌, ℕ, false, List, length, map, get_or}
 use Rattle.queues.specs.InboxSeats.{SenderSeat}
 use Rattle.crew.specs.Ports.{PortSeats, new_seat}
 
@@ -14,5 +14,5 @@ SameSeats old new = map emptied new.seats ≡ map emptied old.seats
 -- each port is closed, and has the seats that it had
 pub record AllClosed (old new : List PortSeats) : Type 0 where
   pub len : length new ≡ length old
-  pub closed : (k : ℕ) (p : PortSeats) → k < length old → (get_or new k p).still_open ≡ 0
+  pub closed : (k : ℕ) (p : PortSeats) → k < length old → (get_or new k p).is_open ≡ false
   pub seats : (k : ℕ) (p : PortSeats) → k < length old → SameSeats (get_or old k p) (get_or new k p)

@@ -16,10 +16,9 @@ use Rattle.crew.specs.Joined.{Reported}
 use Rattle.crew.specs.declared.report.WorkerReport.{WorkerReport}
 use Rattle.life.specs.Notices.{newest_first, notices}
 use Rattle.life.specs.Laws.{IsStart, AreNotifies, notifies_with}
-use Rattle.life.specs.Own.{born_of, own}
-use Rattle.life.specs.Renaming.{renamed}
-use Rattle.life.specs.Apart.{are_apart}
-use Rattle.life.specs.IsolationLaws.{IsLike}
+use Rattle.life.specs.Own.{born_of}
+use Rattle.life.specs.Apart.{own_requests_are_new}
+use Rattle.life.specs.IsolationLaws.{IsLike, alone}
 
 -- the events that the worker handled
 abbrev pub events_handled : Hired → WorkerReport → List Event
@@ -58,7 +57,7 @@ abbrev pub AloneLaw : Type 0
 AloneLaw = (h : Hired) (got : List (Item Out)) (report : WorkerReport) (other : Start) (serial : ℕ) (x : Request) →
     IsStart h.start → serial < 2 ^ 64 → Reported h got report →
     born_of h.start serial (its_past h report) ≡ Some x → IsLike h.start other x →
-    are_apart h.start serial x (its_past h report) ≡ true →
+    own_requests_are_new h.start serial x (its_past h report) ≡ true →
     AreNotifies (its_tag h serial)
-    (notices other 1 (renamed (its_tag h serial) (tag_of other.place 1) (own h.start serial x (its_past h report))))
+    (notices other 1 (alone h.start other serial x (its_past h report)))
     (its_notifies h got serial)

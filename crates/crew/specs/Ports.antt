@@ -1,30 +1,31 @@
 -- What contracts see of a port of a crew.
-use Rattle.std.specs.Prelude.{◌≡◌, ◌⊎◌, ◌<◌, ◌+◌, ℕ, List, [], ◌∷◌, ◌++◌, length, map, get_or, take, drop, slice_get, slice_set, Some}
+use Rattle.std.specs.Prelude.{◌≡◌, ◌⊎◌, ◌<◌, ℕ, Bool, true, false, nat_lt, List, [], ◌∷◌, ◌++◌, length, map, get_or, take, drop, slice_get, slice_set, Some}
 use Rattle.notifier_model.specs.declared.event.Event.{Event}
 use Rattle.queues.specs.Values.{end_item, value_item}
 use Rattle.queues.specs.InboxSeats.{Inbox, SenderSeat, with_sent}
 
--- a port's seats in the order of the workers, and how many of them are open: all or none
+-- a port's seats in the order of the workers, and whether it is open: a closed one sends nothing more
 pub record PortSeats : Type 0 where
-  pub still_open : ℕ
+  pub is_open : Bool
   pub seats : List SenderSeat
 
+-- it opens with its first seat
 abbrev pub no_seats : PortSeats
-no_seats = record { still_open = 0; seats = [] }
+no_seats = record { is_open = false; seats = [] }
 
 -- with one seat more
 abbrev pub seated : PortSeats → SenderSeat → PortSeats
-seated p s = record { still_open = p.still_open + 1; seats = p.seats ++ s ∷ [] }
+seated p s = record { is_open = true; seats = p.seats ++ s ∷ [] }
 
 -- a port's seat of this inbox, which has sent nothing
 abbrev pub new_seat : Inbox → ℕ → SenderSeat
 new_seat inbox number = record { inbox = inbox; number = number; sent = [] }
 
--- the open port of this number, with a seat of each inbox
+-- the port of this number, with a seat of each inbox: open, where there is one
 abbrev pub port_of : List Inbox → ℕ → PortSeats
-port_of inboxes number = record { still_open = length inboxes; seats = map (λ i. new_seat i number) inboxes }
+port_of inboxes number = record { is_open = nat_lt 0 (length inboxes); seats = map (λ i. new_seat i number) inboxes }
 
--- these are n open ports, each with a seat of each inbox
+-- these are n ports, each with a seat of each inbox
 pub record AreDealt (ports : List PortSeats) (inboxes : List Inbox) (n : ℕ) : Type 0 where
   pub len : length ports ≡ n
   pub each : (s : ℕ) (d : PortSeats) → s < n → get_or ports s d ≡ port_of inboxes s
@@ -33,13 +34,13 @@ pub record AreDealt (ports : List PortSeats) (inboxes : List Inbox) (n : ℕ) : 
 abbrev pub TakeSeats : List PortSeats → List PortSeats → List SenderSeat → ℕ → Type 0
 TakeSeats old new seats n = (k : ℕ) (d : PortSeats) (s : SenderSeat) → k < n → get_or new k d ≡ seated (get_or old k d) (get_or seats k s)
 
--- no port is closed
-abbrev pub AllOpen : List PortSeats → Type 0
-AllOpen ports = (k : ℕ) (d : PortSeats) → k < length ports → (get_or ports k d).still_open ≡ length (get_or ports k d).seats
+-- no port was closed: each is open, or has no seat yet
+abbrev pub NoneWasClosed : List PortSeats → Type 0
+NoneWasClosed ports = (k : ℕ) (d : PortSeats) → k < length ports → (get_or ports k d).is_open ≡ false → (get_or ports k d).seats ≡ []
 
 -- each port may take a seat more
 abbrev pub HaveRoom : List PortSeats → Type 0
-HaveRoom ports = (k : ℕ) (d : PortSeats) → k < length ports → (get_or ports k d).still_open < 256
+HaveRoom ports = (k : ℕ) (d : PortSeats) → k < length ports → length (get_or ports k d).seats < 256
 
 -- one item more at the w-th of these seats, and nothing else
 pub record SendsAt (old : List SenderSeat) (w : ℕ) (event : Event) (new : List SenderSeat) : Type 0 where
@@ -55,11 +56,11 @@ sent_first i event seats = map (λ s. with_sent s (value_item s.number event)) (
 pub record SendsTo (old : PortSeats) (w : ℕ) (event : Event) (new : PortSeats) : Type 0 where
   pub seat : SenderSeat
   pub stood : slice_get old.seats w ≡ Some seat
-  pub stands : new ≡ record { still_open = old.still_open; seats = slice_set old.seats w (with_sent seat (value_item seat.number event)) }
+  pub stands : new ≡ record { is_open = old.is_open; seats = slice_set old.seats w (with_sent seat (value_item seat.number event)) }
 
 -- the event is added to the first i inboxes
 abbrev pub sends_first : ℕ → Event → PortSeats → PortSeats
-sends_first i event p = record { still_open = p.still_open; seats = sent_first i event p.seats }
+sends_first i event p = record { is_open = p.is_open; seats = sent_first i event p.seats }
 
 -- each seat has its end mark, or is as it was
 abbrev pub ClosesSome : List SenderSeat → List SenderSeat → Type 0
@@ -73,8 +74,10 @@ OneStays (s ∷ old) new = (t : SenderSeat) × (rest : List SenderSeat) × (new 
 
 -- each seat has its end mark; a closed port is as it was
 abbrev pub Closes : PortSeats → PortSeats → Type 0
-Closes old new = (0 < old.still_open → new.seats ≡ map (λ s. with_sent s (end_item s.number)) old.seats) × (old.still_open ≡ 0 → new ≡ old)
+Closes old new =
+    (old.is_open ≡ true → new ≡ record { is_open = false; seats = map (λ s. with_sent s (end_item s.number)) old.seats })
+    × (old.is_open ≡ false → new ≡ old)
 
 -- what is left of a port that was closed, however that was answered: where not each seat has its end mark, one at least is as it was
-abbrev pub IsShut : PortSeats → PortSeats → Type 0
-IsShut old new = Closes old new ⊎ (ClosesSome old.seats new.seats × OneStays old.seats new.seats)
+abbrev pub IsLeftByClose : PortSeats → PortSeats → Type 0
+IsLeftByClose old new = Closes old new ⊎ (ClosesSome old.seats new.seats × OneStays old.seats new.seats)

@@ -2,13 +2,13 @@
 ghost use Rattle.std.specs.Prelude.{◌≡◌, ◌<◌, ◌≤◌, ℕ, [], map, get_or, vec_len, vec_capacity, IfOk};
 ghost use Rattle.queues.specs.OutboxSeats.{new_taker};
 ghost use Rattle.crew.specs.Ports.{AreDealt};
-ghost use Rattle.crew.specs.Ready.{start_of, seat_seen, IsReady};
+ghost use Rattle.crew.specs.Ready.{start_of, new_worker_seen, IsReady};
 
 use crate::end::Done;
-use crate::launching::{Began, Seat};
+use crate::launching::{Began, NewWorker};
 use crate::port::Port;
 use crate::report::WorkerReport;
-use crate::seating::make_seats;
+use crate::seating::new_workers;
 use notifier_model::Setup;
 use package::Package;
 use queues::outbox;
@@ -59,13 +59,13 @@ fn make_room(
     Ok((workers, reports))
 }
 
-/// The seats of the workers, this many ports with a seat in each inbox, and the taker of what the workers post.
-fn seat_crew<P: Package>(
+/// What the workers are given, this many ports with a seat in each inbox, and the taker of what the workers post.
+fn new_crew<P: Package>(
     alloc: Global,
     setup: &Setup,
     ports: u32,
     boxes: Vec<Vec<P>>,
-) -> Result<(Vec<Seat<P>>, Vec<Port>, Taker), NoMemory>
+) -> Result<(Vec<NewWorker<P>>, Vec<Port>, Taker), NoMemory>
     requires few_ports { ports ≤ 256 }
     requires few_workers { vec_len boxes ≤ 256 }
     ensures len { IfOk result (λ r. vec_len r.0 ≡ vec_len boxes) }
@@ -74,21 +74,21 @@ fn seat_crew<P: Package>(
     ensures ready { IfOk result (λ r. (k : ℕ) (s : _) (b : _) → k < vec_len boxes →
         IsReady (start_of P.seen setup.now k (get_or boxes.items k b).items) ports
         (record { outbox = r.2.outbox; number = k; posted = [] })
-        (seat_seen P.seen (get_or r.0.items k s))) }
+        (new_worker_seen P.seen (get_or r.0.items k s))) }
     ensures dealt { IfOk result (λ r. AreDealt r.1.items (map (λ s. s.receiver.inbox) r.0.items) ports) }
 {
     let count = boxes.len();
     let capacity = setup.limits.outbox();
     let (posters, taker) = outbox::make(alloc, capacity, count as u32)?;
     let mut dealt = open_ports(alloc, ports)?;
-    let seats = make_seats(alloc, setup, boxes, posters, dealt.as_mut_slice())?;
-    Ok((seats, dealt, taker))
+    let workers = new_workers(alloc, setup, boxes, posters, dealt.as_mut_slice())?;
+    Ok((workers, dealt, taker))
 }
 
 /// All that a crew is launched with, and room for all that it keeps.
 #[derive(Drop)]
-pub(crate) struct Fitted<P: Package, G> {
-    pub(crate) seats: Vec<Seat<P>>,
+pub(crate) struct CrewParts<P: Package, G> {
+    pub(crate) new_workers: Vec<NewWorker<P>>,
     pub(crate) gates: Vec<Arc<G, Global>>,
     pub(crate) ports: Vec<Port>,
     pub(crate) taker: Taker,
@@ -105,26 +105,26 @@ pub(crate) fn fit_out<P: Package, G: Drop>(
     ports: u32,
     boxes: Vec<Vec<P>>,
     gate: &Arc<G, Global>,
-) -> Result<Fitted<P, G>, NoMemory>
+) -> Result<CrewParts<P, G>, NoMemory>
     requires few_ports { ports ≤ 256 }
     requires few_workers { vec_len boxes ≤ 256 }
     ensures workers { IfOk result (λ f. (vec_len boxes ≤ vec_capacity f.workers) × (f.workers.items ≡ [])) }
     ensures reports { IfOk result (λ f. (vec_len boxes ≤ vec_capacity f.reports) × (f.reports.items ≡ [])) }
-    ensures len { IfOk result (λ f. (vec_len f.seats ≡ vec_len boxes) × (vec_len f.gates ≡ vec_len boxes)) }
+    ensures len { IfOk result (λ f. (vec_len f.new_workers ≡ vec_len boxes) × (vec_len f.gates ≡ vec_len boxes)) }
     ensures taker { IfOk result (λ f. f.taker ≡ new_taker f.taker.outbox (vec_len boxes)) }
     ensures holds { IfOk result (λ f. f.taker.outbox.capacity ≡ setup.now.limits.outbox) }
     ensures ready { IfOk result (λ f. (k : ℕ) (s : _) (b : _) → k < vec_len boxes →
         IsReady (start_of P.seen setup.now k (get_or boxes.items k b).items) ports
         (record { outbox = f.taker.outbox; number = k; posted = [] })
-        (seat_seen P.seen (get_or f.seats.items k s))) }
-    ensures dealt { IfOk result (λ f. AreDealt f.ports.items (map (λ s. s.receiver.inbox) f.seats.items) ports) }
+        (new_worker_seen P.seen (get_or f.new_workers.items k s))) }
+    ensures dealt { IfOk result (λ f. AreDealt f.ports.items (map (λ s. s.receiver.inbox) f.new_workers.items) ports) }
 {
     let count = boxes.len();
     let gates = gates(alloc, gate, count)?;
     let (workers, reports) = make_room(alloc, count)?;
-    let (seats, ports, taker) = seat_crew(alloc, setup, ports, boxes)?;
-    Ok(Fitted {
-        seats,
+    let (new_workers, ports, taker) = new_crew(alloc, setup, ports, boxes)?;
+    Ok(CrewParts {
+        new_workers,
         gates,
         ports,
         taker,

@@ -1,5 +1,5 @@
 //! How a crew is joined.
-ghost use Rattle.std.specs.Prelude.{◌≡◌, ◌<◌, ◌≤◌, ℕ, [], length, reverse, get_or, vec_len, vec_capacity};
+ghost use Rattle.std.specs.Prelude.{◌≡◌, ◌<◌, ◌≤◌, ℕ, false, [], length, reverse, get_or, vec_len, vec_capacity};
 ghost use Rattle.queues.specs.Items.{TookInOrder};
 ghost use Rattle.crew.specs.Ports.{PortSeats};
 ghost use Rattle.crew.specs.Started.{Hired, hired};
@@ -88,7 +88,7 @@ fn settle_port(reports: &mut [WorkerReport], mut sents: Vec<Sent>)
 
 /// Joins the ports' seats to those of the workers.
 fn settle_all(reports: &mut [WorkerReport], ports: Vec<Port>)
-    requires closed { (k : ℕ) (p : PortSeats) → k < vec_len ports → (get_or ports.items k p).still_open ≡ 0 }
+    requires closed { (k : ℕ) (p : PortSeats) → k < vec_len ports → (get_or ports.items k p).is_open ≡ false }
     requires seats { (k : ℕ) (p : PortSeats) → k < vec_len ports
         → AreSeatsOf reports.old (get_or ports.items k p).seats }
     ensures same { reports.new ≡ reports.old }

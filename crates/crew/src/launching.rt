@@ -37,7 +37,7 @@ impl Promise<Done> for Began {
 
 /// What one worker is given.
 #[derive(Drop)]
-pub struct Seat<P: Package> {
+pub struct NewWorker<P: Package> {
     /// The start of the desk.
     pub token: StartToken,
     /// The worker's number.
@@ -53,29 +53,29 @@ pub struct Seat<P: Package> {
 pub fn launch<R, P, G>(
     rt: R,
     alloc: Global,
-    seat: Seat<P>,
+    new_worker: NewWorker<P>,
     gate: Arc<G, Global>,
 ) -> Result<PromisedHandle<Done, Began>, AllocError>
 where
     R: Threads + Wait + Copy + Send + 'static,
     P: Package + 'static,
     G: Gate + Drop + 'static,
-    requires taken { seat.receiver.taken ≡ [] }
-    requires posted { seat.poster.posted ≡ [] }
-    requires desk { seen_by P.seen seat.desk ≡ Some (first_standing seat.token.start) }
-    requires stop { seat.stop ≡ seat.token.start.place.stop }
-    ensures start { IfOk result (λ h. h.promise.token.start ≡ seat.token.start) }
-    ensures inbox { IfOk result (λ h. h.promise.inbox.value ≡ seat.receiver) }
-    ensures outbox { IfOk result (λ h. h.promise.outbox.value ≡ seat.poster) }
+    requires taken { new_worker.receiver.taken ≡ [] }
+    requires posted { new_worker.poster.posted ≡ [] }
+    requires desk { seen_by P.seen new_worker.desk ≡ Some (first_standing new_worker.token.start) }
+    requires stop { new_worker.stop ≡ new_worker.token.start.place.stop }
+    ensures start { IfOk result (λ h. h.promise.token.start ≡ new_worker.token.start) }
+    ensures inbox { IfOk result (λ h. h.promise.inbox.value ≡ new_worker.receiver) }
+    ensures outbox { IfOk result (λ h. h.promise.outbox.value ≡ new_worker.poster) }
 {
-    let Seat {
+    let NewWorker {
         token,
         worker,
         stop,
         desk,
         receiver,
         poster,
-    } = seat;
+    } = new_worker;
     let began = Began {
         token,
         inbox: Snapshot::of(&receiver),

@@ -40,7 +40,7 @@ pub use counting::count_up;
 pub use end::{Done, End};
 pub use errors::{SendError, StartError, TickError};
 pub use gate::{Gate, Open};
-pub use launching::{Began, Seat, launch};
+pub use launching::{Began, NewWorker, launch};
 pub use notifier_model::homes::{home, key_hash};
 pub use port::Port;
 pub use replay::Replay;

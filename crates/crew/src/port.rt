@@ -1,8 +1,8 @@
 //! Ports of a crew.
-ghost use Rattle.std.specs.Prelude.{◌≡◌, ◌<◌, ◌≤◌, false, length, reverse, OnOk, OnErr, MatchBool, MatchResult, vec_len};
+ghost use Rattle.std.specs.Prelude.{◌≡◌, ◌<◌, ◌≤◌, [], true, false, not, length, reverse, OnOk, OnErr, MatchResult, vec_len};
 ghost use Rattle.notifier_model.specs.declared.event.Event.TheVariants as event;
 ghost use Rattle.notifier_model.specs.Home as spec;
-ghost use Rattle.crew.specs.Ports.{no_seats, seated, AllOpen, HaveRoom, TakeSeats, Closes, ClosesSome, OneStays, SendsTo, SendsAt, sent_first, sends_first};
+ghost use Rattle.crew.specs.Ports.{no_seats, seated, NoneWasClosed, HaveRoom, TakeSeats, Closes, ClosesSome, OneStays, SendsTo, SendsAt, sent_first, sends_first};
 ghost use Rattle.crew.specs.PortErrors.{GivesBack, TicksFirst};
 
 use crate::errors::{SendError, TickError};
@@ -16,7 +16,7 @@ use std::marker::Model;
 use std::sync::Wait;
 
 /// A port of a crew: its seat in each worker's inbox. Contracts see the seats in the order of the workers, each with what it
-/// has sent, and how many are open: all, or none once it is closed.
+/// has sent, and whether the port is open.
 pub struct Port {
     senders: Vec<Sender>,
     // Of a closed port, from the last worker's on. It has room for all, so that closing takes no memory.
@@ -34,12 +34,12 @@ impl Drop for Port {
 }
 
 impl Model for Port {
-    ghost use Rattle.std.specs.Prelude.{◌++◌, ◌≡◌, ◌<◌, ◌≤◌, ◌+◌, length, reverse, vec_len, vec_capacity};
+    ghost use Rattle.std.specs.Prelude.{◌++◌, ◌≡◌, ◌<◌, ◌≤◌, ◌+◌, nat_lt, length, reverse, vec_len, vec_capacity};
     ghost use Rattle.crew.specs.Ports.{PortSeats};
 
     ghost Value = { PortSeats };
 
-    ghost view = { λ p. record { still_open = vec_len p.senders; seats = p.senders.items ++ reverse p.sents.items } };
+    ghost view = { λ p. record { is_open = nat_lt 0 (vec_len p.senders); seats = p.senders.items ++ reverse p.sents.items } };
 
     ghost invariant = { λ p. (vec_len p.senders + vec_len p.sents ≤ vec_capacity p.sents) × (0 < vec_len p.senders → vec_len p.sents ≡ 0) × (vec_len p.senders ≤ 256) };
 }
@@ -57,8 +57,8 @@ impl Port {
 
     /// Takes a seat in one inbox more.
     pub(crate) fn seat(&mut self, sender: Sender) -> Result<(), NoMemory>
-        requires still_open { self.old.still_open ≡ length self.old.seats }
-        requires room { self.old.still_open < 256 }
+        requires unclosed { self.old.is_open ≡ false → self.old.seats ≡ [] }
+        requires room { length self.old.seats < 256 }
         ensures { OnOk result (self.new ≡ seated self.old sender) }
     {
         self.sents.try_reserve(self.senders.len() + 1)?;
@@ -68,7 +68,7 @@ impl Port {
 
     /// The seats of a closed port, from the last worker's on.
     pub(crate) fn into_sents(self) -> Vec<Sent>
-        requires { self.still_open ≡ 0 }
+        requires { self.is_open ≡ false }
         ensures { reverse result.items ≡ self.seats }
     {
         let Port { senders: _, sents } = self;
@@ -77,7 +77,7 @@ impl Port {
 
     /// Whether it was closed. It takes no memory and waits for nothing.
     pub fn is_closed(&self) -> bool
-        ensures { MatchBool result (self.now.still_open ≡ 0) (0 < self.now.still_open) }
+        ensures { result ≡ not self.now.is_open }
     {
         self.senders.is_empty()
     }
@@ -87,11 +87,11 @@ impl Port {
     /// Puts the end mark into each inbox, and waits while one is full. The port is closed then, also where a worker is gone,
     /// which is [`Left`]: its seat is as it was then. Closing again answers Ok and changes nothing.
     pub fn close<R: Wait>(&mut self, rt: &R) -> Result<(), Left>
-        ensures closed { self.new.still_open ≡ 0 }
+        ensures closed { self.new.is_open ≡ false }
         ensures ends { MatchResult result (λ _. Closes self.old self.new)
             (λ _. ClosesSome self.old.seats self.new.seats) }
         ensures left { OnErr result (OneStays self.old.seats self.new.seats) }
-        ensures again { self.old.still_open ≡ 0 → (result ≡ Ok tt) × (self.new ≡ self.old) }
+        ensures again { self.old.is_open ≡ false → (result ≡ Ok tt) × (self.new ≡ self.old) }
     {
         let mut all_there = true;
         while let Some(sender) = self.senders.pop() {
@@ -139,7 +139,7 @@ impl Port {
     pub fn send<R: Wait>(&mut self, rt: &R, event: Event) -> Result<(), SendError>
         requires told { spec.is_for_all event ≡ false }
         ensures { MatchResult result
-            (λ _. (0 < self.old.still_open) × SendsTo self.old (spec.home event self.old.still_open) event self.new)
+            (λ _. (self.old.is_open ≡ true) × SendsTo self.old (spec.home event (length self.old.seats)) event self.new)
             (λ error. (self.new ≡ self.old) × GivesBack self.old event error) }
     {
         let count = self.senders.len();
@@ -156,7 +156,7 @@ impl Port {
     /// Tells each worker in order that it is this second, and waits while an inbox is full.
     pub fn tick<R: Wait>(&mut self, rt: &R, now: u64) -> Result<(), TickError>
         ensures { MatchResult result
-            (λ _. (0 < self.old.still_open) × (self.new ≡ sends_first self.old.still_open (event.Tick now) self.old))
+            (λ _. (self.old.is_open ≡ true) × (self.new ≡ sends_first (length self.old.seats) (event.Tick now) self.old))
             (λ error. TicksFirst self.old (event.Tick now) self.new error) }
     {
         if self.is_closed() {
@@ -172,7 +172,7 @@ impl Port {
 /// Gives each port its seat in an inbox.
 pub(crate) fn deal_out(ports: &mut [Port], senders: Vec<Sender>) -> Result<(), NoMemory>
     requires len { vec_len senders ≡ length ports.old }
-    requires still_open { AllOpen ports.old }
+    requires unclosed { NoneWasClosed ports.old }
     requires room { HaveRoom ports.old }
     ensures { OnOk result (TakeSeats ports.old ports.new senders.items (length ports.old)) }
 {

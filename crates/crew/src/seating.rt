@@ -1,13 +1,13 @@
 //! What the workers of a crew are launched with.
 ghost use Rattle.std.specs.Prelude.{◌≡◌, ◌<◌, ◌≤◌, ℕ, [], length, map, get_or, vec_len, Some, IfOk};
 ghost use Rattle.queues.specs.OutboxSeats.{PosterSeat};
-ghost use Rattle.crew.specs.Ports.{AreDealt, AllOpen, HaveRoom, TakeSeats};
+ghost use Rattle.crew.specs.Ports.{AreDealt, NoneWasClosed, HaveRoom, TakeSeats};
 ghost use Rattle.queues.specs.InboxSeats.{new_senders, new_receiver};
 ghost use Rattle.notifier.specs.Held.{seen_by};
 ghost use Rattle.notifier.specs.Standing.{first_standing};
-ghost use Rattle.crew.specs.Ready.{start_of, seat_seen, IsReady};
+ghost use Rattle.crew.specs.Ready.{start_of, new_worker_seen, IsReady};
 
-use crate::launching::Seat;
+use crate::launching::NewWorker;
 use crate::port::{Port, deal_out};
 use crate::token::{Opening, StartToken};
 use notifier::{Desk, Setup};
@@ -21,7 +21,7 @@ use std::alloc::Global;
 /// An inbox in which each of these ports takes a seat.
 fn open_inbox(alloc: Global, setup: &Setup, ports: &mut [Port]) -> Result<Receiver, NoMemory>
     requires few { length ports.old ≤ 256 }
-    requires still_open { AllOpen ports.old }
+    requires unclosed { NoneWasClosed ports.old }
     requires room { HaveRoom ports.old }
     ensures new { IfOk result (λ r. r ≡ new_receiver r.inbox (length ports.old)) }
     ensures holds { IfOk result (λ r. r.inbox.capacity ≡ setup.now.limits.inbox) }
@@ -55,25 +55,25 @@ fn open_desk<P: Package>(
 }
 
 /// What one worker is launched with: a new desk with these boxes, an inbox of these ports, and this poster.
-fn make_seat<P: Package>(
+fn new_worker<P: Package>(
     alloc: Global,
     setup: &Setup,
     worker: u32,
     boxes: Vec<P>,
     poster: Poster,
     ports: &mut [Port],
-) -> Result<Seat<P>, NoMemory>
+) -> Result<NewWorker<P>, NoMemory>
     requires few { length ports.old ≤ 256 }
-    requires still_open { AllOpen ports.old }
+    requires unclosed { NoneWasClosed ports.old }
     requires room { HaveRoom ports.old }
     ensures ready { IfOk result (λ s. IsReady (start_of P.seen setup.now worker boxes.items)
-        (length ports.old) poster (seat_seen P.seen s)) }
+        (length ports.old) poster (new_worker_seen P.seen s)) }
     ensures dealt { IfOk result (λ s. TakeSeats ports.old ports.new
         (new_senders s.receiver.inbox (length ports.old)) (length ports.old)) }
 {
     let receiver = open_inbox(alloc, setup, ports)?;
     let (token, desk) = open_desk(alloc, setup, worker, boxes)?;
-    Ok(Seat {
+    Ok(NewWorker {
         token,
         worker,
         stop: setup.stop,
@@ -84,33 +84,33 @@ fn make_seat<P: Package>(
 }
 
 /// What the workers are launched with, in their order.
-pub(crate) fn make_seats<P: Package>(
+pub(crate) fn new_workers<P: Package>(
     alloc: Global,
     setup: &Setup,
     boxes: Vec<Vec<P>>,
     posters: Vec<Poster>,
     ports: &mut [Port],
-) -> Result<Vec<Seat<P>>, NoMemory>
+) -> Result<Vec<NewWorker<P>>, NoMemory>
     requires few { length ports.old ≤ 256 }
     requires few_workers { vec_len boxes ≤ 256 }
     requires posters { vec_len posters ≡ vec_len boxes }
     requires none { AreDealt ports.old [] (length ports.old) }
-    ensures len { IfOk result (λ seats. vec_len seats ≡ vec_len boxes) }
-    ensures ready { IfOk result (λ seats. (k : ℕ) (s : _) (b : _) (p : PosterSeat) → k < vec_len boxes →
+    ensures len { IfOk result (λ workers. vec_len workers ≡ vec_len boxes) }
+    ensures ready { IfOk result (λ workers. (k : ℕ) (s : _) (b : _) (p : PosterSeat) → k < vec_len boxes →
         IsReady (start_of P.seen setup.now k (get_or boxes.items k b).items) (length ports.old)
-        (get_or posters.items k p) (seat_seen P.seen (get_or seats.items k s))) }
-    ensures dealt { IfOk result (λ seats.
-        AreDealt ports.new (map (λ s. s.receiver.inbox) seats.items) (length ports.old)) }
+        (get_or posters.items k p) (new_worker_seen P.seen (get_or workers.items k s))) }
+    ensures dealt { IfOk result (λ workers.
+        AreDealt ports.new (map (λ s. s.receiver.inbox) workers.items) (length ports.old)) }
 {
-    let mut seats = Vec::with_capacity(alloc, boxes.len())?;
+    let mut workers = Vec::with_capacity(alloc, boxes.len())?;
     let mut rest = posters.into_iter();
     let mut worker = 0;
     for held in boxes {
         let Some(poster) = rest.next() else {
             unreachable!()
         };
-        seats.push_reserved(make_seat(alloc, setup, worker, held, poster, ports)?);
+        workers.push_reserved(new_worker(alloc, setup, worker, held, poster, ports)?);
         worker += 1;
     }
-    Ok(seats)
+    Ok(workers)
 }

@@ -1,13 +1,13 @@
 //! How a crew is started.
 ghost use Rattle.std.specs.Prelude.{◌≡◌, ◌↔◌, ◌<◌, ◌≤◌, ℕ, true, [], map, get_or, vec_len, vec_capacity, IfOk, Err};
-ghost use Rattle.crew.specs.Ready.{start_of, seat_seen, IsFit};
+ghost use Rattle.crew.specs.Ready.{start_of, new_worker_seen, IsFit};
 ghost use Rattle.crew.specs.Started.{hired, IsStarted};
 
 use crate::end::Done;
 use crate::errors::StartError;
-use crate::fitting::{Fitted, fit_out};
+use crate::fitting::{CrewParts, fit_out};
 use crate::gate::Gate;
-use crate::launching::{Began, Seat, launch};
+use crate::launching::{Began, NewWorker, launch};
 use crate::port::Port;
 use crate::report::WorkerReport;
 use notifier_model::Setup;
@@ -51,12 +51,12 @@ impl Model for Crew {
     ghost invariant = { λ c. (vec_len c.workers ≤ vec_capacity c.reports) × (c.reports.items ≡ []) };
 }
 
-/// Launches the workers, in their order. False where a thread was refused; then fewer run, and the seats of the others are
+/// Launches the workers, in their order. False where a thread was refused; then fewer run, and what the others were given is
 /// dropped.
 fn launch_all<R, P, G>(
     rt: R,
     alloc: Global,
-    seats: Vec<Seat<P>>,
+    new_workers: Vec<NewWorker<P>>,
     gates: Vec<Arc<G, Global>>,
     mut workers: Vec<PromisedHandle<Done, Began>>,
 ) -> (Vec<PromisedHandle<Done, Began>>, bool)
@@ -64,25 +64,25 @@ where
     R: Threads + Wait + Copy + Send + 'static,
     P: Package + 'static,
     G: Gate + Drop + 'static,
-    requires room { vec_len seats ≤ vec_capacity workers }
+    requires room { vec_len new_workers ≤ vec_capacity workers }
     requires empty { workers.items ≡ [] }
-    requires gates { vec_len gates ≡ vec_len seats }
-    requires ready { (k : ℕ) (s : _) → k < vec_len seats
-        → IsFit (seat_seen P.seen (get_or seats.items k s)) }
-    ensures all { result.1 ≡ true → vec_len result.0 ≡ vec_len seats }
+    requires gates { vec_len gates ≡ vec_len new_workers }
+    requires ready { (k : ℕ) (s : _) → k < vec_len new_workers
+        → IsFit (new_worker_seen P.seen (get_or new_workers.items k s)) }
+    ensures all { result.1 ≡ true → vec_len result.0 ≡ vec_len new_workers }
     ensures launched { (k : ℕ) (h : _) (s : _) → k < vec_len result.0 →
         hired (get_or result.0.items k h).promise ≡ record {
-          start = (get_or seats.items k s).token.start;
-          reads = (get_or seats.items k s).receiver;
-          posts = (get_or seats.items k s).poster;
+          start = (get_or new_workers.items k s).token.start;
+          reads = (get_or new_workers.items k s).receiver;
+          posts = (get_or new_workers.items k s).poster;
         } }
 {
     let mut rest = gates.into_iter();
-    for seat in seats {
+    for new_worker in new_workers {
         let Some(gate) = rest.next() else {
             unreachable!()
         };
-        let Ok(worker) = launch(rt, alloc, seat, gate) else {
+        let Ok(worker) = launch(rt, alloc, new_worker, gate) else {
             return (workers, false);
         };
         workers.push_reserved(worker);
@@ -161,15 +161,15 @@ impl Crew {
         let Ok(fitted) = fit_out(alloc, setup, ports, boxes, &gate) else {
             return Err(StartError::NoMemory);
         };
-        let Fitted {
-            seats,
+        let CrewParts {
+            new_workers,
             gates,
             ports,
             mut taker,
             workers,
             reports,
         } = fitted;
-        let (workers, is_whole) = launch_all(rt, alloc, seats, gates, workers);
+        let (workers, is_whole) = launch_all(rt, alloc, new_workers, gates, workers);
         if !is_whole {
             drop(ports);
             stop_all(&rt, workers, &mut taker);

@@ -1,7 +1,7 @@
 -- What a port has sent, event by event.
-use Rattle.std.proofs.Common.{◌≡◌, ◌≢◌, ⊎_elim, ℕ, zero, suc, ◌<◌, Bool, true, false, ◌||◌, cond, eqb, List, [], ◌∷◌, ◌++◌, set, Some, refl, ap, sym, ◌∙◌, subst, append_assoc, arith}
+use Rattle.std.proofs.Common.{◌≡◌, ◌≢◌, ⊎_elim, ℕ, zero, suc, ◌<◌, Bool, true, false, ◌||◌, cond, eqb, List, [], ◌∷◌, ◌++◌, length, set, Some, refl, ap, sym, ◌∙◌, subst, append_assoc, arith}
 use Rattle.std.specs.Prelude.{slice_get, ◌==◌, MatchBool, MatchResult, is_ok, Result, Ok, Err}
-use Rattle.std.proofs.lemmas.List.{append-nil, map-append}
+use Rattle.std.proofs.lemmas.List.{append-nil, map-append, length-set}
 use Rattle.std.proofs.lemmas.List.Elements.{filter-append}
 use Rattle.std.proofs.lemmas.Bool.Decides.{eqb_tells}
 use Rattle.queues.specs.Values.{value_item, values_by}
@@ -12,8 +12,10 @@ use Rattle.notifier_model.specs.declared.event.Event.TheVariants as event
 use Rattle.crew.specs.Ports.{PortSeats, SendsTo, sent_first, sends_first}
 use Rattle.crew.specs.PortErrors.{GivesBack, TicksFirst}
 use Rattle.crew.specs.declared.errors.SendError.{SendError}
+use Rattle.crew.specs.declared.errors.SendError.TheVariants as send
 use Rattle.crew.specs.declared.errors.TickError.{TickError}
 use Rattle.crew.specs.declared.errors.TickError.TheVariants as tick
+use Rattle.crew.proofs.AtHome.{len_first, fits}
 use Rattle.feeds.specs.Fed.{with_events, Sends, Misses}
 
 -- ---- no events, and more of them
@@ -28,7 +30,8 @@ none_for n w = refl
 pub sends_none : (p : PortSeats) → Sends p [] p
 sends_none p = record {
   still_open = refl;
-  each = λ w s low stood. stood ∙ ap Some (kept s ∙ ap (with_events s) (sym (none_for p.still_open w)));
+  len = refl;
+  each = λ w s stood. stood ∙ ap Some (kept s ∙ ap (with_events s) (sym (none_for (length p.seats) w)));
 }
 
 joined : (n w : ℕ) (es fs : List Event) → events_for n w (es ++ fs) ≡ events_for n w es ++ events_for n w fs
@@ -44,13 +47,13 @@ with_more s es fs =
 pub sends_more : (old mid new : PortSeats) (es fs : List Event) → Sends old es mid → Sends mid fs new → Sends old (es ++ fs) new
 sends_more old mid new es fs a b = record {
   still_open = b.still_open ∙ a.still_open;
-  each = λ w s low stood.
-      let n : ℕ = old.still_open in
-      let between = a.each w s low stood in
-      let inside : w < mid.still_open = let e = a.still_open in omega arith in
-      let after = b.each w (with_events s (events_for n w es)) inside between in
+  len = b.len ∙ a.len;
+  each = λ w s stood.
+      let n : ℕ = length old.seats in
+      let between = a.each w s stood in
+      let after = b.each w (with_events s (events_for n w es)) between in
       let P : ℕ → Type 0 = λ m. slice_get new.seats w ≡ Some (with_events (with_events s (events_for n w es)) (events_for m w fs)) in
-      subst P a.still_open after
+      subst P a.len after
       ∙ ap Some (with_more s (events_for n w es) (events_for n w fs) ∙ ap (with_events s) (sym (joined n w es fs)));
 }
 
@@ -75,15 +78,16 @@ set_other (t ∷ l) zero (suc w) y e = refl
 set_other (t ∷ l) (suc v) zero y e = refl
 set_other (t ∷ l) (suc v) (suc w) y e = set_other l v w y (λ is. e (ap suc is))
 
-pub send_one : (old new : PortSeats) (e : Event) → is_for_all e ≡ false → SendsTo old (home e old.still_open) e new → Sends old (e ∷ []) new
+pub send_one : (old new : PortSeats) (e : Event) → is_for_all e ≡ false → SendsTo old (home e (length old.seats)) e new → Sends old (e ∷ []) new
 send_one old new e single sent =
-    let n : ℕ = old.still_open in let v : ℕ = home e n in
+    let n : ℕ = length old.seats in let v : ℕ = home e n in
     let u : SenderSeat = with_sent sent.seat (value_item sent.seat.number e) in
     let seats : new.seats ≡ set old.seats v u = ap (λ (p : PortSeats). p.seats) sent.stands in
     let comes : (w : ℕ) (b : Bool) → eqb v w ≡ b → events_for n w (e ∷ []) ≡ cond b (e ∷ []) [] =
     λ w b is. chosen n w e b (ap (λ t. t || eqb v w) single ∙ is) in record {
-      still_open = ap (λ (p : PortSeats). p.still_open) sent.stands;
-      each = λ w s low stood.
+      still_open = ap (λ (p : PortSeats). p.is_open) sent.stands;
+      len = ap length seats ∙ length-set old.seats v u;
+      each = λ w s stood.
           ⊎_elim
           (λ k. let at : slice_get old.seats v ≡ Some s = ap (slice_get old.seats) k.1 ∙ stood in
           let same : sent.seat ≡ s = some_is sent.seat s (sym sent.stood ∙ at) in
@@ -103,29 +107,34 @@ first_at (suc i) w e [] s low is = absurd cc
 first_at (suc i) zero e (t ∷ seats) s low is = ap (λ x. Some (with_sent x (value_item x.number e))) (some_is t s is)
 first_at (suc i) (suc w) e (t ∷ seats) s low is = first_at i w e seats s (omega arith) is
 
-pub tick_one : (old new : PortSeats) (e : Event) → is_for_all e ≡ true → new ≡ sends_first old.still_open e old → Sends old (e ∷ []) new
+pub tick_one : (old new : PortSeats) (e : Event) → is_for_all e ≡ true → new ≡ sends_first (length old.seats) e old → Sends old (e ∷ []) new
 tick_one old new e all is =
-    let n : ℕ = old.still_open in record {
-      still_open = ap (λ (p : PortSeats). p.still_open) is;
-      each = λ w s low stood.
-          ap (λ (p : PortSeats). slice_get p.seats w) is ∙ first_at n w e old.seats s low stood
+    let n : ℕ = length old.seats in record {
+      still_open = ap (λ (p : PortSeats). p.is_open) is;
+      len = ap (λ (p : PortSeats). length p.seats) is ∙ len_first n e old.seats;
+      each = λ w s stood.
+          ap (λ (p : PortSeats). slice_get p.seats w) is ∙ first_at n w e old.seats s (fits old.seats w s stood) stood
           ∙ ap (λ es. Some (with_events s es)) (sym (chosen n w e true (ap (λ t. t || (home e n == w)) all)));
     }
 
 -- ---- what a port's calls answer
 
-pub sent_law : (r : Result (Unit {0}) SendError) (old new : PortSeats) (e : Event) → is_for_all e ≡ false → 0 < old.still_open
-    → MatchResult r (λ _. (0 < old.still_open) × SendsTo old (home e old.still_open) e new) (λ error. (new ≡ old) × GivesBack old e error)
+missed_send : (old new : PortSeats) (e : Event) (error : SendError) → old.is_open ≡ true → new ≡ old → GivesBack old e error → Misses old e new
+missed_send old new e (send.Closed back) opened same k = absurd (let f = k.1 in cc)
+missed_send old new e (send.Gone back) opened same k = record { reached = 0; few = λ _. k.2; single = λ _. refl; stands = same }
+
+pub sent_law : (r : Result (Unit {0}) SendError) (old new : PortSeats) (e : Event) → is_for_all e ≡ false → old.is_open ≡ true
+    → MatchResult r (λ _. (old.is_open ≡ true) × SendsTo old (home e (length old.seats)) e new) (λ error. (new ≡ old) × GivesBack old e error)
     → MatchBool (is_ok r) (Sends old (e ∷ []) new) (Misses old e new)
-sent_law (Ok x) old new e single some k = send_one old new e single k.1
-sent_law (Err x) old new e single some k = record { reached = 0; few = some; single = λ _. refl; stands = k.0 }
+sent_law (Ok x) old new e single opened k = send_one old new e single k.1
+sent_law (Err x) old new e single opened k = missed_send old new e x opened k.0 k.1
 
-missed_tick : (old new : PortSeats) (t : ℕ) (error : TickError) → 0 < old.still_open → TicksFirst old (event.Tick t) new error → Misses old (event.Tick t) new
-missed_tick old new t tick.Closed some k = absurd (let e = k.1 in omega arith)
-missed_tick old new t (tick.Gone i) some k = record { reached = i; few = k.1; single = λ e. absurd cc; stands = k.0 }
+missed_tick : (old new : PortSeats) (t : ℕ) (error : TickError) → old.is_open ≡ true → TicksFirst old (event.Tick t) new error → Misses old (event.Tick t) new
+missed_tick old new t tick.Closed opened k = absurd (let e = k.1 in cc)
+missed_tick old new t (tick.Gone i) opened k = record { reached = i; few = λ _. k.2; single = λ e. absurd cc; stands = k.0 }
 
-pub ticked_law : (r : Result (Unit {0}) TickError) (old new : PortSeats) (t : ℕ) → 0 < old.still_open
-    → MatchResult r (λ _. (0 < old.still_open) × (new ≡ sends_first old.still_open (event.Tick t) old)) (λ error. TicksFirst old (event.Tick t) new error)
+pub ticked_law : (r : Result (Unit {0}) TickError) (old new : PortSeats) (t : ℕ) → old.is_open ≡ true
+    → MatchResult r (λ _. (old.is_open ≡ true) × (new ≡ sends_first (length old.seats) (event.Tick t) old)) (λ error. TicksFirst old (event.Tick t) new error)
     → MatchBool (is_ok r) (Sends old (event.Tick t ∷ []) new) (Misses old (event.Tick t) new)
-ticked_law (Ok x) old new t some k = tick_one old new (event.Tick t) refl k.1
-ticked_law (Err x) old new t some k = missed_tick old new t x some k
+ticked_law (Ok x) old new t opened k = tick_one old new (event.Tick t) refl k.1
+ticked_law (Err x) old new t opened k = missed_tick old new t x opened k

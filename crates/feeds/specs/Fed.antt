@@ -26,14 +26,15 @@ with_events s es = record s { sent = s.sent ++ values_by s.number es }
 
 -- each worker's seat has sent those of these events that come to the worker, in order, and nothing else
 pub record Sends (old : PortSeats) (es : List Event) (new : PortSeats) : Type 0 where
-  pub still_open : new.still_open ≡ old.still_open
-  pub each : (w : ℕ) (s : SenderSeat) → w < old.still_open → slice_get old.seats w ≡ Some s
-      → slice_get new.seats w ≡ Some (with_events s (events_for old.still_open w es))
+  pub still_open : new.is_open ≡ old.is_open
+  pub len : length new.seats ≡ length old.seats
+  pub each : (w : ℕ) (s : SenderSeat) → slice_get old.seats w ≡ Some s
+      → slice_get new.seats w ≡ Some (with_events s (events_for (length old.seats) w es))
 
 -- a worker of the event is gone: of all workers only the first ones were reached, and none where the event has one home
 pub record Misses (old : PortSeats) (e : Event) (new : PortSeats) : Type 0 where
   pub reached : ℕ
-  pub few : reached < old.still_open
+  pub few : 0 < length old.seats → reached < length old.seats
   pub single : is_for_all e ≡ false → reached ≡ 0
   pub stands : new ≡ sends_first reached e old
 

@@ -1,5 +1,5 @@
 //! What feeds the ports of a crew with what comes by a wire.
-ghost use Rattle.std.specs.Prelude.{◌≡◌, ◌<◌, ◌∷◌, [], MatchBool};
+ghost use Rattle.std.specs.Prelude.{◌≡◌, ◌∷◌, [], true, MatchBool};
 ghost use Rattle.crew.specs.Kept.{SameSeats};
 ghost use Rattle.transport.specs.Wires.{Grows};
 ghost use Rattle.feeds.specs.Fed.{Sends, Misses, IsTold, Log, datagrams, IsFed, is_fault, failures_at};
@@ -73,7 +73,7 @@ pub enum Told {
 /// event with a home has gone to none then, and a tick to the workers before that one. A stop is no port's to send: false, and
 /// nothing is sent.
 pub fn send_event<R: Wait>(rt: &R, port: &mut Port, happened: Event) -> bool
-    requires still_open { 0 < port.old.still_open }
+    requires still_open { port.old.is_open ≡ true }
     ensures sent { MatchBool result (Sends port.old (happened ∷ []) port.new) (Misses port.old happened port.new) }
     ensures seats { SameSeats port.old port.new }
 {
@@ -91,7 +91,7 @@ pub fn send_event<R: Wait>(rt: &R, port: &mut Port, happened: Event) -> bool
 
 /// Sends what was heard: its event, if it has one.
 pub fn tell<R: Wait>(rt: &R, port: &mut Port, heard: Heard) -> Told
-    requires still_open { 0 < port.old.still_open }
+    requires still_open { port.old.is_open ≡ true }
     ensures told { IsTold heard port.old port.new result }
     ensures seats { SameSeats port.old port.new }
 {
@@ -118,7 +118,7 @@ pub fn listen<R: Wait, W: Wire>(
     language: Language,
     count: u32,
 ) -> FeedReport
-    requires still_open { 0 < port.old.still_open }
+    requires still_open { port.old.is_open ≡ true }
     ensures fed { (log : Log) × Grows (W.given wire.old) (W.given wire.new) (datagrams log)
         × IsFed language count log port.old port.new result }
     ensures taken { Grows (W.taken wire.old) (W.taken wire.new) [] }
@@ -151,7 +151,7 @@ pub fn feed<R: Wait, W: Wire>(
     port: &mut Port,
     count: u32,
 ) -> FeedReport
-    requires still_open { 0 < port.old.still_open }
+    requires still_open { port.old.is_open ≡ true }
     ensures fed { (log : Log) × Grows (W.given wire.old) (W.given wire.new) (datagrams log)
         × IsFed Language.Sip count log port.old port.new result }
     ensures done { result.end ≡ FeedEnd.Done → result.seen ≡ count }
@@ -165,7 +165,7 @@ pub fn feed<R: Wait, W: Wire>(
 /// Sends what control lines say happened, one in a datagram, until a CLOSE, [`MOST_CONTROL_LINES`], a fault or a worker that is
 /// gone. What is no such line is counted and dropped. The port isn't closed.
 pub fn control<R: Wait, W: Wire>(rt: &R, alloc: Global, wire: &mut W, port: &mut Port) -> FeedReport
-    requires still_open { 0 < port.old.still_open }
+    requires still_open { port.old.is_open ≡ true }
     ensures fed { (log : Log) × Grows (W.given wire.old) (W.given wire.new) (datagrams log)
         × IsFed Language.Control 1048576 log port.old port.new result }
     ensures taken { Grows (W.taken wire.old) (W.taken wire.new) [] }

@@ -1,8 +1,8 @@
 //! What datagrams say.
-ghost use Rattle.std.specs.Prelude.{ℕ, List};
+ghost use Rattle.std.specs.Prelude.{◌≡◌, ℕ, List, MatchResult};
 ghost use Rattle.transport.specs.Wires.{datagram};
 ghost use Rattle.sip_read.specs.Message.{IsReading};
-ghost use Rattle.feeds.specs.Heard.{SipSays, ControlSays, Says};
+ghost use Rattle.feeds.specs.Heard.{event_of, SipSays, ControlSays, Says};
 
 use notifier_model::Event;
 use scripts::{Control, parse_control};
@@ -32,7 +32,8 @@ pub enum Heard {
 
 /// What a SIP datagram from this source says that was read so.
 pub fn hear_message(source: Addr, message: Result<Message, ReadError>) -> Heard
-    ensures { (octets : List ℕ) → IsReading octets message → SipSays source octets result }
+    ensures says { (octets : List ℕ) → IsReading octets message → SipSays source octets result }
+    ensures heard { MatchResult message (λ m. result ≡ Heard.Event (event_of source m)) (λ _. result ≡ Heard.Unread) }
 {
     match message {
         Ok(Message::Request(request)) => Heard::Event(Event::Request(source, request)),

@@ -1,6 +1,6 @@
 -- What the workers of a crew did, once it has ended.
-use Rattle.std.proofs.Common.{◌≡◌, ℕ, zero, suc, ◌<◌, Bool, true, List, [], ◌∷◌, ◌++◌, length, map, get_or, Vec, refl, ap, sym, ◌∙◌, subst, arith, length-append}
-use Rattle.std.proofs.lemmas.List.{get_or_default, get_or-map, length-map}
+use Rattle.std.proofs.Common.{◌≡◌, ℕ, zero, suc, ◌<◌, Bool, true, false, List, [], ◌∷◌, ◌++◌, length, map, get_or, Vec, refl, ap, sym, ◌∙◌, subst, arith, length-append}
+use Rattle.std.proofs.lemmas.List.{get_or_default}
 use Rattle.std.specs.declared.alloc.Global.{Global}
 use Rattle.queues.specs.Items.{items_of}
 use Rattle.queues.specs.Values.{values}
@@ -21,11 +21,11 @@ use Rattle.crew.specs.Joined.{IsSeatOf, IsPortOf, Reported, IsHeard}
 use Rattle.crew.specs.One.{all_events}
 use Rattle.crew.specs.declared.report.WorkerReport.{WorkerReport}
 use Rattle.crew.proofs.Starting.{element}
-use Rattle.crew.proofs.Keeping.{started_port}
+use Rattle.crew.proofs.Keeping.{started_open, started_port}
 use Rattle.crew.proofs.OnePort.{told_of_one}
 use Rattle.crew.proofs.Zipped.{zip_len, zip_at}
 use Rattle.server.specs.declared.work.Work.{Work}
-use Rattle.server.specs.declared.gathering.Gathered.{Gathered}
+use Rattle.server.specs.declared.gathering.GatheredOuts.{GatheredOuts}
 use Rattle.server.specs.Page.{events_at}
 use Rattle.server.specs.Runs.{starts_of}
 use Rattle.server.specs.Working.{AreWorks}
@@ -67,8 +67,8 @@ running {P = P} seen setup boxes held crew ports taker n is started =
       };
     }
 
-only_closed : (ports : List PortSeats) (port' : PortSeats) → length ports ≡ 1 → port'.still_open ≡ 0
-    → (k : ℕ) (p : PortSeats) → k < length ports → (get_or (port' ∷ []) k p).still_open ≡ 0
+only_closed : (ports : List PortSeats) (port' : PortSeats) → length ports ≡ 1 → port'.is_open ≡ false
+    → (k : ℕ) (p : PortSeats) → k < length ports → (get_or (port' ∷ []) k p).is_open ≡ false
 only_closed ports port' one closed zero p low = closed
 only_closed ports port' one closed (suc k) p low = absurd (omega (arith, one))
 
@@ -94,19 +94,18 @@ module _ {starts : List Start} {crew : List Hired} {ports : List PortSeats} {tak
   port_is : (port : PortSeats) → ports ≡ port ∷ [] → port ≡ port_of (map (λ (h : Hired). h.reads.inbox) crew) 0
   port_is port one = sym (ap (λ (l : List PortSeats). get_or l 0 port) one) ∙ is.started.dealt.each 0 port (omega arith)
 
-  pub port_open : (port : PortSeats) → ports ≡ port ∷ [] → 0 < length crew → 0 < port.still_open
+  pub port_open : (port : PortSeats) → ports ≡ port ∷ [] → 0 < length crew → port.is_open ≡ true
   port_open port one some =
-      let size = length-map crew (λ (h : Hired). h.reads.inbox) in
-      subst (λ (p : PortSeats). 0 < p.still_open) (sym (port_is port one)) (omega (arith, size, some))
+      sym (ap (λ (l : List PortSeats). (get_or l 0 port).is_open) one) ∙ started_open is.started (let l = workers_len in omega (arith, some)) 0 port (omega arith)
 
   -- what it sent until it was closed
-  pub port_sent : (port sent closed : PortSeats) (es : List Event) → ports ≡ port ∷ [] → SameSeats port sent → Sends port es sent → Closes sent closed → HasSent es closed
-  port_sent port sent closed es one same sends closes =
+  pub port_sent : (port sent closed : PortSeats) (es : List Event) → ports ≡ port ∷ [] → Sends port es sent → Closes sent closed → HasSent es closed
+  port_sent port sent closed es one sends closes =
       let inboxes : List Inbox = map (λ (h : Hired). h.reads.inbox) crew in
-      let P : PortSeats → Type 0 = λ p. SameSeats p sent → Sends p es sent → HasSent es sent in
-      closed_sent es sent closed closes (subst P (sym (port_is port one)) (new_sent inboxes es sent) same sends)
+      let P : PortSeats → Type 0 = λ p. Sends p es sent → HasSent es sent in
+      closed_sent es sent closed closes (subst P (sym (port_is port one)) (new_sent inboxes es sent) sends)
 
-  pub is_port : (port port' : PortSeats) → ports ≡ port ∷ [] → port'.still_open ≡ 0 → SameSeats port port' → (p : ℕ) (q : PortSeats) → p < 1 → IsPortOf crew (get_or (port' ∷ []) p q)
+  pub is_port : (port port' : PortSeats) → ports ≡ port ∷ [] → port'.is_open ≡ false → SameSeats port port' → (p : ℕ) (q : PortSeats) → p < 1 → IsPortOf crew (get_or (port' ∷ []) p q)
   is_port port port' one closed same =
       started_port is.started (port' ∷ []) (record { len = sym (ap length one); closed = only_closed ports port' (ap length one) closed; seats = only_seats ports port port' one same })
 
@@ -116,7 +115,7 @@ module _ {starts : List Start} {crew : List Hired} {ports : List PortSeats} {tak
   hired_at : (k : ℕ) (h : Hired) (start : Start) → k < length starts → (get_or crew k h).start ≡ get_or starts k start
   hired_at k h start low = (is.started.each k h low).begins ∙ get_or_default starts k is.any start low
 
-  pub works_are : (port' : PortSeats) (gathered : Gathered) (is_sent : Bool) (es : List Event) (works : List Work)
+  pub works_are : (port' : PortSeats) (gathered : GatheredOuts) (is_sent : Bool) (es : List Event) (works : List Work)
       → ((p : ℕ) (q : PortSeats) → p < 1 → IsPortOf crew (get_or (port' ∷ []) p q))
       → (is_sent ≡ true → HasSent es port') → IsGathered taker gathered → IsFinished crew (port' ∷ []) gathered is_sent works
       → AreWorks starts (events_at (length starts) es) works

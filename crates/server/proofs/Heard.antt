@@ -9,7 +9,7 @@ use Rattle.sip_text.specs.declared.address.Addr.{Addr}
 use Rattle.scripts.specs.declared.script.Block.{Block}
 use Rattle.scripts.specs.declared.script.Block.TheVariants as block
 use Rattle.notifier_model.specs.declared.event.Event.{Event}
-use Rattle.server.specs.declared.hearing.Hearing.{Hearing}
+use Rattle.server.specs.declared.hearing.HeardScript.{HeardScript}
 use Rattle.server.specs.Page.{Readings, AreReadings, event_of, unread_line, octets_in, event_in, events_of, unread_lines}
 use Rattle.server.specs.Hearing.{HasHeard}
 use Rattle.crew.proofs.Counted.{enumerate_from-append}
@@ -35,7 +35,7 @@ lines_of-push readings datagrams octets =
     (append-nil (unread_line (1 + length datagrams) (readings octets))
     ∙ ap (λ n. unread_line n (readings octets)) (omega arith))
 
-module _ (blocks : List Block) (before after : Hearing) where
+module _ (blocks : List Block) (before after : HeardScript) where
   -- a block that is no datagram: an event, or nothing
   pub heard-event : (b : Block) (e : Option Event) → ((readings : Readings) → event_in readings b ≡ e) → octets_in b ≡ None
       → after.events.items ≡ before.events.items ++ option_to_list e → after.unread ≡ before.unread → after.datagrams ≡ before.datagrams
@@ -88,7 +88,7 @@ filter_map-short h (x ∷ xs) =
     omega (arith, short)
 
 -- there are no more datagrams than blocks
-pub datagrams-few : (heard rest all : List Block) (hearing : Hearing) → heard ++ rest ≡ all → length all < 2 ^ 63
+pub datagrams-few : (heard rest all : List Block) (hearing : HeardScript) → heard ++ rest ≡ all → length all < 2 ^ 63
     → HasHeard heard hearing → hearing.datagrams < 2 ^ 64 - 1
 datagrams-few heard rest all hearing whole few has =
     let short = filter_map-short octets_in heard in

@@ -4,7 +4,7 @@ use Rattle.std.specs.List.{flat_map}
 use Rattle.sip_read.specs.Message.{IsExact}
 use Rattle.notifier_model.specs.declared.event.Event.{Event}
 use Rattle.notifier_model.specs.Start.{Start}
-use Rattle.server.specs.declared.hearing.Hearing.{Hearing}
+use Rattle.server.specs.declared.hearing.HeardScript.{HeardScript}
 use Rattle.server.specs.declared.work.Work.{Work}
 use Rattle.server.specs.Page.{Readings, AreReadings, events_of, events_at, worker_page, IsPage}
 use Rattle.server.specs.Hearing.{IsHeard}
@@ -18,7 +18,7 @@ readings_of exact octets = (exact octets).0
 are_readings_of : (exact : IsExact) → AreReadings (readings_of exact)
 are_readings_of exact octets = (exact octets).1
 
-pub is_page : (starts : List Start) (bytes : List ℕ) (hearing : Hearing) (works : List Work) (page : List ℕ)
+pub is_page : (starts : List Start) (bytes : List ℕ) (hearing : HeardScript) (works : List Work) (page : List ℕ)
     → IsExact → IsHeard bytes hearing
     → AreWorks starts (events_at (length starts) hearing.events.items) works
     → page ≡ hearing.unread ++ flat_map printed works

@@ -7,7 +7,6 @@ use Rattle.queues.specs.Values.{values, values_by, end_item}
 use Rattle.notifier_model.specs.declared.event.Event.{Event}
 use Rattle.notifier_model.specs.Home.{events_for}
 use Rattle.queues.specs.InboxSeats.{Inbox, SenderSeat, with_sent}
-use Rattle.crew.specs.Kept.{emptied, SameSeats}
 use Rattle.crew.specs.Ports.{PortSeats, new_seat, port_of, Closes}
 use Rattle.crew.proofs.Folds.{values_end}
 use Rattle.feeds.specs.Fed.{with_events, Sends}
@@ -28,20 +27,19 @@ stood [] w s low = absurd (omega arith)
 stood (t ∷ seats) zero s low = refl
 stood (t ∷ seats) (suc w) s low = stood seats w s (omega arith)
 
-pub new_sent : (inboxes : List Inbox) (es : List Event) (sent : PortSeats) → SameSeats (port_of inboxes 0) sent → Sends (port_of inboxes 0) es sent → HasSent es sent
-new_sent inboxes es sent same sends =
+pub new_sent : (inboxes : List Inbox) (es : List Event) (sent : PortSeats) → Sends (port_of inboxes 0) es sent → HasSent es sent
+new_sent inboxes es sent sends =
     let seats : List SenderSeat = map (λ (i : Inbox). new_seat i 0) inboxes in
-    let n : ℕ = length inboxes in
-    let size : length seats ≡ n = length-map inboxes (λ (i : Inbox). new_seat i 0) in
-    let len : length sent.seats ≡ n = sym (length-map sent.seats emptied) ∙ ap length same ∙ length-map seats emptied ∙ size in record {
+    let n : ℕ = length seats in
+    let size : n ≡ length inboxes = length-map inboxes (λ (i : Inbox). new_seat i 0) in record {
       each = λ w s low.
-          let inside : w < n = subst (λ m. w < m) len low in
+          let inside : w < n = subst (λ m. w < m) sends.len low in
           let new : SenderSeat = new_seat (get_or inboxes w s.inbox) 0 in
-          let was : get_or seats w s ≡ new = get_or-map (λ (i : Inbox). new_seat i 0) inboxes w s.inbox s inside in
-          let at : slice_get seats w ≡ Some new = stood seats w s (omega arith) ∙ ap Some was in
+          let was : get_or seats w s ≡ new = get_or-map (λ (i : Inbox). new_seat i 0) inboxes w s.inbox s (omega arith) in
+          let at : slice_get seats w ≡ Some new = stood seats w s inside ∙ ap Some was in
           let now : get_or sent.seats w s ≡ with_events new (events_for n w es) =
-          get_or_from_slice_get sent.seats w (with_events new (events_for n w es)) s (sends.each w new inside at) in
-          ap (λ (x : SenderSeat). values x.sent) now ∙ values_back 0 (events_for n w es) ∙ ap (λ m. events_for m w es) (sym len);
+          get_or_from_slice_get sent.seats w (with_events new (events_for n w es)) s (sends.each w new at) in
+          ap (λ (x : SenderSeat). values x.sent) now ∙ values_back 0 (events_for n w es) ∙ ap (λ m. events_for m w es) (sym sends.len);
     }
 
 -- ---- closing
@@ -52,10 +50,10 @@ ended_at seats w s low =
     ap (λ (x : SenderSeat). values x.sent) (get_or-map (λ (x : SenderSeat). with_sent x (end_item x.number)) seats w s s low)
     ∙ values_end (get_or seats w s).sent (get_or seats w s).number
 
-by_count : (n : ℕ) (es : List Event) (old new : PortSeats) → n ≡ old.still_open → Closes old new → HasSent es old → HasSent es new
-by_count zero es old new is closes was = subst (HasSent es) (sym (closes.1 (sym is))) was
-by_count (suc n) es old new is closes was =
-    let seats = closes.0 (omega arith) in
+closed_or_not : (b : Bool) (es : List Event) (old new : PortSeats) → old.is_open ≡ b → Closes old new → HasSent es old → HasSent es new
+closed_or_not false es old new is closes was = subst (HasSent es) (sym (closes.1 is)) was
+closed_or_not true es old new is closes was =
+    let seats : new.seats ≡ map (λ (x : SenderSeat). with_sent x (end_item x.number)) old.seats = ap (λ (p : PortSeats). p.seats) (closes.0 is) in
     let len : length new.seats ≡ length old.seats = ap length seats ∙ length-map old.seats (λ (x : SenderSeat). with_sent x (end_item x.number)) in record {
       each = λ w s low.
           let inside : w < length old.seats = subst (λ m. w < m) len low in
@@ -66,7 +64,7 @@ by_count (suc n) es old new is closes was =
     }
 
 pub closed_sent : (es : List Event) (old new : PortSeats) → Closes old new → HasSent es old → HasSent es new
-closed_sent es old new closes was = by_count old.still_open es old new refl closes was
+closed_sent es old new closes was = closed_or_not old.is_open es old new refl closes was
 
 -- ---- what calls answer
 

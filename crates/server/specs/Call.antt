@@ -5,14 +5,14 @@ use Rattle.arguments.specs.Arguments.{AreArguments}
 use Rattle.notifier_model.specs.declared.place.Setup.{Setup}
 use Rattle.notifier_model.specs.Start.{Start}
 use Rattle.server.specs.Runs.{starts_on}
-use Rattle.arguments.specs.Setup.{setup_at, boxes_for}
+use Rattle.arguments.specs.Setup.{loopback_setup, dealt_boxes}
 
 -- of a script they are at port 5060
 abbrev pub setup_for : List ℕ → Bool → Setup
-setup_for seed stop = setup_at 5060 seed stop
+setup_for seed stop = loopback_setup 5060 seed stop
 
 abbrev pub starts_for : Arguments → List Start
-starts_for a = starts_on (setup_for a.seed a.stop) (boxes_for a.workers a.mailboxes)
+starts_for a = starts_on (setup_for a.seed a.stop) (dealt_boxes a.workers a.mailboxes)
 
 -- the words ask for a run from starts of which P holds
 pub record AsksFor (words : List (List ℕ)) (P : List Start → Type 0) : Type 0 where

@@ -12,7 +12,7 @@ use Rattle.crew.specs.Started.{Hired, IsStarted}
 use Rattle.crew.specs.Joined.{IsJoined}
 use Rattle.crew.specs.declared.report.WorkerReport.{WorkerReport}
 use Rattle.server.specs.declared.work.Work.{Work}
-use Rattle.server.specs.declared.gathering.Gathered.{Gathered}
+use Rattle.server.specs.declared.gathering.GatheredOuts.{GatheredOuts}
 use Rattle.server.specs.Working.{AreNumbered}
 
 -- a script isn't handled where its crew isn't started for this cause. A refused thread is a fault of the device
@@ -42,7 +42,7 @@ pub record AreCounted (n : ℕ) (reports : List WorkerReport) (old new : List Wo
       → Counts (get_or reports k report) (get_or old k work) (get_or new k work)
 
 -- all was sent and kept, and each worker came to its end
-pub record IsFinished (crew : List Hired) (ports : List PortSeats) (gathered : Gathered) (is_sent : Bool) (works : List Work) : Type 0 where
+pub record IsFinished (crew : List Hired) (ports : List PortSeats) (gathered : GatheredOuts) (is_sent : Bool) (works : List Work) : Type 0 where
   pub sent : is_sent ≡ true
   pub whole : gathered.is_whole ≡ true
   pub reports : List WorkerReport

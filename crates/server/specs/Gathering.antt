@@ -7,7 +7,7 @@ use Rattle.queues.specs.Values.{values}
 use Rattle.notifier_model.specs.declared.event.Out.{Out}
 use Rattle.queues.specs.OutboxSeats.{TakerSeat}
 use Rattle.server.specs.declared.work.Work.{Work}
-use Rattle.server.specs.declared.gathering.Gathered.{Gathered}
+use Rattle.server.specs.declared.gathering.GatheredOuts.{GatheredOuts}
 
 -- workers numbered from 0, of which nothing was got
 pub record AreNew (n : ℕ) (works : List Work) : Type 0 where
@@ -27,7 +27,7 @@ pub record AreKept (got : List (Item Out)) (works : List Work) : Type 0 where
       → ((get_or works k work).number ≡ k) × ((get_or works k work).outs.items ≡ values (items_of k got))
 
 -- the taker has each worker's end mark; and all that it got is kept, unless an allocation failed
-pub record IsGathered (taker : TakerSeat) (gathered : Gathered) : Type 0 where
+pub record IsGathered (taker : TakerSeat) (gathered : GatheredOuts) : Type 0 where
   pub outbox : gathered.taker.outbox ≡ taker.outbox
   pub ended : AllEnded taker.workers gathered.taker.got
   pub len : length gathered.works.items ≡ taker.workers

@@ -10,7 +10,7 @@ ghost use Rattle.server.specs.Gathering.{AreNew, IsGathered};
 ghost use Rattle.server.specs.Working.{AreWorks};
 ghost use Rattle.server.specs.Crew.{cause_of, IsRunning, Counts, AreCounted, IsFinished};
 
-use crate::gathering::{Gathered, Lent, gather_all, new_works};
+use crate::gathering::{GatheredOuts, Lent, gather_all, new_works};
 use crate::sending::send_script;
 use crate::work::Work;
 use crew::{Crew, End, Open, Port, StartError, WorkerReport};
@@ -67,7 +67,7 @@ fn finish<H: Threads + Wait>(
     rt: &H,
     crew: Crew,
     ports: Vec<Port>,
-    gathered: Gathered,
+    gathered: GatheredOuts,
     is_sent: bool,
 ) -> Result<Vec<Work>, ScriptError>
     requires ports { (p : ℕ) (q : PortSeats) → p < vec_len ports → IsPortOf crew (get_or ports.items p q) }
@@ -76,7 +76,7 @@ fn finish<H: Threads + Wait>(
     ensures works { IfOk result (λ works. IsFinished crew ports.items gathered is_sent works.items) }
     ensures no_memory { IfErr result (λ e. e ≡ ScriptError.NoMemory) }
 {
-    let Gathered {
+    let GatheredOuts {
         taker,
         mut works,
         is_whole,
@@ -114,7 +114,7 @@ where
     let lent = Lent {
         taker: Snapshot::of(&taker),
     };
-    let gather = move || -> Gathered
+    let gather = move || -> GatheredOuts
         requires { (taker.got ≡ []) × AreNew taker.workers works.items }
         ensures { IsGathered taker result }
     {

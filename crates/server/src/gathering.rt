@@ -15,7 +15,7 @@ use std::thread::Promise;
 
 /// What the taker's thread leaves.
 #[derive(Drop)]
-pub(crate) struct Gathered {
+pub(crate) struct GatheredOuts {
     pub(crate) taker: Taker,
     /// What each worker sent, in their order.
     pub(crate) works: Vec<Work>,
@@ -29,7 +29,7 @@ pub(crate) struct Lent {
     pub(crate) taker: Snapshot<Taker>,
 }
 
-impl Promise<Gathered> for Lent {
+impl Promise<GatheredOuts> for Lent {
     ghost use Rattle.server.specs.Gathering.{IsGathered};
 
     ghost kept_by = { λ p gathered. IsGathered p.taker.value gathered };
@@ -90,13 +90,13 @@ fn gather<H: Wait>(rt: &H, taker: &mut Taker, works: &mut [Work]) -> bool
 }
 
 /// Takes all that the workers post.
-pub(crate) fn gather_all<H: Wait>(rt: &H, mut taker: Taker, mut works: Vec<Work>) -> Gathered
+pub(crate) fn gather_all<H: Wait>(rt: &H, mut taker: Taker, mut works: Vec<Work>) -> GatheredOuts
     requires none { taker.got ≡ [] }
     requires new { AreNew taker.workers works.items }
     ensures { IsGathered taker result }
 {
     let is_whole = gather(rt, &mut taker, works.as_mut_slice());
-    Gathered {
+    GatheredOuts {
         taker,
         works,
         is_whole,

@@ -12,7 +12,7 @@ use std::alloc::Global;
 
 /// What has been heard of a script so far.
 #[derive(Drop)]
-pub struct Hearing {
+pub struct HeardScript {
     pub events: Vec<Event>,
     /// The lines of the datagrams that can't be read.
     pub unread: Page,
@@ -20,7 +20,7 @@ pub struct Hearing {
     pub datagrams: u64,
 }
 
-impl Hearing {
+impl HeardScript {
     /// Takes in a datagram.
     fn datagram(&mut self, alloc: Global, source: Addr, octets: &[u8]) -> Result<(), NoMemory>
         requires { self.old.datagrams < 2 ^ 64 - 1 }
@@ -75,10 +75,10 @@ impl Hearing {
 }
 
 /// Hears all of a script.
-pub fn hear(alloc: Global, blocks: Vec<Block>) -> Result<Hearing, NoMemory>
+pub fn hear(alloc: Global, blocks: Vec<Block>) -> Result<HeardScript, NoMemory>
     ensures { IfOk result (HasHeard blocks.items) }
 {
-    let mut hearing = Hearing {
+    let mut hearing = HeardScript {
         events: Vec::new(alloc),
         unread: Page::new(alloc),
         datagrams: 0,

@@ -2,7 +2,7 @@
 //!
 //! [`script_one`] reads a script, has one worker handle its events, and writes the page of what it sent; [`script_many`] does
 //! it with several workers, each event going to its home. [`run`] is the program over any reader and writer: it looks at the
-//! arguments and answers a [`Status`].
+//! arguments and answers an [`ExitStatus`].
 //!
 //! Begin with `specs/Page`: it says, short enough to be read aloud, which page a script has, by the reader's relation for
 //! its datagrams and the notifier's definition for its events. What is written is that page, or a front of it after a

@@ -7,8 +7,8 @@ ghost use Rattle.server.specs.Call.{starts_for, AsksFor, AsksForNone};
 
 use crate::script::{play_many, play_one};
 use arguments::{
-    Arguments, ArgumentsError, Status, Wanted, boxes_for, boxes_with, names_for, parse_arguments,
-    setup_at,
+    Arguments, ArgumentsError, ExitStatus, Wanted, dealt_boxes, dealt_names, loopback_setup,
+    made_boxes, parse_arguments,
 };
 use package::Package;
 use scripts::ScriptError;
@@ -35,13 +35,13 @@ where
     requires gives { Gives P.seen (M.post make.now) }
     ensures { Runs R.remaining W.contents ⊥ (starts_for call.now) result source.old source.new sink.old sink.new }
 {
-    let names = names_for(alloc, call.mailboxes.as_slice(), 1, 0)?;
-    let boxes = boxes_with(alloc, names, make)?;
+    let names = dealt_names(alloc, call.mailboxes.as_slice(), 1, 0)?;
+    let boxes = made_boxes(alloc, names, make)?;
     play_one(
         alloc,
         source,
         sink,
-        &setup_at(5060, call.seed, call.stop),
+        &loopback_setup(5060, call.seed, call.stop),
         boxes,
     )
 }
@@ -64,13 +64,13 @@ where
     requires few { call.now.workers ≤ 256 }
     ensures { Runs R.remaining W.contents (Unit {0}) (starts_for call.now) result source.old source.new sink.old sink.new }
 {
-    let boxes = boxes_for(rt.alloc(), call.mailboxes.as_slice(), call.workers, make)?;
+    let boxes = dealt_boxes(rt.alloc(), call.mailboxes.as_slice(), call.workers, make)?;
     play_many(
         rt,
         rt.alloc(),
         source,
         sink,
-        &setup_at(5060, call.seed, call.stop),
+        &loopback_setup(5060, call.seed, call.stop),
         boxes,
     )
 }
@@ -109,7 +109,7 @@ pub fn run<H, R: Read, W: Write, P, M>(
     source: &mut Source<R>,
     sink: &mut Sink<W>,
     make: &M,
-) -> Status
+) -> ExitStatus
 where
     H: Threads + Wait + AllocGlobal + Copy + Send + 'static,
     P: Package + 'static,
@@ -118,34 +118,34 @@ where
     requires callable { M.IsAlwaysCallable make.now }
     requires gives { Gives P.seen (M.post make.now) }
     // What was written is the page of all that was read.
-    ensures done { result ≡ Status.Done → AsksFor words.now (λ starts.
+    ensures done { result ≡ ExitStatus.Done → AsksFor words.now (λ starts.
         WritesPage R.remaining W.contents starts source.old source.new sink.old sink.new) }
-    ensures flushed { result ≡ Status.Done → sink.new.is_flushed ≡ true }
+    ensures flushed { result ≡ ExitStatus.Done → sink.new.is_flushed ≡ true }
 
     // Only words that ask for nothing are bad arguments, and then nothing is read.
-    ensures bad_arguments { result ≡ Status.BadArguments → AsksForNone words.now × (source.new ≡ source.old) }
-    ensures bad_script { result ≡ Status.BadScript → AsksFor words.now (λ starts.
+    ensures bad_arguments { result ≡ ExitStatus.BadArguments → AsksForNone words.now × (source.new ≡ source.old) }
+    ensures bad_script { result ≡ ExitStatus.BadScript → AsksFor words.now (λ starts.
         ReadsNoScript R.remaining source.old source.new) }
 
     // Only a read or a write that failed is a device fault, or that a thread could not be started for several workers.
-    ensures device { result ≡ Status.DeviceFault →
+    ensures device { result ≡ ExitStatus.DeviceFault →
         AsksFor words.now (λ starts.
         IsHindered R.remaining W.contents (1 < length starts) starts source.old source.new sink.old sink.new) }
-    ensures no_failure { result ≢ Status.DeviceFault →
+    ensures no_failure { result ≢ ExitStatus.DeviceFault →
         (source.new.failures ≡ source.old.failures) × (sink.new.failures ≡ sink.old.failures) }
 
     // Nothing is written but a page or a front of it.
-    ensures unwritten { result ≢ Status.Done → result ≢ Status.DeviceFault → sink.new ≡ sink.old }
+    ensures unwritten { result ≢ ExitStatus.Done → result ≢ ExitStatus.DeviceFault → sink.new ≡ sink.old }
 {
     let call = match parse_arguments(rt.alloc(), words) {
         Ok(call) => call,
-        Err(ArgumentsError::Bad) => return Status::BadArguments,
-        Err(ArgumentsError::NoMemory) => return Status::OutOfMemory,
+        Err(ArgumentsError::Bad) => return ExitStatus::BadArguments,
+        Err(ArgumentsError::NoMemory) => return ExitStatus::OutOfMemory,
     };
     match run_script(rt, &call, source, sink, make) {
-        Ok(()) => Status::Done,
-        Err(ScriptError::BadScript) => Status::BadScript,
-        Err(ScriptError::Device) => Status::DeviceFault,
-        Err(ScriptError::NoMemory) => Status::OutOfMemory,
+        Ok(()) => ExitStatus::Done,
+        Err(ScriptError::BadScript) => ExitStatus::BadScript,
+        Err(ScriptError::Device) => ExitStatus::DeviceFault,
+        Err(ScriptError::NoMemory) => ExitStatus::OutOfMemory,
     }
 }

@@ -9,7 +9,7 @@ ghost use Rattle.server.specs.Hearing.{IsHeard};
 ghost use Rattle.server.specs.Working.{printed};
 
 use crate::crew_work::work_together;
-use crate::hearing::{Hearing, hear};
+use crate::hearing::{HeardScript, hear};
 use crate::printing::print_works;
 use crate::work::{Work, work_alone};
 use notifier_model::Setup;
@@ -24,7 +24,7 @@ use std::thread::Threads;
 use transport::{Sink, Source};
 
 /// What is heard of the script that the bytes are.
-fn hear_script(alloc: Global, bytes: &[u8]) -> Result<Hearing, ScriptError>
+fn hear_script(alloc: Global, bytes: &[u8]) -> Result<HeardScript, ScriptError>
     requires short { length bytes.now ≤ most_bytes }
     ensures heard { IfOk result (IsHeard bytes.now) }
     ensures bad { result ≡ Err ScriptError.BadScript → (blocks : List Block) → IsShortScript bytes.now blocks → ⊥ }
@@ -57,7 +57,7 @@ fn page_by_one<P: Package>(
     ensures no_device { IfErr result (λ e. e ≢ ScriptError.Device) }
 {
     one_reading();
-    let Hearing { events, unread, .. } = hear_script(alloc, bytes)?;
+    let HeardScript { events, unread, .. } = hear_script(alloc, bytes)?;
     let work = work_alone(alloc, setup, boxes, events)?;
     let works = [work];
     let page = whole_page(alloc, unread, works.as_slice())?;
@@ -82,7 +82,7 @@ where
     ensures device { result ≡ Err ScriptError.Device → (blocks : List Block) × IsShortScript bytes.now blocks }
 {
     one_reading();
-    let Hearing { events, unread, .. } = hear_script(alloc, bytes)?;
+    let HeardScript { events, unread, .. } = hear_script(alloc, bytes)?;
     let works = work_together(rt, alloc, setup, boxes, events)?;
     let page = whole_page(alloc, unread, works.as_slice())?;
     Ok(page)

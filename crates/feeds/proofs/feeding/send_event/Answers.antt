@@ -1,4 +1,4 @@
-use Rattle.std.proofs.Common.{◌≡◌, ◌∷◌, [], MatchBool, Bool, false, sym, subst, ◌∙◌}
+use Rattle.std.proofs.Common.{◌≡◌, ◌∷◌, [], length, MatchBool, Bool, false, refl, sym, subst, ◌∙◌}
 use Rattle.notifier_model.specs.declared.event.Event.{Event}
 use Rattle.notifier_model.specs.declared.event.Event.TheVariants as event
 use Rattle.notifier_model.specs.Home.{home, is_for_all}
@@ -33,4 +33,7 @@ returns-else-is_for_all-clause-sent g c =
 pub returns-else-is_for_all-clause-seats : goal.returns-else-is_for_all-clause-seats
 returns-else-is_for_all-clause-seats g c =
     let old = c.args.port.now in
-    sent_keeps c.send.result old c.send.new.self (home c.args.happened old.still_open) c.args.happened c.send.ensures
+    sent_keeps c.send.result old c.send.new.self (home c.args.happened (length old.seats)) c.args.happened c.send.ensures
+
+pub returns-then-is_for_all : goal.returns-then-is_for_all
+returns-then-is_for_all g c = record { sent = record { reached = 0; few = λ some. some; single = λ _. refl; stands = refl }; seats = refl }

@@ -40,7 +40,7 @@ returns-in-Ok-clause-works g c =
     let only : c.push_reserved.new.self.items ≡ sent.new.port ∷ [] = c.push_reserved.ensures.items ∙ ap (λ (l : List PortSeats). l ++ sent.new.port ∷ []) p.0 in
     works_are is sent.new.port gathered sent.result c.args.events.items works.items
     (is_port is c.in-Some.port sent.new.port p.1 sent.ensures.closed sent.ensures.seats)
-    (λ ok. let all = sent.ensures.sent ok in port_sent is c.in-Some.port all.0 sent.new.port c.args.events.items p.1 all.1 all.2 all.3)
+    (λ ok. let all = sent.ensures.sent ok in port_sent is c.in-Some.port all.0 sent.new.port c.args.events.items p.1 all.1 all.2)
     (rw c.of.ensures at (rw c.in-Ok.ensures.ok at c.join-gathered.ensures))
     (subst (λ (l : List PortSeats). IsFinished c.args.started.0 l gathered sent.result works.items) only done))
     c.finish.ensures.works

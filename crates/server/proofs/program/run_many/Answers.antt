@@ -18,4 +18,4 @@ play_many-requires-clause-few g c κs within =
 pub returns : goal.returns
 returns g c =
     let P : List Start → Type 0 = λ starts. Runs g.R.Read.remaining g.W.Write.contents (Unit {0}) starts c.play_many.result c.args.source.now c.play_many.new.source c.args.sink.now c.play_many.new.sink in
-    subst P (starts_are (λ boxes. map g.P.Package.seen boxes.items) c.in_ok-boxes.boxes.items c.setup_at.result c.args.call.now c.setup_at.ensures (rw c.as_slice.ensures at c.in_ok-boxes.ensures)) c.play_many.ensures
+    subst P (starts_are (λ boxes. map g.P.Package.seen boxes.items) c.in_ok-boxes.boxes.items c.loopback_setup.result c.args.call.now c.loopback_setup.ensures (rw c.as_slice.ensures at c.in_ok-boxes.ensures)) c.play_many.ensures

@@ -7,4 +7,4 @@ use Rattle.server.proofs.program.run_one.Goals as goal
 pub returns : goal.returns
 returns g c =
     let P : List Start → Type 0 = λ starts. Runs g.R.Read.remaining g.W.Write.contents ⊥ starts c.play_one.result c.args.source.now c.play_one.new.source c.args.sink.now c.play_one.new.sink in
-    subst P (one_start_is c.setup_at.result (map g.P.Package.seen c.in_ok-boxes.boxes.items) c.args.call.now _ c.setup_at.ensures c.requires.one c.in_ok-boxes.ensures (rw c.as_slice.ensures at c.in_ok-names.ensures)) c.play_one.ensures
+    subst P (one_start_is c.loopback_setup.result (map g.P.Package.seen c.in_ok-boxes.boxes.items) c.args.call.now _ c.loopback_setup.ensures c.requires.one c.in_ok-boxes.ensures (rw c.as_slice.ensures at c.in_ok-names.ensures)) c.play_one.ensures

@@ -1,4 +1,4 @@
-use Rattle.std.proofs.Common.{◌≡◌, ◌<◌, [], ◌∷◌, refl, sym, ◌∙◌, subst, append_assoc, rules}
+use Rattle.std.proofs.Common.{◌≡◌, [], ◌∷◌, refl, ◌∙◌, append_assoc, rules}
 use Rattle.std.specs.Vec.Iter.{into_iter_items}
 use Rattle.feeds.proofs.SendingHome.{sends_none, sends_more}
 use Rattle.server.proofs.Sent.{where_true}
@@ -15,7 +15,7 @@ loop-event-preserved g c =
     let sends = where_true _ c.send_event.result c.send_event.ensures.sent c.if-not-send_event.false in
     record {
       all = append_assoc at.yielded (event ∷ []) _ ∙ rw (← steps) at.invariant.all;
-      still_open = subst (λ n. 0 < n) (sym sends.still_open) at.invariant.still_open;
+      still_open = sends.still_open ∙ at.invariant.still_open;
       seats = c.send_event.ensures.seats ∙ at.invariant.seats;
       sent = sends_more c.args.port.now at.port c.send_event.new.port at.yielded (event ∷ []) at.invariant.sent sends;
     }

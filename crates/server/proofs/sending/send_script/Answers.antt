@@ -9,7 +9,6 @@ returns-then-is_sent-clause-seats g c = close_keeps c.close.result _ c.close.new
 pub returns-then-is_sent-clause-sent : goal.returns-then-is_sent-clause-sent
 returns-then-is_sent-clause-sent g c = λ closed. (
   c.send_all-is_sent.new.port,
-  c.send_all-is_sent.ensures.seats,
   c.send_all-is_sent.ensures.sent c.if-is_sent.true,
   where_ok _ c.close.result c.close.ensures.ends (sym c.is_ok-is_closed.ensures.value ∙ closed),
 )

@@ -4,7 +4,7 @@ use Rattle.std.specs.declared.thread.PromisedHandle.{PromisedHandle}
 use Rattle.queues.specs.InboxSeats.{Inbox}
 use Rattle.crew.specs.declared.end.Done.{Done}
 use Rattle.crew.specs.declared.launching.Began.{Began}
-use Rattle.crew.specs.declared.launching.Seat.{Seat}
+use Rattle.crew.specs.declared.launching.NewWorker.{NewWorker}
 use Rattle.crew.specs.Ports.{AreDealt}
 use Rattle.crew.specs.Started.{Hired, hired}
 use Rattle.crew.proofs.Starting.{element, ready_fit, hired_is, same_maps}
@@ -22,12 +22,12 @@ launch_all-workers-requires-clause-ready g c κs within k s low =
 pub returns-clause-started : goal.returns-clause-started
 returns-clause-started g c b =
     let fit = c.in-Ok.ensures in let fitted = c.in-Ok.fitted in let ws = c.launch_all-workers.result.0 in let launched = c.launch_all-workers.ensures in
-    let S : Type 0 = Seat g.row.P.Denot in
-    let all : vec_len ws ≡ vec_len fitted.seats = launched.all c.if-not-is_whole.false in
+    let S : Type 0 = NewWorker g.row.P.Denot in
+    let all : vec_len ws ≡ vec_len fitted.new_workers = launched.all c.if-not-is_whole.false in
     let f : Handle → Hired = λ h. hired h.promise in
     let size : length ws.items ≡ vec_len c.args.boxes = sym ws.ok.0 ∙ all ∙ fit.len.0 in
-    let inboxes : map (λ (h : Hired). h.reads.inbox) (map f ws.items) ≡ map (λ (s : S). s.receiver.inbox) fitted.seats.items =
-    same_maps (λ (h : Hired). h.reads.inbox) (λ (s : S). s.receiver.inbox) (map f ws.items) fitted.seats.items (length-map ws.items f ∙ sym ws.ok.0 ∙ all ∙ fitted.seats.ok.0)
+    let inboxes : map (λ (h : Hired). h.reads.inbox) (map f ws.items) ≡ map (λ (s : S). s.receiver.inbox) fitted.new_workers.items =
+    same_maps (λ (h : Hired). h.reads.inbox) (λ (s : S). s.receiver.inbox) (map f ws.items) fitted.new_workers.items (length-map ws.items f ∙ sym ws.ok.0 ∙ all ∙ fitted.new_workers.ok.0)
     (λ k x y low.
     let low' : k < length ws.items = let e = length-map ws.items f in omega arith in
     let h = element ws.items k low' in
@@ -39,7 +39,7 @@ returns-clause-started g c b =
       each = λ w h low.
           let fits : w < length ws.items = omega arith in
           let at = element ws.items w fits in
-          let s = element fitted.seats.items w (let e = fitted.seats.ok.0 in let e' = fit.len.0 in omega arith) in
+          let s = element fitted.new_workers.items w (let e = fitted.new_workers.ok.0 in let e' = fit.len.0 in omega arith) in
           hired_is _ _ w fitted.taker _ (get_or (map f ws.items) w h)
           (get_or-map f ws.items w at h fits ∙ launched.launched w at s (let e = ws.ok.0 in omega arith))
           fit.holds (fit.ready w s b low);

@@ -1,7 +1,7 @@
 use Rattle.std.proofs.Common.{Some, refl, sym}
 use Rattle.notifier_model.specs.declared.event.Event.TheVariants as event
 use Rattle.server.proofs.Heard.{heard-event, heard-datagram}
-use Rattle.server.proofs.hearing.Hearing.block.Goals as goal
+use Rattle.server.proofs.hearing.HeardScript.block.Goals as goal
 
 pub returns-in_ok-datagram-in-Sip : goal.returns-in_ok-datagram-in-Sip
 returns-in_ok-datagram-in-Sip c = λ blocks heard.

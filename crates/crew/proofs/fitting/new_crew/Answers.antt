@@ -1,11 +1,11 @@
 use Rattle.std.proofs.Common.{◌≡◌, ◌<◌, ℕ, length, get_or, arith, ap, ◌∙◌, subst}
 use Rattle.queues.specs.OutboxSeats.{PosterSeat}
-use Rattle.crew.specs.Ready.{start_of, seat_seen, IsReady}
+use Rattle.crew.specs.Ready.{start_of, new_worker_seen, IsReady}
 use Rattle.crew.proofs.Starting.{new_poster, new_posters-length, new_posters-at}
-use Rattle.crew.proofs.fitting.seat_crew.Goals as goal
+use Rattle.crew.proofs.fitting.new_crew.Goals as goal
 
-pub make_seats-requires-clause-posters : goal.make_seats-requires-clause-posters
-make_seats-requires-clause-posters g c κs within = c.in_ok-posters.posters.ok.0 ∙ ap length c.in_ok-posters.ensures.new.0 ∙ new_posters-length _ _ ∙ c.len-count.ensures
+pub new_workers-requires-clause-posters : goal.new_workers-requires-clause-posters
+new_workers-requires-clause-posters g c κs within = c.in_ok-posters.posters.ok.0 ∙ ap length c.in_ok-posters.ensures.new.0 ∙ new_posters-length _ _ ∙ c.len-count.ensures
 
 pub returns-clause-ready : goal.returns-clause-ready
 returns-clause-ready g c k s b low =
@@ -13,6 +13,6 @@ returns-clause-ready g c k s b low =
     let low' : k < c.len-count.result = let e = c.len-count.ensures in omega arith in
     let count : length c.as_mut_slice.result.now ≡ c.args.ports = ap length c.as_mut_slice.ensures.value ∙ c.in_ok-dealt.ensures.len in
     let posts : get_or c.in_ok-posters.posters.items k p ≡ p = ap (λ l. get_or l k p) c.in_ok-posters.ensures.new.0 ∙ new_posters-at outbox c.len-count.result k p low' in
-    let seat = get_or c.in_ok-seats.seats.items k s in
-    let P : ℕ × PosterSeat → Type 0 = λ y. IsReady (start_of g.P.Package.seen c.args.setup.now k (get_or c.args.boxes.items k b).items) y.0 y.1 (seat_seen g.P.Package.seen seat) in
-    subst P (λ j. (count j, posts j)) (c.in_ok-seats.ensures.ready k s b p low)
+    let worker = get_or c.in_ok-workers.workers.items k s in
+    let P : ℕ × PosterSeat → Type 0 = λ y. IsReady (start_of g.P.Package.seen c.args.setup.now k (get_or c.args.boxes.items k b).items) y.0 y.1 (new_worker_seen g.P.Package.seen worker) in
+    subst P (λ j. (count j, posts j)) (c.in_ok-workers.ensures.ready k s b p low)
