@@ -12,8 +12,8 @@ use Rattle.digest.specs.Verdicts as digest
 use Rattle.digest.specs.Verdicts.{IsAccepted, Judges}
 use Rattle.digest.specs.Watching.{MayWatch}
 use Rattle.admission.specs.declared.authentication.Authentication.{Authentication}
-use Rattle.admission.specs.declared.authentication.Cause.{Cause}
-use Rattle.admission.specs.declared.authentication.Cause.TheVariants as cause
+use Rattle.admission.specs.declared.authentication.ChallengeCause.{ChallengeCause}
+use Rattle.admission.specs.declared.authentication.ChallengeCause.TheVariants as cause
 use Rattle.admission.specs.declared.authentication.Conclusion.{Conclusion}
 use Rattle.admission.specs.declared.authentication.Conclusion.TheVariants as conclusion
 use Rattle.admission.specs.declared.authentication.Finding.{Finding}
@@ -82,14 +82,14 @@ pub record IsAdmitted (k : Authentication) (i : Inquiry) : Type 0 where
 
 -- ---- what comes of it
 
-abbrev pub is_stale : Cause → Bool
+abbrev pub is_stale : ChallengeCause → Bool
 is_stale cause.Stale = true
 is_stale cause.Absent = false
 is_stale cause.Malformed = false
 is_stale cause.Wrong = false
 
 -- the 401: its challenges are to a new nonce for the source
-abbrev pub challenge : Authentication → Inquiry → Cause → List ℕ
+abbrev pub challenge : Authentication → Inquiry → ChallengeCause → List ℕ
 challenge k i c = challenge_text i.source i.request k.tag (challenges k.guard i.source i.now (is_stale c))
 
 -- a known user asks for what they may not have

@@ -5,7 +5,7 @@ use Rattle.sip_read.specs.declared.message.Request.{Request}
 use Rattle.admission.specs.declared.table.Rates.{Rates}
 use Rattle.admission.specs.Table as rates
 use Rattle.admission.specs.declared.authentication.Authentication.{Authentication}
-use Rattle.admission.specs.declared.authentication.Cause.{Cause}
+use Rattle.admission.specs.declared.authentication.ChallengeCause.{ChallengeCause}
 use Rattle.admission.specs.declared.authentication.Finding.TheVariants as finding
 use Rattle.admission.specs.declared.judging.Admission.{Admission}
 use Rattle.admission.specs.declared.judging.Arrival.{Arrival}
@@ -89,7 +89,7 @@ abbrev pub IsFree : Admission → Arrival → Type 0
 IsFree a x = (k : Authentication) (r : Request) → IsAsked a x k r → IsAdmitted k (inquiry x r)
 
 -- who asks isn't known, and these octets say so
-pub record IsChallenged (a : Admission) (x : Arrival) (c : Cause) (octets : List ℕ) : Type 0 where
+pub record IsChallenged (a : Admission) (x : Arrival) (c : ChallengeCause) (octets : List ℕ) : Type 0 where
   pub authentication : Authentication
   pub request : Request
   pub asked : IsAsked a x authentication request

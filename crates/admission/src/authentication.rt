@@ -29,7 +29,7 @@ pub struct Authentication {
 
 /// Why a request is challenged.
 #[derive(Clone, Copy, Debug, PartialEq, Eq, Drop)]
-pub enum Cause {
+pub enum ChallengeCause {
     /// It shows no credentials.
     Absent,
     /// Its credentials can't be read.
@@ -46,7 +46,7 @@ pub(crate) enum Finding {
     /// This user.
     User(Text),
     /// Nobody that is known.
-    Nobody(Cause),
+    Nobody(ChallengeCause),
 }
 
 /// What comes of a request that is asked who it is from.
@@ -55,7 +55,7 @@ pub(crate) enum Conclusion {
     /// It may go on.
     Admitted,
     /// The 401.
-    Challenge(Cause, Octets),
+    Challenge(ChallengeCause, Octets),
     /// The 403.
     Forbidden(Octets),
 }
@@ -94,18 +94,18 @@ fn told(judged: Judged) -> Finding
 {
     match judged {
         Judged::Accepted(user) => Finding::User(user),
-        Judged::ForeignNonce | Judged::StaleNonce => Finding::Nobody(Cause::Stale),
+        Judged::ForeignNonce | Judged::StaleNonce => Finding::Nobody(ChallengeCause::Stale),
         Judged::WrongRealm
         | Judged::OtherUri
         | Judged::WrongAlgorithm
         | Judged::OldForm
         | Judged::UnknownUser
-        | Judged::BadResponse => Finding::Nobody(Cause::Wrong),
+        | Judged::BadResponse => Finding::Nobody(ChallengeCause::Wrong),
     }
 }
 
 impl Authentication {
-    /// Who is found to ask. Its error is want of memory.
+    /// Who is found to ask. Its only error is out of memory.
     fn find(&self, alloc: Global, inquiry: Inquiry<'_>) -> Result<Finding, NoMemory>
         ensures found { IfOk result (IsFound self.now.guard (inquiry_seen inquiry.entry)) }
         ensures accepts { IfOk result (λ f. (c : CredentialsSeen) → Shows inquiry.entry.octets.now c
@@ -113,8 +113,8 @@ impl Authentication {
     {
         let credentials = match show(alloc, inquiry.octets)? {
             Shown::Credentials(credentials) => credentials,
-            Shown::Absent => return Ok(Finding::Nobody(Cause::Absent)),
-            Shown::Malformed => return Ok(Finding::Nobody(Cause::Malformed)),
+            Shown::Absent => return Ok(Finding::Nobody(ChallengeCause::Absent)),
+            Shown::Malformed => return Ok(Finding::Nobody(ChallengeCause::Malformed)),
         };
         let asked = Asked {
             method: inquiry.request.method.as_str(),
@@ -131,11 +131,11 @@ impl Authentication {
         &self,
         alloc: Global,
         inquiry: Inquiry<'_>,
-        cause: Cause,
+        cause: ChallengeCause,
     ) -> Result<Octets, NoMemory>
         ensures { IfOk result (λ o. o ≡ spec.challenge self.now (inquiry_seen inquiry.entry) cause) }
     {
-        let is_stale = matches!(cause, Cause::Stale);
+        let is_stale = matches!(cause, ChallengeCause::Stale);
         let challenges = self
             .guard
             .challenges(alloc, inquiry.source, inquiry.now, is_stale)?;
@@ -154,7 +154,7 @@ impl Authentication {
         }
     }
 
-    /// What comes of the request. Its error is want of memory.
+    /// What comes of the request. Its only error is out of memory.
     pub(crate) fn conclude(
         &self,
         alloc: Global,

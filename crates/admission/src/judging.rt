@@ -7,7 +7,7 @@ ghost use Rattle.admission.specs.Verdicts as spec;
 ghost use Rattle.admission.specs.Verdicts.{Judges, IsFree, IsSeated, behind};
 
 use crate::answer::Reply;
-use crate::authentication::{Authentication, Cause, Conclusion, Inquiry};
+use crate::authentication::{Authentication, ChallengeCause, Conclusion, Inquiry};
 use crate::network::{Network, number};
 use crate::table::Rates;
 use sip_read::Request;
@@ -48,7 +48,7 @@ pub enum Verdict {
     /// It is dropped: its source sends too much.
     Limited,
     /// It isn't heard, and this 401 goes to its source.
-    Challenge(Cause, Octets),
+    Challenge(ChallengeCause, Octets),
     /// It isn't heard, and this 403 goes to its source: a known user asks for another's mailbox.
     Forbidden(Octets),
     /// It isn't heard, and this 503 goes to its source: it asks for a new subscription, and has as many as it may.
@@ -72,7 +72,7 @@ pub struct Admission {
 }
 
 /// Whether the address is of one of these networks.
-fn is_one_of(networks: &[Network], ip: [u8; 4]) -> bool
+fn any_contains(networks: &[Network], ip: [u8; 4]) -> bool
     ensures { result ≡ spec.is_one_of networks.now ip }
 {
     networks.iter().any(|network| network.contains(ip))
@@ -138,7 +138,7 @@ impl Admission {
     pub fn hears(&self, ip: [u8; 4]) -> bool
         ensures { result ≡ spec.hears self.now ip }
     {
-        self.networks.is_empty() || is_one_of(&self.networks, ip)
+        self.networks.is_empty() || any_contains(&self.networks, ip)
     }
 
     /// Whether the datagram's source has a token for it, which it takes.
@@ -212,7 +212,7 @@ impl Admission {
         }
     }
 
-    /// What comes of a datagram. It takes a token of its source where it is counted. Its error is want of memory.
+    /// What comes of a datagram. It takes a token of its source where it is counted. Its only error is out of memory.
     pub fn judge(&mut self, alloc: Global, arrival: Arrival<'_>) -> Result<Verdict, NoMemory>
         // The verdict is the definition's.
         ensures judges { IfOk result (Judges self.old arrival.entry) }

@@ -30,7 +30,7 @@ mod network;
 mod shown;
 mod table;
 
-pub use authentication::{Authentication, Cause};
+pub use authentication::{Authentication, ChallengeCause};
 pub use bucket::{Bucket, Rate};
 pub use judging::{Admission, Arrival, CROWD_TAG, Reading, Verdict};
 pub use network::Network;

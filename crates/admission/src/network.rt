@@ -22,7 +22,7 @@ pub(crate) fn number(ip: [u8; 4]) -> u32
 
 /// An octet of an address before a dot, and what stands behind that.
 #[tactic(auto, unfolding(sip_text::specs::Reading::octet_at))]
-fn octet_at(text: &[u8]) -> Option<(u8, &[u8])>
+fn cut_octet(text: &[u8]) -> Option<(u8, &[u8])>
     ensures { Finds (λ x. (x.0, x.1.now)) result (spec.octet_at text.now) }
 {
     let (word, rest) = cut_at(b'.', text)?;
@@ -34,9 +34,9 @@ fn octet_at(text: &[u8]) -> Option<(u8, &[u8])>
 fn address(text: &[u8]) -> Option<[u8; 4]>
     ensures { Finds (λ x. x) result (spec.ip_of text.now) }
 {
-    let (first, rest) = octet_at(text)?;
-    let (second, rest) = octet_at(rest)?;
-    let (third, rest) = octet_at(rest)?;
+    let (first, rest) = cut_octet(text)?;
+    let (second, rest) = cut_octet(rest)?;
+    let (third, rest) = cut_octet(rest)?;
     let fourth = byte_of(rest)?;
     Some([first, second, third, fourth])
 }

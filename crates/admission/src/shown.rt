@@ -20,7 +20,7 @@ pub(crate) enum Shown {
     Malformed,
 }
 
-/// What the datagram shows of who asks. Its error is want of memory.
+/// What the datagram shows of who asks. Its only error is out of memory.
 pub(crate) fn show(alloc: Global, octets: &[u8]) -> Result<Shown, NoMemory>
     ensures is { IfOk result (IsShown octets.now) }
     ensures only { IfOk result (λ s. (c : CredentialsSeen) → Shows octets.now c → s ≡ shown.Credentials c) }

@@ -19,7 +19,7 @@ pub struct Rates {
 }
 
 impl Rates {
-    /// Of a service that has heard no source yet. So many may have a bucket at once. Its error is want of memory.
+    /// Of a service that has heard no source yet. So many may have a bucket at once. Its only error is out of memory.
     pub fn new(alloc: Global, rate: Rate, size: NonZeroUsize) -> Result<Rates, NoMemory>
         ensures { IfOk result (λ r. r ≡ empty rate (non_zero_usize_get size)) }
     {
@@ -42,7 +42,7 @@ impl Rates {
     }
 
     /// Whether a datagram of this source is let through at this moment, in milliseconds. It takes a token of the source's bucket, if one is there.
-    /// Its error is want of memory.
+    /// Its only error is out of memory.
     #[tactic(auto, unfolding(crate::specs::Table::is_let, crate::specs::Table::after))]
     pub fn hear(&mut self, source: u32, now: u64) -> Result<bool, NoMemory>
         ensures verdict { IfOk result (λ r. r ≡ spec.is_let self.old source now) }

@@ -3,17 +3,14 @@ use Rattle.std.proofs.Common.{◌≡◌, ◌≢◌, ℕ, ◌≤◌, Bool, true, 
 use Rattle.std.specs.Prelude.{codes, decimal, bytes_eq, IfOk}
 use Rattle.std.specs.List.{list_all}
 use Rattle.std.proofs.lemmas.Bool.{eqb-false, ne_eqb}
-use Rattle.hex.specs.declared.error.FromHexError.{FromHexError}
-use Rattle.hex.specs.Hex.{decode_sized}
 use Rattle.arguments.specs.declared.arguments.Arguments.{Arguments}
 use Rattle.arguments.specs.declared.arguments.ArgumentsError.{ArgumentsError}
 use Rattle.arguments.specs.declared.arguments.ArgumentsError.TheVariants as error
 use Rattle.arguments.specs.Arguments.{zero_seed, default_arguments, IsSeed, IsStop, IsScriptCall, AreArguments, AnswersArguments}
-use Rattle.arguments.specs.ArgumentsReading.{crew_at, stop_at, script_at, arguments_of, GivesArguments}
-use Rattle.sip_text.specs.Reading.{◌>>=◌, is_other, plain_up_to}
+use Rattle.arguments.specs.ArgumentsReading.{crew_at, stop_at, script_at, read_arguments, GivesArguments}
+use Rattle.sip_text.specs.Reading.{◌>>=◌, is_other}
 use Rattle.sip_text.proofs.Cuts.{Lacks}
 use Rattle.sip_text.proofs.Pieces.{bind_some, some_is, and_both}
-use Rattle.sip_text.proofs.PlainNumbers.{up_to_takes, up_to_again}
 use Rattle.sip_text.proofs.Addresses.{decimal_lacks}
 use Rattle.arguments.specs.Values.{seed_bytes, between}
 use Rattle.arguments.proofs.Values.{between_takes, between_again, seed_takes, seed_again}
@@ -170,8 +167,8 @@ script_again a seed_words stop_words (inr given) stop least le some =
 
 -- ---- all of it
 
-pub call_takes : (words : List (List ℕ)) (a : Arguments) → arguments_of words ≡ Some a → AreArguments words a
-unfolding arguments_of
+pub call_takes : (words : List (List ℕ)) (a : Arguments) → read_arguments words ≡ Some a → AreArguments words a
+unfolding read_arguments
 call_takes [] a e = inl (refl, sym (some_is default_arguments a e))
 call_takes (program ∷ words) a e =
     or_takes (bytes_eq program (codes "script")) (script_at words) None a e (λ same k. inr (called same (script_takes words a k))) (λ _ k. absurd (nothing k)) where
@@ -190,10 +187,10 @@ call_takes (program ∷ words) a e =
         whole = ap (λ (w : List ℕ). w ∷ words) (same_text program (codes "script") same) ∙ ap (λ (l : List (List ℕ)). codes "script" ∷ l) k.whole;
       }
 
-pub call_again : (words : List (List ℕ)) (a : Arguments) → AreArguments words a → arguments_of words ≡ Some a
-unfolding arguments_of
+pub call_again : (words : List (List ℕ)) (a : Arguments) → AreArguments words a → read_arguments words ≡ Some a
+unfolding read_arguments
 call_again words a (inl none) = rw (none.0, none.1) refl
-call_again words a (inr h) = ap arguments_of h.whole ∙ script_again a h.seed_words h.stop_words h.is_seed h.is_stop h.from_one h.to_256 h.some_mailbox
+call_again words a (inr h) = ap read_arguments h.whole ∙ script_again a h.seed_words h.stop_words h.is_seed h.is_stop h.from_one h.to_256 h.some_mailbox
 
 pub call_found : (r : Result Arguments ArgumentsError) (o : Option Arguments) (P : Arguments → Type 0) → GivesArguments r o → ((a : Arguments) → o ≡ Some a → P a) → IfOk r P
 call_found (Ok a) o P g f = f a g

@@ -7,5 +7,6 @@ pub mod Calls
 pub mod UdpCalls
 pub mod Dealt
 pub mod Numerals
+pub mod Ranges
 pub mod LineNames
 pub mod ToldBoxes

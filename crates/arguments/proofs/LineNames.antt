@@ -1,17 +1,15 @@
 -- What a line of a file of mailboxes names.
-use Rattle.std.proofs.Common.{◌≡◌, ℕ, zero, suc, ◌+◌, ◌/◌, ◌%◌, ◌<◌, ◌≤◌, ◌⊎◌, inl, inr, Bool, true, false, List, [], ◌∷◌, ◌++◌, length, map, refl, sym, ap, subst, ◌∙◌, arith}
+use Rattle.std.proofs.Common.{◌≡◌, ℕ, zero, suc, ◌+◌, ◌/◌, ◌%◌, ◌<◌, ◌≤◌, inr, Bool, true, false, List, [], ◌∷◌, length, refl, sym, ap, subst, ◌∙◌, arith}
 use Rattle.std.specs.Prelude.{◌↔◌, IsTrue, ◌&&◌, not, ◌==◌, nat_lt, Result, Ok, Err, IfOk}
-use Rattle.std.specs.List.{All, list_all, range_with_len}
-use Rattle.std.specs.Char.{is_ascii_digit}
+use Rattle.std.specs.List.{All, list_all}
 use Rattle.std.proofs.lemmas.Bool.Decides.{nat_tests}
 use Rattle.std.proofs.lemmas.List.Elements.{All-map}
 use Rattle.std.proofs.lemmas.List.Folds.{list_all-append}
 use Rattle.sip_text.specs.Reading.{begins}
-use Rattle.package.specs.Texts.{is_word}
-use Rattle.arguments.specs.NumberRanges.{numeral, numerals, IsNumberRange}
-use Rattle.arguments.specs.Settings.{is_user, IsMailbox}
+use Rattle.arguments.specs.NumberRanges.{numeral}
+use Rattle.arguments.specs.Settings.{IsMailbox}
 use Rattle.arguments.specs.MailboxFile.{IsBlank, IsRange}
-use Rattle.arguments.proofs.Numerals.{length-numeral, digit_is}
+use Rattle.arguments.proofs.Numerals.{length-numeral}
 
 -- what holds of each digit holds of a number's
 numeral_all : (p : ℕ → Bool) → ((d : ℕ) → d < 10 → p (48 + d) ≡ true) → (w n : ℕ) → list_all p (numeral w n) ≡ true

@@ -1,19 +1,16 @@
 -- What the words say: what is found is so, what is so is found, and an error names what is wrong first.
-use Rattle.std.proofs.Common.{◌≡◌, ◌≢◌, ℕ, ◌+◌, ◌≤◌, ◌<◌, Bool, true, false, cond, eqb, List, [], ◌∷◌, ◌++◌, length, take, drop, get_or, Option, Some, None, Result, Ok, Err, ◌⊎◌, inl, inr, refl, sym, ap, subst, ◌∙◌, arith, append_assoc, length-append}
-use Rattle.std.specs.Prelude.{codes, decimal, ◌&&◌, not, nat_lt, IfOk, IfErr}
+use Rattle.std.proofs.Common.{◌≡◌, ℕ, ◌+◌, ◌≤◌, ◌<◌, Bool, true, false, cond, eqb, List, [], ◌∷◌, ◌++◌, length, take, drop, get_or, Option, Some, None, Result, Ok, Err, inl, inr, refl, sym, ap, subst, ◌∙◌, arith, append_assoc, length-append}
+use Rattle.std.specs.Prelude.{codes, decimal, ◌&&◌, not, IfOk, IfErr}
 use Rattle.std.specs.List.{position_or_len, before_first, after_first}
 use Rattle.std.proofs.lemmas.Bool.{eqb-true, eqb-false, ne_eqb}
-use Rattle.std.proofs.lemmas.Bool.Decides.{nat_tests}
 use Rattle.std.proofs.lemmas.List.Sums.{split_at_first, passes_at_first, prefix_len-le-length}
 use Rattle.std.proofs.Math.Seq.{take-append_seam, drop-append-add}
-use Rattle.hex.specs.declared.error.FromHexError.{FromHexError}
 use Rattle.hex.specs.Hex.{decode_sized}
 use Rattle.sip_text.specs.declared.address.Addr.{Addr}
 use Rattle.sip_text.specs.Addresses.{addr_text, IsAddr}
-use Rattle.sip_text.specs.Reading.{◌>>=◌, begins, addr_of, cut_at, plain_up_to}
+use Rattle.sip_text.specs.Reading.{◌>>=◌, begins, addr_of, cut_at}
 use Rattle.sip_text.proofs.Cuts.{Lacks, cut_takes, cut_again}
 use Rattle.sip_text.proofs.Pieces.{bind_some, some_is, and_both, prefix_passes, prefix_again}
-use Rattle.sip_text.proofs.PlainNumbers.{up_to_takes, up_to_again}
 use Rattle.sip_text.proofs.Addresses.{addr_takes, addr_again, decimal_lacks}
 use Rattle.package.specs.Texts.{is_word}
 use Rattle.admission.specs.declared.bucket.Rate.{Rate}
@@ -21,8 +18,8 @@ use Rattle.admission.specs.declared.network.Network.{Network}
 use Rattle.admission.specs.Networks.{network}
 use Rattle.arguments.specs.declared.flag.Bound.{Bound}
 use Rattle.arguments.specs.declared.flag.Bound.TheVariants as bound
-use Rattle.arguments.specs.declared.flag.Place.{Place}
-use Rattle.arguments.specs.declared.flag.Place.TheVariants as place
+use Rattle.arguments.specs.declared.flag.AddressFlag.{AddressFlag}
+use Rattle.arguments.specs.declared.flag.AddressFlag.TheVariants as address
 use Rattle.arguments.specs.declared.flag.Flag.{Flag}
 use Rattle.arguments.specs.declared.flag.Flag.TheVariants as flag
 use Rattle.arguments.specs.declared.switch.Switch.{Switch}
@@ -31,9 +28,9 @@ use Rattle.arguments.specs.declared.setting.Setting.{Setting}
 use Rattle.arguments.specs.declared.setting.Setting.TheVariants as setting
 use Rattle.arguments.specs.declared.error.OptionsError.{OptionsError}
 use Rattle.arguments.specs.declared.error.OptionsError.TheVariants as error
-use Rattle.arguments.specs.Flags.{place_text, bound_text, flag_text, switch_text, least, most}
+use Rattle.arguments.specs.Flags.{address_flag_text, bound_text, flag_text, switch_text, least, most}
 use Rattle.arguments.specs.Settings.{is_user, has_no_colon, watched_text, IsRateNumber, rate_text, joined, AreOption, IsMailbox, IsSetting, AreSettings, BeginsWrong, AreWrong, Answers}
-use Rattle.arguments.specs.Reading.{flag_of, joined_of, switch_of, or_bad, is_mailbox, is_colon, watch, watch_of, rate_of, valued, named, by_switch, by_joined, alone, then_more, by_flag, settings_from, Reads}
+use Rattle.arguments.specs.Reading.{flag_named, joined_of, switch_of, or_bad, is_mailbox, is_colon, watch, watch_of, rate_of, valued, named, by_switch, by_joined, alone, then_more, by_flag, settings_from, Reads}
 use Rattle.arguments.specs.Values.{seed_bytes, between}
 use Rattle.arguments.proofs.Values.{between_takes, between_again, seed_takes, seed_again}
 use Rattle.arguments.proofs.Flags.{flag_takes, flag_again, no_flag, joined_takes, joined_again, no_joined, joined_is_no_flag, switch_takes, switch_again, no_switch, switch_is_no_flag}
@@ -156,10 +153,10 @@ or_bad_ok f None s e = absurd cc
 
 valued_takes : (f : Flag) (words : List (List ℕ)) (value : List ℕ) (s : Setting) → AreOption words (flag_text f) value → valued f value ≡ Ok s → IsSetting words s
 unfolding valued
-valued_takes (flag.Address place) words value s are e =
-    let p = bind_some (addr_of value) (λ a. Some (setting.Address place a)) s (or_bad_ok (flag.Address place) (addr_of value >>= λ a. Some (setting.Address place a)) s e) in
+valued_takes (flag.Address which) words value s are e =
+    let p = bind_some (addr_of value) (λ a. Some (setting.Address which a)) s (or_bad_ok (flag.Address which) (addr_of value >>= λ a. Some (setting.Address which a)) s e) in
     let a = addr_takes value p.0 p.1 in
-    subst (IsSetting words) (some_is (setting.Address place p.0) s p.2) (a.1, subst (AreOption words (place_text place)) a.0 are)
+    subst (IsSetting words) (some_is (setting.Address which p.0) s p.2) (a.1, subst (AreOption words (address_flag_text which)) a.0 are)
 valued_takes (flag.Number bound) words value s are e =
     let p = bind_some (between (least bound) (most bound) value) (λ n. Some (setting.Number bound n)) s (or_bad_ok (flag.Number bound) (between (least bound) (most bound) value >>= λ n. Some (setting.Number bound n)) s e) in
     let n = between_takes (least bound) (most bound) value p.0 p.1 in
@@ -191,7 +188,7 @@ or_bad_err f None e k = err_is (error.Bad f) e k
 
 valued_wrong : (f : Flag) (value : List ℕ) (e : OptionsError) → valued f value ≡ Err e → error.Bad f ≡ e
 unfolding valued
-valued_wrong (flag.Address place) value e k = or_bad_err (flag.Address place) (addr_of value >>= λ a. Some (setting.Address place a)) e k
+valued_wrong (flag.Address which) value e k = or_bad_err (flag.Address which) (addr_of value >>= λ a. Some (setting.Address which a)) e k
 valued_wrong (flag.Number bound) value e k = or_bad_err (flag.Number bound) (between (least bound) (most bound) value >>= λ n. Some (setting.Number bound n)) e k
 valued_wrong flag.MailboxFile value e k = absurd cc
 valued_wrong flag.StateFile value e k = absurd cc
@@ -237,9 +234,9 @@ no_mailbox word is h = absurd (clash (sym is ∙ ap (λ b. b && is_user word) h.
 -- ---- a setting is read again
 
 flag_begins : (f : Flag) → begins 45 (flag_text f) ≡ true
-flag_begins (flag.Address place.Listen) = refl
-flag_begins (flag.Address place.Contact) = refl
-flag_begins (flag.Address place.Control) = refl
+flag_begins (flag.Address address.Listen) = refl
+flag_begins (flag.Address address.Contact) = refl
+flag_begins (flag.Address address.Control) = refl
 flag_begins (flag.Number bound.Workers) = refl
 flag_begins (flag.Number bound.MinTime) = refl
 flag_begins (flag.Number bound.MaxTime) = refl
@@ -279,12 +276,12 @@ switch_begins switch.UntilInputEnds = refl
 switch_begins switch.OldDigest = refl
 switch_begins switch.LogRequests = refl
 
-plain_is_no_flag : (word : List ℕ) → begins 45 word ≡ false → flag_of word ≡ None
-plain_is_no_flag word plain = step (flag_of word) refl where
+plain_is_no_flag : (word : List ℕ) → begins 45 word ≡ false → flag_named word ≡ None
+plain_is_no_flag word plain = step (flag_named word) refl where
   clash : false ≡ true → ⊥
   clash e = absurd cc
 
-  step : (o : Option Flag) → flag_of word ≡ o → o ≡ None
+  step : (o : Option Flag) → flag_named word ≡ o → o ≡ None
   step None is = refl
   step (Some f) is = absurd (clash (sym plain ∙ ap (begins 45) (flag_takes word f is) ∙ flag_begins f))
 
@@ -310,7 +307,7 @@ mailbox_again : (name : List ℕ) → IsMailbox name → alone name ≡ Ok (sett
 unfolding alone named
 mailbox_again name h = rw (plain_is_not_joined name h.no_option, plain_is_no_switch name h.no_option, h.no_option, h.word, h.user) refl
 
-address_again : (p : Place) (a : Addr) → IsAddr a → valued (flag.Address p) (addr_text a) ≡ Ok (setting.Address p a)
+address_again : (p : AddressFlag) (a : Addr) → IsAddr a → valued (flag.Address p) (addr_text a) ≡ Ok (setting.Address p a)
 unfolding valued
 address_again p a h = rw (addr_again a h) refl
 
@@ -364,7 +361,7 @@ unfolding settings_from
 option_again f value rest = ap (λ o. by_flag o (alone (flag_text f)) (λ waiting. settings_from waiting (value ∷ rest))) (flag_again f)
 
 -- a word that stands alone
-alone_again : (word : List ℕ) (rest : List (List ℕ)) → flag_of word ≡ None → settings_from None (word ∷ rest) ≡ then_more (alone word) (settings_from None rest)
+alone_again : (word : List ℕ) (rest : List (List ℕ)) → flag_named word ≡ None → settings_from None (word ∷ rest) ≡ then_more (alone word) (settings_from None rest)
 unfolding settings_from
 alone_again word rest none = ap (λ o. by_flag o (alone word) (λ waiting. settings_from waiting rest)) none
 
@@ -425,8 +422,8 @@ takes_from (Some f) [] settings e = absurd cc
 takes_from (Some f) (w ∷ ws) settings e =
     let m = more_ok (valued f w) (settings_from None ws) settings e in
     subst (AreSettings (flag_text f ∷ w ∷ ws)) m.all (flag_text f ∷ w ∷ [], ws, refl, valued_takes f (flag_text f ∷ w ∷ []) w m.one (inl refl) m.one_is, takes_from None ws m.others m.others_are)
-takes_from None (w ∷ ws) settings e = step (flag_of w) refl (λ o more k. takes_from o ws more k) e where
-  step : (o : Option Flag) → flag_of w ≡ o → ((p : Option Flag) (more : List Setting) → settings_from p ws ≡ Ok more → AreSettings (with_waiting p ws) more)
+takes_from None (w ∷ ws) settings e = step (flag_named w) refl (λ o more k. takes_from o ws more k) e where
+  step : (o : Option Flag) → flag_named w ≡ o → ((p : Option Flag) (more : List Setting) → settings_from p ws ≡ Ok more → AreSettings (with_waiting p ws) more)
       → by_flag o (alone w) (λ waiting. settings_from waiting ws) ≡ Ok settings → AreSettings (w ∷ ws) settings
   step (Some f) is again k = subst (λ (x : List ℕ). AreSettings (x ∷ ws) settings) (sym (flag_takes w f is)) (again (Some f) settings k)
   step None is again k =
@@ -463,7 +460,7 @@ begins_bad f value front rest e are k = subst (BeginsWrong (front ++ rest)) (val
 is_bad : (f : Flag) (w : List ℕ) (ws : List (List ℕ)) (e : OptionsError) → valued f w ≡ Err e → AreWrong (flag_text f ∷ w ∷ ws) e
 is_bad f w ws e k = at_once (flag_text f ∷ w ∷ ws) e (begins_bad f w (flag_text f ∷ w ∷ []) ws e (inl refl) k)
 
-named_wrong : (word : List ℕ) (words : List (List ℕ)) (e : OptionsError) → flag_of word ≡ None → joined_of word ≡ None → switch_of word ≡ None → named word ≡ Err e → BeginsWrong (word ∷ words) e
+named_wrong : (word : List ℕ) (words : List (List ℕ)) (e : OptionsError) → flag_named word ≡ None → joined_of word ≡ None → switch_of word ≡ None → named word ≡ Err e → BeginsWrong (word ∷ words) e
 unfolding named
 named_wrong word words e none apart other k = dashed (begins 45 word) refl k where
   by_test : (b : Bool) → (is_word word && is_user word) ≡ b → begins 45 word ≡ false → cond {A = Result Setting OptionsError} b (Ok (setting.Mailbox word)) (Err (error.NoMailbox word)) ≡ Err e → BeginsWrong (word ∷ words) e
@@ -474,7 +471,7 @@ named_wrong word words e none apart other k = dashed (begins 45 word) refl k whe
   dashed true is k = subst (BeginsWrong (word ∷ words)) (err_is (error.Unknown word) e k) (words, refl, is, no_switch word other, no_flag word none, no_joined word apart)
   dashed false is k = by_test (is_word word && is_user word) refl is k
 
-alone_wrong : (word : List ℕ) (words : List (List ℕ)) (e : OptionsError) → flag_of word ≡ None → alone word ≡ Err e → BeginsWrong (word ∷ words) e
+alone_wrong : (word : List ℕ) (words : List (List ℕ)) (e : OptionsError) → flag_named word ≡ None → alone word ≡ Err e → BeginsWrong (word ∷ words) e
 unfolding alone
 alone_wrong word words e none k = step (joined_of word) refl k where
   by_switches : (o : Option Switch) → switch_of word ≡ o → joined_of word ≡ None → by_switch o word ≡ Err e → BeginsWrong (word ∷ words) e
@@ -495,14 +492,14 @@ wrong_from (Some f) (w ∷ ws) e k = step (valued f w) refl (λ j. wrong_from No
   step (Err x) is again more m j = is_bad f w ws e (is ∙ ap (λ (y : OptionsError). Err y) (err_is x e j))
   step (Ok s) is again (Ok others) m j = absurd cc
   step (Ok s) is again (Err x) m j = behind s (flag_text f ∷ w ∷ []) ws e (valued_takes f (flag_text f ∷ w ∷ []) w s (inl refl) is) (again (m ∙ ap (λ (y : OptionsError). Err y) (err_is x e j)))
-wrong_from None (w ∷ ws) e k = first (flag_of w) refl (λ o j. wrong_from o ws e j) k where
-  second : (r : Result Setting OptionsError) → flag_of w ≡ None → alone w ≡ r → (settings_from None ws ≡ Err e → AreWrong ws e) → (more : Result (List Setting) OptionsError) → settings_from None ws ≡ more
+wrong_from None (w ∷ ws) e k = first (flag_named w) refl (λ o j. wrong_from o ws e j) k where
+  second : (r : Result Setting OptionsError) → flag_named w ≡ None → alone w ≡ r → (settings_from None ws ≡ Err e → AreWrong ws e) → (more : Result (List Setting) OptionsError) → settings_from None ws ≡ more
       → then_more r more ≡ Err e → AreWrong (w ∷ ws) e
   second (Err x) none is again more m j = at_once (w ∷ ws) e (alone_wrong w ws e none (is ∙ ap (λ (y : OptionsError). Err y) (err_is x e j)))
   second (Ok s) none is again (Ok others) m j = absurd cc
   second (Ok s) none is again (Err x) m j = behind s (w ∷ []) ws e (alone_takes w s is) (again (m ∙ ap (λ (y : OptionsError). Err y) (err_is x e j)))
 
-  first : (o : Option Flag) → flag_of w ≡ o → ((p : Option Flag) → settings_from p ws ≡ Err e → AreWrong (with_waiting p ws) e) → by_flag o (alone w) (λ waiting. settings_from waiting ws) ≡ Err e → AreWrong (w ∷ ws) e
+  first : (o : Option Flag) → flag_named w ≡ o → ((p : Option Flag) → settings_from p ws ≡ Err e → AreWrong (with_waiting p ws) e) → by_flag o (alone w) (λ waiting. settings_from waiting ws) ≡ Err e → AreWrong (w ∷ ws) e
   first (Some f) is again j = subst (λ (x : List ℕ). AreWrong (x ∷ ws) e) (sym (flag_takes w f is)) (again (Some f) j)
   first None is again j = second (alone w) is refl (again None) (settings_from None ws) refl j
 

@@ -12,7 +12,7 @@ use Rattle.package.specs.Content.{Seen}
 use Rattle.package.specs.Changes.{change_of}
 use Rattle.refer.specs.Transfers.{new_transfers}
 use Rattle.message_summary.specs.Mailboxes.{new_mailboxes}
-use Rattle.arguments.specs.Setup.{mailboxes_named, names_for}
+use Rattle.arguments.specs.Setup.{mailboxes_named, dealt_names}
 use Rattle.arguments.specs.Told.{told, boxes_told, all_told}
 use Rattle.arguments.proofs.Dealt.{new_mailboxes-named}
 
@@ -26,19 +26,19 @@ told_more changes i c first box after outcome below is so_far changed =
     ∙ sym (fold_more (λ (b : Seen) c. (change_of b c).1) first changes i c below)
 
 pub all-push : {X : Type 0} (seen : X → List Seen) (all : List X) (boxes : X) (n worker : ℕ) (no_refer : Bool) (changes : List Change) (names its : List (List ℕ))
-    → map seen all ≡ map (λ w. boxes_told no_refer changes (names_for n w names)) (range_with_len 0 worker)
-    → seen boxes ≡ boxes_told no_refer changes its → its ≡ names_for n worker names
-    → map seen (all ++ boxes ∷ []) ≡ map (λ w. boxes_told no_refer changes (names_for n w names)) (range_with_len 0 (worker + 1))
+    → map seen all ≡ map (λ w. boxes_told no_refer changes (dealt_names n w names)) (range_with_len 0 worker)
+    → seen boxes ≡ boxes_told no_refer changes its → its ≡ dealt_names n worker names
+    → map seen (all ++ boxes ∷ []) ≡ map (λ w. boxes_told no_refer changes (dealt_names n w names)) (range_with_len 0 (worker + 1))
 all-push seen all boxes n worker no_refer changes names its so_far new named =
     map-append seen all (boxes ∷ [])
     ∙ ap (λ (b : List Seen). map seen all ++ b ∷ []) (new ∙ ap (boxes_told no_refer changes) named)
-    ∙ ap (λ (bs : List (List Seen)). bs ++ boxes_told no_refer changes (names_for n worker names) ∷ []) so_far
-    ∙ sym (map-range_with_len_more (λ w. boxes_told no_refer changes (names_for n w names)) 0 worker worker (omega arith))
+    ∙ ap (λ (bs : List (List Seen)). bs ++ boxes_told no_refer changes (dealt_names n worker names) ∷ []) so_far
+    ∙ sym (map-range_with_len_more (λ w. boxes_told no_refer changes (dealt_names n w names)) 0 worker worker (omega arith))
 
 pub told-len : {X : Type 0} (seen : X → List Seen) (all : List X) (n : ℕ) (no_refer : Bool) (changes : List Change) (names : List (List ℕ))
     → map seen all ≡ all_told n no_refer changes names → length all ≡ n
 told-len seen all n no_refer changes names are =
-    sym (length-map all seen) ∙ ap length are ∙ length-map-range_with_len (λ w. boxes_told no_refer changes (names_for n w names)) 0 n
+    sym (length-map all seen) ∙ ap length are ∙ length-map-range_with_len (λ w. boxes_told no_refer changes (dealt_names n w names)) 0 n
 
 -- the mailboxes alone
 pub one_box : {P : Type 0} (seen : P → Seen) (boxes : List P) (first told_so : P) (no_refer : Bool) (changes : List Change) (names : List (String Global))

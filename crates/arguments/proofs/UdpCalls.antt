@@ -3,13 +3,13 @@ use Rattle.std.proofs.Common.{◌≡◌, ◌≢◌, ℕ, ◌≤◌, Bool, true, 
 use Rattle.std.specs.Prelude.{codes, decimal, bytes_eq, IfOk}
 use Rattle.std.proofs.lemmas.Bool.{eqb-false, ne_eqb}
 use Rattle.arguments.specs.declared.udp_arguments.UdpArguments.{UdpArguments}
-use Rattle.arguments.specs.declared.udp_arguments.Numbers.{Numbers}
+use Rattle.arguments.specs.declared.udp_arguments.UdpNumbers.{UdpNumbers}
 use Rattle.arguments.specs.declared.arguments.ArgumentsError.{ArgumentsError}
 use Rattle.arguments.specs.declared.arguments.ArgumentsError.TheVariants as error
 use Rattle.arguments.specs.Arguments.{zero_seed, IsSeed, IsStop}
 use Rattle.arguments.specs.Values.{seed_bytes, between}
 use Rattle.arguments.specs.UdpArguments.{IsFromOne, AreUdpArguments, AnswersUdpArguments}
-use Rattle.arguments.specs.UdpReading.{port_of, numbers_of, with_numbers, udp_crew_at, udp_stop_at, udp_at, udp_arguments_of, GivesUdpArguments}
+use Rattle.arguments.specs.UdpReading.{port_of, read_numbers, with_numbers, udp_crew_at, udp_stop_at, udp_at, read_udp_arguments, GivesUdpArguments}
 use Rattle.sip_text.specs.Reading.{◌>>=◌, plain_up_to}
 use Rattle.sip_text.proofs.Pieces.{bind_some, some_is}
 use Rattle.sip_text.proofs.PlainNumbers.{up_to_takes, up_to_again}
@@ -37,7 +37,7 @@ port_again : (n : ℕ) → IsFromOne 65535 n → port_of (decimal n) ≡ Some n
 unfolding port_of
 port_again n (least, le) = rw (up_to_again 65535 n le (omega arith), ne_eqb n 0 (λ e. omega (arith, e, least))) refl
 
-record AreNumbers (port control_port workers count : List ℕ) (n : Numbers) : Type 0 where
+record AreNumbers (port control_port workers count : List ℕ) (n : UdpNumbers) : Type 0 where
   port_is : port ≡ decimal n.port
   control_port_is : control_port ≡ decimal n.control_port
   workers_are : workers ≡ decimal n.workers
@@ -47,8 +47,8 @@ record AreNumbers (port control_port workers count : List ℕ) (n : Numbers) : T
   few_workers : IsFromOne 256 n.workers
   is_count : n.count ≤ 4294967295
 
-numbers_take : (port control_port workers count : List ℕ) (n : Numbers) → numbers_of port control_port workers count ≡ Some n → AreNumbers port control_port workers count n
-unfolding numbers_of
+numbers_take : (port control_port workers count : List ℕ) (n : UdpNumbers) → read_numbers port control_port workers count ≡ Some n → AreNumbers port control_port workers count n
+unfolding read_numbers
 numbers_take port control_port workers count n e =
     let a = bind_some (port_of port) (λ p. port_of control_port >>= λ c. between 1 256 workers >>= λ w. plain_up_to 4294967295 count >>= λ k. Some (the p c w k)) n e in
     let b = bind_some (port_of control_port) (λ c. between 1 256 workers >>= λ w. plain_up_to 4294967295 count >>= λ k. Some (the a.0 c w k)) n a.2 in
@@ -68,12 +68,12 @@ numbers_take port control_port workers count n e =
       few_workers = (w.1, w.2);
       is_count = k.2;
     }) where
-      the : ℕ → ℕ → ℕ → ℕ → Numbers
+      the : ℕ → ℕ → ℕ → ℕ → UdpNumbers
       the p c w k = record { port = p; control_port = c; workers = w; count = k }
 
-numbers_again : (n : Numbers) → IsFromOne 65535 n.port → IsFromOne 65535 n.control_port → IsFromOne 256 n.workers → n.count ≤ 4294967295
-    → numbers_of (decimal n.port) (decimal n.control_port) (decimal n.workers) (decimal n.count) ≡ Some n
-unfolding numbers_of
+numbers_again : (n : UdpNumbers) → IsFromOne 65535 n.port → IsFromOne 65535 n.control_port → IsFromOne 256 n.workers → n.count ≤ 4294967295
+    → read_numbers (decimal n.port) (decimal n.control_port) (decimal n.workers) (decimal n.count) ≡ Some n
+unfolding read_numbers
 numbers_again n p c w k = rw (port_again n.port p, port_again n.control_port c, between_again 1 256 n.workers w.0 w.1 (omega arith), up_to_again 4294967295 n.count k (omega arith)) refl
 
 -- ---- numbers and mailboxes
@@ -101,9 +101,9 @@ crew_takes seed stop (x ∷ []) a e = absurd cc
 crew_takes seed stop (x ∷ y ∷ []) a e = absurd cc
 crew_takes seed stop (x ∷ y ∷ z ∷ []) a e = absurd cc
 crew_takes seed stop (port ∷ control_port ∷ workers ∷ count ∷ mailboxes) a e =
-    let p = bind_some (numbers_of port control_port workers count) (λ n. cond {A = Option UdpArguments} (eqb (length mailboxes) 0) None (Some (with_numbers seed stop mailboxes n))) a e in
+    let p = bind_some (read_numbers port control_port workers count) (λ n. cond {A = Option UdpArguments} (eqb (length mailboxes) 0) None (Some (with_numbers seed stop mailboxes n))) a e in
     made p.0 (numbers_take port control_port workers count p.0 p.1) (eqb (length mailboxes) 0) refl p.2 where
-      made : (n : Numbers) → AreNumbers port control_port workers count n → (b : Bool) → eqb (length mailboxes) 0 ≡ b
+      made : (n : UdpNumbers) → AreNumbers port control_port workers count n → (b : Bool) → eqb (length mailboxes) 0 ≡ b
           → cond {A = Option UdpArguments} b None (Some (with_numbers seed stop mailboxes n)) ≡ Some a → TakesCrew seed stop (port ∷ control_port ∷ workers ∷ count ∷ mailboxes) a
       made n are true none e = absurd cc
       made n are false some e =
@@ -128,7 +128,7 @@ crew_takes seed stop (port ∷ control_port ∷ workers ∷ count ∷ mailboxes)
 crew_again : (a : UdpArguments) → AreInRange a → udp_crew_at a.seed a.stop (words_of a) ≡ Some a
 unfolding udp_crew_at
 crew_again a are =
-    let n : Numbers = record { port = a.port; control_port = a.control_port; workers = a.workers; count = a.count } in
+    let n : UdpNumbers = record { port = a.port; control_port = a.control_port; workers = a.workers; count = a.count } in
     rw (numbers_again n are.is_port are.is_control_port are.few_workers are.is_count, some_length a.mailboxes are.some_mailbox) refl
 
 -- ---- behind the seed
@@ -225,8 +225,8 @@ udp_again a seed_words stop_words (inr given) stop are = rw (given.1, seed_again
 
 -- ---- all of it
 
-pub udp_call_takes : (words : List (List ℕ)) (a : UdpArguments) → udp_arguments_of words ≡ Some a → AreUdpArguments words a
-unfolding udp_arguments_of
+pub udp_call_takes : (words : List (List ℕ)) (a : UdpArguments) → read_udp_arguments words ≡ Some a → AreUdpArguments words a
+unfolding read_udp_arguments
 udp_call_takes [] a e = absurd cc
 udp_call_takes (program ∷ words) a e =
     or_takes (bytes_eq program (codes "udp")) (udp_at words) None a e (λ same k. called same (udp_takes words a k)) (λ _ k. absurd (nothing k)) where
@@ -247,10 +247,10 @@ udp_call_takes (program ∷ words) a e =
         whole = ap (λ (w : List ℕ). w ∷ words) (same_text program (codes "udp") same) ∙ ap (λ (l : List (List ℕ)). codes "udp" ∷ l) k.whole;
       }
 
-pub udp_call_again : (words : List (List ℕ)) (a : UdpArguments) → AreUdpArguments words a → udp_arguments_of words ≡ Some a
-unfolding udp_arguments_of
+pub udp_call_again : (words : List (List ℕ)) (a : UdpArguments) → AreUdpArguments words a → read_udp_arguments words ≡ Some a
+unfolding read_udp_arguments
 udp_call_again words a h =
-    ap udp_arguments_of h.whole
+    ap read_udp_arguments h.whole
     ∙ udp_again a h.seed_words h.stop_words h.is_seed h.is_stop (record {
       is_port = h.is_port;
       is_control_port = h.is_control_port;

@@ -5,7 +5,7 @@ use Rattle.arguments.specs.declared.flag.Flag.{Flag}
 use Rattle.arguments.specs.declared.setting.Setting.{Setting}
 use Rattle.arguments.specs.declared.error.OptionsError.{OptionsError}
 use Rattle.arguments.specs.declared.error.OptionsError.TheVariants as error
-use Rattle.arguments.specs.Reading.{flag_of, valued, alone, then_more, by_flag, settings_from, with_front, Reads}
+use Rattle.arguments.specs.Reading.{flag_named, valued, alone, then_more, by_flag, settings_from, with_front, Reads}
 
 -- ---- the loop over the words
 
@@ -21,7 +21,7 @@ value_goes_on front f word words s total e so_far =
     sym (regroup front s (settings_from None words)) ∙ ap (λ r. with_front front (then_more r (settings_from None words))) (sym e) ∙ so_far
 
 -- a word that stands alone
-pub word_goes_on : (front : List Setting) (word : List ℕ) (words : List (List ℕ)) (s : Setting) (total : Result (List Setting) OptionsError) → flag_of word ≡ None → alone word ≡ Ok s
+pub word_goes_on : (front : List Setting) (word : List ℕ) (words : List (List ℕ)) (s : Setting) (total : Result (List Setting) OptionsError) → flag_named word ≡ None → alone word ≡ Ok s
     → with_front front (settings_from None (word ∷ words)) ≡ total → with_front (front ++ s ∷ []) (settings_from None words) ≡ total
 unfolding settings_from
 word_goes_on front word words s total none e so_far =
@@ -29,7 +29,7 @@ word_goes_on front word words s total none e so_far =
     ∙ ap (λ r. with_front front (then_more r (settings_from None words))) e) ∙ so_far
 
 -- a word that is an option, which waits for its value
-pub flag_goes_on : (front : List Setting) (word : List ℕ) (words : List (List ℕ)) (f : Flag) (total : Result (List Setting) OptionsError) → flag_of word ≡ Some f
+pub flag_goes_on : (front : List Setting) (word : List ℕ) (words : List (List ℕ)) (f : Flag) (total : Result (List Setting) OptionsError) → flag_named word ≡ Some f
     → with_front front (settings_from None (word ∷ words)) ≡ total → with_front front (settings_from (Some f) words) ≡ total
 unfolding settings_from
 flag_goes_on front word words f total is so_far = sym (ap (λ o. with_front front (by_flag o (alone word) (λ waiting. settings_from waiting words))) is) ∙ so_far
@@ -39,7 +39,7 @@ pub bad_value : (front : List Setting) (f : Flag) (word : List ℕ) (words : Lis
 unfolding settings_from
 bad_value front f word words e total is so_far = sym so_far ∙ ap (λ r. with_front front (then_more r (settings_from None words))) is
 
-pub bad_word : (front : List Setting) (word : List ℕ) (words : List (List ℕ)) (e : OptionsError) (total : Result (List Setting) OptionsError) → flag_of word ≡ None → alone word ≡ Err e
+pub bad_word : (front : List Setting) (word : List ℕ) (words : List (List ℕ)) (e : OptionsError) (total : Result (List Setting) OptionsError) → flag_named word ≡ None → alone word ≡ Err e
     → with_front front (settings_from None (word ∷ words)) ≡ total → total ≡ Err e
 unfolding settings_from
 bad_word front word words e total none is so_far =

@@ -26,9 +26,9 @@ script_at (word ∷ []) = stop_at zero_seed (word ∷ [])
 script_at (flag ∷ digits ∷ words) =
     if bytes_eq flag (codes "--seed") then (seed_bytes digits >>= λ seed. stop_at seed words) else stop_at zero_seed (flag ∷ digits ∷ words)
 
-unfoldable pub arguments_of : List (List ℕ) → Option Arguments
-arguments_of [] = Some default_arguments
-arguments_of (program ∷ words) = if bytes_eq program (codes "script") then script_at words else None
+unfoldable pub read_arguments : List (List ℕ) → Option Arguments
+read_arguments [] = Some default_arguments
+read_arguments (program ∷ words) = if bytes_eq program (codes "script") then script_at words else None
 
 abbrev pub ArgumentsFail : ArgumentsError → Option Arguments → Type 0
 ArgumentsFail error.NoMemory read = Unit {0}

@@ -3,8 +3,8 @@ use Rattle.std.specs.Prelude.{ℕ, true, false, List, [], ◌∷◌, ◌++◌, O
 use Rattle.std.specs.List.{fold}
 use Rattle.sip_text.specs.declared.address.Addr.{Addr}
 use Rattle.admission.specs.declared.network.Network.{Network}
-use Rattle.arguments.specs.declared.flag.Place.{Place}
-use Rattle.arguments.specs.declared.flag.Place.TheVariants as place
+use Rattle.arguments.specs.declared.flag.AddressFlag.{AddressFlag}
+use Rattle.arguments.specs.declared.flag.AddressFlag.TheVariants as address
 use Rattle.arguments.specs.declared.flag.Bound.{Bound}
 use Rattle.arguments.specs.declared.flag.Bound.TheVariants as bound
 use Rattle.arguments.specs.declared.switch.Switch.{Switch}
@@ -75,10 +75,10 @@ with_number bound.ReceiveBuffer n numbers = record numbers { receive_buffer = n 
 with_number bound.NonceTime n numbers = record numbers { nonce_time = Some n }
 with_number bound.PerSource n numbers = record numbers { per_source = Some n }
 
-abbrev pub with_address : Place → Addr → Choices → Choices
-with_address place.Listen addr choices = record choices { listen = addr }
-with_address place.Contact addr choices = record choices { contact = Some addr }
-with_address place.Control addr choices = record choices { control = addr }
+abbrev pub with_address : AddressFlag → Addr → Choices → Choices
+with_address address.Listen addr choices = record choices { listen = addr }
+with_address address.Contact addr choices = record choices { contact = Some addr }
+with_address address.Control addr choices = record choices { control = addr }
 
 abbrev pub with_switch : Switch → Choices → Choices
 with_switch switch.KeepSubscriptions choices = record choices { keep_subscriptions = true }
@@ -89,7 +89,7 @@ with_switch switch.LogRequests choices = record choices { log_requests = true }
 
 -- the choices after this setting. Mailboxes, files and who may watch or is let in are gathered apart
 abbrev pub after : Choices → Setting → Choices
-after choices (setting.Address place addr) = with_address place addr choices
+after choices (setting.Address which addr) = with_address which addr choices
 after choices (setting.Number bound n) = record choices { numbers = with_number bound n choices.numbers }
 after choices (setting.MailboxFile path) = choices
 after choices (setting.StateFile path) = choices
@@ -107,7 +107,7 @@ choices_of settings = fold after default_choices settings
 
 -- the path of a file of MAIL lines, if a setting before this one or this one names it
 abbrev pub with_state : Option (List ℕ) → Setting → Option (List ℕ)
-with_state path (setting.Address place addr) = path
+with_state path (setting.Address which addr) = path
 with_state path (setting.Number bound n) = path
 with_state path (setting.MailboxFile file) = path
 with_state path (setting.StateFile file) = Some file
@@ -125,7 +125,7 @@ state_of settings = fold with_state None settings
 
 -- the path of a file of passwords, if a setting before this one or this one names it
 abbrev pub with_passwords : Option (List ℕ) → Setting → Option (List ℕ)
-with_passwords path (setting.Address place addr) = path
+with_passwords path (setting.Address which addr) = path
 with_passwords path (setting.Number bound n) = path
 with_passwords path (setting.MailboxFile file) = path
 with_passwords path (setting.StateFile file) = path
@@ -138,12 +138,12 @@ with_passwords path (setting.Seed seed) = path
 with_passwords path (setting.Switch switch) = path
 with_passwords path (setting.Mailbox name) = path
 
-abbrev pub passwords_of : List Setting → Option (List ℕ)
-passwords_of settings = fold with_passwords None settings
+abbrev pub password_file : List Setting → Option (List ℕ)
+password_file settings = fold with_passwords None settings
 
 -- the mailboxes that users may watch beside their own, each with its user in front, with what this setting adds
 abbrev pub with_watched : List (List ℕ × List ℕ) → Setting → List (List ℕ × List ℕ)
-with_watched pairs (setting.Address place addr) = pairs
+with_watched pairs (setting.Address which addr) = pairs
 with_watched pairs (setting.Number bound n) = pairs
 with_watched pairs (setting.MailboxFile path) = pairs
 with_watched pairs (setting.StateFile path) = pairs
@@ -156,12 +156,12 @@ with_watched pairs (setting.Seed seed) = pairs
 with_watched pairs (setting.Switch switch) = pairs
 with_watched pairs (setting.Mailbox name) = pairs
 
-abbrev pub watched_of : List Setting → List (List ℕ × List ℕ)
-watched_of settings = fold with_watched [] settings
+abbrev pub further_mailboxes : List Setting → List (List ℕ × List ℕ)
+further_mailboxes settings = fold with_watched [] settings
 
 -- the networks that are let in, with what this setting adds
 abbrev pub with_network : List Network → Setting → List Network
-with_network networks (setting.Address place addr) = networks
+with_network networks (setting.Address which addr) = networks
 with_network networks (setting.Number bound n) = networks
 with_network networks (setting.MailboxFile path) = networks
 with_network networks (setting.StateFile path) = networks
@@ -175,12 +175,12 @@ with_network networks (setting.Switch switch) = networks
 with_network networks (setting.Mailbox name) = networks
 
 -- the networks that are let in, in order
-abbrev pub networks_of : List Setting → List Network
-networks_of settings = fold with_network [] settings
+abbrev pub allowed_networks : List Setting → List Network
+allowed_networks settings = fold with_network [] settings
 
 -- the networks whose control lines are heard, with what this setting adds
 abbrev pub with_control_network : List Network → Setting → List Network
-with_control_network networks (setting.Address place addr) = networks
+with_control_network networks (setting.Address which addr) = networks
 with_control_network networks (setting.Number bound n) = networks
 with_control_network networks (setting.MailboxFile path) = networks
 with_control_network networks (setting.StateFile path) = networks
@@ -194,5 +194,15 @@ with_control_network networks (setting.Switch switch) = networks
 with_control_network networks (setting.Mailbox name) = networks
 
 -- those networks, in order
-abbrev pub control_networks_of : List Setting → List Network
-control_networks_of settings = fold with_control_network [] settings
+abbrev pub named_operators : List Setting → List Network
+named_operators settings = fold with_control_network [] settings
+
+-- with this address alone, where networks are named: where none is, all are heard
+abbrev pub with_alone : List ℕ → List Network → List Network
+with_alone ip [] = []
+with_alone ip (network ∷ networks) = network ∷ networks ++ record { ip = ip; length = 32 } ∷ []
+
+-- the networks whose control lines are heard beside those of 127.0.0.0/8: those named, and the address that they are sent to, which is
+-- also where this machine sends them from
+abbrev pub control_networks : List Setting → List Network
+control_networks settings = with_alone (choices_of settings).control.ip (named_operators settings)

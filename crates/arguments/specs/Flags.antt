@@ -1,7 +1,7 @@
 -- The options of `notifyd serve`: how each is written, and which numbers it takes.
 use Rattle.std.specs.Prelude.{ℕ, List, codes}
-use Rattle.arguments.specs.declared.flag.Place.{Place}
-use Rattle.arguments.specs.declared.flag.Place.TheVariants as place
+use Rattle.arguments.specs.declared.flag.AddressFlag.{AddressFlag}
+use Rattle.arguments.specs.declared.flag.AddressFlag.TheVariants as address
 use Rattle.arguments.specs.declared.flag.Bound.{Bound}
 use Rattle.arguments.specs.declared.flag.Bound.TheVariants as bound
 use Rattle.arguments.specs.declared.flag.Flag.{Flag}
@@ -9,10 +9,10 @@ use Rattle.arguments.specs.declared.switch.Switch.{Switch}
 use Rattle.arguments.specs.declared.switch.Switch.TheVariants as switch
 use Rattle.arguments.specs.declared.flag.Flag.TheVariants as flag
 
-abbrev pub place_text : Place → List ℕ
-place_text place.Listen = codes "--listen"
-place_text place.Contact = codes "--contact"
-place_text place.Control = codes "--control"
+abbrev pub address_flag_text : AddressFlag → List ℕ
+address_flag_text address.Listen = codes "--listen"
+address_flag_text address.Contact = codes "--contact"
+address_flag_text address.Control = codes "--control"
 
 abbrev pub bound_text : Bound → List ℕ
 bound_text bound.Workers = codes "--workers"
@@ -34,7 +34,7 @@ bound_text bound.NonceTime = codes "--nonce-time"
 bound_text bound.PerSource = codes "--per-source"
 
 abbrev pub flag_text : Flag → List ℕ
-flag_text (flag.Address place) = place_text place
+flag_text (flag.Address which) = address_flag_text which
 flag_text (flag.Number bound) = bound_text bound
 flag_text flag.MailboxFile = codes "--mailboxes"
 flag_text flag.StateFile = codes "--state"

@@ -12,6 +12,6 @@ pub mod ArgumentsReading
 pub mod UdpArguments
 pub mod UdpReading
 pub mod Wanted
-pub mod Status
+pub mod ExitStatus
 pub mod Setup
 pub mod Told

@@ -1,13 +1,13 @@
 -- What the reader of settings computes, piece by piece. No public contract cites this.
-use Rattle.std.specs.Prelude.{◌≡◌, ℕ, Bool, ◌==◌, ◌&&◌, not, length, List, [], ◌∷◌, ◌++◌, if◌then◌else◌, nat_lt, Option, Some, None, Result, Ok, Err, codes, bytes_eq}
+use Rattle.std.specs.Prelude.{◌≡◌, ℕ, Bool, ◌==◌, ◌&&◌, not, length, List, [], ◌∷◌, ◌++◌, if◌then◌else◌, Option, Some, None, Result, Ok, Err, bytes_eq}
 use Rattle.std.specs.Str.{byte}
 use Rattle.std.specs.List.{position_or_len, before_first, after_first}
 use Rattle.sip_text.specs.Reading.{◌>>=◌, begins, addr_of, cut_at}
 use Rattle.package.specs.Texts.{is_word}
 use Rattle.admission.specs.declared.bucket.Rate.{Rate}
 use Rattle.admission.specs.Networks.{network}
-use Rattle.arguments.specs.declared.flag.Place.{Place}
-use Rattle.arguments.specs.declared.flag.Place.TheVariants as place
+use Rattle.arguments.specs.declared.flag.AddressFlag.{AddressFlag}
+use Rattle.arguments.specs.declared.flag.AddressFlag.TheVariants as address
 use Rattle.arguments.specs.declared.flag.Bound.{Bound}
 use Rattle.arguments.specs.declared.flag.Bound.TheVariants as bound
 use Rattle.arguments.specs.declared.flag.Flag.{Flag}
@@ -18,7 +18,7 @@ use Rattle.arguments.specs.declared.setting.Setting.{Setting}
 use Rattle.arguments.specs.declared.setting.Setting.TheVariants as setting
 use Rattle.arguments.specs.declared.error.OptionsError.{OptionsError}
 use Rattle.arguments.specs.declared.error.OptionsError.TheVariants as error
-use Rattle.arguments.specs.Flags.{least, most, place_text, bound_text, flag_text, switch_text}
+use Rattle.arguments.specs.Flags.{least, most, address_flag_text, bound_text, flag_text, switch_text}
 use Rattle.arguments.specs.Settings.{is_user}
 use Rattle.arguments.specs.Values.{seed_bytes, between}
 
@@ -28,8 +28,8 @@ abbrev pub find_text : {X : Type 0} → (X → List ℕ) → List X → List ℕ
 find_text text [] word = None
 find_text text (x ∷ xs) word = if bytes_eq word (text x) then Some x else find_text text xs word
 
-abbrev pub places : List Place
-places = place.Listen ∷ place.Contact ∷ place.Control ∷ []
+abbrev pub address_flags : List AddressFlag
+address_flags = address.Listen ∷ address.Contact ∷ address.Control ∷ []
 
 abbrev pub times : List Bound
 times = bound.MinTime ∷ bound.MaxTime ∷ bound.DefaultTime ∷ bound.ReferTime ∷ bound.Linger ∷ bound.NonceTime ∷ []
@@ -40,8 +40,8 @@ counts = bound.Workers ∷ bound.MaxCseq ∷ bound.Table ∷ bound.Serials ∷ b
 abbrev pub sizes : List Bound
 sizes = bound.MaxDatagram ∷ bound.ReceiveBuffer ∷ []
 
-unfoldable pub place_of : List ℕ → Option Place
-place_of word = find_text place_text places word
+unfoldable pub address_flag_of : List ℕ → Option AddressFlag
+address_flag_of word = find_text address_flag_text address_flags word
 
 unfoldable pub time_of : List ℕ → Option Bound
 time_of word = find_text bound_text times word
@@ -77,12 +77,12 @@ special_of word = find_text flag_text specials word
 unfoldable pub other_of : List ℕ → Option Flag
 other_of word = or_else (special_of word) (number_flag (bound_of word))
 
-abbrev pub address_flag : Option Place → Option Flag → Option Flag
-address_flag (Some p) other = Some (flag.Address p)
-address_flag None other = other
+abbrev pub address_or : Option AddressFlag → Option Flag → Option Flag
+address_or (Some p) other = Some (flag.Address p)
+address_or None other = other
 
-unfoldable pub flag_of : List ℕ → Option Flag
-flag_of word = address_flag (place_of word) (other_of word)
+unfoldable pub flag_named : List ℕ → Option Flag
+flag_named word = address_or (address_flag_of word) (other_of word)
 
 -- the option before the first `=` of a word, and the value behind it
 abbrev pub is_equals : ℕ → Bool
@@ -95,7 +95,7 @@ with_value None value = None
 unfoldable pub joined_of : List ℕ → Option (Flag × List ℕ)
 joined_of word =
     if position_or_len is_equals word == length word then None
-    else with_value (flag_of (before_first is_equals word)) (after_first is_equals word)
+    else with_value (flag_named (before_first is_equals word)) (after_first is_equals word)
 
 abbrev pub switches : List Switch
 switches = switch.KeepSubscriptions ∷ switch.NoRefer ∷ switch.UntilInputEnds ∷ switch.OldDigest ∷ switch.LogRequests ∷ []
@@ -134,7 +134,7 @@ rate_of value = do
   Some (record { burst = burst; per_second = n })
 
 unfoldable pub valued : Flag → List ℕ → Result Setting OptionsError
-valued (flag.Address place) value = or_bad (flag.Address place) (addr_of value >>= λ a. Some (setting.Address place a))
+valued (flag.Address which) value = or_bad (flag.Address which) (addr_of value >>= λ a. Some (setting.Address which a))
 valued (flag.Number bound) value = or_bad (flag.Number bound) (between (least bound) (most bound) value >>= λ n. Some (setting.Number bound n))
 valued flag.MailboxFile value = Ok (setting.MailboxFile value)
 valued flag.StateFile value = Ok (setting.StateFile value)
@@ -180,7 +180,7 @@ by_flag None setting more = then_more setting (more None)
 unfoldable pub settings_from : Option Flag → List (List ℕ) → Result (List Setting) OptionsError
 settings_from None [] = Ok []
 settings_from (Some flag) [] = Err (error.Missing flag)
-settings_from None (word ∷ words) = by_flag (flag_of word) (alone word) (λ waiting. settings_from waiting words)
+settings_from None (word ∷ words) = by_flag (flag_named word) (alone word) (λ waiting. settings_from waiting words)
 settings_from (Some flag) (word ∷ words) = then_more (valued flag word) (settings_from None words)
 
 -- settings, and then these

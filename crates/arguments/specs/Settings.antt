@@ -10,7 +10,7 @@
 --            / "--rate" number "/" number         ; so many datagrams a second, and so many at once, each from 1 to 65536
 --            / ("--allow" / "--control-allow") network
 --            / "--seed" digits                    ; 64 hex digits of either case
---            / "--keep-subscriptions" / "--no-refer" / "--until-input-ends" / "--old-digest"
+--            / "--keep-subscriptions" / "--no-refer" / "--until-input-ends" / "--old-digest" / "--log-requests"
 --            / mailbox                            ; no space, control character, `@` or `:`, and no `-` in front
 --
 -- An option and its value are two words, or one with `=` between.
@@ -34,7 +34,7 @@ use Rattle.arguments.specs.declared.setting.Setting.{Setting}
 use Rattle.arguments.specs.declared.setting.Setting.TheVariants as setting
 use Rattle.arguments.specs.declared.error.OptionsError.{OptionsError}
 use Rattle.arguments.specs.declared.error.OptionsError.TheVariants as error
-use Rattle.arguments.specs.Flags.{place_text, bound_text, flag_text, switch_text, least, most}
+use Rattle.arguments.specs.Flags.{address_flag_text, bound_text, flag_text, switch_text, least, most}
 
 -- no `@` and no `:`, which end the user of an address (RFC 3261 section 19.1.1)
 abbrev pub is_user : List ℕ → Bool
@@ -72,7 +72,7 @@ AreOption words option value = (words ≡ option ∷ value ∷ []) ⊎ (words �
 
 -- the words are this setting
 abbrev pub IsSetting : List (List ℕ) → Setting → Type 0
-IsSetting words (setting.Address place addr) = IsAddr addr × AreOption words (place_text place) (addr_text addr)
+IsSetting words (setting.Address which addr) = IsAddr addr × AreOption words (address_flag_text which) (addr_text addr)
 IsSetting words (setting.Number bound n) = (least bound ≤ n) × (n ≤ most bound) × AreOption words (bound_text bound) (decimal n)
 IsSetting words (setting.MailboxFile path) = AreOption words (codes "--mailboxes") path
 IsSetting words (setting.StateFile path) = AreOption words (codes "--state") path

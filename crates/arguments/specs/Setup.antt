@@ -39,17 +39,17 @@ mailboxes_named names = record {
 }
 
 -- what all its workers have in common: at this port, with this seed, and whether a stop is planned
-abbrev pub setup_at : ℕ → List ℕ → Bool → Setup
-setup_at port seed stop = record { limits = program_limits; seed = seed; me = program_addr port; stop = stop }
+abbrev pub loopback_setup : ℕ → List ℕ → Bool → Setup
+loopback_setup port seed stop = record { limits = program_limits; seed = seed; me = program_addr port; stop = stop }
 
 -- the mailboxes, of these, whose keys go to this worker of n
-abbrev pub names_for : ℕ → ℕ → List (List ℕ) → List (List ℕ)
-names_for n worker names = filter (λ name. key_hash name % n == worker) names
+abbrev pub dealt_names : ℕ → ℕ → List (List ℕ) → List (List ℕ)
+dealt_names n worker names = filter (λ name. key_hash name % n == worker) names
 
 -- two packages: the mailboxes, then the transfers
-abbrev pub boxes_with : List (List ℕ) → List Seen
-boxes_with names = mailboxes_named names ∷ new_transfers ∷ []
+abbrev pub made_boxes : List (List ℕ) → List Seen
+made_boxes names = mailboxes_named names ∷ new_transfers ∷ []
 
 -- those of each of n workers, among which the mailboxes are dealt out
-abbrev pub boxes_for : ℕ → List (List ℕ) → List (List Seen)
-boxes_for n names = map (λ worker. boxes_with (names_for n worker names)) (range_with_len 0 n)
+abbrev pub dealt_boxes : ℕ → List (List ℕ) → List (List Seen)
+dealt_boxes n names = map (λ worker. made_boxes (dealt_names n worker names)) (range_with_len 0 n)

@@ -8,15 +8,15 @@ use Rattle.arguments.specs.declared.tell.TellError.{TellError}
 use Rattle.arguments.specs.declared.tell.TellError.TheVariants as error
 use Rattle.arguments.specs.Tell.{joined}
 
-unfoldable pub line_at : Option Addr → List (List ℕ) → Option TellCall
-line_at control [] = None
-line_at control (first ∷ rest) = if begins (byte "-") first then None else Some (record { control = control; line = joined first rest })
+unfoldable pub line_call : Option Addr → List (List ℕ) → Option TellCall
+line_call control [] = None
+line_call control (first ∷ rest) = if begins (byte "-") first then None else Some (record { control = control; line = joined first rest })
 
-unfoldable pub tell_of : List (List ℕ) → Option TellCall
-tell_of [] = line_at None []
-tell_of (word ∷ []) = line_at None (word ∷ [])
-tell_of (flag ∷ value ∷ line) =
-    if bytes_eq flag (codes "--control") then (addr_of value >>= λ addr. line_at (Some addr) line) else line_at None (flag ∷ value ∷ line)
+unfoldable pub read_tell : List (List ℕ) → Option TellCall
+read_tell [] = line_call None []
+read_tell (word ∷ []) = line_call None (word ∷ [])
+read_tell (flag ∷ value ∷ line) =
+    if bytes_eq flag (codes "--control") then (addr_of value >>= λ addr. line_call (Some addr) line) else line_call None (flag ∷ value ∷ line)
 
 abbrev pub TellFails : TellError → Option TellCall → Type 0
 TellFails error.NoMemory read = Unit {0}

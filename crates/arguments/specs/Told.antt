@@ -5,7 +5,7 @@ use Rattle.package.specs.declared.change.Change.{Change}
 use Rattle.package.specs.Content.{Seen}
 use Rattle.package.specs.Changes.{change_of}
 use Rattle.refer.specs.Transfers.{new_transfers}
-use Rattle.arguments.specs.Setup.{mailboxes_named, names_for}
+use Rattle.arguments.specs.Setup.{mailboxes_named, dealt_names}
 
 -- a package that was told of changes, one behind the other
 abbrev pub told : List Change → Seen → Seen
@@ -17,4 +17,4 @@ boxes_told no_refer changes names = told changes (mailboxes_named names) ∷ (if
 
 -- those of each of n workers, among which the mailboxes are dealt out
 abbrev pub all_told : ℕ → Bool → List Change → List (List ℕ) → List (List Seen)
-all_told n no_refer changes names = map (λ worker. boxes_told no_refer changes (names_for n worker names)) (range_with_len 0 n)
+all_told n no_refer changes names = map (λ worker. boxes_told no_refer changes (dealt_names n worker names)) (range_with_len 0 n)

@@ -1,7 +1,7 @@
 -- What the reader of the network's arguments computes, piece by piece. No public contract cites this.
 use Rattle.std.specs.Prelude.{◌≡◌, ℕ, Bool, true, false, List, [], ◌∷◌, length, ◌==◌, if◌then◌else◌, Option, Some, None, Result, Ok, Err, codes, bytes_eq}
 use Rattle.arguments.specs.declared.udp_arguments.UdpArguments.{UdpArguments}
-use Rattle.arguments.specs.declared.udp_arguments.Numbers.{Numbers}
+use Rattle.arguments.specs.declared.udp_arguments.UdpNumbers.{UdpNumbers}
 use Rattle.arguments.specs.declared.arguments.ArgumentsError.{ArgumentsError}
 use Rattle.arguments.specs.declared.arguments.ArgumentsError.TheVariants as error
 use Rattle.arguments.specs.Arguments.{zero_seed}
@@ -13,8 +13,8 @@ port_of word = do
   n ← plain_up_to 65535 word
   if n == 0 then None else Some n
 
-unfoldable pub numbers_of : List ℕ → List ℕ → List ℕ → List ℕ → Option Numbers
-numbers_of port control_port workers count = do
+unfoldable pub read_numbers : List ℕ → List ℕ → List ℕ → List ℕ → Option UdpNumbers
+read_numbers port control_port workers count = do
   p ← port_of port
   c ← port_of control_port
   n ← between 1 256 workers
@@ -22,7 +22,7 @@ numbers_of port control_port workers count = do
   Some (record { port = p; control_port = c; workers = n; count = k })
 
 -- the arguments with these numbers
-abbrev pub with_numbers : List ℕ → Bool → List (List ℕ) → Numbers → UdpArguments
+abbrev pub with_numbers : List ℕ → Bool → List (List ℕ) → UdpNumbers → UdpArguments
 with_numbers seed stop mailboxes n = record {
   seed = seed;
   stop = stop;
@@ -40,7 +40,7 @@ udp_crew_at seed stop (a ∷ []) = None
 udp_crew_at seed stop (a ∷ b ∷ []) = None
 udp_crew_at seed stop (a ∷ b ∷ c ∷ []) = None
 udp_crew_at seed stop (port ∷ control_port ∷ workers ∷ count ∷ mailboxes) = do
-  n ← numbers_of port control_port workers count
+  n ← read_numbers port control_port workers count
   if length mailboxes == 0 then None else Some (with_numbers seed stop mailboxes n)
 
 -- what stands behind the seed
@@ -55,9 +55,9 @@ udp_at (word ∷ []) = udp_stop_at zero_seed (word ∷ [])
 udp_at (flag ∷ digits ∷ words) =
     if bytes_eq flag (codes "--seed") then (seed_bytes digits >>= λ seed. udp_stop_at seed words) else udp_stop_at zero_seed (flag ∷ digits ∷ words)
 
-unfoldable pub udp_arguments_of : List (List ℕ) → Option UdpArguments
-udp_arguments_of [] = None
-udp_arguments_of (program ∷ words) = if bytes_eq program (codes "udp") then udp_at words else None
+unfoldable pub read_udp_arguments : List (List ℕ) → Option UdpArguments
+read_udp_arguments [] = None
+read_udp_arguments (program ∷ words) = if bytes_eq program (codes "udp") then udp_at words else None
 
 abbrev pub UdpArgumentsFail : ArgumentsError → Option UdpArguments → Type 0
 UdpArgumentsFail error.NoMemory read = Unit {0}

@@ -3,7 +3,7 @@ ghost use Rattle.std.specs.Prelude.{◌≡◌, IfOk, IfErr, Some};
 ghost use Rattle.arguments.specs.declared.arguments.Arguments.{Arguments};
 ghost use Rattle.arguments.specs.declared.arguments.ArgumentsError.TheVariants.{NoMemory};
 ghost use Rattle.arguments.specs.Arguments.{default_arguments, AreArguments, AnswersArguments};
-ghost use Rattle.arguments.specs.ArgumentsReading.{crew_at, stop_at, script_at, arguments_of, GivesArguments};
+ghost use Rattle.arguments.specs.ArgumentsReading.{crew_at, stop_at, script_at, read_arguments, GivesArguments};
 
 use crate::value::{between, seed_bytes};
 use sip_text::{NoMemory as NoRoom, Text, Values};
@@ -32,7 +32,7 @@ pub enum ArgumentsError {
     /// They are none of the program's: a wrong word, a number out of its range, no mailbox.
     #[error("bad arguments")]
     Bad,
-    /// A growth was refused: there is no memory.
+    /// An allocation failed: out of memory.
     #[error("out of memory")]
     NoMemory,
 }
@@ -62,7 +62,7 @@ impl<T: Drop> From<AllocFailed<T>> for ArgumentsError {
 }
 
 /// Copies of these texts.
-pub(crate) fn copies_of(alloc: Global, texts: &[Text]) -> Result<Vec<Text>, ArgumentsError>
+pub(crate) fn copy_texts(alloc: Global, texts: &[Text]) -> Result<Vec<Text>, ArgumentsError>
     ensures copied { IfOk result (λ copies. copies.items ≡ texts.now) }
     ensures no_memory { IfErr result (λ e. e ≡ ArgumentsError.NoMemory) }
 {
@@ -92,7 +92,7 @@ fn read_crew(
     if mailboxes.is_empty() {
         return Err(ArgumentsError::Bad);
     }
-    let mailboxes = copies_of(alloc, mailboxes)?;
+    let mailboxes = copy_texts(alloc, mailboxes)?;
     Ok(Arguments {
         seed,
         stop,
@@ -140,9 +140,9 @@ fn default_arguments(alloc: Global) -> Result<Arguments, ArgumentsError>
     })
 }
 
-#[tactic(auto, unfolding(crate::specs::ArgumentsReading::arguments_of))]
-fn arguments_of(alloc: Global, words: &[Text]) -> Result<Arguments, ArgumentsError>
-    ensures { GivesArguments result (arguments_of words.now) }
+#[tactic(auto, unfolding(crate::specs::ArgumentsReading::read_arguments))]
+fn read_arguments(alloc: Global, words: &[Text]) -> Result<Arguments, ArgumentsError>
+    ensures { GivesArguments result (read_arguments words.now) }
 {
     match words {
         [] => default_arguments(alloc),
@@ -158,5 +158,5 @@ pub fn parse_arguments(alloc: Global, words: &[Text]) -> Result<Arguments, Argum
     // What the words mean is answered, unless memory runs out.
     ensures only { (a : Arguments) → AreArguments words.now a → AnswersArguments result a }
 {
-    arguments_of(alloc, words)
+    read_arguments(alloc, words)
 }

@@ -3,7 +3,7 @@ ghost use Rattle.std.specs.Prelude.{◌≡◌};
 ghost use Rattle.arguments.specs.Choices as spec;
 ghost use Rattle.arguments.specs.Choices.{default_choices, default_numbers, with_number, with_address, with_switch, after};
 
-use crate::flag::{Bound, Place};
+use crate::flag::{AddressFlag, Bound};
 use crate::setting::Setting;
 use crate::switch::Switch;
 use admission::Rate;
@@ -145,13 +145,13 @@ impl Choices {
         }
     }
 
-    fn set_address(&mut self, place: Place, addr: Addr)
-        ensures { self.new ≡ with_address place addr self.old }
+    fn set_address(&mut self, which: AddressFlag, addr: Addr)
+        ensures { self.new ≡ with_address which addr self.old }
     {
-        match place {
-            Place::Listen => self.listen = addr,
-            Place::Contact => self.contact = Some(addr),
-            Place::Control => self.control = addr,
+        match which {
+            AddressFlag::Listen => self.listen = addr,
+            AddressFlag::Contact => self.contact = Some(addr),
+            AddressFlag::Control => self.control = addr,
         }
     }
 
@@ -171,7 +171,7 @@ impl Choices {
         ensures { self.new ≡ after self.old setting.now }
     {
         match setting {
-            Setting::Address(place, addr) => self.set_address(*place, *addr),
+            Setting::Address(which, addr) => self.set_address(*which, *addr),
             Setting::Number(bound, number) => self.numbers.set(*bound, *number),
             Setting::Seed(seed) => self.seed = Some(*seed),
             Setting::Switch(switch) => self.set_switch(*switch),

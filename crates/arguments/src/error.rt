@@ -22,10 +22,10 @@ pub enum OptionsError {
     /// A word that can't name a mailbox.
     #[error("no name of a mailbox: {word} (one or more characters, none of them a space, `@` or `:`)", word = .0.as_str())]
     NoMailbox(Text),
-    /// A line of a file that is a range, but names no numbers or more than a million.
+    /// A line of a file that looks like a range, but isn't one, or names no numbers or more than a million.
     #[error("no range of mailboxes: {word} (from a number up to one of as many digits, a million of them at most)", word = .0.as_str())]
     NoRange(Text),
-    /// A growth was refused: there is no memory.
+    /// An allocation failed: out of memory.
     #[error("out of memory")]
     NoMemory,
 }

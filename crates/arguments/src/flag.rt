@@ -2,15 +2,15 @@
 ghost use Rattle.std.specs.Prelude.{◌≡◌};
 ghost use Rattle.sip_text.specs.Bytes.{Finds};
 ghost use Rattle.arguments.specs.Flags as spec;
-ghost use Rattle.arguments.specs.Flags.{place_text, bound_text, flag_text};
-ghost use Rattle.arguments.specs.Reading.{place_of, time_of, count_of, size_of, number_of, bound_of, special_of, other_of, flag_of, joined_of};
+ghost use Rattle.arguments.specs.Flags.{address_flag_text, bound_text, flag_text};
+ghost use Rattle.arguments.specs.Reading.{address_flag_of, time_of, count_of, size_of, number_of, bound_of, special_of, other_of, flag_named, joined_of};
 
 use std::fmt;
 use std::fmt::{Display, Formatter};
 
 /// Where an address of the service is used.
 #[derive(Clone, Copy, Debug, PartialEq, Eq, Drop)]
-pub enum Place {
+pub enum AddressFlag {
     /// `--listen`: where datagrams come in.
     Listen,
     /// `--contact`: where phones reach the service, if that is another address.
@@ -44,7 +44,7 @@ pub enum Bound {
 /// An option that has a value.
 #[derive(Clone, Copy, Debug, PartialEq, Eq, Drop)]
 pub enum Flag {
-    Address(Place),
+    Address(AddressFlag),
     Number(Bound),
     /// `--mailboxes`: a file that names mailboxes.
     MailboxFile,
@@ -64,15 +64,15 @@ pub enum Flag {
     Seed,
 }
 
-impl Place {
+impl AddressFlag {
     /// As it is written.
     pub fn text(self) -> &'static str
-        ensures { result.now ≡ place_text self }
+        ensures { result.now ≡ address_flag_text self }
     {
         match self {
-            Place::Listen => "--listen",
-            Place::Contact => "--contact",
-            Place::Control => "--control",
+            AddressFlag::Listen => "--listen",
+            AddressFlag::Contact => "--contact",
+            AddressFlag::Control => "--control",
         }
     }
 }
@@ -141,7 +141,7 @@ impl Flag {
         ensures { result.now ≡ flag_text self }
     {
         match self {
-            Flag::Address(place) => place.text(),
+            Flag::Address(which) => which.text(),
             Flag::Number(bound) => bound.text(),
             Flag::MailboxFile => "--mailboxes",
             Flag::StateFile => "--state",
@@ -176,16 +176,16 @@ impl Display for Flag {
     }
 }
 
-#[tactic(auto, unfolding(crate::specs::Reading::place_of))]
-fn place_flag(word: &str) -> Option<Place>
-    ensures { Finds (λ x. x) result (place_of word.now) }
+#[tactic(auto, unfolding(crate::specs::Reading::address_flag_of))]
+fn address_flag(word: &str) -> Option<AddressFlag>
+    ensures { Finds (λ x. x) result (address_flag_of word.now) }
 {
     if word == "--listen" {
-        Some(Place::Listen)
+        Some(AddressFlag::Listen)
     } else if word == "--contact" {
-        Some(Place::Contact)
+        Some(AddressFlag::Contact)
     } else if word == "--control" {
-        Some(Place::Control)
+        Some(AddressFlag::Control)
     } else {
         None
     }
@@ -319,17 +319,17 @@ pub(crate) fn joined_option(word: &str) -> Option<(Flag, &str)>
     ensures { Finds (λ x. (x.0, x.1.now)) result (joined_of word.now) }
 {
     let (name, value) = word.split_once('=')?;
-    let flag = flag_of(name)?;
+    let flag = flag_named(name)?;
     Some((flag, value))
 }
 
 /// The option that the word is.
-#[tactic(auto, unfolding(crate::specs::Reading::flag_of))]
-pub(crate) fn flag_of(word: &str) -> Option<Flag>
-    ensures { Finds (λ x. x) result (flag_of word.now) }
+#[tactic(auto, unfolding(crate::specs::Reading::flag_named))]
+pub(crate) fn flag_named(word: &str) -> Option<Flag>
+    ensures { Finds (λ x. x) result (flag_named word.now) }
 {
-    match place_flag(word) {
-        Some(place) => Some(Flag::Address(place)),
+    match address_flag(word) {
+        Some(which) => Some(Flag::Address(which)),
         None => other_flag(word),
     }
 }

@@ -2,8 +2,9 @@
 //! watch beside their own.
 ghost use Rattle.std.specs.Prelude.{◌≡◌, IfOk, OnOk};
 ghost use Rattle.arguments.specs.Choices as spec;
-ghost use Rattle.arguments.specs.Choices.{with_network, with_control_network, with_watched, with_passwords};
+ghost use Rattle.arguments.specs.Choices.{with_network, with_control_network, with_alone, with_watched, with_passwords};
 
+use crate::choices::Choices;
 use crate::setting::Setting;
 use admission::Network;
 use sip_text::{NoMemory, Text};
@@ -19,9 +20,9 @@ fn add_network(networks: &mut Vec<Network>, setting: &Setting) -> Result<(), NoM
     Ok(())
 }
 
-/// The networks that the settings let in, in order. Its error is want of memory.
-pub fn networks_of(alloc: Global, settings: &[Setting]) -> Result<Vec<Network>, NoMemory>
-    ensures { IfOk result (λ networks. networks.items ≡ spec.networks_of settings.now) }
+/// The networks that the settings let in, in order. Its only error is out of memory.
+pub fn allowed_networks(alloc: Global, settings: &[Setting]) -> Result<Vec<Network>, NoMemory>
+    ensures { IfOk result (λ networks. networks.items ≡ spec.allowed_networks settings.now) }
 {
     let mut networks = Vec::new(alloc);
     for setting in settings {
@@ -40,14 +41,35 @@ fn add_control_network(heard: &mut Vec<Network>, setting: &Setting) -> Result<()
     Ok(())
 }
 
-/// The networks whose control lines are heard, in order. Its error is want of memory.
-pub fn control_networks_of(alloc: Global, settings: &[Setting]) -> Result<Vec<Network>, NoMemory>
-    ensures { IfOk result (λ networks. networks.items ≡ spec.control_networks_of settings.now) }
+/// The networks that settings name, whose control lines are heard, in order.
+fn named_operators(alloc: Global, settings: &[Setting]) -> Result<Vec<Network>, NoMemory>
+    ensures { IfOk result (λ networks. networks.items ≡ spec.named_operators settings.now) }
 {
     let mut networks = Vec::new(alloc);
     for setting in settings {
         add_control_network(&mut networks, setting)?;
     }
+    Ok(networks)
+}
+
+/// Adds this address alone to the networks that are named, where there are some.
+fn add_alone(networks: &mut Vec<Network>, ip: [u8; 4]) -> Result<(), NoMemory>
+    ensures { OnOk result (networks.new.items ≡ with_alone ip networks.old.items) }
+{
+    if !networks.is_empty() {
+        networks.push(Network { ip, length: 32 })?;
+    }
+    Ok(())
+}
+
+/// The networks whose control lines are heard beside those of 127.0.0.0/8: those that settings name, in order, and the control
+/// address itself, since this machine sends from it what it sends to it. Without one that is named none. Its only error is out of
+/// memory.
+pub fn control_networks(alloc: Global, settings: &[Setting]) -> Result<Vec<Network>, NoMemory>
+    ensures { IfOk result (λ networks. networks.items ≡ spec.control_networks settings.now) }
+{
+    let mut networks = named_operators(alloc, settings)?;
+    add_alone(&mut networks, Choices::of(settings).control.ip)?;
     Ok(networks)
 }
 
@@ -65,9 +87,9 @@ fn add_watched(
     Ok(())
 }
 
-/// The mailboxes that users may watch beside their own, each behind its user, in order. Its error is want of memory.
-pub fn watched_of(alloc: Global, settings: &[Setting]) -> Result<Vec<(Text, Text)>, NoMemory>
-    ensures { IfOk result (λ pairs. pairs.items ≡ spec.watched_of settings.now) }
+/// The mailboxes that users may watch beside their own, each behind its user, in order. Its only error is out of memory.
+pub fn further_mailboxes(alloc: Global, settings: &[Setting]) -> Result<Vec<(Text, Text)>, NoMemory>
+    ensures { IfOk result (λ pairs. pairs.items ≡ spec.further_mailboxes settings.now) }
 {
     let mut pairs = Vec::new(alloc);
     for setting in settings {
@@ -86,9 +108,9 @@ fn add_path(alloc: Global, path: &mut Option<Text>, setting: &Setting) -> Result
     Ok(())
 }
 
-/// The path of the file of passwords that the settings name, if they name one. Its error is want of memory.
-pub fn passwords_of(alloc: Global, settings: &[Setting]) -> Result<Option<Text>, NoMemory>
-    ensures { IfOk result (λ path. path ≡ spec.passwords_of settings.now) }
+/// The path of the file of passwords that the settings name, if they name one. Its only error is out of memory.
+pub fn password_file(alloc: Global, settings: &[Setting]) -> Result<Option<Text>, NoMemory>
+    ensures { IfOk result (λ path. path ≡ spec.password_file settings.now) }
 {
     let mut path = None;
     for setting in settings {

@@ -2,9 +2,9 @@
 //!
 //! [`parse_arguments`] reads the words that ask for a script, [`parse_udp_arguments`] those behind `udp`, and
 //! [`parse_settings`] what stands behind `serve`: a list of [`Setting`]s, or the first thing that is wrong, with
-//! the right form of an option that has a value. [`Choices::of`] tells what the settings ask for, [`mailboxes_in`] which mailboxes a line of
-//! a file names, and [`parse_tell`] reads what stands behind `tell`. [`setup_at`] and [`boxes_for`] make what workers start
-//! from; the packages are those that the caller makes for each [`Wanted`]. A [`Status`] is how a run ends. It starts nothing
+//! the right form of an option that has a value. [`Choices::of`] tells what the settings ask for, [`line_mailboxes`] which mailboxes a line of
+//! a file names, and [`parse_tell`] reads what stands behind `tell`. [`loopback_setup`] and [`dealt_boxes`] make what workers start
+//! from; the packages are those that the caller makes for each [`Wanted`]. An [`ExitStatus`] is how a run ends. It starts nothing
 //! and opens no file.
 //!
 //! Begin with `specs/Settings`: which words are which settings, one behind the other; then `specs/Choices`, `specs/Tell`,
@@ -14,13 +14,13 @@
 pub mod arguments;
 pub mod choices;
 pub mod error;
+pub mod exit_status;
 pub mod flag;
 pub mod heard;
 pub mod mailbox_file;
 mod number_range;
 pub mod setting;
 pub mod setup;
-pub mod status;
 pub mod switch;
 pub mod tell;
 pub mod told;
@@ -31,15 +31,15 @@ pub mod wanted;
 pub use arguments::{Arguments, ArgumentsError, parse_arguments};
 pub use choices::{Choices, Numbers};
 pub use error::OptionsError;
-pub use flag::{Bound, Flag, Place};
-pub use heard::{control_networks_of, networks_of, passwords_of, watched_of};
-pub use mailbox_file::{is_blank, mailboxes_in};
+pub use exit_status::ExitStatus;
+pub use flag::{AddressFlag, Bound, Flag};
+pub use heard::{allowed_networks, control_networks, further_mailboxes, password_file};
+pub use mailbox_file::{is_blank, line_mailboxes};
 pub use setting::{Setting, parse_settings};
-pub use setup::{names_for, setup_at};
+pub use setup::{dealt_names, loopback_setup};
 pub use sip_text::NoMemory;
-pub use status::Status;
 pub use switch::Switch;
 pub use tell::{TellCall, TellError, parse_tell};
-pub use told::{all_told, boxes_for, boxes_with};
+pub use told::{all_told, dealt_boxes, made_boxes};
 pub use udp_arguments::{UdpArguments, parse_udp_arguments};
 pub use wanted::Wanted;

@@ -6,7 +6,7 @@ ghost use Rattle.arguments.specs.Settings.{IsMailbox};
 ghost use Rattle.arguments.specs.MailboxFile.{IsBlank, IsRange, IsUnfair, Names, IsNoLine};
 
 use crate::error::OptionsError;
-use crate::number_range::{NumberRange, range_in};
+use crate::number_range::{NumberRange, looks_like_range, parse_range};
 use crate::setting::is_mailbox;
 use sip_text::Text;
 use std::alloc::Global;
@@ -19,7 +19,7 @@ pub fn is_blank(line: &str) -> bool
 }
 
 /// The mailboxes of a range that a line says.
-fn numbers_of(alloc: Global, line: &str, range: NumberRange) -> Result<Vec<Text>, OptionsError>
+fn range_names(alloc: Global, line: &str, range: NumberRange) -> Result<Vec<Text>, OptionsError>
     requires { IsNumberRange line.now range.width range.first range.last }
     ensures names { IfOk result (λ names. IsRange line.now names.items) }
     ensures wrong { IfErr result (IsNoLine line.now) }
@@ -32,8 +32,9 @@ fn numbers_of(alloc: Global, line: &str, range: NumberRange) -> Result<Vec<Text>
 
 /// The mailboxes that a line names, without its line feed, in order: a range, as `1000-1999`, each number from the first to the last
 /// in as many digits. An empty line and a comment, which begins with `#`, name none. An error where the line can't name a mailbox, or
-/// is a range whose last number is below its first, or of more than a million numbers.
-pub fn mailboxes_in(alloc: Global, line: &str) -> Result<Vec<Text>, OptionsError>
+/// looks like a range and is none: where its last number is below its first, or it has more than a million numbers, or the two
+/// haven't as many digits, 18 at most.
+pub fn line_mailboxes(alloc: Global, line: &str) -> Result<Vec<Text>, OptionsError>
     ensures names { IfOk result (λ names. Names line.now names.items) }
     ensures mailboxes { IfOk result (λ names. All IsMailbox names.items) }
     ensures wrong { IfErr result (IsNoLine line.now) }
@@ -41,10 +42,14 @@ pub fn mailboxes_in(alloc: Global, line: &str) -> Result<Vec<Text>, OptionsError
     if is_blank(line) {
         return Ok(Vec::new(alloc));
     }
-    if let Some(range) = range_in(line.as_bytes()) {
-        return numbers_of(alloc, line, range);
+    let bytes = line.as_bytes();
+    if let Some(range) = parse_range(bytes) {
+        return range_names(alloc, line, range);
     }
     let name = Text::of(alloc, line)?;
+    if looks_like_range(bytes) {
+        return Err(OptionsError::NoRange(name));
+    }
     if !is_mailbox(line) {
         return Err(OptionsError::NoMailbox(name));
     }

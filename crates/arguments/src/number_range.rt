@@ -1,8 +1,11 @@
 //! Numbers from one to another, each in as many digits: `1000-1999`.
 ghost use Rattle.std.specs.Prelude.{◌≡◌, ℕ, List, ◌<◌, ◌≤◌, ◌^◌, ◌↔◌, ◌++◌, length, IsTrue, IfSome, IfNone, IfOk, OnOk, string_bytes};
-ghost use Rattle.arguments.specs.NumberRanges.{numeral, numerals, AreHalves, IsNumeral, IsNumberRange, IsFair};
+ghost use Rattle.arguments.specs.NumberRanges.{numeral, numerals, AreHalves, IsNumeral, IsNumberRange, LooksLikeRange, IsFair};
+ghost use Rattle.arguments.specs.NumberRanges as spec;
+ghost use Rattle.std.specs.Char.{is_ascii_digit};
+ghost use Rattle.std.specs.List.{list_all};
 
-use sip_text::{NoMemory, Text};
+use sip_text::{NoMemory, Text, cut_at};
 use std::alloc::Global;
 
 /// How many digits a number has at most.
@@ -21,7 +24,7 @@ pub(crate) struct NumberRange {
 }
 
 /// The number that these digits say, of which there are 1 to 18.
-fn number_in(digits: &[u8]) -> Option<u64>
+fn parse_number(digits: &[u8]) -> Option<u64>
     requires some { 1 ≤ length digits.now }
     requires few { length digits.now ≤ 18 }
     ensures found { IfSome result (IsNumeral digits.now (length digits.now)) }
@@ -50,7 +53,7 @@ fn halves(text: &[u8]) -> Option<(&[u8], &[u8])>
 }
 
 /// The range that a text says, if it says one.
-pub(crate) fn range_in(text: &[u8]) -> Option<NumberRange>
+pub(crate) fn parse_range(text: &[u8]) -> Option<NumberRange>
     ensures found { IfSome result (λ r. IsNumberRange text.now r.width r.first r.last) }
     ensures none { IfNone result ((width first last : ℕ) → ¬ (IsNumberRange text.now width first last)) }
 {
@@ -59,9 +62,32 @@ pub(crate) fn range_in(text: &[u8]) -> Option<NumberRange>
     if width == 0 || width > MOST_DIGITS {
         return None;
     }
-    let first = number_in(front)?;
-    let last = number_in(back)?;
+    let first = parse_number(front)?;
+    let last = parse_number(back)?;
     Some(NumberRange { width, first, last })
+}
+
+fn all_digits(text: &[u8]) -> bool
+    ensures { result ≡ list_all is_ascii_digit text.now }
+{
+    text.iter().all(|byte| byte.is_ascii_digit())
+}
+
+/// Whether it is one digit or more.
+fn are_digits(text: &[u8]) -> bool
+    ensures { result ≡ spec.are_digits text.now }
+{
+    !text.is_empty() && all_digits(text)
+}
+
+/// Whether a text looks like a range: digits before a `-` and digits behind it, however many.
+pub(crate) fn looks_like_range(text: &[u8]) -> bool
+    ensures { IsTrue result ↔ LooksLikeRange text.now }
+{
+    match cut_at(b'-', text) {
+        Some((front, back)) => are_digits(front) && are_digits(back),
+        None => false,
+    }
 }
 
 /// Puts the last digits of the number, so many, behind a text.

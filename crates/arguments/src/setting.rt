@@ -9,7 +9,7 @@ ghost use Rattle.arguments.specs.Reading.{watch_of, rate_of, valued, named, alon
 ghost use Rattle.sip_text.specs.Reading.{begins};
 
 use crate::error::OptionsError;
-use crate::flag::{Bound, Flag, Place, flag_of, joined_option};
+use crate::flag::{AddressFlag, Bound, Flag, flag_named, joined_option};
 use crate::switch::{Switch, switch_named};
 use crate::value::{between, seed_bytes};
 use admission::{Network, Rate};
@@ -21,7 +21,7 @@ use std::alloc::Global;
 #[derive(Debug, Drop)]
 pub enum Setting {
     /// `--listen`, `--contact` or `--control` with an address.
-    Address(Place, Addr),
+    Address(AddressFlag, Addr),
     /// An option with a number, from the least to the greatest that it takes.
     Number(Bound, u32),
     /// `--mailboxes` with the path of a file.
@@ -85,8 +85,8 @@ fn valued(alloc: Global, flag: Flag, value: &str) -> Result<Setting, OptionsErro
     ensures { Reads (λ x. x) result (valued flag value.now) }
 {
     let setting = match flag {
-        Flag::Address(place) => Addr::of(value.as_bytes()).map(|addr| Setting::Address(
-            place, addr,
+        Flag::Address(which) => Addr::of(value.as_bytes()).map(|addr| Setting::Address(
+            which, addr,
         )),
         Flag::Number(bound) => {
             let number = between(bound.least(), bound.most(), value.as_bytes());
@@ -166,7 +166,7 @@ fn alone(alloc: Global, word: &Text) -> Result<Setting, OptionsError>
 }
 
 /// What the words say, in order.
-fn settings_of(alloc: Global, words: &[Text]) -> Result<Vec<Setting>, OptionsError>
+fn read_settings(alloc: Global, words: &[Text]) -> Result<Vec<Setting>, OptionsError>
     ensures { Reads (λ v. v.items) result (spec.settings_from None words.now) }
 {
     let mut settings = Vec::new(alloc);
@@ -177,7 +177,7 @@ fn settings_of(alloc: Global, words: &[Text]) -> Result<Vec<Setting>, OptionsErr
                 let setting = valued(alloc, flag, word.as_str())?;
                 settings.push(setting)?;
             }
-            None => match flag_of(word.as_str()) {
+            None => match flag_named(word.as_str()) {
                 Some(flag) => waiting = Some(flag),
                 None => {
                     let other = alone(alloc, word)?;
@@ -201,5 +201,5 @@ pub fn parse_settings(alloc: Global, words: &[Text]) -> Result<Vec<Setting>, Opt
     // An error names what is wrong first.
     ensures wrong { IfErr result (AreWrong words.now) }
 {
-    settings_of(alloc, words)
+    read_settings(alloc, words)
 }

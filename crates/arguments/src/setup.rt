@@ -9,8 +9,8 @@ use sip_text::{NoMemory, Text};
 use std::alloc::Global;
 
 /// What the desks of the program stand on: their port, the seed, and whether a stop is planned.
-pub fn setup_at(port: u16, seed: [u8; 32], stop: bool) -> Setup
-    ensures { result ≡ spec.setup_at port seed stop }
+pub fn loopback_setup(port: u16, seed: [u8; 32], stop: bool) -> Setup
+    ensures { result ≡ spec.loopback_setup port seed stop }
 {
     let Some(limits) = Limits::new(
         60, 86400, 3600, 180, 2147483647, 1024, 4294967295, 64, 64, 64,
@@ -38,7 +38,7 @@ fn add_name(
 ) -> Result<(), NoMemory>
     requires { 0 < workers }
     ensures { OnOk result (map string_bytes names.new.items
-        ≡ map string_bytes names.old.items ++ spec.names_for workers worker (mailbox.now ∷ [])) }
+        ≡ map string_bytes names.old.items ++ spec.dealt_names workers worker (mailbox.now ∷ [])) }
 {
     if key_hash(mailbox.as_str()) % workers == worker {
         names.push(mailbox.copy(alloc)?.into_string())?;
@@ -47,14 +47,14 @@ fn add_name(
 }
 
 /// The mailboxes, of these, whose keys go to this one of the workers.
-pub fn names_for(
+pub fn dealt_names(
     alloc: Global,
     mailboxes: &[Text],
     workers: u32,
     worker: u32,
 ) -> Result<Vec<String>, NoMemory>
     requires { 0 < workers }
-    ensures { IfOk result (λ names. map string_bytes names.items ≡ spec.names_for workers worker mailboxes.now) }
+    ensures { IfOk result (λ names. map string_bytes names.items ≡ spec.dealt_names workers worker mailboxes.now) }
 {
     let mut names = Vec::new(alloc);
     for mailbox in mailboxes {

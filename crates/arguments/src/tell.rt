@@ -3,7 +3,7 @@ ghost use Rattle.std.specs.Prelude.{◌≡◌, IfOk, IfErr, string_bytes};
 ghost use Rattle.arguments.specs.declared.tell.TellCall.{TellCall};
 ghost use Rattle.arguments.specs.declared.tell.TellError.TheVariants.{NoMemory};
 ghost use Rattle.arguments.specs.Tell.{joined, IsTellCall, AnswersTell};
-ghost use Rattle.arguments.specs.TellReading.{line_at, tell_of, GivesTell};
+ghost use Rattle.arguments.specs.TellReading.{line_call, read_tell, GivesTell};
 
 use crate::setting::is_dashed;
 use sip_text::{Addr, NoMemory as NoRoom, Text};
@@ -22,9 +22,9 @@ pub struct TellCall {
 #[derive(Clone, Copy, Debug, PartialEq, Eq, Error)]
 pub enum TellError {
     /// They are no call of it.
-    #[error("usage: notifyd tell [--json] [--control <a.b.c.d:port>] <line>")]
+    #[error("usage: notifyd tell [--control <a.b.c.d:port>] <line>; notifyd tell --json [--control <a.b.c.d:port>] STATUS")]
     Bad,
-    /// A growth was refused: there is no memory.
+    /// An allocation failed: out of memory.
     #[error("out of memory")]
     NoMemory,
 }
@@ -59,9 +59,9 @@ fn joined(alloc: Global, first: &Text, rest: &[Text]) -> Result<String, TellErro
 }
 
 /// A line for the server at this address.
-#[tactic(auto, unfolding(crate::specs::TellReading::line_at))]
-fn line_at(alloc: Global, control: Option<Addr>, words: &[Text]) -> Result<TellCall, TellError>
-    ensures { GivesTell result (line_at control words.now) }
+#[tactic(auto, unfolding(crate::specs::TellReading::line_call))]
+fn line_call(alloc: Global, control: Option<Addr>, words: &[Text]) -> Result<TellCall, TellError>
+    ensures { GivesTell result (line_call control words.now) }
 {
     let [first, rest @ ..] = words else {
         return Err(TellError::Bad);
@@ -73,18 +73,18 @@ fn line_at(alloc: Global, control: Option<Addr>, words: &[Text]) -> Result<TellC
     Ok(TellCall { control, line })
 }
 
-#[tactic(auto, unfolding(crate::specs::TellReading::tell_of))]
-fn tell_of(alloc: Global, words: &[Text]) -> Result<TellCall, TellError>
-    ensures { GivesTell result (tell_of words.now) }
+#[tactic(auto, unfolding(crate::specs::TellReading::read_tell))]
+fn read_tell(alloc: Global, words: &[Text]) -> Result<TellCall, TellError>
+    ensures { GivesTell result (read_tell words.now) }
 {
     match words {
         [flag, value, line @ ..] if flag.is("--control") => {
             match Addr::of(value.as_str().as_bytes()) {
-                Some(addr) => line_at(alloc, Some(addr), line),
+                Some(addr) => line_call(alloc, Some(addr), line),
                 None => Err(TellError::Bad),
             }
         }
-        _ => line_at(alloc, None, words),
+        _ => line_call(alloc, None, words),
     }
 }
 
@@ -95,5 +95,5 @@ pub fn parse_tell(alloc: Global, words: &[Text]) -> Result<TellCall, TellError>
     // What the words mean is answered, unless memory runs out.
     ensures only { (call : TellCall) → IsTellCall words.now call → AnswersTell result call }
 {
-    tell_of(alloc, words)
+    read_tell(alloc, words)
 }

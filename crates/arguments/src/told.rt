@@ -4,7 +4,7 @@ ghost use Rattle.arguments.specs.Setup as setup;
 ghost use Rattle.arguments.specs.Told as spec;
 ghost use Rattle.arguments.specs.Wanted.{Gives};
 
-use crate::setup::names_for;
+use crate::setup::dealt_names;
 use crate::wanted::Wanted;
 use package::{Change, Package};
 use sip_text::{NoMemory, Text};
@@ -70,26 +70,26 @@ where
 {
     let mut all = Vec::new(alloc);
     for worker in 0..workers {
-        let names = names_for(alloc, mailboxes, workers, worker)?;
+        let names = dealt_names(alloc, mailboxes, workers, worker)?;
         all.push(boxes_told(alloc, names, changes, no_refer, make)?)?;
     }
     Ok(all)
 }
 
 /// The packages of a worker with these mailboxes, each as `make` gives it.
-pub fn boxes_with<P, F>(alloc: Global, names: Vec<String>, make: &F) -> Result<Vec<P>, NoMemory>
+pub fn made_boxes<P, F>(alloc: Global, names: Vec<String>, make: &F) -> Result<Vec<P>, NoMemory>
 where
     P: Package,
     F: Fn(Wanted) -> Result<P, NoMemory>,
     requires callable { F.IsAlwaysCallable make.now }
     requires gives { Gives P.seen (F.post make.now) }
-    ensures { IfOk result (λ boxes. map P.seen boxes.items ≡ setup.boxes_with (map string_bytes names.items)) }
+    ensures { IfOk result (λ boxes. map P.seen boxes.items ≡ setup.made_boxes (map string_bytes names.items)) }
 {
     boxes_told(alloc, names, &[], false, make)
 }
 
 /// The packages of each worker, among whom the mailboxes are dealt out, each as `make` gives it.
-pub fn boxes_for<P, F>(
+pub fn dealt_boxes<P, F>(
     alloc: Global,
     mailboxes: &[Text],
     workers: u32,
@@ -102,7 +102,7 @@ where
     requires callable { F.IsAlwaysCallable make.now }
     requires gives { Gives P.seen (F.post make.now) }
     ensures { IfOk result (λ all.
-        map (λ boxes. map P.seen boxes.items) all.items ≡ setup.boxes_for workers mailboxes.now) }
+        map (λ boxes. map P.seen boxes.items) all.items ≡ setup.dealt_boxes workers mailboxes.now) }
 {
     all_told(alloc, mailboxes, workers, &[], false, make)
 }

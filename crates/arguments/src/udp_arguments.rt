@@ -2,10 +2,10 @@
 ghost use Rattle.std.specs.Prelude.{IfOk, Some};
 ghost use Rattle.arguments.specs.declared.udp_arguments.UdpArguments.{UdpArguments};
 ghost use Rattle.arguments.specs.UdpArguments.{AreUdpArguments, AnswersUdpArguments};
-ghost use Rattle.arguments.specs.UdpReading.{port_of, numbers_of, udp_crew_at, udp_stop_at, udp_at, udp_arguments_of, GivesUdpArguments};
+ghost use Rattle.arguments.specs.UdpReading.{port_of, read_numbers, udp_crew_at, udp_stop_at, udp_at, read_udp_arguments, GivesUdpArguments};
 ghost use Rattle.sip_text.specs.Bytes.{Finds};
 
-use crate::arguments::{ArgumentsError, MOST_WORKERS, copies_of};
+use crate::arguments::{ArgumentsError, MOST_WORKERS, copy_texts};
 use crate::value::{between, seed_bytes};
 use sip_text::{Text, Values, count_of, short_of};
 use std::alloc::Global;
@@ -31,7 +31,7 @@ pub struct UdpArguments {
 
 /// The numbers among the arguments.
 #[derive(Clone, Copy)]
-struct Numbers {
+struct UdpNumbers {
     port: u16,
     control_port: u16,
     workers: u32,
@@ -47,15 +47,20 @@ fn port_number(word: &Text) -> Option<u16>
     if number == 0 { None } else { Some(number) }
 }
 
-#[tactic(auto, unfolding(crate::specs::UdpReading::numbers_of))]
-fn numbers_of(port: &Text, control_port: &Text, workers: &Text, count: &Text) -> Option<Numbers>
-    ensures { Finds (λ x. x) result (numbers_of port.now control_port.now workers.now count.now) }
+#[tactic(auto, unfolding(crate::specs::UdpReading::read_numbers))]
+fn read_numbers(
+    port: &Text,
+    control_port: &Text,
+    workers: &Text,
+    count: &Text,
+) -> Option<UdpNumbers>
+    ensures { Finds (λ x. x) result (read_numbers port.now control_port.now workers.now count.now) }
 {
     let port = port_number(port)?;
     let control_port = port_number(control_port)?;
     let workers = between(1, MOST_WORKERS, workers.as_str().as_bytes())?;
     let count = count_of(count.as_str().as_bytes())?;
-    Some(Numbers {
+    Some(UdpNumbers {
         port,
         control_port,
         workers,
@@ -76,13 +81,13 @@ fn read_udp_crew(
     let [port, control_port, workers, count, mailboxes @ ..] = words else {
         return Err(ArgumentsError::Bad);
     };
-    let Some(numbers) = numbers_of(port, control_port, workers, count) else {
+    let Some(numbers) = read_numbers(port, control_port, workers, count) else {
         return Err(ArgumentsError::Bad);
     };
     if mailboxes.is_empty() {
         return Err(ArgumentsError::Bad);
     }
-    let mailboxes = copies_of(alloc, mailboxes)?;
+    let mailboxes = copy_texts(alloc, mailboxes)?;
     Ok(UdpArguments {
         seed,
         stop,
@@ -123,9 +128,9 @@ fn read_udp_call(alloc: Global, words: &[Text]) -> Result<UdpArguments, Argument
     }
 }
 
-#[tactic(auto, unfolding(crate::specs::UdpReading::udp_arguments_of))]
-fn udp_arguments_of(alloc: Global, words: &[Text]) -> Result<UdpArguments, ArgumentsError>
-    ensures { GivesUdpArguments result (udp_arguments_of words.now) }
+#[tactic(auto, unfolding(crate::specs::UdpReading::read_udp_arguments))]
+fn read_udp_arguments(alloc: Global, words: &[Text]) -> Result<UdpArguments, ArgumentsError>
+    ensures { GivesUdpArguments result (read_udp_arguments words.now) }
 {
     match words {
         [program, words @ ..] if program.is("udp") => read_udp_call(alloc, words),
@@ -140,5 +145,5 @@ pub fn parse_udp_arguments(alloc: Global, words: &[Text]) -> Result<UdpArguments
     // What the words mean is answered, unless memory runs out.
     ensures only { (a : UdpArguments) → AreUdpArguments words.now a → AnswersUdpArguments result a }
 {
-    udp_arguments_of(alloc, words)
+    read_udp_arguments(alloc, words)
 }

@@ -8,10 +8,11 @@ use Rattle.std.specs.Map.{lookup, set_value, keys_of}
 use Rattle.indexmap.specs.IndexMap.{insert_entry}
 use Rattle.std.specs.declared.alloc.Global.{Global}
 use Rattle.std.proofs.lemmas.List.Folds.{list_any-append}
+use Rattle.std.proofs.lemmas.List.Sums.{fold-append}
 use Rattle.package.specs.declared.counts.MailCounts.{MailCounts}
 use Rattle.package.specs.Values.{MailChange}
 use Rattle.package.specs.Changes.{with_counts, unset}
-use Rattle.control_lines.specs.Told.{Row, rows_in, has, place, told, with_row, with_name, is_held, AreUntold}
+use Rattle.control_lines.specs.Told.{Row, rows_in, has, place, told, with_row, with_name, is_held, untold, AreUntold}
 
 -- ---- where a mailbox is
 
@@ -123,6 +124,9 @@ add_new name u es new is none made =
     ∙ sym (ap (λ b. cond b (rows_in es) (rows_in es ++ (string_bytes name, unset) ∷ [])) h)
 
 -- a name that is there is there under each name that is equal to it
+pub untold-push : (names : List (List ℕ)) (name : List ℕ) → untold (names ++ name ∷ []) ≡ with_name name (untold names)
+untold-push names name = fold-append (λ (rows : List Row) n. with_name n rows) [] names (name ∷ [])
+
 pub untold_more : (names : List (List ℕ)) (name : List ℕ) (rows : List Row) → AreUntold names rows → AreUntold (names ++ name ∷ []) (with_name name rows)
 untold_more names name rows are = step (has name rows) refl where
   held_more : (n : List ℕ) → is_held (names ++ name ∷ []) n ≡ (is_held names n || bytes_eq n name)

@@ -6,7 +6,7 @@ use Rattle.std.proofs.lemmas.Option.{get_or_from_slice_get}
 use Rattle.circular_buffer.specs.Buffer.{Buffer, buffer}
 use Rattle.std.specs.Prelude.{nat_eq}
 use Rattle.std.proofs.lemmas.Bool.Decides.{nat_tests}
-use Rattle.control_lines.specs.declared.kept.Kept.{Kept}
+use Rattle.control_lines.specs.declared.kept.AnsweredLine.{AnsweredLine}
 use Rattle.control_lines.specs.Slots.{after, slot_at, answers, place_of, slot_in, IsIndexed}
 
 -- ---- slots
@@ -39,7 +39,7 @@ length_init xs some = omega (arith, some, length-take-le (length xs - 1) xs (ome
 
 -- ---- equal tokens
 
-pub same_answers : (t u : ℕ) (kept : Kept) → kept.token ≡ t → answers u kept ≡ nat_eq t u
+pub same_answers : (t u : ℕ) (kept : AnsweredLine) → kept.token ≡ t → answers u kept ≡ nat_eq t u
 same_answers t u kept is = rw is refl
 
 -- equal tokens are the same
@@ -53,7 +53,7 @@ itself t = grind (arith, nat_tests)
 -- ---- places
 
 -- the newest answer to a token is the first in the ring
-pub found_at : (t : ℕ) (kept : List Kept) (place : ℕ) → place_of t kept ≡ Some place → (find (answers t) kept ≡ slice_get kept place) × (place < length kept)
+pub found_at : (t : ℕ) (kept : List AnsweredLine) (place : ℕ) → place_of t kept ≡ Some place → (find (answers t) kept ≡ slice_get kept place) × (place < length kept)
 found_at t [] place e = absurd (cc)
 found_at t (k ∷ ks) place e = step (found_at t ks) (answers t k) refl (place_of t ks) refl e
   where
@@ -65,7 +65,7 @@ found_at t (k ∷ ks) place e = step (found_at t ks) (answers t k) refl (place_o
         let rest = older p q in
         (subst (λ x. find (answers t) ks ≡ slice_get (k ∷ ks) x) is rest.0, let below = rest.1 in omega (arith, is))
 
-pub none_found : (t : ℕ) (kept : List Kept) → place_of t kept ≡ None → find (answers t) kept ≡ None
+pub none_found : (t : ℕ) (kept : List AnsweredLine) → place_of t kept ≡ None → find (answers t) kept ≡ None
 none_found t [] e = refl
 none_found t (k ∷ ks) e = step (none_found t ks) (answers t k) (place_of t ks) refl e
   where
@@ -84,7 +84,7 @@ alone None = refl
 alone (Some p) = refl
 
 -- one answer more behind the others
-pub place_behind : (t : ℕ) (kept : List Kept) (last : Kept) → place_of t (kept ++ last ∷ []) ≡ or_else (place_of t kept) (cond (answers t last) (Some (length kept)) None)
+pub place_behind : (t : ℕ) (kept : List AnsweredLine) (last : AnsweredLine) → place_of t (kept ++ last ∷ []) ≡ or_else (place_of t kept) (cond (answers t last) (Some (length kept)) None)
 place_behind t [] last = step (answers t last) where
   step : (b : Bool) → cond b (Some 0) (option_map suc None) ≡ cond b (Some 0) None
   step true = refl
@@ -99,7 +99,7 @@ place_behind t (k ∷ ks) last = ap (λ o. cond (answers t k) (Some 0) (option_m
 
 -- ---- an answer comes
 
-pub comes : (room newest : ℕ) (new : Kept) (t : ℕ) (kept : List Kept) (q : ℕ) (slot : Option ℕ) → newest < room → length kept < room → new.token ≡ t
+pub comes : (room newest : ℕ) (new : AnsweredLine) (t : ℕ) (kept : List AnsweredLine) (q : ℕ) (slot : Option ℕ) → newest < room → length kept < room → new.token ≡ t
     → slot ≡ option_map (slot_at room newest) (place_of q kept)
     → cond (nat_eq t q) (Some (after room newest)) slot ≡ option_map (slot_at room (after room newest)) (place_of q (new ∷ kept))
 comes room newest new t kept q slot within fits is e =
@@ -112,10 +112,10 @@ comes room newest new t kept q slot within fits is e =
 
 -- ---- the oldest answer goes
 
-abbrev pub Leads : ℕ → ℕ → List Kept → (ℕ → Option ℕ) → Type 0
+abbrev pub Leads : ℕ → ℕ → List AnsweredLine → (ℕ → Option ℕ) → Type 0
 Leads room newest kept slots = (q : ℕ) → slots q ≡ option_map (slot_at room newest) (place_of q kept)
 
-module _ (room newest : ℕ) (kept : List Kept) (oldest : Kept) (t : ℕ) (within : newest < room) (full : length kept + 1 ≡ room) (is : oldest.token ≡ t) (slots : ℕ → Option ℕ) (leads : Leads room newest (kept ++ oldest ∷ []) slots) where
+module _ (room newest : ℕ) (kept : List AnsweredLine) (oldest : AnsweredLine) (t : ℕ) (within : newest < room) (full : length kept + 1 ≡ room) (is : oldest.token ≡ t) (slots : ℕ → Option ℕ) (leads : Leads room newest (kept ++ oldest ∷ []) slots) where
   abbrev with_oldest : ℕ → Option ℕ → Option ℕ
   with_oldest q o = option_map (slot_at room newest) (or_else o (cond (answers q oldest) (Some (length kept)) None))
 
@@ -156,14 +156,14 @@ module _ (room newest : ℕ) (kept : List Kept) (oldest : Kept) (t : ℕ) (withi
 
 module _ {S : Type 0} where
   -- what the index leads to
-  pub no_answer : (ring : Buffer Kept) (slots : HashMap ℕ ℕ S) (newest : ℕ) (t : ℕ) → IsIndexed ring slots newest → slot_in slots t ≡ None → find (answers t) ring.items ≡ None
+  pub no_answer : (ring : Buffer AnsweredLine) (slots : HashMap ℕ ℕ S) (newest : ℕ) (t : ℕ) → IsIndexed ring slots newest → slot_in slots t ≡ None → find (answers t) ring.items ≡ None
   no_answer ring slots newest t h e = none_found t ring.items (step (place_of t ring.items) (sym (h.found t) ∙ e))
     where
       step : (o : Option ℕ) → option_map (slot_at ring.capacity newest) o ≡ None → o ≡ None
       step None e = refl
       step (Some p) e = absurd (cc)
 
-  pub its_answer : (ring : Buffer Kept) (slots : HashMap ℕ ℕ S) (newest : ℕ) (t : ℕ) (slot landing : ℕ) → IsIndexed ring slots newest → slot_in slots t ≡ Some slot
+  pub its_answer : (ring : Buffer AnsweredLine) (slots : HashMap ℕ ℕ S) (newest : ℕ) (t : ℕ) (slot landing : ℕ) → IsIndexed ring slots newest → slot_in slots t ≡ Some slot
       → ((p : ℕ) → p < ring.capacity → slot ≡ slot_at ring.capacity newest p → landing ≡ p) → slice_get ring.items landing ≡ find (answers t) ring.items
   its_answer ring slots newest t slot landing h e lands = step (place_of t ring.items) refl (sym (h.found t) ∙ e)
     where
@@ -177,7 +177,7 @@ module _ {S : Type 0} where
           ap (slice_get ring.items) (lands p (omega (arith, fits, below)) (sym is)) ∙ sym there.0
 
   -- an answer comes where there is room
-  pub indexed_more : (ring new : Buffer Kept) (slots after_it : HashMap ℕ ℕ S) (newest slot : ℕ) (kept : Kept) (t : ℕ) → IsIndexed ring slots newest → length ring.items < ring.capacity
+  pub indexed_more : (ring new : Buffer AnsweredLine) (slots after_it : HashMap ℕ ℕ S) (newest slot : ℕ) (kept : AnsweredLine) (t : ℕ) → IsIndexed ring slots newest → length ring.items < ring.capacity
       → slot ≡ after ring.capacity newest → kept.token ≡ t → new ≡ buffer (take ring.capacity (kept ∷ ring.items)) ring.capacity
       → ((q : ℕ) → slot_in after_it q ≡ cond (nat_eq t q) (Some slot) (slot_in slots q)) → IsIndexed new after_it slot
   indexed_more ring new slots after_it newest slot kept t h some is key made updates =
@@ -185,7 +185,7 @@ module _ {S : Type 0} where
       let all : new ≡ buffer (kept ∷ ring.items) ring.capacity = made ∙ ap (λ xs. buffer xs ring.capacity) whole in
       let within = h.within in
       let next : after ring.capacity newest < ring.capacity = after_within ring.capacity newest within in
-      subst (λ (r : Buffer Kept). IsIndexed r after_it slot) (sym all) (record {
+      subst (λ (r : Buffer AnsweredLine). IsIndexed r after_it slot) (sym all) (record {
         within = omega (arith, is, next);
         fits = omega (arith, some);
         found = λ q. updates q ∙ ap (λ (s : ℕ). cond (nat_eq t q) (Some s) (slot_in slots q)) is
@@ -194,30 +194,30 @@ module _ {S : Type 0} where
       })
 
   -- the oldest goes, and its token where it leads to it
-  pub indexed_less : (ring less : Buffer Kept) (slots left : HashMap ℕ ℕ S) (newest slot : ℕ) (oldest : Kept) (t : ℕ) → IsIndexed ring slots newest → length ring.items ≡ ring.capacity
+  pub indexed_less : (ring less : Buffer AnsweredLine) (slots left : HashMap ℕ ℕ S) (newest slot : ℕ) (oldest : AnsweredLine) (t : ℕ) → IsIndexed ring slots newest → length ring.items ≡ ring.capacity
       → Some oldest ≡ slice_get ring.items (length ring.items - 1) → less ≡ buffer (take (length ring.items - 1) ring.items) ring.capacity → slot ≡ after ring.capacity newest → t ≡ oldest.token
       → slot_in slots t ≡ Some slot → ((q : ℕ) → slot_in left q ≡ cond (nat_eq t q) None (slot_in slots q)) → IsIndexed less left newest
   indexed_less ring less slots left newest slot oldest t h full last made is key leads updates =
       let within = h.within in
-      let kept : List Kept = take (length ring.items - 1) ring.items in
+      let kept : List AnsweredLine = take (length ring.items - 1) ring.items in
       let whole : ring.items ≡ kept ++ oldest ∷ [] = split_last ring.items oldest (sym last) (omega (arith, full, within)) in
       let count : length kept + 1 ≡ ring.capacity = length_init ring.items (omega (arith, full, within)) ∙ full in
-      subst (λ (r : Buffer Kept). IsIndexed r left newest) (sym made) (record {
+      subst (λ (r : Buffer AnsweredLine). IsIndexed r left newest) (sym made) (record {
         within = within;
         fits = omega (arith, count);
         found = λ q. updates q ∙ goes ring.capacity newest kept oldest t within count (sym key) (slot_in slots)
             (λ u. h.found u ∙ ap (λ xs. option_map (slot_at ring.capacity newest) (place_of u xs)) whole) (leads ∙ ap (λ (s : ℕ). Some s) is) q;
       })
 
-  pub indexed_still : (ring less : Buffer Kept) (slots : HashMap ℕ ℕ S) (newest slot : ℕ) (oldest : Kept) (t : ℕ) → IsIndexed ring slots newest → length ring.items ≡ ring.capacity
+  pub indexed_still : (ring less : Buffer AnsweredLine) (slots : HashMap ℕ ℕ S) (newest slot : ℕ) (oldest : AnsweredLine) (t : ℕ) → IsIndexed ring slots newest → length ring.items ≡ ring.capacity
       → Some oldest ≡ slice_get ring.items (length ring.items - 1) → less ≡ buffer (take (length ring.items - 1) ring.items) ring.capacity → slot ≡ after ring.capacity newest → t ≡ oldest.token
       → (slot_in slots t ≡ Some slot → ⊥) → IsIndexed less slots newest
   indexed_still ring less slots newest slot oldest t h full last made is key other =
       let within = h.within in
-      let kept : List Kept = take (length ring.items - 1) ring.items in
+      let kept : List AnsweredLine = take (length ring.items - 1) ring.items in
       let whole : ring.items ≡ kept ++ oldest ∷ [] = split_last ring.items oldest (sym last) (omega (arith, full, within)) in
       let count : length kept + 1 ≡ ring.capacity = length_init ring.items (omega (arith, full, within)) ∙ full in
-      subst (λ (r : Buffer Kept). IsIndexed r slots newest) (sym made) (record {
+      subst (λ (r : Buffer AnsweredLine). IsIndexed r slots newest) (sym made) (record {
         within = within;
         fits = omega (arith, count);
         found = λ q. stays ring.capacity newest kept oldest t within count (sym key) (slot_in slots)
@@ -234,6 +234,6 @@ kept_less room x xs some =
     length_take n xs = omega (arith, length-take n xs)
 
 -- where the oldest went there is room
-pub has_room : (ring less : Buffer Kept) (newest : ℕ) → newest < ring.capacity → less ≡ buffer (take (ring.capacity - 1) ring.items) ring.capacity → length less.items < less.capacity
+pub has_room : (ring less : Buffer AnsweredLine) (newest : ℕ) → newest < ring.capacity → less ≡ buffer (take (ring.capacity - 1) ring.items) ring.capacity → length less.items < less.capacity
 has_room ring less newest within e =
-    subst (λ (r : Buffer Kept). length r.items < r.capacity) (sym e) (let short = length-take (ring.capacity - 1) ring.items in omega (arith, within, short))
+    subst (λ (r : Buffer AnsweredLine). length r.items < r.capacity) (sym e) (let short = length-take (ring.capacity - 1) ring.items in omega (arith, within, short))

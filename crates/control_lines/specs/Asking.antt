@@ -2,13 +2,13 @@
 use Rattle.std.specs.Prelude.{◌≡◌, ℕ, suc, ◌≤◌, List, [], ◌∷◌, ◌++◌, length, take, replicate, Option, Some, None, Result, Ok, Err}
 use Rattle.transport.specs.Devices.{rises}
 use Rattle.transport.specs.Wires.{Grows}
-use Rattle.control_lines.specs.declared.asking.Outcome.{Outcome}
-use Rattle.control_lines.specs.declared.asking.Outcome.TheVariants as outcome
+use Rattle.control_lines.specs.declared.asking.TellOutcome.{TellOutcome}
+use Rattle.control_lines.specs.declared.asking.TellOutcome.TheVariants as outcome
 use Rattle.control_lines.specs.declared.asking.SpeakerFault.{SpeakerFault}
 use Rattle.control_lines.specs.Lines.{IsYes}
 
 -- the exit status of the program
-abbrev pub status_of : Outcome → ℕ
+abbrev pub status_of : TellOutcome → ℕ
 status_of (outcome.Done n) = 0
 status_of (outcome.Refused n) = 1
 status_of outcome.Silent = 3
@@ -50,7 +50,7 @@ pub record Ends (line : List ℕ) (came : Came) (old new : SpeakerSeen) : Type 0
   pub turns : Grows old.turns new.turns (replicate vain (line, Ok None) ++ (line, came) ∷ [])
 
 -- the line was asked until an answer came, which stands in the room now, or the device failed, or five times in vain
-abbrev pub IsTold : List ℕ → Outcome → SpeakerSeen → SpeakerSeen → List ℕ → Type 0
+abbrev pub IsTold : List ℕ → TellOutcome → SpeakerSeen → SpeakerSeen → List ℕ → Type 0
 IsTold line (outcome.Done n) old new room = (n ≤ length room) × IsYes (take n room) × Ends line (Ok (Some (take n room))) old new
 IsTold line (outcome.Refused n) old new room = (n ≤ length room) × ¬ (IsYes (take n room)) × Ends line (Ok (Some (take n room))) old new
 IsTold line outcome.Silent old new room = IsSilent 5 line old new

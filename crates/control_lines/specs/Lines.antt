@@ -11,15 +11,15 @@ use Rattle.std.specs.Str.{byte}
 use Rattle.scripts.specs.declared.script.Control.{Control}
 use Rattle.scripts.specs.declared.script.Control.TheVariants as control
 use Rattle.scripts.specs.Script.{lf, IsControlLine}
-use Rattle.control_lines.specs.declared.answer.Answer.{Answer}
-use Rattle.control_lines.specs.declared.answer.Answer.TheVariants as answer
+use Rattle.control_lines.specs.declared.answer.ControlAnswer.{ControlAnswer}
+use Rattle.control_lines.specs.declared.answer.ControlAnswer.TheVariants as answer
 use Rattle.control_lines.specs.declared.line.Asked.{Asked}
 use Rattle.control_lines.specs.declared.line.Asked.TheVariants as asked
 use Rattle.control_lines.specs.Questions.{question_in}
 
 -- ---- answers
 
-abbrev pub answer_text : Answer → List ℕ
+abbrev pub answer_text : ControlAnswer → List ℕ
 answer_text answer.Done = codes "ok"
 answer_text answer.BadLine = codes "bad line"
 answer_text answer.UnknownMailbox = codes "unknown mailbox"
@@ -50,11 +50,11 @@ is_answer octets =
 abbrev pub IsNoLine : List ℕ → Type 0
 IsNoLine octets = (c : Control) → IsControlLine octets c → (n : ℕ) × (c ≡ control.Tick n)
 
--- what the bytes ask for. An answer asks for nothing
+-- what the bytes ask for. An answer asks for nothing, and neither that nor a CLOSE needs memory
 abbrev pub Asks : List ℕ → Asked → Type 0
 Asks octets (asked.Change c) = IsControlLine octets (control.Change c)
 Asks octets asked.Close = IsControlLine octets control.Close
 Asks octets (asked.Question q) = question_in octets ≡ Some q
 Asks octets asked.Nothing = is_answer octets ≡ true
 Asks octets asked.Bad = (is_answer octets ≡ false) × (question_in octets ≡ None) × IsNoLine octets
-Asks octets asked.NoMemory = Unit {0}
+Asks octets asked.NoMemory = (is_answer octets ≡ false) × ¬ (IsControlLine octets control.Close)

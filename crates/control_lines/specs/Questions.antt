@@ -6,7 +6,7 @@
 --            / "WATCHERS" [SP (mailbox / "*") [SP place]]   ; `*` stands for all mailboxes, a place is decimal, below 2^64
 --
 -- A LF may follow. The mailbox of SHOW and DUMP goes to the end of the line.
-use Rattle.std.specs.Prelude.{ℕ, List, Option, Some, None, codes, bytes_eq, if◌then◌else◌}
+use Rattle.std.specs.Prelude.{◌≡◌, ℕ, List, Option, Some, None, codes, bytes_eq, if◌then◌else◌}
 use Rattle.std.specs.Str.{byte}
 use Rattle.sip_text.specs.Reading.{◌>>=◌, cut_at, text_of, plain_number}
 use Rattle.scripts.specs.Lines.{bare_line}
@@ -43,6 +43,10 @@ question_of line =
     else if bytes_eq line (codes "DUMP") then Some (question.Dump None)
     else if bytes_eq line (codes "WATCHERS") then Some (question.Watchers None 0)
     else (cut_at (byte " ") line >>= λ cut. named cut.0 cut.1)
+
+-- a line of one word, which has no space
+abbrev pub IsOneWord : List ℕ → Type 0
+IsOneWord line = cut_at (byte " ") line ≡ None
 
 -- the question that these bytes ask, if they ask one
 unfoldable pub question_in : List ℕ → Option Question

@@ -1,6 +1,6 @@
 -- What a service was told of its mailboxes, by MAIL lines: a row for each, in order.
 use Rattle.std.specs.Prelude.{◌≡◌, ℕ, Bool, List, [], ◌∷◌, ◌++◌, map, Option, position, if◌then◌else◌, bytes_eq, string_bytes, String}
-use Rattle.std.specs.List.{list_any, AllByRecursion}
+use Rattle.std.specs.List.{fold, list_any, AllByRecursion}
 use Rattle.std.specs.declared.alloc.Global.{Global}
 use Rattle.package.specs.declared.counts.MailCounts.{MailCounts}
 use Rattle.package.specs.Values.{MailChange}
@@ -31,6 +31,10 @@ with_row name counts (row ∷ rows) = if bytes_eq name row.0 then (row.0, counts
 -- with this mailbox behind the others, unless it is one of them
 abbrev pub with_name : List ℕ → List Row → List Row
 with_name name rows = if has name rows then rows else rows ++ (name, unset) ∷ []
+
+-- these mailboxes, each once, where it comes first, none of them told of any class
+abbrev pub untold : List (List ℕ) → List Row
+untold names = fold (λ (rows : List Row) name. with_name name rows) [] names
 
 abbrev pub is_held : List (List ℕ) → List ℕ → Bool
 is_held names name = list_any (λ held. bytes_eq name held) names

@@ -5,7 +5,7 @@ ghost use Rattle.control_lines.specs.Lines.{answer_text, IsYes};
 
 /// What a service answers to a control line, but for what a question is told.
 #[derive(Clone, Copy, Debug, PartialEq, Eq, Drop)]
-pub enum Answer {
+pub enum ControlAnswer {
     /// The event is in its worker's inbox, or, of a CLOSE, the service closes.
     Done,
     /// The line is none that a service takes.
@@ -20,18 +20,18 @@ pub enum Answer {
     Busy,
 }
 
-impl Answer {
+impl ControlAnswer {
     /// As it is sent.
     pub fn text(self) -> &'static str
         ensures { result.now ≡ answer_text self }
     {
         match self {
-            Answer::Done => "ok",
-            Answer::BadLine => "bad line",
-            Answer::UnknownMailbox => "unknown mailbox",
-            Answer::Closed => "closed",
-            Answer::NoMemory => "out of memory",
-            Answer::Busy => "busy",
+            ControlAnswer::Done => "ok",
+            ControlAnswer::BadLine => "bad line",
+            ControlAnswer::UnknownMailbox => "unknown mailbox",
+            ControlAnswer::Closed => "closed",
+            ControlAnswer::NoMemory => "out of memory",
+            ControlAnswer::Busy => "busy",
         }
     }
 }

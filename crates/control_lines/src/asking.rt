@@ -40,7 +40,7 @@ pub trait Speaker {
 
 /// What came of a line.
 #[derive(Clone, Copy, Debug, PartialEq, Eq)]
-pub enum Outcome {
+pub enum TellOutcome {
     /// The answer, of so many bytes, says that all went well.
     Done(usize),
     /// The answer, of so many bytes, says something else.
@@ -51,15 +51,15 @@ pub enum Outcome {
     Fault,
 }
 
-impl Outcome {
+impl TellOutcome {
     /// The exit status of `notifyd tell`.
     pub fn status(self) -> u8
         ensures { result ≡ status_of self }
     {
         match self {
-            Outcome::Done(_) => 0,
-            Outcome::Refused(_) => 1,
-            Outcome::Silent | Outcome::Fault => 3,
+            TellOutcome::Done(_) => 0,
+            TellOutcome::Refused(_) => 1,
+            TellOutcome::Silent | TellOutcome::Fault => 3,
         }
     }
 }
@@ -70,18 +70,18 @@ pub fn tell_line<R: Wait, S: Speaker>(
     speaker: &mut S,
     line: &[u8],
     room: &mut [u8],
-) -> Outcome
+) -> TellOutcome
     ensures { IsTold line.now result
         (record { asked = S.asked speaker.old; turns = S.turns speaker.old })
         (record { asked = S.asked speaker.new; turns = S.turns speaker.new }) room.new }
 {
     for _try in 0..TRIES {
         match speaker.ask(rt, line, room) {
-            Ok(Some(length)) if is_yes(&room[..length]) => return Outcome::Done(length),
-            Ok(Some(length)) => return Outcome::Refused(length),
+            Ok(Some(length)) if is_yes(&room[..length]) => return TellOutcome::Done(length),
+            Ok(Some(length)) => return TellOutcome::Refused(length),
             Ok(None) => {}
-            Err(_) => return Outcome::Fault,
+            Err(_) => return TellOutcome::Fault,
         }
     }
-    Outcome::Silent
+    TellOutcome::Silent
 }

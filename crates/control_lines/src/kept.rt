@@ -1,11 +1,11 @@
 //! The answers to the last lines with a token, so that a line that comes again is answered again and not done again.
-ghost use Rattle.std.specs.Prelude.{◌≡◌, ℕ, ◌<◌, ◌≤◌, ◌^◌, ◌-◌, [], take, find, option_map, IfOk, OnOk, OnErr, Some, true, ◌↔◌};
+ghost use Rattle.std.specs.Prelude.{◌≡◌, ℕ, ◌<◌, ◌≤◌, ◌^◌, ◌-◌, [], take, find, option_map, IfOk, IsOk, OnOk, OnErr, None, Some, true, ◌↔◌};
 ghost use Rattle.indexmap.specs.IndexMap.{spare};
 ghost use Rattle.circular_buffer.specs.Buffer.{buffer};
 ghost use Rattle.control_lines.specs.Kept as spec;
 ghost use Rattle.control_lines.specs.Slots as slots;
 
-use crate::answer::Answer;
+use crate::answer::ControlAnswer;
 use crate::token::Token;
 use circular_buffer::HeapCircularBuffer;
 use indexmap::IndexMap;
@@ -15,9 +15,9 @@ use std::marker::Model;
 
 /// The answer to a line with this token.
 #[derive(Clone, Copy, Debug, Drop)]
-pub struct Kept {
+pub struct AnsweredLine {
     pub token: u64,
-    pub answer: Answer,
+    pub answer: ControlAnswer,
 }
 
 /// The slot after this one.
@@ -43,21 +43,21 @@ fn place(room: usize, newest: usize, slot: usize) -> usize
 
 /// The answers that are kept, newest first, each found by its token through a map. When there is no room the oldest goes.
 #[derive(Drop)]
-pub struct KeptAnswers {
+pub struct AnsweredLines {
     /// Newest first.
-    ring: HeapCircularBuffer<Kept>,
+    ring: HeapCircularBuffer<AnsweredLine>,
     /// The slot of the newest answer to each token.
     slots: IndexMap<u64, usize>,
     /// The slot of the newest answer of all.
     newest: usize,
 }
 
-impl Model for KeptAnswers {
+impl Model for AnsweredLines {
     ghost use Rattle.circular_buffer.specs.Buffer.{Buffer};
-    ghost use Rattle.control_lines.specs.declared.kept.Kept.{Kept};
+    ghost use Rattle.control_lines.specs.declared.kept.AnsweredLine.{AnsweredLine};
     ghost use Rattle.control_lines.specs.Slots.{IsIndexed};
 
-    ghost Value = { Buffer Kept };
+    ghost Value = { Buffer AnsweredLine };
 
     ghost view = { λ k. k.ring };
 
@@ -75,7 +75,11 @@ fn leads_to(index: &IndexMap<u64, usize>, token: u64, slot: usize) -> bool
 }
 
 /// Lets the oldest answer go, if there is no room.
-fn make_room(ring: &mut HeapCircularBuffer<Kept>, index: &mut IndexMap<u64, usize>, newest: usize)
+fn make_room(
+    ring: &mut HeapCircularBuffer<AnsweredLine>,
+    index: &mut IndexMap<u64, usize>,
+    newest: usize,
+)
     requires { slots.IsIndexed ring.old index.old newest }
     ensures ring { ring.new ≡ buffer (take (ring.old.capacity - 1) ring.old.items) ring.old.capacity }
     ensures indexed { slots.IsIndexed ring.new index.new newest }
@@ -94,14 +98,14 @@ fn make_room(ring: &mut HeapCircularBuffer<Kept>, index: &mut IndexMap<u64, usiz
     }
 }
 
-impl KeptAnswers {
+impl AnsweredLines {
     /// Keeps nothing, and has room for so many answers.
-    pub fn with_room(alloc: Global, room: usize) -> Result<KeptAnswers, NoMemory>
+    pub fn with_room(alloc: Global, room: usize) -> Result<AnsweredLines, NoMemory>
         requires { 0 < room }
         ensures { IfOk result (λ kept. kept ≡ buffer [] room) }
     {
         let ring = HeapCircularBuffer::with_capacity(alloc, room)?;
-        Ok(KeptAnswers {
+        Ok(AnsweredLines {
             ring,
             slots: IndexMap::new(alloc),
             newest: 0,
@@ -109,7 +113,7 @@ impl KeptAnswers {
     }
 
     /// The newest answer to this token.
-    fn newest_answer(&self, token: u64) -> Option<&Kept>
+    fn newest_answer(&self, token: u64) -> Option<&AnsweredLine>
         ensures { option_map (λ kept. kept.now) result ≡ find (slots.answers token) self.now.items }
     {
         let slot = *self.slots.get(&token)?;
@@ -118,7 +122,7 @@ impl KeptAnswers {
     }
 
     /// The kept answer to a line with this token, if it has one.
-    pub fn answer_to(&self, token: Option<Token>) -> Option<Answer>
+    pub fn answer_to(&self, token: Option<Token>) -> Option<ControlAnswer>
         ensures { result ≡ spec.kept_answer self.now.items token }
     {
         match token {
@@ -131,7 +135,7 @@ impl KeptAnswers {
     }
 
     /// Keeps an answer to a line with this token. The oldest goes when there is no room.
-    fn insert(&mut self, token: u64, answer: Answer) -> Result<(), NoMemory>
+    fn insert(&mut self, token: u64, answer: ControlAnswer) -> Result<(), NoMemory>
         ensures kept { OnOk result (self.new ≡ slots.with_newest self.old (record { token = token; answer = answer })) }
         ensures unchanged { OnErr result (self.new ≡ self.old) }
     {
@@ -142,14 +146,15 @@ impl KeptAnswers {
             unreachable!()
         };
         self.newest = slot;
-        self.ring.push_front(Kept { token, answer });
+        self.ring.push_front(AnsweredLine { token, answer });
         Ok(())
     }
 
     /// Keeps an answer to a line with this token, if it has one. The oldest goes when there is no room.
-    pub fn keep(&mut self, token: Option<Token>, answer: Answer) -> Result<(), NoMemory>
+    pub fn keep(&mut self, token: Option<Token>, answer: ControlAnswer) -> Result<(), NoMemory>
         ensures kept { OnOk result (self.new ≡ spec.with_answer self.old token answer) }
         ensures unchanged { OnErr result (self.new ≡ self.old) }
+        ensures tokenless { token ≡ None → IsOk result }
     {
         match token {
             None => Ok(()),

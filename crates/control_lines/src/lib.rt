@@ -1,8 +1,8 @@
 //! What is said between a running service and who tells it what happened, one datagram each way.
 //!
 //! The service cuts the [`Token`] before a control line off with [`cut_token`], reads the line with [`hear_line`], and answers with
-//! an [`Answer`] or with what the line asks. `notifyd tell` sends one with
-//! [`tell_line`], again while nobody answers, and its exit status is that of the [`Outcome`].
+//! a [`ControlAnswer`] or with what the line asks. `notifyd tell` sends one with
+//! [`tell_line`], again while nobody answers, and its exit status is that of the [`TellOutcome`].
 //!
 //! [`ToldCounts`] holds the service's mailboxes, in order, each with the counts that a MAIL line told last. It finds one by its name
 //! in the same time however many there are, and tells the counts as MAIL lines, of one mailbox or of all, page by page.
@@ -22,9 +22,9 @@ mod token;
 mod told;
 mod udp;
 
-pub use answer::{Answer, is_answer};
-pub use asking::{Outcome, Speaker, SpeakerFault, TRIES, tell_line};
-pub use kept::{Kept, KeptAnswers};
+pub use answer::{ControlAnswer, is_answer};
+pub use asking::{Speaker, SpeakerFault, TRIES, TellOutcome, tell_line};
+pub use kept::{AnsweredLine, AnsweredLines};
 pub use line::{Asked, hear_line};
 pub use pages::{dump_page, show_page};
 pub use question::Question;

@@ -27,7 +27,7 @@ pub enum Asked {
 }
 
 /// The line of a script that the bytes are, where they are no answer and ask no question.
-#[tactic(auto, using(crate::proofs::Lines::tick_no_line, crate::proofs::Lines::none_no_line))]
+#[tactic(auto, using(crate::proofs::Lines::tick_no_line, crate::proofs::Lines::none_no_line, crate::proofs::Lines::no_memory_no_close))]
 fn hear_control(alloc: Global, octets: &[u8]) -> Asked
     requires no_answer { is_answer octets.now ≡ false }
     requires no_question { question_in octets.now ≡ None }
@@ -43,7 +43,7 @@ fn hear_control(alloc: Global, octets: &[u8]) -> Asked
     }
 }
 
-/// What the bytes of a datagram ask for.
+/// What the bytes of a datagram ask for. Without memory, too, an answer asks for nothing, and a CLOSE closes.
 pub fn hear_line(alloc: Global, octets: &[u8]) -> Asked
     ensures { Asks octets.now result }
 {

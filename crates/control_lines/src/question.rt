@@ -1,5 +1,6 @@
 //! What a control line asks to be told.
-ghost use Rattle.std.specs.Prelude.{◌≡◌};
+ghost use Rattle.std.specs.Prelude.{◌≡◌, ℕ, List, IsOk, Some};
+ghost use Rattle.scripts.specs.Lines as lines;
 ghost use Rattle.sip_text.specs.Bytes.{Gives};
 ghost use Rattle.control_lines.specs.Questions as spec;
 
@@ -69,10 +70,11 @@ fn named(alloc: Global, name: &[u8], rest: &[u8]) -> Result<Option<Question>, No
     Ok(None)
 }
 
-/// The question that a line without its LF asks, if it asks one.
+/// The question that a line without its LF asks, if it asks one. One word needs no memory.
 #[tactic(auto, unfolding(crate::specs::Questions::question_of))]
 fn whole_question(alloc: Global, line: &[u8]) -> Result<Option<Question>, NoMemory>
-    ensures { Gives (λ x. x) result (spec.question_of line.now) }
+    ensures read { Gives (λ x. x) result (spec.question_of line.now) }
+    ensures alone { spec.IsOneWord line.now → IsOk result }
 {
     if line == b"STATUS".as_slice() {
         return Ok(Some(Question::Status));
@@ -92,7 +94,8 @@ fn whole_question(alloc: Global, line: &[u8]) -> Result<Option<Question>, NoMemo
 /// The question that these bytes ask, with a LF at the end or without.
 #[tactic(auto, unfolding(crate::specs::Questions::question_in))]
 pub(crate) fn parse_question(alloc: Global, octets: &[u8]) -> Result<Option<Question>, NoMemory>
-    ensures { Gives (λ x. x) result (spec.question_in octets.now) }
+    ensures read { Gives (λ x. x) result (spec.question_in octets.now) }
+    ensures alone { (line : List ℕ) → lines.bare_line octets.now ≡ Some line → spec.IsOneWord line → IsOk result }
 {
     match bare_line(octets) {
         Some(line) => whole_question(alloc, line),

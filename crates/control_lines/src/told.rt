@@ -68,9 +68,10 @@ fn add(mailboxes: &mut IndexMap<String, MailCounts>, name: String) -> Result<(),
 }
 
 impl ToldCounts {
-    /// These mailboxes, each once, none of them told of any class.
+    /// These mailboxes, each once, in order, none of them told of any class.
     pub fn new(alloc: Global, names: &[Text]) -> Result<ToldCounts, NoMemory>
-        ensures { IfOk result (AreUntold names.now) }
+        ensures are { IfOk result (AreUntold names.now) }
+        ensures order { IfOk result (λ told. told ≡ spec.untold names.now) }
     {
         let mut mailboxes = IndexMap::with_capacity(alloc, names.len())?;
         for name in names {

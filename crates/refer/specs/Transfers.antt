@@ -7,7 +7,7 @@ use Rattle.package.specs.declared.change.Outcome.{Outcome}
 use Rattle.package.specs.declared.change.Outcome.TheVariants.{Unknown}
 use Rattle.package.specs.Content.{finite_maps, Content, OfStatus, Contents, held, Seen, refer_package}
 use Rattle.package.specs.Changes.{begin_at, step_at, forget_at}
-use Rattle.refer.specs.declared.status.Status.{Status}
+use Rattle.refer.specs.declared.status.TransferStatus.{TransferStatus}
 
 -- RFC 3515 section 3.5
 abbrev pub refer_type : List ℕ
@@ -17,7 +17,7 @@ refer_type = codes "message/sipfrag;version=2.0"
 abbrev pub new_transfers : Seen
 new_transfers = record { name = refer_package; content_type = refer_type; contents = empty }
 
-abbrev pub content_of : Status → Content
+abbrev pub content_of : TransferStatus → Content
 content_of status = OfStatus status.code status.reason
 
 -- what a change makes of transfers. A mail change is for another package

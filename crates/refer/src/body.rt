@@ -2,7 +2,7 @@
 ghost use Rattle.std.specs.Prelude.{◌≡◌, IfOk, string_bytes};
 ghost use Rattle.package.specs.Bodies.{status_body};
 
-use crate::status::Status;
+use crate::status::TransferStatus;
 use sip_text::NoMemory;
 use std::alloc::Global;
 
@@ -10,7 +10,7 @@ use std::alloc::Global;
 const ROOM: usize = 14;
 
 /// The status line that tells how far a transfer has come.
-pub fn write_body(alloc: Global, status: &Status) -> Result<String, NoMemory>
+pub fn write_body(alloc: Global, status: &TransferStatus) -> Result<String, NoMemory>
     ensures { IfOk result (λ text. string_bytes text ≡ status_body status.now.code status.now.reason) }
 {
     let code = status.code;

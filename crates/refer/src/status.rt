@@ -8,27 +8,27 @@ use std::alloc::Global;
 
 /// The status that a body tells.
 #[derive(Debug, Drop)]
-pub struct Status {
+pub struct TransferStatus {
     /// 100 to 699.
     pub code: u16,
     pub reason: Text,
 }
 
-impl Status {
+impl TransferStatus {
     /// The status that a transfer begins with.
-    pub fn trying(alloc: Global) -> Result<Status, NoMemory>
+    pub fn trying(alloc: Global) -> Result<TransferStatus, NoMemory>
         ensures { IfOk result (λ status. status ≡ record { code = 100; reason = codes "Trying" }) }
     {
         let reason = Text::of(alloc, "Trying")?;
-        Ok(Status { code: 100, reason })
+        Ok(TransferStatus { code: 100, reason })
     }
 
     /// The status that a progress tells.
-    pub fn told(alloc: Global, progress: &Progress) -> Result<Status, NoMemory>
+    pub fn told(alloc: Global, progress: &Progress) -> Result<TransferStatus, NoMemory>
         ensures { IfOk result (λ status. status ≡ record { code = progress.now.code; reason = progress.now.reason }) }
     {
         let reason = Text::of(alloc, progress.reason())?;
-        Ok(Status {
+        Ok(TransferStatus {
             code: progress.code(),
             reason,
         })

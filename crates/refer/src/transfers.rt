@@ -7,7 +7,7 @@ ghost use Rattle.package.specs.Closings.{counted, new_ending};
 ghost use Rattle.refer.specs.Transfers.{refer_type, new_transfers, content_of, transfer_change};
 
 use crate::body::write_body;
-use crate::status::Status;
+use crate::status::TransferStatus;
 use indexmap::IndexMap;
 use package::{Change, ClosingCell, Ending, Outcome, Package, Progress};
 use sip_text::{NoMemory, Text};
@@ -16,7 +16,7 @@ use std::sync::Arc;
 
 /// Transfers and how far they have come: the package `refer`.
 pub struct Transfers {
-    transfers: IndexMap<String, Status>,
+    transfers: IndexMap<String, TransferStatus>,
     ending: Ending,
 }
 
@@ -58,7 +58,7 @@ impl Transfers {
 /// Holds a transfer from now on, unless it is held.
 fn begin(
     alloc: Global,
-    transfers: &mut IndexMap<String, Status>,
+    transfers: &mut IndexMap<String, TransferStatus>,
     tag: &Text,
 ) -> Result<Outcome, NoMemory>
     ensures ok { let before = contents_of content_of transfers.old.entries in
@@ -73,13 +73,13 @@ fn begin(
         return Ok(Outcome::Same);
     }
     let key = String::from_str(alloc, name)?;
-    let status = Status::trying(alloc)?;
+    let status = TransferStatus::trying(alloc)?;
     transfers.insert(key, status)?;
     Ok(Outcome::Changed)
 }
 
 /// Puts a status in the place of that of a transfer that is held.
-fn replace(transfers: &mut IndexMap<String, Status>, tag: &str, status: Status)
+fn replace(transfers: &mut IndexMap<String, TransferStatus>, tag: &str, status: TransferStatus)
     requires { IsSome (get_by_text transfers.old tag.now) }
     ensures { contents_of content_of transfers.new.entries
         ≡ with_held (contents_of content_of transfers.old.entries) tag.now (content_of status) }
@@ -92,7 +92,7 @@ fn replace(transfers: &mut IndexMap<String, Status>, tag: &str, status: Status)
 /// Takes a transfer to the status of this progress, unless it has it or a final one.
 fn step(
     alloc: Global,
-    transfers: &mut IndexMap<String, Status>,
+    transfers: &mut IndexMap<String, TransferStatus>,
     progress: &Progress,
 ) -> Result<Outcome, NoMemory>
     ensures ok { let before = contents_of content_of transfers.old.entries in
@@ -109,13 +109,13 @@ fn step(
     if status.outlasts(progress) {
         return Ok(Outcome::Same);
     }
-    let next = Status::told(alloc, progress)?;
+    let next = TransferStatus::told(alloc, progress)?;
     replace(transfers, tag, next);
     Ok(Outcome::Changed)
 }
 
 /// Lets a transfer go.
-fn forget(transfers: &mut IndexMap<String, Status>, tag: &Text) -> Outcome
+fn forget(transfers: &mut IndexMap<String, TransferStatus>, tag: &Text) -> Outcome
     ensures { let before = contents_of content_of transfers.old.entries in
         (result, contents_of content_of transfers.new.entries)
         ≡ forget_at finite_maps before tag.now (held before tag.now) }

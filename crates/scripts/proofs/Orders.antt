@@ -74,6 +74,10 @@ pub control_again : (t : List ℕ) (c : Control) → IsControlLine t c → contr
 unfolding control_of
 control_again t c h = rw (line_again t (control_text c) (line_lacks c h.is_control) h.whole, order_again c h.is_control) refl
 
+-- the line of a CLOSE is that word
+pub close_bare : (t : List ℕ) → IsControlLine t control.Close → bare_line t ≡ Some (codes "CLOSE")
+close_bare t h = line_again t (codes "CLOSE") (line_lacks control.Close h.is_control) h.whole
+
 -- ---- from what the function on lists gives to what is answered
 
 pub found_is : {X Y : Type 0} (view : X → Y) (r : Result X ScriptError) (o : Option Y) (P : Y → Type 0) → Gives view r o → ((y : Y) → o ≡ Some y → P y) → IfOk r (λ x. P (view x))

@@ -144,7 +144,7 @@ control_of t = do
 
 -- ---- what code returns
 
--- the only error but want of memory is a bad script
+-- but out of memory the only error is a bad script
 abbrev pub Fails : {Y : Type 0} → ScriptError → Option Y → Type 0
 Fails error.NoMemory read = Unit {0}
 Fails error.BadScript read = read ≡ None

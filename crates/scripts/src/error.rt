@@ -16,13 +16,13 @@ pub enum ScriptError {
     /// A read, a write or a flush failed, or a write took no byte: a closed pipe, a full disk. Of a crew also: a thread was refused.
     #[error("device fault")]
     Device,
-    /// A growth was refused: there is no memory.
+    /// An allocation failed: out of memory.
     #[error("out of memory")]
     NoMemory,
 }
 
 impl ScriptError {
-    /// The number by which the error is known outside: 1 for a bad script, 2 for a device, 3 for want of memory.
+    /// The number by which the error is known outside: 1 for a bad script, 2 for a device, 3 for out of memory.
     pub fn number(self) -> u8
         ensures { result ≡ number_of_error self }
     {

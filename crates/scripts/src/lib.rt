@@ -4,7 +4,7 @@
 //! gathers what is to be printed, and [`write_page`] writes it. [`parse_control`] reads one line for a server that runs.
 //!
 //! Begin with [`Block`] and the grammar in `specs/Script`. Each block has one text, and a script is those texts joined: what is
-//! answered is so, and what is so is answered, want of memory apart; by [`one_reading`] no bytes are a script in two ways. A
+//! answered is so, and what is so is answered, unless memory runs out; by [`one_reading`] no bytes are a script in two ways. A
 //! [`ScriptError::Device`] comes only where a read, a write or a flush failed in that call; `transport` counts these.
 #![tactic(auto)]
 

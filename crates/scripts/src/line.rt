@@ -1,5 +1,5 @@
 //! The words of a line.
-ghost use Rattle.std.specs.Prelude.{◌≡◌, string_bytes};
+ghost use Rattle.std.specs.Prelude.{◌≡◌, string_bytes, codes, Ok, Some};
 ghost use Rattle.sip_text.specs.Bytes.{Finds};
 ghost use Rattle.scripts.specs.Reading.{Gives, class_of, count_at, counts_of, mail_words, mail_at, progress_words, progress_at, named_at, order_of, control_of};
 ghost use Rattle.scripts.specs.Lines as spec;
@@ -174,10 +174,11 @@ pub fn bare_line(bytes: &[u8]) -> Option<&[u8]>
     }
 }
 
-/// A control line without its LF.
+/// A control line without its LF. A CLOSE needs no memory.
 #[tactic(auto, unfolding(crate::specs::Reading::order_of))]
 fn bare_control(alloc: Global, line: &[u8]) -> Result<Control, ScriptError>
-    ensures { Gives (λ x. x) result (order_of line.now) }
+    ensures read { Gives (λ x. x) result (order_of line.now) }
+    ensures close { line.now ≡ codes "CLOSE" → result ≡ Ok Control.Close }
 {
     if line == b"CLOSE".as_slice() {
         return Ok(Control::Close);
@@ -190,7 +191,8 @@ fn bare_control(alloc: Global, line: &[u8]) -> Result<Control, ScriptError>
 
 #[tactic(auto, unfolding(crate::specs::Reading::control_of))]
 pub fn control_line(alloc: Global, bytes: &[u8]) -> Result<Control, ScriptError>
-    ensures { Gives (λ x. x) result (control_of bytes.now) }
+    ensures read { Gives (λ x. x) result (control_of bytes.now) }
+    ensures close { spec.bare_line bytes.now ≡ Some (codes "CLOSE") → result ≡ Ok Control.Close }
 {
     let Some(line) = bare_line(bytes) else {
         return Err(ScriptError::BadScript);

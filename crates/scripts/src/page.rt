@@ -37,8 +37,8 @@ impl Page {
         self.bytes.as_slice()
     }
 
-    /// Appends a SIP block that can't be read: its number among the SIP blocks, from 1, and the number of the error. After
-    /// want of memory the page is as it was.
+    /// Appends a SIP block that can't be read: its number among the SIP blocks, from 1, and the number of the error. Where
+    /// memory runs out the page is as it was.
     pub fn unread(&mut self, alloc: Global, number: u64, error: u8) -> Result<(), NoMemory>
         ensures ok { OnOk result (self.new ≡ self.old ++ unread_text number error) }
         ensures err { OnErr result (self.new ≡ self.old) }
@@ -48,7 +48,7 @@ impl Page {
         Ok(())
     }
 
-    /// Appends a worker that ended: how many events it handled, and how many outs it made. After want of memory the page is
+    /// Appends a worker that ended: how many events it handled, and how many outs it made. Where memory runs out the page is
     /// as it was.
     pub fn worker(
         &mut self,
@@ -65,7 +65,7 @@ impl Page {
         Ok(())
     }
 
-    /// Appends an answer to a request, and where it goes. After want of memory the page is as it was.
+    /// Appends an answer to a request, and where it goes. Where memory runs out the page is as it was.
     pub fn answer(&mut self, alloc: Global, addr: Addr, octets: &[u8]) -> Result<(), NoMemory>
         ensures ok { OnOk result (self.new ≡ self.old ++ answer_text addr octets.now) }
         ensures err { OnErr result (self.new ≡ self.old) }
@@ -76,7 +76,7 @@ impl Page {
         self.add(head.as_str(), octets)
     }
 
-    /// Appends a NOTIFY: its local tag, its number, and where it goes. After want of memory the page is as it was.
+    /// Appends a NOTIFY: its local tag, its number, and where it goes. Where memory runs out the page is as it was.
     pub fn notify(
         &mut self,
         alloc: Global,
@@ -94,7 +94,7 @@ impl Page {
         self.add(head.as_str(), octets)
     }
 
-    /// Appends a transfer that begins: its tag, and the address that it goes to. After want of memory the page is as it was.
+    /// Appends a transfer that begins: its tag, and the address that it goes to. Where memory runs out the page is as it was.
     pub fn start(&mut self, alloc: Global, tag: &str, refer_to: &str) -> Result<(), NoMemory>
         ensures ok { OnOk result (self.new ≡ self.old ++ start_text tag.now refer_to.now) }
         ensures err { OnErr result (self.new ≡ self.old) }

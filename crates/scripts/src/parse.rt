@@ -1,5 +1,6 @@
 //! Reads scripts and control lines.
-ghost use Rattle.std.specs.Prelude.{◌≢◌, ℕ, List, IfOk, IfErr};
+ghost use Rattle.std.specs.Prelude.{◌≡◌, ◌≢◌, ℕ, List, IfOk, IfErr, Ok};
+ghost use Rattle.scripts.specs.declared.script.Control.TheVariants as control;
 ghost use Rattle.scripts.specs.declared.script.Block.{Block};
 ghost use Rattle.scripts.specs.declared.script.Control.{Control};
 ghost use Rattle.scripts.specs.Script.{IsScript, IsControlLine, Answers, IsExactScript, IsExactControlLine};
@@ -25,6 +26,8 @@ pub fn parse_script(alloc: Global, bytes: &[u8]) -> Result<Vec<Block>, ScriptErr
 pub fn parse_control(alloc: Global, bytes: &[u8]) -> Result<Control, ScriptError>
     ensures found { IfOk result (IsControlLine bytes.now) }
     ensures only { (c : Control) → IsControlLine bytes.now c → Answers (λ x. x) result c }
+    // A CLOSE needs no memory.
+    ensures close { IsControlLine bytes.now control.Close → result ≡ Ok control.Close }
     ensures no_device { IfErr result (λ e. e ≢ ScriptError.Device) }
 {
     control_line(alloc, bytes)

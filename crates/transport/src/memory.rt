@@ -18,7 +18,7 @@ const NONE_LEFT: u32 = 9;
 const NO_ROOM: u32 = 105;
 
 /// A wire in memory, which tells what it gave and took. It gives the datagrams that it was made with, in order, and fails where
-/// none is left, or memory is wanting; a receive and a send can be set to fail, and a receive in time to give nothing yet.
+/// none is left, or memory runs out; a receive and a send can be set to fail, and a receive in time to give nothing yet.
 #[derive(Drop)]
 pub struct MemoryWire {
     alloc: Global,
@@ -166,44 +166,6 @@ impl MemoryWire {
     {
         self.row = 0;
     }
-
-    /// Keeps a copy of what it gives.
-    fn give(&mut self, peer: Addr, octets: &[u8]) -> Result<(), NoMemory>
-        ensures given { MatchResult result
-            (λ _. self.new.given.items ≡ self.old.given.items ++ datagram peer octets.now ∷ [])
-            (λ _. self.new.given.items ≡ self.old.given.items) }
-        ensures taken { self.new.taken ≡ self.old.taken }
-        ensures failures { self.new.failures ≡ self.old.failures }
-        ensures row { self.new.row ≡ self.old.row }
-        ensures most { self.new.most ≡ self.old.most }
-        ensures lost { self.new.is_lost ≡ self.old.is_lost }
-    {
-        let copy = Vec::from_slice(self.alloc, octets)?;
-        self.given.push(Datagram {
-            peer,
-            octets: Octets::new(copy),
-        })?;
-        Ok(())
-    }
-
-    /// Keeps a copy of what it takes.
-    fn take(&mut self, peer: Addr, octets: &[u8]) -> Result<(), NoMemory>
-        ensures taken { MatchResult result
-            (λ _. self.new.taken.items ≡ self.old.taken.items ++ datagram peer octets.now ∷ [])
-            (λ _. self.new.taken.items ≡ self.old.taken.items) }
-        ensures given { self.new.given ≡ self.old.given }
-        ensures failures { self.new.failures ≡ self.old.failures }
-        ensures row { self.new.row ≡ self.old.row }
-        ensures most { self.new.most ≡ self.old.most }
-        ensures lost { self.new.is_lost ≡ self.old.is_lost }
-    {
-        let copy = Vec::from_slice(self.alloc, octets)?;
-        self.taken.push(Datagram {
-            peer,
-            octets: Octets::new(copy),
-        })?;
-        Ok(())
-    }
 }
 
 impl Wire for MemoryWire {
@@ -227,7 +189,7 @@ impl Wire for MemoryWire {
             return Err(self.fail());
         };
         let length = fill(octets, coming.as_slice());
-        match self.give(peer, &octets[..length]) {
+        match keep(self.alloc, &mut self.given, peer, &octets[..length]) {
             Ok(()) => Ok((length, peer)),
             Err(_) => Err(self.fail()),
         }
@@ -237,7 +199,7 @@ impl Wire for MemoryWire {
         if is_due(&mut self.sends) {
             return Err(self.fail());
         }
-        match self.take(to, octets) {
+        match keep(self.alloc, &mut self.taken, to, octets) {
             Ok(()) => Ok(()),
             Err(_) => Err(self.fail()),
         }
@@ -277,12 +239,26 @@ impl Ear for MemoryWire {
             return Err(self.miss(Some(NONE_LEFT)));
         };
         let length = fill(octets, coming.as_slice());
-        if self.give(peer, &octets[..length]).is_err() {
+        if keep(self.alloc, &mut self.given, peer, &octets[..length]).is_err() {
             return Err(self.miss(None));
         }
         self.hear();
         Ok(Some((length, peer)))
     }
+}
+
+/// Keeps a copy of a datagram as the last of these.
+fn keep(alloc: Global, kept: &mut Vec<Datagram>, peer: Addr, octets: &[u8]) -> Result<(), NoMemory>
+    ensures { MatchResult result
+        (λ _. kept.new.items ≡ kept.old.items ++ datagram peer octets.now ∷ [])
+        (λ _. kept.new.items ≡ kept.old.items) }
+{
+    let copy = Vec::from_slice(alloc, octets)?;
+    kept.push(Datagram {
+        peer,
+        octets: Octets::new(copy),
+    })?;
+    Ok(())
 }
 
 /// Copies as many bytes as there is room for, and tells how many.

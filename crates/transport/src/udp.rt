@@ -44,7 +44,7 @@ pub fn system_addr(addr: Addr) -> SocketAddr
 }
 
 /// The system's address as one of IPv4. A socket of IPv4 has no other.
-fn addr_of(addr: SocketAddr) -> Result<Addr, WireFault>
+fn ipv4_addr(addr: SocketAddr) -> Result<Addr, WireFault>
     ensures ip { IfOk result (λ own. IsV4And (socket_ip addr) (λ ip. ipv4_octets ip ≡ own.ip)) }
     ensures port { IfOk result (λ own. own.port ≡ socket_port addr) }
 {
@@ -65,11 +65,11 @@ impl From<io::Error> for WireFault {
 
 impl UdpWire {
     /// Two wires over one socket on 127.0.0.1, one to receive and one to send. Port 0 lets the machine choose a port. A
-    /// [`WireFault`] where the port is taken or may not be had, or memory is wanting.
+    /// [`WireFault`] where the port is taken or may not be had, or memory runs out.
     pub fn bind<R: Wait + Net>(rt: &R, port: u16) -> Result<(UdpWire, UdpWire), WireFault>
         ensures { IfOk result (λ r. IsNew (loopback port) r.0 r.1) }
     {
-        UdpWire::bind_at(
+        UdpWire::bind_addr(
             rt,
             Addr {
                 ip: [127, 0, 0, 1],
@@ -79,7 +79,7 @@ impl UdpWire {
     }
 
     /// The same on any address of this machine. 0.0.0.0 is all of them.
-    pub fn bind_at<R: Wait + Net>(rt: &R, addr: Addr) -> Result<(UdpWire, UdpWire), WireFault>
+    pub fn bind_addr<R: Wait + Net>(rt: &R, addr: Addr) -> Result<(UdpWire, UdpWire), WireFault>
         ensures { IfOk result (λ r. IsNew addr r.0 r.1) }
     {
         let socket = UdpSocket::bind(rt, system_addr(addr))?;
@@ -207,7 +207,7 @@ impl Wire for UdpWire {
         let Ok((length, source)) = self.socket.recv_from(octets) else {
             return Err(self.fail());
         };
-        match addr_of(source) {
+        match ipv4_addr(source) {
             Ok(source) => Ok((length, source)),
             Err(_) => Err(self.fail()),
         }
@@ -248,7 +248,7 @@ impl Ear for UdpWire {
         octets: &mut [u8],
     ) -> Result<Option<(usize, Addr)>, ReceiveFault> {
         match self.socket.recv_from(octets) {
-            Ok((length, source)) => match addr_of(source) {
+            Ok((length, source)) => match ipv4_addr(source) {
                 Ok(source) => {
                     self.hear();
                     Ok(Some((length, source)))

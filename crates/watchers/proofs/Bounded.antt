@@ -5,7 +5,7 @@ use Rattle.std.proofs.lemmas.Bool.{ltb-true, leb-true}
 use Rattle.std.proofs.lemmas.List.{length-append}
 use Rattle.watchers.specs.declared.page.TheConstants.{LINES, LOOKS, FULL, ROW}
 use Rattle.watchers.specs.Rows.{Row}
-use Rattle.watchers.specs.Pages.{Page, row_text, goes_on, asks_for, with_line, with_row, after_look, after_looks, beginning, page, IsBounded}
+use Rattle.watchers.specs.Pages.{Page, row_text, goes_on, is_wanted, with_line, with_row, after_look, after_looks, beginning, page, IsBounded}
 
 both : (a b c : Bool) → (a && (b && c)) ≡ true → (b ≡ true) × (c ≡ true)
 both true true true e = (refl, refl)
@@ -36,7 +36,7 @@ line_bounded line p r = at (nat_le (length line) ROW) refl where
 
 row_bounded : (mailbox : Option (List ℕ)) (o : Option Row) (p : Page) → HasRoom p → IsBounded (with_row mailbox o p)
 row_bounded mailbox None p r = as_is p r
-row_bounded mailbox (Some row) p r = at (asks_for mailbox row.1) where
+row_bounded mailbox (Some row) p r = at (is_wanted mailbox row.1) where
   at : (b : Bool) → IsBounded (cond b (with_line (row_text p.moment row.0 row.1) p) p)
   at true = line_bounded (row_text p.moment row.0 row.1) p r
   at false = as_is p r

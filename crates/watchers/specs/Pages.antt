@@ -5,10 +5,10 @@
 --
 -- `sent` and `answered` are numbers of NOTIFYs; `age` and `left` are seconds: since its first NOTIFY, and until it ends.
 -- The rows of a page go from the last of those that it may tell to the first.
-use Rattle.std.specs.Prelude.{◌≤◌, ℕ, zero, suc, ◌+◌, ◌-◌, ◌/◌, min, Bool, true, ◌&&◌, ◌==◌, nat_lt, nat_le, List, [], ◌++◌, length, slice_get, Option, Some, None, codes, decimal, bytes_eq, string_bytes, if◌then◌else◌}
+use Rattle.std.specs.Prelude.{◌≤◌, ℕ, zero, suc, ◌+◌, ◌-◌, ◌/◌, min, Bool, true, false, ◌&&◌, ◌==◌, nat_lt, nat_le, List, [], ◌++◌, length, slice_get, Option, Some, None, codes, decimal, bytes_eq, string_bytes, if◌then◌else◌}
 use Rattle.sip_text.specs.Addresses.{addr_text}
 use Rattle.watchers.specs.declared.row.Watcher.{Watcher}
-use Rattle.watchers.specs.declared.page.Page.{Page as Written}
+use Rattle.watchers.specs.declared.page.RowPage.{RowPage}
 use Rattle.watchers.specs.declared.page.TheConstants.{LINES, LOOKS, FULL, ROW}
 use Rattle.watchers.specs.Rows.{Row}
 
@@ -25,6 +25,13 @@ line tag w age left =
 abbrev pub row_text : ℕ → List ℕ → Watcher → List ℕ
 row_text moment tag w = line tag w (seconds w.since moment) (seconds moment w.until)
 
+-- both are the same mailbox, or none
+abbrev pub is_same : Option (List ℕ) → Option (List ℕ) → Bool
+is_same None None = true
+is_same None (Some other) = false
+is_same (Some one) None = false
+is_same (Some one) (Some other) = bytes_eq one other
+
 -- ---- a page, as far as it is written
 
 -- at which moment it tells, before which place rows are still to be looked at, and what it tells so far
@@ -34,7 +41,7 @@ pub record Page : Type 0 where
   pub lines : ℕ
   pub text : List ℕ
 
-abbrev pub page_in : Written → Page
+abbrev pub page_in : RowPage → Page
 page_in p = record { moment = p.moment; left = p.left; lines = p.lines; text = string_bytes p.text }
 
 -- it has room for one more row, and there is one to look at
@@ -42,9 +49,9 @@ abbrev pub goes_on : Page → Bool
 goes_on p = nat_lt 0 p.left && (nat_lt p.lines LINES && nat_lt (length p.text) FULL)
 
 -- the row is one of those that are asked for
-abbrev pub asks_for : Option (List ℕ) → Watcher → Bool
-asks_for None w = true
-asks_for (Some mailbox) w = bytes_eq w.mailbox mailbox
+abbrev pub is_wanted : Option (List ℕ) → Watcher → Bool
+is_wanted None w = true
+is_wanted (Some mailbox) w = bytes_eq w.mailbox mailbox
 
 -- a line more, unless it is too long
 abbrev pub with_line : List ℕ → Page → Page
@@ -52,7 +59,7 @@ with_line line p = if nat_le (length line) ROW then record p { lines = p.lines +
 
 abbrev pub with_row : Option (List ℕ) → Option Row → Page → Page
 with_row mailbox None p = p
-with_row mailbox (Some row) p = if asks_for mailbox row.1 then with_line (row_text p.moment row.0 row.1) p else p
+with_row mailbox (Some row) p = if is_wanted mailbox row.1 then with_line (row_text p.moment row.0 row.1) p else p
 
 -- one row more was looked at: the last of those that are left
 abbrev pub after_look : List Row → Option (List ℕ) → Page → Page

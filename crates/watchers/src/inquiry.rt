@@ -1,5 +1,6 @@
 //! Which rows are asked for.
-ghost use Rattle.std.specs.Prelude.{◌≡◌, true, IfOk};
+ghost use Rattle.std.specs.Prelude.{◌≡◌, ◌↔◌, IfOk, IsTrue};
+ghost use Rattle.watchers.specs.Pages.{is_same};
 
 use sip_text::{NoMemory, Text};
 use std::alloc::Global;
@@ -14,9 +15,8 @@ pub struct Inquiry {
 }
 
 /// Whether both are the same mailbox, or none.
-#[tactic(auto, using(crate::proofs::Same::same_text))]
 fn is_same(one: &Option<Text>, other: &Option<Text>) -> bool
-    ensures { result ≡ true → one.now ≡ other.now }
+    ensures { result ≡ is_same one.now other.now }
 {
     match one {
         Some(one) => match other {
@@ -43,8 +43,9 @@ impl Inquiry {
     }
 
     /// Whether it asks for the same rows as this one.
+    #[tactic(auto, using(crate::proofs::Same::same_inquiry))]
     pub fn is(&self, other: &Inquiry) -> bool
-        ensures { result ≡ true → self.now ≡ other.now }
+        ensures { IsTrue result ↔ (self.now ≡ other.now) }
     {
         self.place == other.place && is_same(&self.mailbox, &other.mailbox)
     }

@@ -23,7 +23,7 @@ pub const ROW: usize = 1000;
 /// A page, as far as it is written. It goes from the last row of those that it may tell to the first: so a row that lives all the time is
 /// told, though others go between two pages.
 #[derive(Drop)]
-struct Page {
+struct RowPage {
     /// At which moment it is told.
     moment: u64,
     /// The rows before this place are still to be looked at.
@@ -74,8 +74,8 @@ fn row_line(alloc: Global, moment: u64, tag: &str, row: &Watcher) -> Result<Stri
 }
 
 /// Whether a row is one of those that are asked for.
-fn asks_for(mailbox: &Option<Text>, row: &Watcher) -> bool
-    ensures { result ≡ spec.asks_for mailbox.now row.now }
+fn is_wanted(mailbox: &Option<Text>, row: &Watcher) -> bool
+    ensures { result ≡ spec.is_wanted mailbox.now row.now }
 {
     match mailbox {
         Some(mailbox) => row.mailbox.is(mailbox.as_str()),
@@ -83,7 +83,7 @@ fn asks_for(mailbox: &Option<Text>, row: &Watcher) -> bool
     }
 }
 
-impl Page {
+impl RowPage {
     /// Whether it has room for one more row, and there is one to look at.
     fn goes_on(&self) -> bool
         ensures { result ≡ spec.goes_on (spec.page_in self.now) }
@@ -121,7 +121,7 @@ impl Page {
         let Some((tag, row)) = watchers.get(self.left) else {
             return Ok(());
         };
-        if asks_for(mailbox, row) {
+        if is_wanted(mailbox, row) {
             self.tell(alloc, tag, row)?;
         }
         Ok(())
@@ -161,7 +161,7 @@ impl Watchers {
         ensures bounded { spec.IsBounded (spec.page now inquiry.now.mailbox inquiry.now.place self.now.rows) }
     {
         let alloc = self.alloc();
-        let mut page = Page {
+        let mut page = RowPage {
             moment: now,
             left: beginning(inquiry.place, self.len()),
             lines: 0,

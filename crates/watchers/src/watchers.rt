@@ -54,7 +54,7 @@ fn row_source(rows: &IndexMap<String, Watcher>, tag: &str) -> Option<u32>
 }
 
 /// A NOTIFY with this number went to this address, and tells that the subscription lasts until this moment.
-fn renew_in(rows: &mut IndexMap<String, Watcher>, tag: &str, number: u32, to: Addr, until: u64)
+fn renew_row(rows: &mut IndexMap<String, Watcher>, tag: &str, number: u32, to: Addr, until: u64)
     ensures renewed { rows_in rows.new.entries ≡ spec.changed tag.now (spec.renewed number to until) (rows_in rows.old.entries) }
     ensures sources { (k : ℕ) → rows_from (rows_in rows.new.entries) k ≡ rows_from (rows_in rows.old.entries) k }
 {
@@ -65,7 +65,7 @@ fn renew_in(rows: &mut IndexMap<String, Watcher>, tag: &str, number: u32, to: Ad
 }
 
 /// The NOTIFY with this number was answered, if it went out.
-fn answer_in(rows: &mut IndexMap<String, Watcher>, tag: &str, number: u32)
+fn mark_answered(rows: &mut IndexMap<String, Watcher>, tag: &str, number: u32)
     ensures answered { rows_in rows.new.entries ≡ (if not (spec.was_sent tag.now number (rows_in rows.old.entries))
         then rows_in rows.old.entries else spec.changed tag.now (spec.answered number) (rows_in rows.old.entries)) }
     ensures sources { (k : ℕ) → rows_from (rows_in rows.new.entries) k ≡ rows_from (rows_in rows.old.entries) k }
@@ -77,7 +77,7 @@ fn answer_in(rows: &mut IndexMap<String, Watcher>, tag: &str, number: u32)
 }
 
 /// The row of a subscription that has none comes behind the others.
-fn begin_in(
+fn add_row(
     rows: &mut IndexMap<String, Watcher>,
     counts: &mut Counts,
     tag: String,
@@ -106,7 +106,7 @@ fn begin_in(
 }
 
 /// The row of a subscription goes, and the last one takes its place.
-fn end_in(rows: &mut IndexMap<String, Watcher>, counts: &mut Counts, tag: &str)
+fn remove_row(rows: &mut IndexMap<String, Watcher>, counts: &mut Counts, tag: &str)
     requires counted { AreCounted (rows_in rows.old.entries) counts.old }
     ensures rows { rows_in rows.new.entries ≡ spec.without tag.now (rows_in rows.old.entries) }
     ensures counted { AreCounted (rows_in rows.new.entries) counts.new }
@@ -129,7 +129,7 @@ fn end_sent(rows: &mut IndexMap<String, Watcher>, counts: &mut Counts, tag: &str
     ensures counted { AreCounted (rows_in rows.new.entries) counts.new }
 {
     if was_sent(rows, tag, number) {
-        end_in(rows, counts, tag);
+        remove_row(rows, counts, tag);
     }
 }
 
@@ -218,7 +218,7 @@ impl Watchers {
         let Ok(tag) = String::from_str(self.alloc, tag) else {
             return Err(Full);
         };
-        begin_in(&mut self.rows, &mut self.counts, tag, watcher)
+        add_row(&mut self.rows, &mut self.counts, tag, watcher)
     }
 
     /// A NOTIFY with this tag and this number, and these bytes, went out to this address at this moment, and its subscription goes on.
@@ -243,7 +243,7 @@ impl Watchers {
         if number == 1 && !has_row(&self.rows, tag) {
             return self.begin(now, tag, to, bytes);
         }
-        renew_in(&mut self.rows, tag, number, to, until(now, bytes));
+        renew_row(&mut self.rows, tag, number, to, until(now, bytes));
         Ok(())
     }
 
@@ -252,7 +252,7 @@ impl Watchers {
         ensures rows { self.new.rows ≡ spec.without tag.now self.old.rows }
         ensures limit { self.new.limit ≡ self.old.limit }
     {
-        end_in(&mut self.rows, &mut self.counts, tag);
+        remove_row(&mut self.rows, &mut self.counts, tag);
     }
 
     /// An answer with this status came to the NOTIFY with this number in the subscription with this tag. A 481 says that the
@@ -268,7 +268,7 @@ impl Watchers {
         if status == GONE {
             end_sent(&mut self.rows, &mut self.counts, tag, number);
         } else {
-            answer_in(&mut self.rows, tag, number);
+            mark_answered(&mut self.rows, tag, number);
         }
     }
 }

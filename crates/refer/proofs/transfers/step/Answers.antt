@@ -1,7 +1,7 @@
 use Rattle.std.proofs.Common.{◌≡◌, None, Some, rules, ap, ◌∙◌}
 use Rattle.indexmap.specs.IndexMap.{get_by_text}
 use Rattle.package.specs.Content.{contents_of, with_held}
-use Rattle.refer.specs.declared.status.Status.{Status}
+use Rattle.refer.specs.declared.status.TransferStatus.{TransferStatus}
 use Rattle.refer.specs.Transfers.{content_of}
 use Rattle.refer.proofs.Steps.{step_unknown, step_same, step_changed}
 use Rattle.refer.proofs.transfers.step.Goals as goal
@@ -20,7 +20,7 @@ pub returns-clause-ok : goal.returns-clause-ok
 returns-clause-ok c =
     let e : get_by_text c.args.transfers.now c.tag-tag.result.now ≡ Some c.in-Some.status.now = search rules in
     let before = contents_of content_of c.args.transfers.now.entries in
-    let told : Status = record { code = c.args.progress.now.code; reason = c.args.progress.now.reason } in
+    let told : TransferStatus = record { code = c.args.progress.now.code; reason = c.args.progress.now.reason } in
     let next : c.in_ok-next.next ≡ told = search rules in
     step_changed c.args.transfers.now.entries c.args.progress.now c.tag-tag.result.now c.tag-tag.ensures.value c.in-Some.status.now e (search rules)
     (contents_of content_of c.replace.new.transfers.entries)
