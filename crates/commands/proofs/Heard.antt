@@ -9,7 +9,7 @@ use Rattle.digest.specs.declared.passwords.PasswordsError.{PasswordsError}
 use Rattle.digest.specs.Passwords.{known, Takes, IsWrong}
 use Rattle.admission.specs.declared.authentication.Authentication.{Authentication}
 use Rattle.arguments.specs.declared.setting.Setting.{Setting}
-use Rattle.arguments.specs.Choices.{choices_of, passwords_of, watched_of}
+use Rattle.arguments.specs.Choices.{choices_of, password_file, further_mailboxes}
 use Rattle.commands.specs.Heard.{AreTaken, IsTable, is_user, needs_passwords, IsAuthentication, Asks}
 use Rattle.commands.specs.Refused.{IsOfPassword}
 
@@ -48,12 +48,12 @@ known_more p further i pair low is knows all =
 
 -- ---- who asks
 
-pub asks_none : (settings : List Setting) → passwords_of settings ≡ None → needs_passwords (choices_of settings) (watched_of settings) ≡ false
-    → Asks (passwords_of settings) (choices_of settings) (watched_of settings) None
+pub asks_none : (settings : List Setting) → password_file settings ≡ None → needs_passwords (choices_of settings) (further_mailboxes settings) ≡ false
+    → Asks (password_file settings) (choices_of settings) (further_mailboxes settings) None
 asks_none settings none needs =
-    subst (λ (o : Option (List ℕ)). Asks o (choices_of settings) (watched_of settings) None) (sym none) (refl, needs)
+    subst (λ (o : Option (List ℕ)). Asks o (choices_of settings) (further_mailboxes settings) None) (sym none) (refl, needs)
 
-pub asks_some : (settings : List Setting) (path : List ℕ) (k : Authentication) → passwords_of settings ≡ Some path → IsAuthentication (choices_of settings) (watched_of settings) k
-    → Asks (passwords_of settings) (choices_of settings) (watched_of settings) (Some k)
+pub asks_some : (settings : List Setting) (path : List ℕ) (k : Authentication) → password_file settings ≡ Some path → IsAuthentication (choices_of settings) (further_mailboxes settings) k
+    → Asks (password_file settings) (choices_of settings) (further_mailboxes settings) (Some k)
 asks_some settings path k some is =
-    subst (λ (o : Option (List ℕ)). Asks o (choices_of settings) (watched_of settings) (Some k)) (sym some) is
+    subst (λ (o : Option (List ℕ)). Asks o (choices_of settings) (further_mailboxes settings) (Some k)) (sym some) is

@@ -1,7 +1,7 @@
 -- Why a service is refused.
 use Rattle.std.proofs.Common.{◌≡◌, ◌<◌, ◌≤◌, ◌⊎◌, inl, inr, ⊎_elim, Bool, true, [], ◌∷◌, length, get_or, sym, ap, ◌∙◌, subst, arith}
 use Rattle.std.specs.Prelude.{IfErr, IfSome, OnOk, Result, Ok, Err, Option, Some, None, ℕ, List, false, slice_get}
-use Rattle.arguments.specs.declared.flag.Place.{Place}
+use Rattle.arguments.specs.declared.flag.AddressFlag.{AddressFlag}
 use Rattle.arguments.specs.declared.setting.Setting.{Setting}
 use Rattle.arguments.specs.declared.setting.Setting.TheVariants as setting
 use Rattle.arguments.specs.Settings.{AreSettings}
@@ -9,7 +9,7 @@ use Rattle.arguments.specs.Choices.{state_of}
 use Rattle.commands.specs.declared.error.ServeError.{ServeError}
 use Rattle.commands.specs.declared.error.ServeError.TheVariants as error
 use Rattle.transport.specs.Devices.{SinkSeen}
-use Rattle.service.specs.declared.running.ServiceOutcome.{ServiceOutcome}
+use Rattle.service.specs.declared.running.ServiceEnd.{ServiceEnd}
 use Rattle.service.specs.Running.{is_faulty}
 use Rattle.service.proofs.Faults.{unfailed}
 use Rattle.commands.specs.UdpEnds.{all_closed, Tells}
@@ -29,33 +29,33 @@ other_is words error.NoPasswords is = absurd is
 other_is words (error.PasswordLine path e) is = absurd is
 other_is words (error.NoUsers path) is = absurd is
 other_is words (error.NoUser user) is = absurd is
-other_is words (error.Address place) is = is
-other_is words (error.NotHere place) is = is
-other_is words (error.Denied place) is = is
+other_is words (error.Address which) is = is
+other_is words (error.NotHere which) is = is
+other_is words (error.Denied which) is = is
 other_is words error.Descriptors is = tt
 other_is words error.System is = tt
 other_is words error.Device is = tt
 other_is words error.NoMemory is = tt
 
-pub no_socket_is : (place : Place) (e : ServeError) → IsNoSocket place e → IsListened place → IsOther e
-no_socket_is place (error.Options e) is listened = absurd is
-no_socket_is place error.Times is listened = absurd is
-no_socket_is place error.NoContact is listened = absurd is
-no_socket_is place error.NoMailbox is listened = absurd is
-no_socket_is place (error.File path) is listened = absurd is
-no_socket_is place (error.Line path line e) is listened = absurd is
-no_socket_is place (error.StateLine path line) is listened = absurd is
-no_socket_is place error.NoPasswords is listened = absurd is
-no_socket_is place (error.PasswordLine path e) is listened = absurd is
-no_socket_is place (error.NoUsers path) is listened = absurd is
-no_socket_is place (error.NoUser user) is listened = absurd is
-no_socket_is place (error.Address named) is listened = subst IsListened (sym is) listened
-no_socket_is place (error.NotHere named) is listened = subst IsListened (sym is) listened
-no_socket_is place (error.Denied named) is listened = subst IsListened (sym is) listened
-no_socket_is place error.Descriptors is listened = tt
-no_socket_is place error.System is listened = tt
-no_socket_is place error.Device is listened = absurd is
-no_socket_is place error.NoMemory is listened = absurd is
+pub no_socket_is : (which : AddressFlag) (e : ServeError) → IsNoSocket which e → IsListened which → IsOther e
+no_socket_is which (error.Options e) is listened = absurd is
+no_socket_is which error.Times is listened = absurd is
+no_socket_is which error.NoContact is listened = absurd is
+no_socket_is which error.NoMailbox is listened = absurd is
+no_socket_is which (error.File path) is listened = absurd is
+no_socket_is which (error.Line path line e) is listened = absurd is
+no_socket_is which (error.StateLine path line) is listened = absurd is
+no_socket_is which error.NoPasswords is listened = absurd is
+no_socket_is which (error.PasswordLine path e) is listened = absurd is
+no_socket_is which (error.NoUsers path) is listened = absurd is
+no_socket_is which (error.NoUser user) is listened = absurd is
+no_socket_is which (error.Address named) is listened = subst IsListened (sym is) listened
+no_socket_is which (error.NotHere named) is listened = subst IsListened (sym is) listened
+no_socket_is which (error.Denied named) is listened = subst IsListened (sym is) listened
+no_socket_is which error.Descriptors is listened = tt
+no_socket_is which error.System is listened = tt
+no_socket_is which error.Device is listened = absurd is
+no_socket_is which error.NoMemory is listened = absurd is
 
 pub others_are : {T : Type 0} (words : List (List ℕ)) (r : Result T ServeError) → IfErr r IsOther → IfErr r (IsRefusal words)
 others_are words (Ok x) is = is
@@ -65,7 +65,7 @@ memory_of_file : (path : List ℕ) (e : ServeError) → e ≡ error.NoMemory →
 memory_of_file path e is = subst (IsOfFile path) (sym is) tt
 
 pub memory_of_setting : (s : Setting) (e : ServeError) → e ≡ error.NoMemory → IsOfSetting s e
-memory_of_setting (setting.Address place addr) e is = is
+memory_of_setting (setting.Address which addr) e is = is
 memory_of_setting (setting.Number bound n) e is = is
 memory_of_setting (setting.MailboxFile path) e is = memory_of_file path e is
 memory_of_setting (setting.StateFile path) e is = is
@@ -90,9 +90,9 @@ of_file_is words path error.NoPasswords names is = absurd is
 of_file_is words path (error.PasswordLine named e) names is = absurd is
 of_file_is words path (error.NoUsers named) names is = absurd is
 of_file_is words path (error.NoUser user) names is = absurd is
-of_file_is words path (error.Address place) names is = absurd is
-of_file_is words path (error.NotHere place) names is = absurd is
-of_file_is words path (error.Denied place) names is = absurd is
+of_file_is words path (error.Address which) names is = absurd is
+of_file_is words path (error.NotHere which) names is = absurd is
+of_file_is words path (error.Denied which) names is = absurd is
 of_file_is words path error.Descriptors names is = absurd is
 of_file_is words path error.System names is = absurd is
 of_file_is words path error.Device names is = absurd is
@@ -103,7 +103,7 @@ no_memory_is words e is = subst (IsRefusal words) (sym is) tt
 
 of_setting_is : (words : List (List ℕ)) (settings : List Setting) (k : ℕ) (s : Setting) (e : ServeError) → AreSettings words settings → slice_get settings k ≡ Some s
     → IsOfSetting s e → IsRefusal words e
-of_setting_is words settings k (setting.Address place addr) e are at is = no_memory_is words e is
+of_setting_is words settings k (setting.Address which addr) e are at is = no_memory_is words e is
 of_setting_is words settings k (setting.Number bound n) e are at is = no_memory_is words e is
 of_setting_is words settings k (setting.MailboxFile path) e are at is = of_file_is words path e (settings, k, are, at) is
 of_setting_is words settings k (setting.StateFile path) e are at is = no_memory_is words e is
@@ -131,9 +131,9 @@ of_path_is words path error.NoPasswords names is = absurd is
 of_path_is words path (error.PasswordLine named e) names is = absurd is
 of_path_is words path (error.NoUsers named) names is = absurd is
 of_path_is words path (error.NoUser user) names is = absurd is
-of_path_is words path (error.Address place) names is = absurd is
-of_path_is words path (error.NotHere place) names is = absurd is
-of_path_is words path (error.Denied place) names is = absurd is
+of_path_is words path (error.Address which) names is = absurd is
+of_path_is words path (error.NotHere which) names is = absurd is
+of_path_is words path (error.Denied which) names is = absurd is
 of_path_is words path error.Descriptors names is = absurd is
 of_path_is words path error.System names is = absurd is
 of_path_is words path error.Device names is = absurd is
@@ -155,9 +155,9 @@ of_users_is words path error.NoPasswords names is = absurd is
 of_users_is words path (error.PasswordLine named e) names is = (subst (NamePasswords words) (sym is.0) names, is.1)
 of_users_is words path (error.NoUsers named) names is = subst (NamePasswords words) (sym is) names
 of_users_is words path (error.NoUser user) names is = absurd is
-of_users_is words path (error.Address place) names is = absurd is
-of_users_is words path (error.NotHere place) names is = absurd is
-of_users_is words path (error.Denied place) names is = absurd is
+of_users_is words path (error.Address which) names is = absurd is
+of_users_is words path (error.NotHere which) names is = absurd is
+of_users_is words path (error.Denied which) names is = absurd is
 of_users_is words path error.Descriptors names is = absurd is
 of_users_is words path error.System names is = absurd is
 of_users_is words path error.Device names is = absurd is
@@ -171,7 +171,7 @@ of_admission_is words settings e are (inr (inr (inl (inr is)))) = subst (IsRefus
 of_admission_is words settings e are (inr (inr (inr is))) = of_users_is words is.0 e (settings, are, is.1) is.2
 
 -- a service that ran and was closed off so ended well
-pub ended_well : {W T E : Type 0} (contents : W → Option (List ℕ)) (words : List (List ℕ)) (r : Result T E) (before between after : SinkSeen W) (o : ServiceOutcome)
+pub ended_well : {W T E : Type 0} (contents : W → Option (List ℕ)) (words : List (List ℕ)) (r : Result T E) (before between after : SinkSeen W) (o : ServiceEnd)
     → Serves contents words before between o → OnOk r (is_faulty o ≡ false) → OnOk r (all_closed o.report.workers.items ≡ true)
     → OnOk r (Tells contents o.report.workers.items between after) → OnOk r (EndsWell words)
 ended_well contents words (Ok x) before between after o served no_fault closed told = record {

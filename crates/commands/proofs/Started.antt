@@ -13,10 +13,10 @@ use Rattle.notifier_model.specs.Limits.{IsWithin}
 use Rattle.notifier_model.specs.Start.{Start, place_of}
 use Rattle.crew.specs.Ready.{start_of}
 use Rattle.crew.proofs.Starting.{element}
-use Rattle.arguments.specs.Setup.{names_for}
+use Rattle.arguments.specs.Setup.{dealt_names}
 use Rattle.arguments.specs.Told.{boxes_told, all_told}
 use Rattle.arguments.proofs.ToldBoxes.{told-len}
-use Rattle.service.specs.declared.running.ServiceOutcome.{ServiceOutcome}
+use Rattle.service.specs.declared.running.ServiceEnd.{ServiceEnd}
 use Rattle.service.specs.Running.{Opening, Runs}
 use Rattle.service.specs.Sending.{Outflow}
 use Rattle.commands.proofs.UdpStarted.{started_as}
@@ -34,7 +34,7 @@ if_both (Ok x) p q f = f x p q
 if_both (Err e) p q f = p
 
 -- the same under other names of the starts and their number
-runs_as : {start start' : ℕ → Start} {workers workers' repeats : ℕ} {opened : Opening} {admission : Admission} {flow : Outflow} {o : ServiceOutcome}
+runs_as : {start start' : ℕ → Start} {workers workers' repeats : ℕ} {opened : Opening} {admission : Admission} {flow : Outflow} {o : ServiceEnd}
     → workers ≡ workers' → ((w : ℕ) → w < workers' → start w ≡ start' w) → Runs start workers repeats opened admission flow o
     → Runs start' workers' repeats opened admission flow o
 runs_as {start' = start'} {workers' = workers'} same each r = record {
@@ -62,12 +62,12 @@ module _ {P : Type 0} (seen : P → Seen) (setup : Setup) (boxes : List (Vec P G
   pub workers_are : length boxes ≡ plan.workers
   workers_are = told-len (λ (held : Vec P Global). map seen held.items) boxes plan.workers plan.choices.no_refer plan.changes.items plan.mailboxes.items are_boxes
 
-  boxes_at : (w : ℕ) (held : Vec P Global) → w < length boxes → map seen (get_or boxes w held).items ≡ boxes_told plan.choices.no_refer plan.changes.items (names_for plan.workers w plan.mailboxes.items)
+  boxes_at : (w : ℕ) (held : Vec P Global) → w < length boxes → map seen (get_or boxes w held).items ≡ boxes_told plan.choices.no_refer plan.changes.items (dealt_names plan.workers w plan.mailboxes.items)
   boxes_at w held low =
       let len = workers_are in
       sym (get_or-map (λ (h : Vec P Global). map seen h.items) boxes w held (map seen held.items) low)
       ∙ ap (λ (all : List (List Seen)). get_or all w (map seen held.items)) are_boxes
-      ∙ get_or-map-range_with_len (λ v. boxes_told plan.choices.no_refer plan.changes.items (names_for plan.workers v plan.mailboxes.items)) 0 plan.workers w w (map seen held.items) (omega (arith, len, low)) (omega arith)
+      ∙ get_or-map-range_with_len (λ v. boxes_told plan.choices.no_refer plan.changes.items (dealt_names plan.workers v plan.mailboxes.items)) 0 plan.workers w w (map seen held.items) (omega (arith, len, low)) (omega arith)
 
   -- each worker starts as it was asked for
   starts_are : (held : Vec P Global) (w : ℕ) → w < length boxes → start_of seen setup w (get_or boxes w held).items ≡ start_at plan local w
@@ -76,7 +76,7 @@ module _ {P : Type 0} (seen : P → Seen) (setup : Setup) (boxes : List (Vec P G
       ∙ ap (λ (b : List Seen). let s : Start = record { place = place_of (setup_of plan local) w; boxes = b } in s) (boxes_at w held low)
 
   -- the service that was asked for
-  pub ran_is : {W : Type 0} (contents : W → Option (List ℕ)) (n : ℕ) {repeats : ℕ} {opened : Opening} {admission : Admission} {before after : SinkSeen W} {o : ServiceOutcome}
+  pub ran_is : {W : Type 0} (contents : W → Option (List ℕ)) (n : ℕ) {repeats : ℕ} {opened : Opening} {admission : Admission} {before after : SinkSeen W} {o : ServiceEnd}
       → n ≡ length boxes → 0 < plan.workers → repeats ≡ plan.choices.numbers.repeats → opened ≡ opening_of plan → admission ≡ plan.admission
       → ((held : Vec P Global) → Ran contents (λ w. start_of seen setup w (get_or boxes w held).items) n repeats opened admission before after o)
       → Ran contents (start_at plan local) plan.workers plan.choices.numbers.repeats (opening_of plan) plan.admission before after o

@@ -1,5 +1,5 @@
 -- Two ports that were closed.
-use Rattle.std.proofs.Common.{◌≡◌, ℕ, zero, suc, ◌<◌, List, [], ◌∷◌, ◌++◌, length, get_or, refl, ap, sym, ◌∙◌, subst, arith}
+use Rattle.std.proofs.Common.{◌≡◌, ℕ, zero, suc, ◌<◌, false, List, [], ◌∷◌, ◌++◌, length, get_or, refl, ap, sym, ◌∙◌, subst, arith}
 use Rattle.std.proofs.lemmas.List.{nil_from_length}
 use Rattle.notifier_model.specs.Start.{Start}
 use Rattle.queues.specs.OutboxSeats.{TakerSeat}
@@ -9,7 +9,7 @@ use Rattle.crew.specs.Started.{Hired, IsStarted}
 use Rattle.crew.specs.Joined.{IsPortOf}
 use Rattle.crew.proofs.Keeping.{started_port}
 
-both_shut : (a b : PortSeats) → a.still_open ≡ 0 → b.still_open ≡ 0 → (k : ℕ) (p : PortSeats) → k < 2 → (get_or (a ∷ b ∷ []) k p).still_open ≡ 0
+both_shut : (a b : PortSeats) → a.is_open ≡ false → b.is_open ≡ false → (k : ℕ) (p : PortSeats) → k < 2 → (get_or (a ∷ b ∷ []) k p).is_open ≡ false
 both_shut a b shut shut' zero p low = shut
 both_shut a b shut shut' (suc zero) p low = shut'
 both_shut a b shut shut' (suc (suc k)) p low = absurd (omega arith)
@@ -20,12 +20,12 @@ both_same a b a' b' same same' zero p low = same
 both_same a b a' b' same same' (suc zero) p low = same'
 both_same a b a' b' same same' (suc (suc k)) p low = absurd (omega arith)
 
-two_closed : (a b a' b' : PortSeats) → a'.still_open ≡ 0 → b'.still_open ≡ 0 → SameSeats a a' → SameSeats b b' → AllClosed (a ∷ b ∷ []) (a' ∷ b' ∷ [])
+two_closed : (a b a' b' : PortSeats) → a'.is_open ≡ false → b'.is_open ≡ false → SameSeats a a' → SameSeats b b' → AllClosed (a ∷ b ∷ []) (a' ∷ b' ∷ [])
 two_closed a b a' b' shut shut' same same' = record { len = refl; closed = both_shut a' b' shut shut'; seats = both_same a b a' b' same same' }
 
 -- what `join` asks of them
 pub ports_closed : {start : ℕ → Start} {workers : ℕ} {crew : List Hired} {a b : PortSeats} {taker : TakerSeat} (is : IsStarted start workers 2 crew (a ∷ b ∷ []) taker)
-    (a' b' : PortSeats) (ports : List PortSeats) → ports ≡ a' ∷ b' ∷ [] → a'.still_open ≡ 0 → b'.still_open ≡ 0 → SameSeats a a' → SameSeats b b'
+    (a' b' : PortSeats) (ports : List PortSeats) → ports ≡ a' ∷ b' ∷ [] → a'.is_open ≡ false → b'.is_open ≡ false → SameSeats a a' → SameSeats b b'
     → (p : ℕ) (q : PortSeats) → p < length ports → IsPortOf crew (get_or ports p q)
 ports_closed {crew = crew} {a = a} {b = b} is a' b' ports are shut shut' same same' p q low =
     let P : List PortSeats → Type 0 = λ l. p < length l → IsPortOf crew (get_or l p q) in

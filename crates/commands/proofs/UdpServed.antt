@@ -14,7 +14,7 @@ use Rattle.feeds.specs.declared.hearing.Language.{Language}
 use Rattle.feeds.specs.declared.hearing.Language.TheVariants.{Sip, Control}
 use Rattle.commands.specs.declared.udp_listening.Errand.{Errand}
 use Rattle.commands.specs.UdpHearing.{HearsOutSocket}
-use Rattle.commands.specs.UdpServing.{Outcome, Serves, most_lines}
+use Rattle.commands.specs.UdpServing.{UdpOutcome, Serves, most_lines}
 use Rattle.commands.specs.UdpRunning.{AreErrands}
 use Rattle.commands.proofs.UdpStarted.{taker_new, taker_workers}
 
@@ -33,7 +33,7 @@ heard_control {control = control} are old new report hears =
 
 pub serves_are : {W : Type 0} (contents : W → Option (List ℕ)) {start : ℕ → Start} {workers : ℕ} {crew : List Hired} {sip control : PortSeats} {taker : TakerSeat}
     (is : IsStarted start workers 2 crew (sip ∷ control ∷ []) taker)
-    (count : ℕ) (before after : SinkSeen W) (o : Outcome) (sip' control' : PortSeats) (ports : List PortSeats) (got : List (Item Out)) (fates : Fates) (wire wire' : WireSeen)
+    (count : ℕ) (before after : SinkSeen W) (o : UdpOutcome) (sip' control' : PortSeats) (ports : List PortSeats) (got : List (Item Out)) (fates : Fates) (wire wire' : WireSeen)
     → HearsOutSocket Sip count sip sip' o.feed → HearsOutSocket Control most_lines control control' o.control
     → ports ≡ sip' ∷ control' ∷ [] → IsJoined crew ports got o.workers
     → IsEmitted taker.workers fates taker.got got wire wire' (writer_seen contents before) (writer_seen contents after) o.emitted

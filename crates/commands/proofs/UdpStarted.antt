@@ -1,7 +1,7 @@
 -- A crew with two ports, as it was started.
-use Rattle.std.proofs.Common.{◌≡◌, ℕ, ◌<◌, List, [], length, map, get_or, Vec, ap, sym, ◌∙◌, arith}
+use Rattle.std.proofs.Common.{◌≡◌, ℕ, ◌<◌, true, List, [], length, map, get_or, Vec, ap, sym, ◌∙◌, arith}
 use Rattle.std.specs.declared.alloc.Global.{Global}
-use Rattle.std.proofs.lemmas.List.{get_or-map, length-map}
+use Rattle.std.proofs.lemmas.List.{get_or-map}
 use Rattle.std.proofs.lemmas.List.FromFn.{get_or-map-range_with_len}
 use Rattle.arguments.specs.declared.udp_arguments.UdpArguments.{UdpArguments}
 use Rattle.package.specs.Content.{Seen}
@@ -11,8 +11,9 @@ use Rattle.queues.specs.OutboxSeats.{TakerSeat, new_taker}
 use Rattle.crew.specs.Ports.{PortSeats}
 use Rattle.crew.specs.Ready.{start_of}
 use Rattle.crew.specs.Started.{Hired, IsStarted}
+use Rattle.crew.proofs.Keeping.{started_open}
 use Rattle.crew.proofs.Starting.{element}
-use Rattle.arguments.specs.Setup.{setup_at, boxes_with, boxes_for, names_for}
+use Rattle.arguments.specs.Setup.{loopback_setup, made_boxes, dealt_boxes, dealt_names}
 use Rattle.arguments.proofs.Dealt.{boxes-len}
 use Rattle.commands.specs.UdpCall.{start_at}
 
@@ -27,11 +28,8 @@ module _ {start : ℕ → Start} {workers n : ℕ} {crew : List Hired} {ports : 
   taker_workers = ap (λ (t : TakerSeat). t.workers) is.takes
 
   -- the s-th port is open, where there are workers
-  pub port_open : (s : ℕ) (p : PortSeats) → s < n → 0 < workers → 0 < (get_or ports s p).still_open
-  port_open s p low some =
-      let stands : (get_or ports s p).still_open ≡ length (map (λ (h : Hired). h.reads.inbox) crew) = ap (λ (x : PortSeats). x.still_open) (is.dealt.each s p low) in
-      let size = length-map crew (λ (h : Hired). h.reads.inbox) in
-      let len = is.len in omega (arith, stands, size, len)
+  pub port_open : (s : ℕ) (p : PortSeats) → s < n → 0 < workers → (get_or ports s p).is_open ≡ true
+  port_open s p low some = started_open is some s p low
 
   -- the same under other names of the starts and their number
   pub started_as : (start' : ℕ → Start) (workers' : ℕ) → workers ≡ workers' → ((w : ℕ) → w < workers → start w ≡ start' w) → IsStarted start' workers' n crew ports taker
@@ -50,23 +48,23 @@ module _ {start : ℕ → Start} {workers n : ℕ} {crew : List Hired} {ports : 
     dealt = is.dealt;
   }
 
-module _ {P : Type 0} (seen : P → Seen) (setup : Setup) (boxes : List (Vec P Global)) (call : UdpArguments) (is_setup : setup ≡ setup_at call.port call.seed call.stop)
-    (are_boxes : map (λ (held : Vec P Global). map seen held.items) boxes ≡ boxes_for call.workers call.mailboxes) where
+module _ {P : Type 0} (seen : P → Seen) (setup : Setup) (boxes : List (Vec P Global)) (call : UdpArguments) (is_setup : setup ≡ loopback_setup call.port call.seed call.stop)
+    (are_boxes : map (λ (held : Vec P Global). map seen held.items) boxes ≡ dealt_boxes call.workers call.mailboxes) where
   pub workers_are : length boxes ≡ call.workers
   workers_are = boxes-len (λ (held : Vec P Global). map seen held.items) boxes call.workers call.mailboxes are_boxes
 
-  boxes_at : (w : ℕ) (held : Vec P Global) → w < length boxes → map seen (get_or boxes w held).items ≡ boxes_with (names_for call.workers w call.mailboxes)
+  boxes_at : (w : ℕ) (held : Vec P Global) → w < length boxes → map seen (get_or boxes w held).items ≡ made_boxes (dealt_names call.workers w call.mailboxes)
   boxes_at w held low =
       let len = workers_are in
       sym (get_or-map (λ (h : Vec P Global). map seen h.items) boxes w held (map seen held.items) low)
       ∙ ap (λ (all : List (List Seen)). get_or all w (map seen held.items)) are_boxes
-      ∙ get_or-map-range_with_len (λ v. boxes_with (names_for call.workers v call.mailboxes)) 0 call.workers w w (map seen held.items) (omega (arith, len, low)) (omega arith)
+      ∙ get_or-map-range_with_len (λ v. made_boxes (dealt_names call.workers v call.mailboxes)) 0 call.workers w w (map seen held.items) (omega (arith, len, low)) (omega arith)
 
   -- each worker starts as it was asked for
   pub starts_are : (held : Vec P Global) (w : ℕ) → w < length boxes → start_of seen setup w (get_or boxes w held).items ≡ start_at call w
   starts_are held w low =
       ap (λ (s : Setup). start_of seen s w (get_or boxes w held).items) is_setup
-      ∙ ap (λ (b : List Seen). let s : Start = record { place = place_of (setup_at call.port call.seed call.stop) w; boxes = b } in s) (boxes_at w held low)
+      ∙ ap (λ (b : List Seen). let s : Start = record { place = place_of (loopback_setup call.port call.seed call.stop) w; boxes = b } in s) (boxes_at w held low)
 
   -- the crew that was asked for
   pub crew_is : (n : ℕ) {crew : List Hired} {ports : List PortSeats} {taker : TakerSeat} → n ≡ length boxes → 0 < call.workers

@@ -12,7 +12,7 @@ use Rattle.admission.specs.declared.authentication.Authentication.{Authenticatio
 use Rattle.admission.specs.declared.judging.Admission.{Admission}
 use Rattle.arguments.specs.declared.choices.Choices.{Choices}
 use Rattle.arguments.specs.declared.setting.Setting.{Setting}
-use Rattle.arguments.specs.Choices.{choices_of, networks_of, passwords_of, watched_of}
+use Rattle.arguments.specs.Choices.{choices_of, allowed_networks, password_file, further_mailboxes}
 
 -- ---- the users of a file
 
@@ -82,7 +82,7 @@ rates_of (Some rate) = Some (empty rate 16384)
 -- the networks that are let in, how much each source may send, who may subscribe and refer, and how many live subscriptions each
 -- source may have
 pub record IsAdmission (settings : List Setting) (a : Admission) : Type 0 where
-  pub networks : a.networks.items ≡ networks_of settings
+  pub networks : a.networks.items ≡ allowed_networks settings
   pub rates : a.rates ≡ rates_of (choices_of settings).rate
-  pub authentication : Asks (passwords_of settings) (choices_of settings) (watched_of settings) a.authentication
+  pub authentication : Asks (password_file settings) (choices_of settings) (further_mailboxes settings) a.authentication
   pub per_source : a.per_source ≡ (choices_of settings).numbers.per_source

@@ -11,7 +11,7 @@ use Rattle.arguments.specs.declared.setting.Setting.{Setting}
 use Rattle.admission.specs.declared.judging.Admission.{Admission}
 use Rattle.arguments.specs.declared.setting.Setting.TheVariants as setting
 use Rattle.admission.specs.declared.network.Network.{Network}
-use Rattle.arguments.specs.Choices.{choices_of, state_of, control_networks_of}
+use Rattle.arguments.specs.Choices.{choices_of, state_of, control_networks}
 use Rattle.commands.specs.State.{IsState}
 use Rattle.commands.specs.Heard.{IsAdmission}
 use Rattle.arguments.specs.Settings.{IsMailbox, AreSettings}
@@ -106,7 +106,7 @@ pub record AreHeard (words : List (List ℕ)) (admission : Admission) : Type 0 w
 pub record AreOperators (words : List (List ℕ)) (networks : List Network) : Type 0 where
   pub settings : List Setting
   pub are_settings : AreSettings words settings
-  pub are_networks : networks ≡ control_networks_of settings
+  pub are_networks : networks ≡ control_networks settings
 
 -- the words ask for this
 pub record IsPlan (words : List (List ℕ)) (plan : Plan) : Type 0 where

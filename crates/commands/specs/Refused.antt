@@ -14,12 +14,12 @@ use Rattle.arguments.specs.declared.choices.Choices.{Choices}
 use Rattle.arguments.specs.declared.error.OptionsError.{OptionsError}
 use Rattle.arguments.specs.declared.error.OptionsError.TheVariants as wrong
 use Rattle.arguments.specs.declared.flag.Flag.TheVariants as flag
-use Rattle.arguments.specs.declared.flag.Place.{Place}
-use Rattle.arguments.specs.declared.flag.Place.TheVariants as place
+use Rattle.arguments.specs.declared.flag.AddressFlag.{AddressFlag}
+use Rattle.arguments.specs.declared.flag.AddressFlag.TheVariants as address
 use Rattle.arguments.specs.declared.setting.Setting.{Setting}
 use Rattle.arguments.specs.declared.setting.Setting.TheVariants as setting
 use Rattle.arguments.specs.MailboxFile.{IsNoLine}
-use Rattle.arguments.specs.Choices.{choices_of, state_of, passwords_of, watched_of}
+use Rattle.arguments.specs.Choices.{choices_of, state_of, password_file, further_mailboxes}
 use Rattle.arguments.specs.Settings.{AreSettings, AreWrong}
 use Rattle.service.specs.declared.error.RunError.{RunError}
 use Rattle.service.specs.declared.error.RunError.TheVariants as run
@@ -33,7 +33,7 @@ use Rattle.commands.specs.Serving.{EndsWell}
 -- an address in another form may be a host that can't be found
 abbrev pub status_of_words : OptionsError → ℕ
 status_of_words (wrong.Missing option) = 1
-status_of_words (wrong.Bad (flag.Address place)) = 3
+status_of_words (wrong.Bad (flag.Address which)) = 3
 status_of_words (wrong.Bad (flag.Number bound)) = 1
 status_of_words (wrong.Bad flag.MailboxFile) = 1
 status_of_words (wrong.Bad flag.StateFile) = 1
@@ -68,9 +68,9 @@ status_of error.NoPasswords = 1
 status_of (error.PasswordLine path e) = 3
 status_of (error.NoUsers path) = 3
 status_of (error.NoUser user) = 1
-status_of (error.Address place) = 3
-status_of (error.NotHere place) = 3
-status_of (error.Denied place) = 3
+status_of (error.Address which) = 3
+status_of (error.NotHere which) = 3
+status_of (error.Denied which) = 3
 status_of error.Descriptors = 3
 status_of error.System = 3
 status_of error.Device = 3
@@ -82,10 +82,10 @@ of_run run.NoThread = error.System
 of_run run.NoMemory = error.NoMemory
 
 -- a service listens here: phones and the operator reach it by these two alone
-abbrev pub IsListened : Place → Type 0
-IsListened place.Listen = Unit {0}
-IsListened place.Contact = ⊥
-IsListened place.Control = Unit {0}
+abbrev pub IsListened : AddressFlag → Type 0
+IsListened address.Listen = Unit {0}
+IsListened address.Contact = ⊥
+IsListened address.Control = Unit {0}
 
 -- a cause that isn't in the words
 abbrev pub IsOther : ServeError → Type 0
@@ -100,9 +100,9 @@ IsOther error.NoPasswords = ⊥
 IsOther (error.PasswordLine path e) = ⊥
 IsOther (error.NoUsers path) = ⊥
 IsOther (error.NoUser user) = ⊥
-IsOther (error.Address place) = IsListened place
-IsOther (error.NotHere place) = IsListened place
-IsOther (error.Denied place) = IsListened place
+IsOther (error.Address which) = IsListened which
+IsOther (error.NotHere which) = IsListened which
+IsOther (error.Denied which) = IsListened which
 IsOther error.Descriptors = Unit {0}
 IsOther error.System = Unit {0}
 IsOther error.Device = Unit {0}
@@ -115,25 +115,25 @@ abbrev pub IsTooMany : Option ℤ → Type 0
 IsTooMany number = (number ≡ Some (pos 23)) ⊎ (number ≡ Some (pos 24))
 
 -- no socket is to be had where this option says, for this cause
-abbrev pub IsNoSocket : Place → ServeError → Type 0
-IsNoSocket place (error.Options e) = ⊥
-IsNoSocket place error.Times = ⊥
-IsNoSocket place error.NoContact = ⊥
-IsNoSocket place error.NoMailbox = ⊥
-IsNoSocket place (error.File path) = ⊥
-IsNoSocket place (error.Line path line e) = ⊥
-IsNoSocket place (error.StateLine path line) = ⊥
-IsNoSocket place error.NoPasswords = ⊥
-IsNoSocket place (error.PasswordLine path e) = ⊥
-IsNoSocket place (error.NoUsers path) = ⊥
-IsNoSocket place (error.NoUser user) = ⊥
-IsNoSocket place (error.Address named) = named ≡ place
-IsNoSocket place (error.NotHere named) = named ≡ place
-IsNoSocket place (error.Denied named) = named ≡ place
-IsNoSocket place error.Descriptors = Unit {0}
-IsNoSocket place error.System = Unit {0}
-IsNoSocket place error.Device = ⊥
-IsNoSocket place error.NoMemory = ⊥
+abbrev pub IsNoSocket : AddressFlag → ServeError → Type 0
+IsNoSocket which (error.Options e) = ⊥
+IsNoSocket which error.Times = ⊥
+IsNoSocket which error.NoContact = ⊥
+IsNoSocket which error.NoMailbox = ⊥
+IsNoSocket which (error.File path) = ⊥
+IsNoSocket which (error.Line path line e) = ⊥
+IsNoSocket which (error.StateLine path line) = ⊥
+IsNoSocket which error.NoPasswords = ⊥
+IsNoSocket which (error.PasswordLine path e) = ⊥
+IsNoSocket which (error.NoUsers path) = ⊥
+IsNoSocket which (error.NoUser user) = ⊥
+IsNoSocket which (error.Address named) = named ≡ which
+IsNoSocket which (error.NotHere named) = named ≡ which
+IsNoSocket which (error.Denied named) = named ≡ which
+IsNoSocket which error.Descriptors = Unit {0}
+IsNoSocket which error.System = Unit {0}
+IsNoSocket which error.Device = ⊥
+IsNoSocket which error.NoMemory = ⊥
 
 -- ---- files
 
@@ -160,9 +160,9 @@ IsOfFile path error.NoPasswords = ⊥
 IsOfFile path (error.PasswordLine named e) = ⊥
 IsOfFile path (error.NoUsers named) = ⊥
 IsOfFile path (error.NoUser user) = ⊥
-IsOfFile path (error.Address place) = ⊥
-IsOfFile path (error.NotHere place) = ⊥
-IsOfFile path (error.Denied place) = ⊥
+IsOfFile path (error.Address which) = ⊥
+IsOfFile path (error.NotHere which) = ⊥
+IsOfFile path (error.Denied which) = ⊥
 IsOfFile path error.Descriptors = ⊥
 IsOfFile path error.System = ⊥
 IsOfFile path error.Device = ⊥
@@ -170,7 +170,7 @@ IsOfFile path error.NoMemory = Unit {0}
 
 -- the mailboxes of the setting can't be told for this cause
 abbrev pub IsOfSetting : Setting → ServeError → Type 0
-IsOfSetting (setting.Address place addr) e = e ≡ error.NoMemory
+IsOfSetting (setting.Address which addr) e = e ≡ error.NoMemory
 IsOfSetting (setting.Number bound n) e = e ≡ error.NoMemory
 IsOfSetting (setting.MailboxFile path) e = IsOfFile path e
 IsOfSetting (setting.StateFile path) e = e ≡ error.NoMemory
@@ -207,9 +207,9 @@ IsOfState path error.NoPasswords = ⊥
 IsOfState path (error.PasswordLine named e) = ⊥
 IsOfState path (error.NoUsers named) = ⊥
 IsOfState path (error.NoUser user) = ⊥
-IsOfState path (error.Address place) = ⊥
-IsOfState path (error.NotHere place) = ⊥
-IsOfState path (error.Denied place) = ⊥
+IsOfState path (error.Address which) = ⊥
+IsOfState path (error.NotHere which) = ⊥
+IsOfState path (error.Denied which) = ⊥
 IsOfState path error.Descriptors = ⊥
 IsOfState path error.System = ⊥
 IsOfState path error.Device = ⊥
@@ -242,9 +242,9 @@ IsOfPasswords path error.NoPasswords = ⊥
 IsOfPasswords path (error.PasswordLine named e) = (named ≡ path) × IsOfPassword e
 IsOfPasswords path (error.NoUsers named) = named ≡ path
 IsOfPasswords path (error.NoUser user) = ⊥
-IsOfPasswords path (error.Address place) = ⊥
-IsOfPasswords path (error.NotHere place) = ⊥
-IsOfPasswords path (error.Denied place) = ⊥
+IsOfPasswords path (error.Address which) = ⊥
+IsOfPasswords path (error.NotHere which) = ⊥
+IsOfPasswords path (error.Denied which) = ⊥
 IsOfPasswords path error.Descriptors = ⊥
 IsOfPasswords path error.System = ⊥
 IsOfPasswords path error.Device = ⊥
@@ -258,22 +258,22 @@ IsOfWatched further e =
 -- passwords are spoken of, and no file of them is named
 abbrev pub HaveNoPasswords : List Setting → Type 0
 HaveNoPasswords settings =
-    (passwords_of settings ≡ None) × (needs_passwords (choices_of settings) (watched_of settings) ≡ true)
+    (password_file settings ≡ None) × (needs_passwords (choices_of settings) (further_mailboxes settings) ≡ true)
 
 -- who is heard can't be told for this cause
 abbrev pub IsOfAdmission : List Setting → ServeError → Type 0
 IsOfAdmission settings e =
-    (e ≡ error.System) ⊎ ((e ≡ error.NoPasswords) × HaveNoPasswords settings) ⊎ IsOfWatched (watched_of settings) e
-    ⊎ ((path : List ℕ) × (passwords_of settings ≡ Some path) × IsOfPasswords path e)
+    (e ≡ error.System) ⊎ ((e ≡ error.NoPasswords) × HaveNoPasswords settings) ⊎ IsOfWatched (further_mailboxes settings) e
+    ⊎ ((path : List ℕ) × (password_file settings ≡ Some path) × IsOfPasswords path e)
 
 -- the words name this file of passwords
 abbrev pub NamePasswords : List (List ℕ) → List ℕ → Type 0
-NamePasswords words path = (settings : List Setting) × AreSettings words settings × (passwords_of settings ≡ Some path)
+NamePasswords words path = (settings : List Setting) × AreSettings words settings × (password_file settings ≡ Some path)
 
 -- the words name this user with a further mailbox
 abbrev pub NameUser : List (List ℕ) → List ℕ → Type 0
 NameUser words user =
-    (settings : List Setting) × (mailbox : List ℕ) × AreSettings words settings × Contains (watched_of settings) (user, mailbox)
+    (settings : List Setting) × (mailbox : List ℕ) × AreSettings words settings × Contains (further_mailboxes settings) (user, mailbox)
 
 -- ---- all of it
 
@@ -291,9 +291,9 @@ IsRefusal words error.NoPasswords = (settings : List Setting) × AreSettings wor
 IsRefusal words (error.PasswordLine path e) = NamePasswords words path × IsOfPassword e
 IsRefusal words (error.NoUsers path) = NamePasswords words path
 IsRefusal words (error.NoUser user) = NameUser words user
-IsRefusal words (error.Address place) = IsListened place
-IsRefusal words (error.NotHere place) = IsListened place
-IsRefusal words (error.Denied place) = IsListened place
+IsRefusal words (error.Address which) = IsListened which
+IsRefusal words (error.NotHere which) = IsListened which
+IsRefusal words (error.Denied which) = IsListened which
 IsRefusal words error.Descriptors = Unit {0}
 IsRefusal words error.System = Unit {0}
 IsRefusal words error.Device = Unit {0}

@@ -4,12 +4,12 @@ use Rattle.std.specs.Io.KnownBytes.{Appends}
 use Rattle.sip_text.specs.declared.address.Addr.{Addr}
 use Rattle.transport.specs.Devices.{SinkSeen}
 use Rattle.notifier_model.specs.Start.{Start, place_of}
-use Rattle.arguments.specs.Setup.{names_for}
+use Rattle.arguments.specs.Setup.{dealt_names}
 use Rattle.arguments.specs.Told.{boxes_told}
 use Rattle.feeds.specs.Emitted.{WireSeen, WriterSeen, writer_seen}
 use Rattle.commands.specs.UdpEnds.{all_closed}
 use Rattle.commands.specs.UdpLines.{worker_lines}
-use Rattle.service.specs.declared.running.ServiceOutcome.{ServiceOutcome}
+use Rattle.service.specs.declared.running.ServiceEnd.{ServiceEnd}
 use Rattle.service.specs.declared.running.ServiceWork.{ServiceWork}
 use Rattle.service.specs.Listening.{IsDeaf}
 use Rattle.service.specs.Sending.{Outflow}
@@ -31,7 +31,7 @@ pub record IsAt (asked local : Addr) : Type 0 where
 abbrev pub start_at : Plan → Addr → ℕ → Start
 start_at plan local worker = record {
   place = place_of (setup_of plan local) worker;
-  boxes = boxes_told plan.choices.no_refer plan.changes.items (names_for plan.workers worker plan.mailboxes.items);
+  boxes = boxes_told plan.choices.no_refer plan.changes.items (dealt_names plan.workers worker plan.mailboxes.items);
 }
 
 -- the sockets that were chosen: each of the two addresses has a wire that receives, which hasn't failed yet, and one that sends; that of
@@ -70,14 +70,14 @@ new_sink writer = record { writer = writer; failures = 0; is_flushed = false }
 
 module _ {W : Type 0} (contents : W → Option (List ℕ)) where
   -- a crew ran as a service to its end, over some wire
-  pub record Ran (start : ℕ → Start) (workers repeats : ℕ) (opened : Opening) (admission : Admission) (before after : SinkSeen W) (outcome : ServiceOutcome) : Type 0 where
+  pub record Ran (start : ℕ → Start) (workers repeats : ℕ) (opened : Opening) (admission : Admission) (before after : SinkSeen W) (outcome : ServiceEnd) : Type 0 where
     pub wire : WireSeen
     pub wire' : WireSeen
     pub runs : Runs start workers repeats opened admission
         (record { wire = wire; wire' = wire'; writer = writer_seen contents before; writer' = writer_seen contents after }) outcome
 
   -- the words ask for a service, which ran to its end, and tells each fault of its sockets and of the clock
-  pub record Serves (words : List (List ℕ)) (before after : SinkSeen W) (outcome : ServiceOutcome) : Type 0 where
+  pub record Serves (words : List (List ℕ)) (before after : SinkSeen W) (outcome : ServiceEnd) : Type 0 where
     pub plan : Plan
     pub is_plan : IsPlan words plan
     pub local : Addr
@@ -92,7 +92,7 @@ pub record EndsWell (words : List (List ℕ)) : Type 0 where
   pub is_plan : IsPlan words plan
   pub local : Addr
   pub is_at : IsAt plan.choices.listen local
-  pub outcome : ServiceOutcome
+  pub outcome : ServiceEnd
   pub flow : Outflow
   pub runs : Runs (start_at plan local) plan.workers plan.choices.numbers.repeats (opening_of plan) plan.admission flow outcome
   pub sip_hears : IsDeaf (misses outcome.sip_desk.coming) → ⊥

@@ -2,17 +2,19 @@
 --
 --   status   cause
 --   0        the answer is `ok`
---   1        the answer is another one, or the words are no call
+--   1        the answer is another one, or the words are no call: `--json` is said of STATUS alone
 --   3        nobody answered, a socket failed, or what came could not be printed
 --   4        memory was wanting
-use Rattle.std.specs.Prelude.{◌≡◌, ◌⊎◌, ℕ, List, [], ◌∷◌, ◌++◌, length, codes, bytes_eq, if◌then◌else◌}
+use Rattle.std.specs.Prelude.{◌≡◌, ◌≢◌, ◌⊎◌, ℕ, Bool, true, false, List, [], ◌∷◌, ◌++◌, length, codes, bytes_eq, if◌then◌else◌}
 use Rattle.hex.specs.Hex.{encode_lower}
-use Rattle.control_lines.specs.declared.asking.Outcome.{Outcome}
+use Rattle.control_lines.specs.declared.asking.TellOutcome.{TellOutcome}
 use Rattle.control_lines.specs.Asking.{SpeakerSeen, IsTold, status_of}
+use Rattle.arguments.specs.declared.tell.TellCall.{TellCall}
+use Rattle.arguments.specs.Tell.{IsTellCall}
 
 -- a speaker asked this line and no other, and the status is that of what came of it, or 3 where that could not be printed
 pub record TellsLine (line : List ℕ) (old new : SpeakerSeen) (status : ℕ) : Type 0 where
-  pub came : Outcome
+  pub came : TellOutcome
   pub room : List ℕ
   pub told : IsTold line came old new room
   pub status_is : (status ≡ status_of came) ⊎ (status ≡ 3)
@@ -35,3 +37,13 @@ pub record TellsPage (line : List ℕ) (old new : SpeakerSeen) (status : ℕ) : 
 abbrev pub behind_json : List (List ℕ) → List (List ℕ)
 behind_json [] = []
 behind_json (word ∷ words) = if bytes_eq word (codes "--json") then words else word ∷ words
+
+-- the words begin with `--json`
+abbrev pub asks_json : List (List ℕ) → Bool
+asks_json [] = false
+asks_json (word ∷ words) = bytes_eq word (codes "--json")
+
+-- `--json` stands before another line than STATUS: of no other answer has each line a name of its own, as the members of an object
+-- should (RFC 8259 section 4)
+abbrev pub AskForNoObject : List (List ℕ) → Type 0
+AskForNoObject words = (asks_json words ≡ true) × ((call : TellCall) → IsTellCall (behind_json words) call → call.line ≢ codes "STATUS")

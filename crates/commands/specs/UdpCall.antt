@@ -3,13 +3,13 @@ use Rattle.std.specs.Prelude.{ℕ, List}
 use Rattle.arguments.specs.declared.udp_arguments.UdpArguments.{UdpArguments}
 use Rattle.arguments.specs.UdpArguments.{AreUdpArguments}
 use Rattle.notifier_model.specs.Start.{Start, place_of}
-use Rattle.arguments.specs.Setup.{setup_at, boxes_with, names_for}
+use Rattle.arguments.specs.Setup.{loopback_setup, made_boxes, dealt_names}
 
 -- a worker: at the first port, with the mailboxes whose keys go to it, each with no class set, and no transfer
 abbrev pub start_at : UdpArguments → ℕ → Start
 start_at call worker = record {
-  place = place_of (setup_at call.port call.seed call.stop) worker;
-  boxes = boxes_with (names_for call.workers worker call.mailboxes);
+  place = place_of (loopback_setup call.port call.seed call.stop) worker;
+  boxes = made_boxes (dealt_names call.workers worker call.mailboxes);
 }
 
 -- the words ask for a run of which P holds

@@ -1,9 +1,9 @@
 -- What a thread hears by a wire, to its end.
-use Rattle.std.specs.Prelude.{◌≡◌, ℕ, List, Option, None}
+use Rattle.std.specs.Prelude.{◌≡◌, ℕ, false, List, Option, None}
 use Rattle.transport.specs.declared.datagram.Datagram.{Datagram}
 use Rattle.transport.specs.Wires.{Grows}
 use Rattle.crew.specs.Kept.{SameSeats}
-use Rattle.crew.specs.Ports.{PortSeats, IsShut}
+use Rattle.crew.specs.Ports.{PortSeats, IsLeftByClose}
 use Rattle.feeds.specs.Fed.{Log, datagrams, IsFed}
 use Rattle.feeds.specs.declared.feeding.FeedReport.{FeedReport}
 use Rattle.feeds.specs.declared.hearing.Language.{Language}
@@ -15,8 +15,8 @@ pub record HearsOut (told told' : Option (List Datagram)) (language : Language) 
   pub fed_to : PortSeats
   pub given : Grows told told' (datagrams log)
   pub fed : IsFed language count log old fed_to report
-  pub shut : new.still_open ≡ 0
-  pub ends : IsShut fed_to new
+  pub shut : new.is_open ≡ false
+  pub ends : IsLeftByClose fed_to new
   pub seats : SameSeats old new
 
 -- at a socket, which tells nothing of its datagrams

@@ -7,23 +7,23 @@ use Rattle.crew.specs.Ports.{PortSeats}
 use Rattle.crew.specs.Started.{IsStarted}
 use Rattle.transport.specs.Sockets.{loopback}
 use Rattle.feeds.specs.declared.hearing.Language.TheVariants.{Sip, Control}
-use Rattle.arguments.specs.declared.status.Status.{Status}
-use Rattle.arguments.specs.declared.status.Status.TheVariants as status
+use Rattle.arguments.specs.declared.exit_status.ExitStatus.{ExitStatus}
+use Rattle.arguments.specs.declared.exit_status.ExitStatus.TheVariants as status
 use Rattle.commands.specs.declared.udp_listening.Errand.{Errand}
-use Rattle.commands.specs.declared.udp.Sockets.{Sockets}
+use Rattle.commands.specs.declared.udp.UdpSockets.{UdpSockets}
 use Rattle.commands.specs.declared.udp_serving.Running.{Running}
 use Rattle.commands.specs.declared.udp_serving.UdpServed.{UdpServed}
-use Rattle.commands.specs.UdpServing.{Outcome, most_lines}
+use Rattle.commands.specs.UdpServing.{UdpOutcome, most_lines}
 
 -- the status where no crew is started for this cause. Only a refused thread is a fault of the device
-abbrev pub status_of : StartError → Status
+abbrev pub status_of : StartError → ExitStatus
 status_of start.NoWorkers = status.OutOfMemory
 status_of start.NoPorts = status.OutOfMemory
 status_of start.NoMemory = status.OutOfMemory
 status_of start.NoThread = status.DeviceFault
 
 -- the wires of a run: SIP goes out from the port where it comes in
-pub record AreBound (port control_port : ℕ) (s : Sockets) : Type 0 where
+pub record AreBound (port control_port : ℕ) (s : UdpSockets) : Type 0 where
   pub sip : s.sip.local ≡ loopback port
   pub outgoing : s.outgoing.local ≡ loopback port
   pub control : s.control.local ≡ loopback control_port
@@ -38,5 +38,5 @@ pub record AreErrands (sip control : Errand) : Type 0 where
   pub says_control : control.hearing.language ≡ Control
   pub most : control.hearing.count ≡ most_lines
 
-abbrev pub outcome_of : UdpServed → Outcome
+abbrev pub outcome_of : UdpServed → UdpOutcome
 outcome_of s = record { feed = s.feed; control = s.control; emitted = s.emitted; workers = s.report.workers.items }

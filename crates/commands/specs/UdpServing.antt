@@ -20,7 +20,7 @@ use Rattle.feeds.specs.declared.hearing.Language.TheVariants.{Sip, Control}
 use Rattle.commands.specs.UdpHearing.{HearsOutSocket}
 
 -- what came of it: of the datagrams of SIP, of the control lines, of the outs, and of each worker
-pub record Outcome : Type 0 where
+pub record UdpOutcome : Type 0 where
   pub feed : FeedReport
   pub control : FeedReport
   pub emitted : EmitReport
@@ -32,7 +32,7 @@ most_lines = 1048576
 
 -- workers with these starts handled what the two ports sent until both were closed, as far as their reports say, and each of
 -- their outs was sent, written or counted as failed
-pub record Serves {W : Type 0} (contents : W → Option (List ℕ)) (start : ℕ → Start) (workers count : ℕ) (before after : SinkSeen W) (outcome : Outcome) : Type 0 where
+pub record Serves {W : Type 0} (contents : W → Option (List ℕ)) (start : ℕ → Start) (workers count : ℕ) (before after : SinkSeen W) (outcome : UdpOutcome) : Type 0 where
   -- as it was started
   pub crew : List Hired
   pub sip : PortSeats

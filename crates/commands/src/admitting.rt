@@ -1,7 +1,7 @@
 //! Who is heard by a service, as its settings and its file of passwords say.
 ghost use Rattle.std.specs.Prelude.{◌≡◌, true, All, IfOk, IfErr, OnOk};
 ghost use Rattle.notifier_model.specs.Tag.{refusal_tag};
-ghost use Rattle.arguments.specs.Choices.{choices_of, passwords_of as path_of, watched_of as pairs_of};
+ghost use Rattle.arguments.specs.Choices.{choices_of, password_file as path_of, further_mailboxes as pairs_of};
 ghost use Rattle.commands.specs.declared.error.ServeError.TheVariants as error;
 ghost use Rattle.commands.specs.Heard as spec;
 ghost use Rattle.commands.specs.Heard.{Asks, IsAdmission};
@@ -10,7 +10,7 @@ ghost use Rattle.commands.specs.Refused.{IsOfWatched, IsOfAdmission};
 use crate::error::ServeError;
 use crate::passwords::file_users;
 use admission::{Admission, Authentication, Rate, Rates};
-use arguments::{Choices, Setting, networks_of, passwords_of, watched_of};
+use arguments::{Choices, Setting, allowed_networks, further_mailboxes, password_file};
 use digest::{Algorithm, Guard, Nonces, Passwords};
 use sip_text::{NoMemory, Text};
 use std::alloc::Global;
@@ -116,8 +116,8 @@ where
 {
     let alloc = rt.alloc();
     let choices = Choices::of(settings);
-    let further = watched_of(alloc, settings)?;
-    let Some(path) = passwords_of(alloc, settings)? else {
+    let further = further_mailboxes(alloc, settings)?;
+    let Some(path) = password_file(alloc, settings)? else {
         if needs_passwords(&choices, &further) {
             return Err(ServeError::NoPasswords);
         }
@@ -146,7 +146,7 @@ where
 {
     let alloc = rt.alloc();
     let choices = Choices::of(settings);
-    let networks = networks_of(alloc, settings)?;
+    let networks = allowed_networks(alloc, settings)?;
     let rates = source_rates(alloc, choices.rate)?;
     let authentication = new_authentication(rt, settings)?;
     Ok(Admission {

@@ -1,15 +1,15 @@
 //! `notifyd tell`.
-ghost use Rattle.std.specs.Prelude.{◌≡◌, ◌⊎◌, IfOk};
+ghost use Rattle.std.specs.Prelude.{◌≡◌, ◌⊎◌, IfOk, codes, true};
 ghost use Rattle.arguments.specs.declared.tell.TellCall.{TellCall};
 ghost use Rattle.arguments.specs.Choices.{loopback};
 ghost use Rattle.arguments.specs.Tell.{IsTellCall};
 ghost use Rattle.commands.specs.Plans.{reached};
-ghost use Rattle.commands.specs.Telling.{TellsLine, TellsPage, IsAskedAs, behind_json};
+ghost use Rattle.commands.specs.Telling.{TellsLine, TellsPage, IsAskedAs, AskForNoObject, asks_json, behind_json};
 ghost use Rattle.commands.specs.Telling as spec;
 
 use crate::answers::{Form, next_line, next_place, print_answer};
-use arguments::{Status, TellCall, TellError, parse_tell};
-use control_lines::{Outcome, Speaker, SpeakerFault, UdpSpeaker, tell_line};
+use arguments::{ExitStatus, TellCall, TellError, parse_tell};
+use control_lines::{Speaker, SpeakerFault, TellOutcome, UdpSpeaker, tell_line};
 use sip_text::{Addr, NoMemory, Text};
 use std::alloc::Global;
 use std::net::Net;
@@ -48,7 +48,7 @@ pub struct Told {
 }
 
 /// Asks a line by this speaker, and prints what came of it. Answers the exit status: 3 also where that couldn't be printed.
-pub fn ask_by<R: Wait + Print + Eprint + AllocGlobal, S: Speaker>(
+pub fn ask_line<R: Wait + Print + Eprint + AllocGlobal, S: Speaker>(
     rt: &R,
     speaker: &mut S,
     line: &Text,
@@ -63,17 +63,17 @@ pub fn ask_by<R: Wait + Print + Eprint + AllocGlobal, S: Speaker>(
     let outcome = tell_line(rt, speaker, line.as_str().as_bytes(), &mut room);
     let mut more = None;
     let written = match outcome {
-        Outcome::Done(length) | Outcome::Refused(length) => {
+        TellOutcome::Done(length) | TellOutcome::Refused(length) => {
             let answer = received(&room, length);
             more = next_place(rt.alloc(), answer);
             print_answer(rt, answer, form)
         }
-        Outcome::Silent => eprintln!(rt; "notifyd: nobody answered"),
-        Outcome::Fault => eprintln!(rt; "notifyd: device fault"),
+        TellOutcome::Silent => eprintln!(rt; "notifyd: nobody answered"),
+        TellOutcome::Fault => eprintln!(rt; "notifyd: device fault"),
     };
     let status = match written {
         Ok(()) => outcome.status(),
-        Err(_) => Status::DeviceFault.code(),
+        Err(_) => ExitStatus::DeviceFault.code(),
     };
     Told { status, more }
 }
@@ -102,11 +102,11 @@ fn with_token<R: RandomSource + AllocGlobal>(rt: &R, line: &Text) -> Result<Text
 }
 
 /// Says that there is no memory. Answers the exit status.
-fn want_memory<R: Eprint>(rt: &R) -> u8
+fn say_no_memory<R: Eprint>(rt: &R) -> u8
     ensures { result ≡ 4 }
 {
     let _ = eprintln!(rt; "notifyd: out of memory");
-    Status::OutOfMemory.code()
+    ExitStatus::OutOfMemory.code()
 }
 
 /// Asks a line behind a new token by this speaker, and prints what came of it.
@@ -121,7 +121,7 @@ pub fn ask_page<R: Wait + RandomSource + Print + Eprint + AllocGlobal, S: Speake
         (record { asked = S.asked speaker.new; turns = S.turns speaker.new }) told.status) }
 {
     let asked = with_token(rt, line)?;
-    Ok(ask_by(rt, speaker, &asked, form))
+    Ok(ask_line(rt, speaker, &asked, form))
 }
 
 /// The line that asks for the page behind this one, if there is one.
@@ -144,7 +144,7 @@ fn ask_anew<R: Wait + Net + RandomSource + Print + Eprint + AllocGlobal>(
     let Ok(mut speaker) = new_speaker(rt, call) else {
         let _ = eprintln!(rt; "notifyd: device fault");
         return Ok(Told {
-            status: Status::DeviceFault.code(),
+            status: ExitStatus::DeviceFault.code(),
             more: None,
         });
     };
@@ -174,7 +174,7 @@ fn ask_pages<R: Wait + Net + RandomSource + Print + Eprint + AllocGlobal>(
         status = told.status;
         more = told.more;
     }
-    Ok(Status::DeviceFault.code())
+    Ok(ExitStatus::DeviceFault.code())
 }
 
 /// Sends the line, and prints the answer.
@@ -187,13 +187,14 @@ fn ask<R: Wait + Net + RandomSource + Print + Eprint + AllocGlobal>(
 {
     match ask_pages(rt, call, Form::of(&call.line, is_json)) {
         Ok(status) => status,
-        Err(_) => want_memory(rt),
+        Err(_) => say_no_memory(rt),
     }
 }
 
 /// The words behind `--json`, where that is the first, and whether it is.
 fn cut_json(words: &[Text]) -> (bool, &[Text])
-    ensures { result.1.now ≡ behind_json words.now }
+    ensures is_json { result.0 ≡ asks_json words.now }
+    ensures words { result.1.now ≡ behind_json words.now }
 {
     match words {
         [first, rest @ ..] if first.is("--json") => (true, rest),
@@ -201,24 +202,37 @@ fn cut_json(words: &[Text]) -> (bool, &[Text])
     }
 }
 
+/// What the words ask for. An object is made of the answer to STATUS alone: of another answer several lines may have one name.
+fn asked_call(alloc: Global, words: &[Text], is_json: bool) -> Result<TellCall, TellError>
+    ensures call { IfOk result (IsTellCall words.now) }
+    ensures object { is_json ≡ true → IfOk result (λ call. call.line ≡ codes "STATUS") }
+{
+    let call = parse_tell(alloc, words)?;
+    if is_json && !call.line.is("STATUS") {
+        return Err(TellError::Bad);
+    }
+    Ok(call)
+}
+
 /// `notifyd tell` with these words behind it. Answers the exit status: 0 where the answer is `ok`, 1 where it is another one or
-/// the words are no call, 3 where nobody answered, a socket failed or what came couldn't be printed, 4 where memory was wanted.
-/// Behind `--json` the lines of an answer are printed as one JSON object.
+/// the words are no call, 3 where nobody answered, a socket failed or what came couldn't be printed, 4 where memory ran out.
+/// Behind `--json` the lines of the answer to STATUS are printed as one JSON object; another line is no call there.
 pub fn tell<R: Wait + Net + RandomSource + Print + Eprint + AllocGlobal>(
     rt: &R,
     words: &[Text],
 ) -> u8
     ensures status { (result ≡ 0) ⊎ (result ≡ 1) ⊎ (result ≡ 3) ⊎ (result ≡ 4) }
     ensures no_call { ((call : TellCall) → ¬ IsTellCall (behind_json words.now) call) → (result ≡ 1) ⊎ (result ≡ 4) }
+    ensures no_object { AskForNoObject words.now → (result ≡ 1) ⊎ (result ≡ 4) }
 {
     let (is_json, words) = cut_json(words);
-    match parse_tell(rt.alloc(), words) {
+    match asked_call(rt.alloc(), words, is_json) {
         Ok(call) => ask(rt, &call, is_json),
         Err(error) => {
             let _ = eprintln!(rt; "notifyd: {error}");
             match error {
-                TellError::Bad => Status::BadArguments.code(),
-                TellError::NoMemory => Status::OutOfMemory.code(),
+                TellError::Bad => ExitStatus::BadArguments.code(),
+                TellError::NoMemory => ExitStatus::OutOfMemory.code(),
             }
         }
     }

@@ -3,7 +3,7 @@ ghost use Rattle.std.specs.Prelude.{◌≡◌};
 ghost use Rattle.commands.specs.declared.error.ServeError.TheVariants as error;
 ghost use Rattle.commands.specs.Refused.{of_run, status_of, status_of_words};
 
-use arguments::{Flag, OptionsError, Place, Status};
+use arguments::{AddressFlag, ExitStatus, Flag, OptionsError};
 use digest::PasswordsError;
 use service::RunError;
 use sip_text::{NoMemory, Text};
@@ -17,7 +17,7 @@ pub enum ServeError {
     #[error("{0}")]
     Options(OptionsError),
     /// The times of the limits don't go together.
-    #[error("times that don't go together: --min-time up to --default-time and --refer-time, and these up to --max-time")]
+    #[error("times that don't go together: --min-time up to --default-time and --refer-time, and these up to --max-time (unless set: 60, 3600, 180 and 3600 seconds)")]
     Times,
     /// Phones would be told 0.0.0.0: it is named for them, or the service listens there and none is.
     #[error("0.0.0.0 is no address for phones: --contact <a.b.c.d:port>")]
@@ -25,8 +25,8 @@ pub enum ServeError {
     /// No mailbox is named.
     #[error("no mailbox: name some, or a file of them with --mailboxes <file>")]
     NoMailbox,
-    /// A file of mailboxes can't be read.
-    #[error("no such file, or it can't be read: {path}", path = .0.as_str())]
+    /// A file of lines can't be read, or isn't UTF-8 (RFC 3629).
+    #[error("no such file, or it can't be read as UTF-8 text: {path}", path = .0.as_str())]
     File(Text),
     /// A line of a file of mailboxes names none.
     #[error("{path}, line {line}: {error}", path = .0.as_str(), line = .1, error = .2)]
@@ -48,13 +48,13 @@ pub enum ServeError {
     NoUser(Text),
     /// The port of an option is in use.
     #[error("a port in use: {option}", option = .0.text())]
-    Address(Place),
+    Address(AddressFlag),
     /// The address of an option isn't this machine's.
     #[error("an address not of this machine: {option}", option = .0.text())]
-    NotHere(Place),
+    NotHere(AddressFlag),
     /// The user of the program may not listen at the address of an option, mostly since its port is below 1024.
     #[error("a port that this user may not listen at: {option}", option = .0.text())]
-    Denied(Place),
+    Denied(AddressFlag),
     /// The program, or the system, has too many files open.
     #[error("too few file descriptors: raise the limit of open files (ulimit -n)")]
     Descriptors,
@@ -64,7 +64,7 @@ pub enum ServeError {
     /// A socket or the clock failed while the service ran, or its last lines could not be written.
     #[error("device fault")]
     Device,
-    /// A growth was refused: there is no memory.
+    /// An allocation failed: out of memory.
     #[error("out of memory")]
     NoMemory,
 }
@@ -74,18 +74,18 @@ fn options_status(error: &OptionsError) -> u8
     ensures { result ≡ status_of_words error.now }
 {
     match error {
-        OptionsError::NoMemory => Status::OutOfMemory.code(),
-        OptionsError::Bad(Flag::Address(_)) => Status::DeviceFault.code(),
+        OptionsError::NoMemory => ExitStatus::OutOfMemory.code(),
+        OptionsError::Bad(Flag::Address(_)) => ExitStatus::DeviceFault.code(),
         OptionsError::Bad(_)
         | OptionsError::Missing(_)
         | OptionsError::Unknown(_)
         | OptionsError::NoMailbox(_)
-        | OptionsError::NoRange(_) => Status::BadArguments.code(),
+        | OptionsError::NoRange(_) => ExitStatus::BadArguments.code(),
     }
 }
 
 impl ServeError {
-    /// The exit status of the program: 1 where the words ask for no service, 4 where memory was wanted, and else 3, also where
+    /// The exit status of the program: 1 where the words ask for no service, 4 where memory ran out, and else 3, also where
     /// an address is in another form.
     pub fn status(&self) -> u8
         ensures { result ≡ status_of self.now }
@@ -96,9 +96,9 @@ impl ServeError {
             | ServeError::NoContact
             | ServeError::NoMailbox
             | ServeError::NoPasswords
-            | ServeError::NoUser(_) => Status::BadArguments.code(),
+            | ServeError::NoUser(_) => ExitStatus::BadArguments.code(),
             ServeError::Line(_, _, OptionsError::NoMemory) | ServeError::NoMemory => {
-                Status::OutOfMemory.code()
+                ExitStatus::OutOfMemory.code()
             }
             ServeError::Line(..)
             | ServeError::File(_)
@@ -110,7 +110,7 @@ impl ServeError {
             | ServeError::Denied(_)
             | ServeError::Descriptors
             | ServeError::System
-            | ServeError::Device => Status::DeviceFault.code(),
+            | ServeError::Device => ExitStatus::DeviceFault.code(),
         }
     }
 }

@@ -9,7 +9,8 @@ const VERSION: &str = "notifyd 1.0";
 
 pub(crate) const HELP: &str = "\
 usage: notifyd serve [options] [<mailbox>...]      (also --option=value)
-       notifyd tell [--json] [--control <a.b.c.d:port>] <line>
+       notifyd tell [--control <a.b.c.d:port>] <line>
+       notifyd tell --json [--control <a.b.c.d:port>] STATUS
 
   --listen <a.b.c.d:port>    where SIP datagrams come in (127.0.0.1:5060)
   --contact <a.b.c.d:port>   where phones reach the service (as --listen)

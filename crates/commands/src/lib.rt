@@ -32,7 +32,7 @@ mod udp_printing;
 mod udp_serving;
 
 pub use answers::Form;
-pub use asking::{Told, ask_by, ask_page, tell};
+pub use asking::{Told, ask_line, ask_page, tell};
 pub use error::ServeError;
 pub use plan::Plan;
 pub use program::{Served, print_help, serve, serve_words};

@@ -1,8 +1,8 @@
 //! What a service says on standard error: a line as it begins, a warning where others may reach the control address, and a line as it
-//! ends. Where nobody reads them it goes on.
+//! ends. Where nobody reads them within a second they are dropped, and it goes on.
 
-use arguments::Place;
-use service::Shared;
+use arguments::AddressFlag;
+use service::{Shared, has_room_soon};
 use sip_text::{Addr, NoMemory};
 use std::rt::Clock;
 
@@ -21,6 +21,9 @@ pub(crate) fn say_hello<R: Eprint + AllocGlobal>(
 ) -> Result<(), NoMemory> {
     let sip = sip.text(rt.alloc())?;
     let control = control.text(rt.alloc())?;
+    if !has_room_soon() {
+        return Ok(());
+    }
     let _ = eprintln!(rt;
         "notifyd: listening at {sip}, control at {control}, {workers} workers, {mailboxes} mailboxes"
     );
@@ -36,6 +39,9 @@ pub(crate) fn warn_of_control<R: Eprint + AllocGlobal>(
         return Ok(());
     }
     let control = control.text(rt.alloc())?;
+    if !has_room_soon() {
+        return Ok(());
+    }
     let _ = eprintln!(rt;
         "notifyd: warning: other machines may reach the control address {control}"
     );
@@ -43,9 +49,9 @@ pub(crate) fn warn_of_control<R: Eprint + AllocGlobal>(
 }
 
 /// Says where the system gives less room for datagrams that wait than was asked for.
-pub(crate) fn say_room<R: Eprint>(rt: &R, place: Place, asked: u32, got: u32) {
-    if got < asked {
-        let option = place.text();
+pub(crate) fn say_room<R: Eprint>(rt: &R, which: AddressFlag, asked: u32, got: u32) {
+    if got < asked && has_room_soon() {
+        let option = which.text();
         let _ = eprintln!(rt;
             "notifyd: the system gives the socket of {option} room for {got} octets, not for {asked}"
         );
@@ -54,7 +60,10 @@ pub(crate) fn say_room<R: Eprint>(rt: &R, place: Place, asked: u32, got: u32) {
 
 /// Says which worker ran out of memory, where one did.
 pub(crate) fn say_spent_worker<R: Eprint>(rt: &R, shared: &Shared) {
-    if let Some(worker) = shared.spent_worker() {
+    let Some(worker) = shared.spent_worker() else {
+        return;
+    };
+    if has_room_soon() {
         let _ = eprintln!(rt;
             "notifyd: worker {worker} ran out of memory, and so the service closed"
         );
@@ -69,6 +78,8 @@ pub(crate) fn say_goodbye<R: Eprint + Clock + AllocGlobal>(
     let seconds = shared.seconds(rt).unwrap_or(0);
     let lines = shared.lines(rt.alloc(), seconds)?;
     let line = lines.trim_end().replace(rt.alloc(), "\n", ", ")?;
-    let _ = eprintln!(rt; "notifyd: ended: {line}");
+    if has_room_soon() {
+        let _ = eprintln!(rt; "notifyd: ended: {line}");
+    }
     Ok(())
 }

@@ -7,7 +7,7 @@ ghost use Rattle.commands.specs.Refused.{IsOfFile, IsOfSetting, IsOfOne};
 
 use crate::error::ServeError;
 use crate::line_file::{FileLine, TakesLines, take_file};
-use arguments::{Setting, mailboxes_in};
+use arguments::{Setting, line_mailboxes};
 use sip_text::Text;
 use std::alloc::Global;
 use std::rt::Files;
@@ -29,7 +29,7 @@ impl TakesLines for Vec<Text> {
         ensures added { OnOk result (AddsNames line.entry.text.now self.old.items self.new.items) }
         ensures refused { IfErr result (IsOfFile line.entry.path.now) }
     {
-        let mut more = match mailboxes_in(alloc, line.text) {
+        let mut more = match line_mailboxes(alloc, line.text) {
             Ok(more) => more,
             Err(error) => return Err(ServeError::Line(line.path.copy(alloc)?, line.number, error)),
         };

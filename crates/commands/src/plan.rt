@@ -11,7 +11,7 @@ use crate::error::ServeError;
 use crate::mailboxes::named_mailboxes;
 use crate::state::told_changes;
 use admission::{Admission, Network};
-use arguments::{Choices, Numbers, control_networks_of, parse_settings};
+use arguments::{Choices, Numbers, control_networks, parse_settings};
 use notifier_model::{Limits, Setup};
 use package::Change;
 use sip_text::{Addr, Text};
@@ -120,7 +120,7 @@ where
     let mailboxes = named_mailboxes(rt, settings.as_slice())?;
     let changes = told_changes(rt, settings.as_slice())?;
     let admission = new_admission(rt, settings.as_slice())?;
-    let operators = control_networks_of(rt.alloc(), settings.as_slice())?;
+    let operators = control_networks(rt.alloc(), settings.as_slice())?;
     Ok(Read {
         choices: Choices::of(settings.as_slice()),
         mailboxes,

@@ -20,10 +20,12 @@ use crate::prompt::{Patience, Prompt};
 use crate::sockets::{Sockets, open};
 use crate::udp::all_closed;
 use crate::udp_printing::worker_lines;
-use arguments::{Status, Wanted, all_told};
+use arguments::{ExitStatus, Wanted, all_told};
 use package::Package;
 use scripts::write_page;
-use service::{ControlPort, Exit, ServiceOutcome, ServiceWork, Shared, SipDesk, run_crew};
+use service::{
+    ControlPort, Exit, ServiceEnd, ServiceWork, Shared, SipDesk, has_room_soon, run_crew,
+};
 use sip_text::{Addr, NoMemory, Text};
 use std::alloc::Global;
 use std::io;
@@ -39,7 +41,7 @@ use transport::{Sink, UdpWire};
 /// A service that has ended: what came of it, and what its lines of transfers were written to.
 #[derive(Drop)]
 pub struct Served<F> {
-    pub outcome: ServiceOutcome,
+    pub outcome: ServiceEnd,
     pub sink: Sink<F>,
     pub shared: Arc<Shared, Global>,
 }
@@ -301,8 +303,8 @@ fn print_text<R: Print>(rt: &R, text: &str) -> u8
     ensures status { (result ≡ 0) ⊎ (result ≡ status_of error.Device) }
 {
     match println!(rt; "{text}") {
-        Ok(()) => Status::Done.code(),
-        Err(_) => Status::DeviceFault.code(),
+        Ok(()) => ExitStatus::Done.code(),
+        Err(_) => ExitStatus::DeviceFault.code(),
     }
 }
 
@@ -313,17 +315,19 @@ pub fn print_help<R: Print>(rt: &R) -> u8
     print_text(rt, HELP)
 }
 
-/// Tells on standard error why no service runs, or has ended. Answers the exit status.
+/// Tells on standard error, where there is room, why no service runs, or has ended. Answers the exit status.
 fn tell_why<R: Eprint>(rt: &R, error: &ServeError) -> u8
     ensures status { result ≡ status_of error.now }
 {
-    let _ = eprintln!(rt; "notifyd: {error}");
+    if has_room_soon() {
+        let _ = eprintln!(rt; "notifyd: {error}");
+    }
     error.status()
 }
 
 /// `notifyd serve` with these words behind it. Answers the exit status: 0 where a service ended well, or where a text was asked for
 /// and printed, 1 where the words ask for no service, 3 where an address is of another form or a socket, a file or a thread failed,
-/// 4 where memory was wanted. What kept a service from running, or went wrong in it, is told in one line on standard error.
+/// 4 where memory ran out. What kept a service from running, or went wrong in it, is told in one line on standard error.
 pub fn serve<R, P, M>(rt: R, words: &[Text], make: &M) -> u8
 where
     R: Threads
@@ -351,7 +355,7 @@ where
         return print_text(&rt, text);
     }
     match attempt(rt, words, make) {
-        Ok(()) => Status::Done.code(),
+        Ok(()) => ExitStatus::Done.code(),
         Err(error) => tell_why(&rt, &error),
     }
 }

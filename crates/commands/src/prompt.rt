@@ -1,6 +1,8 @@
 //! Standard output, as a service writes the lines of transfers there: each whole and at once, or not at all, so that who doesn't read
 //! keeps nobody waiting.
 
+ghost use Rattle.std.specs.Io.{WritesAtMost};
+
 use arrayvec::ArrayVec;
 use libc::net as c;
 use libc::types::pollfd;
@@ -14,14 +16,17 @@ use std::sync::atomic::{AtomicBool, Ordering};
 /// How many octets a line has at most: a pipe that takes any takes so many (PIPE_BUF).
 const LONGEST: usize = 4096;
 
-/// Whether somebody reads standard output, so that a line may be written there without waiting.
-fn has_room() -> bool {
+/// How many milliseconds who reads is waited for at the end of a service.
+const PATIENCE: i32 = 2000;
+
+/// Whether somebody reads standard output, within so many milliseconds, so that a line may be written there without waiting.
+fn has_room(milliseconds: i32) -> bool {
     let mut outputs = [pollfd {
         fd: libc::STDOUT_FILENO,
         events: c::POLLOUT,
         revents: 0,
     }];
-    c::poll(&mut outputs, 0) > 0
+    c::poll(&mut outputs, milliseconds) > 0
 }
 
 /// Whether who doesn't read is waited for: not while the service runs.
@@ -54,7 +59,8 @@ impl Patience {
 }
 
 /// A writer to standard output that keeps a line until it is flushed, and then writes it where there is room. A line that is too long, or
-/// for which there is no room, is an error, and goes. While who reads is waited for it writes all as it comes.
+/// for which there is no room, is an error, and goes. While who reads is waited for it writes all as it comes, and is an error where there is
+/// no room for two seconds.
 #[derive(Drop)]
 pub(crate) struct Prompt<F> {
     writer: F,
@@ -77,17 +83,27 @@ impl<F: Write + Drop> Prompt<F> {
         if self.line.is_empty() {
             return Ok(());
         }
-        if !has_room() {
+        if !has_room(0) {
             return Err(io::Error::from(ErrorKind::WouldBlock));
         }
         self.writer.write_all(self.line.as_slice())
+    }
+
+    /// Writes as much as there is room for, once there is some.
+    fn write_patiently(&mut self, buf: &[u8]) -> io::Result<usize>
+        ensures bound { WritesAtMost result buf.now }
+    {
+        if !has_room(PATIENCE) {
+            return Err(io::Error::from(ErrorKind::WouldBlock));
+        }
+        self.writer.write(&buf[..buf.len().min(LONGEST)])
     }
 }
 
 impl<F: Write + Drop> Write for Prompt<F> {
     fn write(&mut self, buf: &[u8]) -> io::Result<usize> {
         if !self.patience.is_over() {
-            return self.writer.write(buf);
+            return self.write_patiently(buf);
         }
         if self.line.try_extend_from_slice(buf).is_err() {
             self.line.clear();

@@ -9,7 +9,7 @@ ghost use Rattle.commands.specs.Serving.{IsAt, AreOpen};
 
 use crate::error::ServeError;
 use crate::logging::say_room;
-use arguments::{Choices, Place};
+use arguments::{AddressFlag, Choices};
 use sip_text::Addr;
 use std::io;
 use std::io::ErrorKind;
@@ -35,54 +35,58 @@ fn is_too_many(fault: &io::Error) -> bool
 }
 
 /// Why there is no socket where an option says, by what the system said.
-fn socket_refusal(place: Place, fault: &io::Error) -> ServeError
+fn socket_refusal(which: AddressFlag, fault: &io::Error) -> ServeError
     ensures too_many { IsTooMany (raw_os_error fault.now) → result ≡ error.Descriptors }
     ensures in_use { ¬ (IsTooMany (raw_os_error fault.now)) → error_kind fault.now ≡ ErrorKind.AddrInUse
-        → result ≡ error.Address place }
+        → result ≡ error.Address which }
     ensures not_here { ¬ (IsTooMany (raw_os_error fault.now)) → error_kind fault.now ≡ ErrorKind.AddrNotAvailable
-        → result ≡ error.NotHere place }
+        → result ≡ error.NotHere which }
     ensures denied { ¬ (IsTooMany (raw_os_error fault.now)) → error_kind fault.now ≡ ErrorKind.PermissionDenied
-        → result ≡ error.Denied place }
-    ensures none { IsNoSocket place result }
+        → result ≡ error.Denied which }
+    ensures none { IsNoSocket which result }
 {
     let kind = fault.kind();
     if is_too_many(fault) {
         ServeError::Descriptors
     } else if kind == ErrorKind::AddrInUse {
-        ServeError::Address(place)
+        ServeError::Address(which)
     } else if kind == ErrorKind::AddrNotAvailable {
-        ServeError::NotHere(place)
+        ServeError::NotHere(which)
     } else if kind == ErrorKind::PermissionDenied {
-        ServeError::Denied(place)
+        ServeError::Denied(which)
     } else {
         ServeError::System
     }
 }
 
 /// Asks the system once more for two descriptors of a socket where an option says, to learn why it gave none.
-fn why_none<R: Wait + Net>(rt: &R, place: Place, addr: Addr) -> ServeError
-    ensures { IsNoSocket place result }
+fn why_none<R: Wait + Net>(rt: &R, which: AddressFlag, addr: Addr) -> ServeError
+    ensures { IsNoSocket which result }
 {
     let socket = match UdpSocket::bind(rt, system_addr(addr)) {
         Ok(socket) => socket,
-        Err(fault) => return socket_refusal(place, &fault),
+        Err(fault) => return socket_refusal(which, &fault),
     };
     match socket.try_clone() {
         Ok(_) => ServeError::System,
-        Err(fault) => socket_refusal(place, &fault),
+        Err(fault) => socket_refusal(which, &fault),
     }
 }
 
 /// Two wires over a socket at this address, which an option named.
-fn bind<R: Wait + Net>(rt: &R, place: Place, addr: Addr) -> Result<(UdpWire, UdpWire), ServeError>
+fn bind<R: Wait + Net>(
+    rt: &R,
+    which: AddressFlag,
+    addr: Addr,
+) -> Result<(UdpWire, UdpWire), ServeError>
     ensures at { IfOk result (λ r. IsAt addr r.0.local) }
     ensures same { IfOk result (λ r. r.1.local ≡ r.0.local) }
     ensures misses { IfOk result (λ r. misses r.0 ≡ no_misses) }
-    ensures refused { IfErr result (IsNoSocket place) }
+    ensures refused { IfErr result (IsNoSocket which) }
 {
-    match UdpWire::bind_at(rt, addr) {
+    match UdpWire::bind_addr(rt, addr) {
         Ok(wires) => Ok(wires),
-        Err(_) => Err(why_none(rt, place, addr)),
+        Err(_) => Err(why_none(rt, which, addr)),
     }
 }
 
@@ -101,7 +105,7 @@ fn further(wire: &UdpWire) -> Result<UdpWire, ServeError>
 fn prepare<R: Wait + Eprint>(
     rt: &R,
     wire: &UdpWire,
-    place: Place,
+    which: AddressFlag,
     room: u32,
 ) -> Result<(), ServeError>
     ensures refused { IfErr result IsOther }
@@ -110,7 +114,7 @@ fn prepare<R: Wait + Eprint>(
         return Err(ServeError::System);
     }
     if let Ok(got) = wire.ask_for_room(room) {
-        say_room(rt, place, room, got);
+        say_room(rt, which, room, got);
     }
     Ok(())
 }
@@ -121,12 +125,12 @@ pub(crate) fn open<R: Wait + Net + Eprint>(rt: &R, choices: &Choices) -> Result<
     ensures opened { IfOk result (AreOpen choices.now) }
     ensures refused { IfErr result IsOther }
 {
-    let (sip, outgoing) = bind(rt, Place::Listen, choices.listen)?;
+    let (sip, outgoing) = bind(rt, AddressFlag::Listen, choices.listen)?;
     let refusals = further(&sip)?;
-    let (lines, replies) = bind(rt, Place::Control, choices.control)?;
+    let (lines, replies) = bind(rt, AddressFlag::Control, choices.control)?;
     let room = choices.numbers.receive_buffer;
-    prepare(rt, &sip, Place::Listen, room)?;
-    prepare(rt, &lines, Place::Control, room)?;
+    prepare(rt, &sip, AddressFlag::Listen, room)?;
+    prepare(rt, &lines, AddressFlag::Control, room)?;
     Ok(Sockets {
         sip,
         refusals,

@@ -14,7 +14,7 @@ use std::alloc::Global;
 use std::rt::Files;
 
 /// What a line tells, without its line feed. An empty one and a comment, which begins with `#`, tell nothing.
-fn change_in(alloc: Global, line: &str) -> Result<Option<Change>, ScriptError>
+fn line_change(alloc: Global, line: &str) -> Result<Option<Change>, ScriptError>
     ensures tells { IfOk result (Tells line.now) }
     ensures none { IfErr result (λ e. e ≢ ScriptError.NoMemory → IsNoChange line.now) }
 {
@@ -32,7 +32,7 @@ fn add_told(alloc: Global, changes: &mut Vec<Change>, line: FileLine<'_>) -> Res
     ensures added { OnOk result (Adds line.entry.text.now changes.old.items changes.new.items) }
     ensures refused { IfErr result (IsOfState line.entry.path.now) }
 {
-    match change_in(alloc, line.text) {
+    match line_change(alloc, line.text) {
         Ok(Some(change)) => changes.push(change)?,
         Ok(None) => {}
         Err(ScriptError::NoMemory) => return Err(ServeError::NoMemory),
@@ -86,7 +86,7 @@ fn add_path(alloc: Global, path: &mut Option<Text>, setting: &Setting) -> Result
 }
 
 /// The path of the file of changes that the settings name, if they name one.
-fn path_of(alloc: Global, settings: &[Setting]) -> Result<Option<Text>, NoMemory>
+fn state_path(alloc: Global, settings: &[Setting]) -> Result<Option<Text>, NoMemory>
     ensures { IfOk result (λ path. path ≡ state_of settings.now) }
 {
     let mut path = None;
@@ -104,7 +104,7 @@ pub(crate) fn told_changes<R: Files + AllocGlobal>(
     ensures state { IfOk result (λ changes. IsState (state_of settings.now) changes.items) }
     ensures refused { IfErr result (IsOfNamedState settings.now) }
 {
-    match path_of(rt.alloc(), settings)? {
+    match state_path(rt.alloc(), settings)? {
         Some(path) => {
             let mut changes = Vec::new(rt.alloc());
             take_file(rt, &path, &mut changes)?;

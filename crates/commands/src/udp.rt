@@ -3,13 +3,13 @@
 //! [`run`] binds two ports of 127.0.0.1 and starts a crew with two ports. One thread hears SIP (RFC 3261 section 18) at the
 //! first, one hears control lines at the second, and the caller's thread sends out what the workers post and writes a line for
 //! each transfer that starts (RFC 3515). Once so many datagrams and a CLOSE have come, all ends, and a line for each worker tells
-//! how it ended. The answer is a [`Status`].
+//! how it ended. The answer is an [`ExitStatus`].
 //!
 //! What it isn't: it knows no other addresses than 127.0.0.1, and it tells no time: ticks come by the control port. That a
 //! datagram arrives no contract can say. Begin with [`run`], then `specs/UdpCall`, `specs/UdpServing` and `specs/UdpEnds`; what
 //! datagrams are to a crew, and what becomes of outs, the crate `feeds` says.
 ghost use Rattle.std.specs.Prelude.{◌≡◌, ◌≢◌, ◌<◌, ◌≤◌, ◌⊎◌, IfOk, IfErr, OnErr, Err};
-ghost use Rattle.arguments.specs.declared.status.Status.TheVariants as status;
+ghost use Rattle.arguments.specs.declared.exit_status.ExitStatus.TheVariants as status;
 ghost use Rattle.arguments.specs.Wanted.{Gives};
 ghost use Rattle.crew.specs.Started.{IsStarted};
 ghost use Rattle.commands.specs.UdpCall.{start_at, AsksFor, AsksForNone};
@@ -19,9 +19,10 @@ ghost use Rattle.commands.specs.UdpRunning.{status_of, AreBound, outcome_of};
 ghost use Rattle.commands.specs.UdpServing.{Serves};
 
 use crate::udp_printing::worker_lines;
-use crate::udp_serving::{Ears, Running, UdpServed, serve};
+use crate::udp_serving::{Ears, Running, UdpServed, listen_and_serve};
 use arguments::{
-    ArgumentsError, Status, UdpArguments, Wanted, boxes_for, parse_udp_arguments, setup_at,
+    ArgumentsError, ExitStatus, UdpArguments, Wanted, dealt_boxes, loopback_setup,
+    parse_udp_arguments,
 };
 use crew::{Crew, End, Open, Port, StartError, WorkerReport};
 use package::Package;
@@ -38,7 +39,7 @@ use transport::{Sink, UdpWire, WireFault};
 
 /// The sockets of a run.
 #[derive(Drop)]
-struct Sockets {
+struct UdpSockets {
     /// SIP is heard here.
     sip: UdpWire,
     /// What the workers send goes out here, from the same port.
@@ -48,13 +49,13 @@ struct Sockets {
 }
 
 /// Binds the two ports of 127.0.0.1.
-fn bind<H: Wait + Net>(rt: &H, port: u16, control_port: u16) -> Result<Sockets, WireFault>
+fn bind<H: Wait + Net>(rt: &H, port: u16, control_port: u16) -> Result<UdpSockets, WireFault>
     requires chosen { (port ≢ 0) × (control_port ≢ 0) }
     ensures bound { IfOk result (AreBound port control_port) }
 {
     let (sip, outgoing) = UdpWire::bind(rt, port)?;
     let (control, _) = UdpWire::bind(rt, control_port)?;
-    Ok(Sockets {
+    Ok(UdpSockets {
         sip,
         outgoing,
         control,
@@ -90,35 +91,36 @@ pub fn all_closed(reports: &[WorkerReport]) -> bool
 }
 
 /// Writes the lines of the workers, and tells how the run ended.
-fn close_off<F: Write>(alloc: Global, served: &UdpServed, sink: &mut Sink<F>) -> Status
+fn close_off<F: Write>(alloc: Global, served: &UdpServed, sink: &mut Sink<F>) -> ExitStatus
     ensures { EndsAs F.contents (outcome_of served.now) sink.old sink.new result }
 {
     let has_fault = has_fault(served);
     let reports = served.report.workers.as_slice();
     let Ok(lines) = worker_lines(alloc, reports) else {
         return if has_fault {
-            Status::DeviceFault
+            ExitStatus::DeviceFault
         } else {
-            Status::OutOfMemory
+            ExitStatus::OutOfMemory
         };
     };
     if write_page(sink, lines.as_bytes()).is_err() || has_fault {
-        return Status::DeviceFault;
+        return ExitStatus::DeviceFault;
     }
     if all_closed(reports) {
-        Status::Done
+        ExitStatus::Done
     } else {
-        Status::OutOfMemory
+        ExitStatus::OutOfMemory
     }
 }
 
 /// The status where a crew isn't started.
-fn start_status(error: StartError) -> Status
+fn start_status(error: StartError) -> ExitStatus
     ensures { result ≡ status_of error }
 {
     match error {
-        StartError::NoThread => Status::DeviceFault,
-        StartError::NoMemory | StartError::NoWorkers | StartError::NoPorts => Status::OutOfMemory,
+        StartError::NoThread => ExitStatus::DeviceFault,
+        StartError::NoMemory | StartError::NoWorkers | StartError::NoPorts =>
+            ExitStatus::OutOfMemory,
     }
 }
 
@@ -128,7 +130,7 @@ fn start_crew<H, P, M>(
     alloc: Global,
     call: &UdpArguments,
     make: &M,
-) -> Result<(Crew, Vec<Port>, Taker), Status>
+) -> Result<(Crew, Vec<Port>, Taker), ExitStatus>
 where
     H: Threads + Wait + Copy + Send + 'static,
     P: Package + 'static,
@@ -140,12 +142,12 @@ where
     ensures started { IfOk result (λ r. IsStarted (start_at call.now) call.now.workers 2 r.0 r.1.items r.2) }
     ensures refused { IfErr result (λ s. (s ≡ status.DeviceFault) ⊎ (s ≡ status.OutOfMemory)) }
 {
-    let setup = setup_at(call.port, call.seed, call.stop);
-    let Ok(boxes) = boxes_for(alloc, call.mailboxes.as_slice(), call.workers, make) else {
-        return Err(Status::OutOfMemory);
+    let setup = loopback_setup(call.port, call.seed, call.stop);
+    let Ok(boxes) = dealt_boxes(alloc, call.mailboxes.as_slice(), call.workers, make) else {
+        return Err(ExitStatus::OutOfMemory);
     };
     let Ok(gate) = Arc::new(alloc, Open) else {
-        return Err(Status::OutOfMemory);
+        return Err(ExitStatus::OutOfMemory);
     };
     match Crew::start_any(rt, alloc, &setup, 2, boxes, gate) {
         Ok(started) => Ok(started),
@@ -158,10 +160,10 @@ fn serve_sockets<H, F, P, M>(
     rt: H,
     alloc: Global,
     call: &UdpArguments,
-    sockets: Sockets,
+    sockets: UdpSockets,
     sink: &mut Sink<F>,
     make: &M,
-) -> Result<UdpServed, Status>
+) -> Result<UdpServed, ExitStatus>
 where
     H: Threads + Wait + Clock + Copy + Send + 'static,
     F: Write,
@@ -177,7 +179,7 @@ where
     ensures refused { IfErr result (λ s. (s ≡ status.DeviceFault) ⊎ (s ≡ status.OutOfMemory)) }
     ensures unwritten { OnErr result (sink.new ≡ sink.old) }
 {
-    let Sockets {
+    let UdpSockets {
         sip,
         outgoing,
         control,
@@ -194,9 +196,9 @@ where
         control,
         count: call.count,
     };
-    match serve(rt, alloc, running, ports, ears, sink) {
+    match listen_and_serve(rt, alloc, running, ports, ears, sink) {
         Ok(served) => Ok(served),
-        Err(_) => Err(Status::DeviceFault),
+        Err(_) => Err(ExitStatus::DeviceFault),
     }
 }
 
@@ -207,7 +209,7 @@ fn attempt<H, F, P, M>(
     words: &[Text],
     sink: &mut Sink<F>,
     make: &M,
-) -> Result<UdpServed, Status>
+) -> Result<UdpServed, ExitStatus>
 where
     H: Threads + Wait + Net + Clock + Copy + Send + 'static,
     F: Write,
@@ -224,11 +226,11 @@ where
 {
     let call = match parse_udp_arguments(alloc, words) {
         Ok(call) => call,
-        Err(ArgumentsError::Bad) => return Err(Status::BadArguments),
-        Err(ArgumentsError::NoMemory) => return Err(Status::OutOfMemory),
+        Err(ArgumentsError::Bad) => return Err(ExitStatus::BadArguments),
+        Err(ArgumentsError::NoMemory) => return Err(ExitStatus::OutOfMemory),
     };
     let Ok(sockets) = bind(&rt, call.port, call.control_port) else {
-        return Err(Status::DeviceFault);
+        return Err(ExitStatus::DeviceFault);
     };
     serve_sockets(rt, alloc, &call, sockets, sink, make)
 }
@@ -237,7 +239,13 @@ where
 /// have come at the first and a CLOSE, or 1,048,576 lines, at the second, or a wire failed or a worker is gone, and writes a line
 /// for each transfer that starts, as it comes, and last a line for each worker. Both ports are free again then. Arguments are looked at
 /// before a port is bound. Each package is one that `make` gives.
-pub fn run<H, F, P, M>(rt: H, alloc: Global, words: &[Text], sink: &mut Sink<F>, make: &M) -> Status
+pub fn run<H, F, P, M>(
+    rt: H,
+    alloc: Global,
+    words: &[Text],
+    sink: &mut Sink<F>,
+    make: &M,
+) -> ExitStatus
 where
     H: Threads + Wait + Net + Clock + Copy + Send + 'static,
     F: Write,

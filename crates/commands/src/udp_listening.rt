@@ -1,7 +1,7 @@
 //! What listens at a socket, on a thread of its own: for SIP at one, for control lines at the other.
-ghost use Rattle.std.specs.Prelude.{◌≡◌, ◌<◌, IfOk};
+ghost use Rattle.std.specs.Prelude.{◌≡◌, true, false, IfOk};
 ghost use Rattle.crew.specs.Kept.{SameSeats};
-ghost use Rattle.crew.specs.Ports.{IsShut};
+ghost use Rattle.crew.specs.Ports.{IsLeftByClose};
 ghost use Rattle.feeds.specs.Fed.{failures_at};
 ghost use Rattle.feeds.specs.declared.hearing.Language.TheVariants as language;
 ghost use Rattle.commands.specs.UdpHearing.{HearsOut, HearsOutSocket};
@@ -26,27 +26,27 @@ pub(crate) struct Fed {
 
 /// What a thread is to hear: so many datagrams at most, in this language.
 #[derive(Clone, Copy)]
-pub(crate) struct Hearing {
+pub(crate) struct Intake {
     pub(crate) language: Language,
     pub(crate) count: u32,
 }
 
-impl Hearing {
+impl Intake {
     /// The messages of so many SIP datagrams.
-    pub(crate) fn sip(count: u32) -> Hearing
+    pub(crate) fn sip(count: u32) -> Intake
         ensures { result ≡ record { language = language.Sip; count = count } }
     {
-        Hearing {
+        Intake {
             language: Language::Sip,
             count,
         }
     }
 
     /// Control lines, until a CLOSE.
-    pub(crate) fn control() -> Hearing
+    pub(crate) fn control() -> Intake
         ensures { result ≡ record { language = language.Control; count = most_lines } }
     {
-        Hearing {
+        Intake {
             language: Language::Control,
             count: MOST_CONTROL_LINES,
         }
@@ -57,7 +57,7 @@ impl Hearing {
 #[derive(Drop)]
 pub(crate) struct Errand {
     pub(crate) port: Snapshot<Port>,
-    pub(crate) hearing: Hearing,
+    pub(crate) hearing: Intake,
 }
 
 impl Promise<Fed> for Errand {
@@ -81,8 +81,8 @@ impl<F: Drop> From<SpawnError<F>> for NoThread {
 
 /// A port that was fed, closed.
 fn closed<H: Wait>(rt: &H, mut port: Port) -> Port
-    ensures shut { result.still_open ≡ 0 }
-    ensures ends { IsShut port result }
+    ensures shut { result.is_open ≡ false }
+    ensures ends { IsLeftByClose port result }
     ensures seats { SameSeats port result }
 {
     let told = port.close(rt);
@@ -96,9 +96,9 @@ fn hear_out<H: Wait, W: Wire>(
     alloc: Global,
     wire: &mut W,
     mut port: Port,
-    hearing: Hearing,
+    hearing: Intake,
 ) -> Fed
-    requires { 0 < port.still_open }
+    requires { port.is_open ≡ true }
     ensures heard { HearsOut (W.given wire.old) (W.given wire.new) hearing.language hearing.count port result.port result.report }
     ensures failures { W.failures wire.new ≡ failures_at result.report.end (W.failures wire.old) }
 {
@@ -113,9 +113,9 @@ pub(crate) fn start_listener<H: Threads + Wait + Copy + Send + 'static>(
     alloc: Global,
     wire: UdpWire,
     port: Port,
-    hearing: Hearing,
+    hearing: Intake,
 ) -> Result<Listener, NoThread>
-    requires { 0 < port.still_open }
+    requires { port.is_open ≡ true }
     ensures port { IfOk result (λ h. h.promise.port.value ≡ port) }
     ensures hearing { IfOk result (λ h. h.promise.hearing ≡ hearing) }
 {
@@ -127,7 +127,7 @@ pub(crate) fn start_listener<H: Threads + Wait + Copy + Send + 'static>(
         &rt,
         errand,
         move || -> Fed
-            requires { 0 < port.still_open }
+            requires { port.is_open ≡ true }
             ensures { HearsOutSocket hearing.language hearing.count port result.port result.report }
         {
             let mut wire = wire;

@@ -5,7 +5,7 @@ ghost use Rattle.crew.specs.Ports.{PortSeats};
 ghost use Rattle.commands.specs.UdpServing.{Serves};
 ghost use Rattle.commands.specs.UdpRunning.{IsNew, AreErrands, outcome_of};
 
-use crate::udp_listening::{Hearing, Listener, NoThread, start_listener};
+use crate::udp_listening::{Intake, Listener, NoThread, start_listener};
 use crew::{Crew, Port, Report};
 use feeds::{EmitReport, FeedReport, emit};
 use queues::outbox::Taker;
@@ -120,7 +120,7 @@ fn take_both(ports: &mut Vec<Port>) -> (Port, Port)
 
 /// Has a crew that was just started serve the sockets until both its ports have ended, and joins it. Where a thread is refused
 /// nothing is written, and all that was started has ended; control lines may have been heard.
-pub(crate) fn serve<H, F>(
+pub(crate) fn listen_and_serve<H, F>(
     rt: H,
     alloc: Global,
     running: Running,
@@ -146,12 +146,12 @@ where
         count,
     } = ears;
     let control_addr = control.local();
-    let Ok(control) = start_listener(rt, alloc, control, second, Hearing::control()) else {
+    let Ok(control) = start_listener(rt, alloc, control, second, Intake::control()) else {
         drop(first);
         wind_up(&rt, alloc, running);
         return Err(NoThread);
     };
-    let Ok(sip) = start_listener(rt, alloc, sip, first, Hearing::sip(count)) else {
+    let Ok(sip) = start_listener(rt, alloc, sip, first, Intake::sip(count)) else {
         let mut running = running;
         let _ = running.outgoing.send(&rt, control_addr, b"CLOSE");
         // First the port that it closed goes: while an end of it is kept the workers wait for the one that went away unclosed.

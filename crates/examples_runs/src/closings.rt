@@ -4,7 +4,7 @@
 //! outs each event gave, and what the package left in its cell.
 
 use crate::desks::heard;
-use arguments::setup_at;
+use arguments::loopback_setup;
 use message_summary::Mailboxes;
 use notifier::{Desk, Event};
 use package::{ClosingCell, Package};
@@ -32,7 +32,7 @@ fn outs_to_each<P: Package>(
 ) -> Result<Vec<usize>, NoMemory> {
     let mut boxes = Vec::new(alloc);
     boxes.push(package)?;
-    let mut desk = Desk::new(alloc, &setup_at(5060, [0; 32], false), 0, boxes)?;
+    let mut desk = Desk::new(alloc, &loopback_setup(5060, [0; 32], false), 0, boxes)?;
     let mut outs = Vec::new(alloc);
     for event in events {
         let Ok(given) = desk.handle(alloc, event) else {

@@ -5,7 +5,7 @@
 
 use crate::pages::{mailbox_of_alice, new_transfers};
 use crate::presence::Presence;
-use arguments::setup_at;
+use arguments::loopback_setup;
 use crew::Replay;
 use notifier::{Desk, DeskError, Event, play};
 use package::Package;
@@ -69,7 +69,7 @@ fn is_played(alloc: Global, events: &[Event]) -> Result<bool, NoMemory> {
     let mut boxes: Vec<Box<dyn Package>> = Vec::new(alloc);
     boxes.push(Box::new(alloc, mailbox_of_alice(alloc)?)?)?;
     boxes.push(Box::new(alloc, new_transfers(alloc)?)?)?;
-    let mut desk = Desk::new(alloc, &setup_at(5060, [0; 32], false), 0, boxes)?;
+    let mut desk = Desk::new(alloc, &loopback_setup(5060, [0; 32], false), 0, boxes)?;
     let is_handled = handles(alloc, &mut desk, events);
     Ok(is_handled && (!desk.is_spent() || handles(alloc, &mut desk, events)))
 }
@@ -92,7 +92,7 @@ fn is_replayed(alloc: Global, events: Vec<Event>) -> Result<bool, NoMemory> {
     let mut boxes: Vec<Box<dyn Package>> = Vec::new(alloc);
     boxes.push(Box::new(alloc, mailbox_of_alice(alloc)?)?)?;
     boxes.push(Box::new(alloc, new_transfers(alloc)?)?)?;
-    let desk = Desk::new(alloc, &setup_at(5060, [0; 32], false), 0, boxes)?;
+    let desk = Desk::new(alloc, &loopback_setup(5060, [0; 32], false), 0, boxes)?;
     Ok(is_spent_once(alloc, desk, events))
 }
 
@@ -100,7 +100,13 @@ fn is_replayed(alloc: Global, events: Vec<Event>) -> Result<bool, NoMemory> {
 fn is_refused(alloc: Global, events: &[Event]) -> Result<bool, NoMemory> {
     let mut boxes: Vec<Box<dyn Package>> = Vec::new(alloc);
     boxes.push(Box::new(alloc, Presence::new(alloc)?)?)?;
-    let outs = play(alloc, &setup_at(5060, [0; 32], false), 0, boxes, events)?;
+    let outs = play(
+        alloc,
+        &loopback_setup(5060, [0; 32], false),
+        0,
+        boxes,
+        events,
+    )?;
     Ok(outs.len() == 1)
 }
 

@@ -2,7 +2,7 @@
 //! is as it should be in each such run, or the program ends with an error.
 
 use crate::trials::{Trial, run_once, words_of};
-use arguments::{ArgumentsError, Status, parse_arguments};
+use arguments::{ArgumentsError, ExitStatus, parse_arguments};
 use scripts::{Page, ScriptError, parse_script, read_script};
 use sip_read::Addr;
 use std::alloc::Global;
@@ -88,8 +88,8 @@ where
     let (status, sink) = run_once(rt, words.as_slice(), script, Trial::Cut, u32::MAX);
     let written = sink.writer().taken.as_slice();
     match status {
-        Status::Done => written.starts_with(first),
-        Status::OutOfMemory | Status::DeviceFault => written.is_empty(),
+        ExitStatus::Done => written.starts_with(first),
+        ExitStatus::OutOfMemory | ExitStatus::DeviceFault => written.is_empty(),
         _ => false,
     }
 }

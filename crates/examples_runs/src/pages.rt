@@ -5,7 +5,7 @@
 //! whether the notifier writes its page.
 
 use crate::presence::Presence;
-use arguments::setup_at;
+use arguments::loopback_setup;
 use message_summary::Mailboxes;
 use notifier_model::{Limits, Setup};
 use package::{ClosingCell, Package};
@@ -54,7 +54,7 @@ fn setup_of(bounds: Bounds) -> Option<Setup> {
     let limits = Limits::new(60, 86400, 3600, 180, max_cseq, table, serials, kept, 64, 64)?;
     Some(Setup {
         limits,
-        ..setup_at(5060, [0; 32], false)
+        ..loopback_setup(5060, [0; 32], false)
     })
 }
 

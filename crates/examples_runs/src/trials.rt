@@ -9,7 +9,7 @@ ghost use Rattle.std.specs.Prelude.{◌≡◌, IfOk};
 ghost use Rattle.arguments.specs.Wanted.{first_seen};
 
 use crate::devices::{Drain, Drip, Fault};
-use arguments::{Status, Wanted};
+use arguments::{ExitStatus, Wanted};
 use message_summary::Mailboxes;
 use package::{ClosingCell, Package};
 use refer::Transfers;
@@ -101,7 +101,7 @@ pub(crate) fn run_once<H>(
     script: &[u8],
     trial: Trial,
     turn: u32,
-) -> (Status, Sink<Drain>)
+) -> (ExitStatus, Sink<Drain>)
 where
     H: Threads + Wait + AllocGlobal + Copy + Send + 'static,
 {
@@ -124,9 +124,9 @@ where
 }
 
 /// Whether a turn wrote what it may, and told of no more and no fewer failures than one where a write had a fault.
-fn is_right(trial: Trial, turn: u32, page: &[u8], status: Status, sink: &Sink<Drain>) -> bool {
+fn is_right(trial: Trial, turn: u32, page: &[u8], status: ExitStatus, sink: &Sink<Drain>) -> bool {
     let taken = sink.writer().taken.as_slice();
-    let is_done = status == Status::Done;
+    let is_done = status == ExitStatus::Done;
     match trial {
         Trial::Cut if turn == 0 => is_done && !taken.is_empty(),
         Trial::Writes(_) => {
@@ -162,9 +162,9 @@ where
         }
         drop(sink);
         let count = match status {
-            Status::Done => &mut done,
-            Status::BadScript => &mut bad_scripts,
-            Status::DeviceFault => &mut faults,
+            ExitStatus::Done => &mut done,
+            ExitStatus::BadScript => &mut bad_scripts,
+            ExitStatus::DeviceFault => &mut faults,
             _ => &mut others,
         };
         *count = count.saturating_add(1);

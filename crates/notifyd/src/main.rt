@@ -14,7 +14,7 @@
 ghost use Rattle.std.specs.Prelude.{◌≡◌, IfOk};
 ghost use Rattle.arguments.specs.Wanted.{first_seen};
 
-use arguments::{Status, Wanted};
+use arguments::{ExitStatus, Wanted};
 use commands::{print_help, serve, tell, udp};
 use message_summary::Mailboxes;
 use package::{ClosingCell, Package};
@@ -26,25 +26,25 @@ use std::{env, io};
 use transport::{Sink, Source};
 
 /// The words behind the program's name. One that isn't UTF-8 is a bad argument.
-fn words_of(rt: &(impl Env + AllocGlobal)) -> Result<Vec<Text>, Status> {
+fn words_of(rt: &(impl Env + AllocGlobal)) -> Result<Vec<Text>, ExitStatus> {
     let words = match env::args(rt) {
         Ok(words) => words,
         Err(fault) if fault.kind() == io::ErrorKind::OutOfMemory => {
-            return Err(Status::OutOfMemory);
+            return Err(ExitStatus::OutOfMemory);
         }
-        Err(_) => return Err(Status::BadArguments),
+        Err(_) => return Err(ExitStatus::BadArguments),
     };
     let mut texts = Vec::new(rt.alloc());
     for word in words.skip(1) {
         if texts.push(Text::new(word)).is_err() {
-            return Err(Status::OutOfMemory);
+            return Err(ExitStatus::OutOfMemory);
         }
     }
     Ok(texts)
 }
 
 /// Tells on standard error what went wrong, if anything did. Answers the exit status.
-fn end(rt: &impl Eprint, status: Status) -> ExitCode {
+fn end(rt: &impl Eprint, status: ExitStatus) -> ExitCode {
     if let Some(line) = status.line() {
         let _ = eprintln!(rt; "{line}");
     }

@@ -1,5 +1,5 @@
 -- What the thread that sends did so far.
-use Rattle.std.proofs.Common.{◌≡◌, ℕ, zero, suc, ◌+◌, Bool, true, false, List, [], ◌∷◌, ◌++◌, length, map, Option, Some, None, refl, ap, sym, ◌∙◌, ◌⊎◌, subst, length-append, arith}
+use Rattle.std.proofs.Common.{◌≡◌, ℕ, ◌+◌, Bool, true, false, List, [], ◌∷◌, ◌++◌, length, map, Option, Some, None, refl, ap, sym, ◌∙◌, ◌⊎◌, subst, length-append, arith}
 use Rattle.std.specs.Prelude.{option_to_list, option_and_then}
 use Rattle.std.specs.List.{filter, cons_option}
 use Rattle.std.proofs.lemmas.List.{append-nil, map-append}
@@ -22,10 +22,10 @@ use Rattle.transactions.specs.declared.open.Open.{Open}
 use Rattle.transactions.specs.Timers.{is_over}
 use Rattle.transactions.specs.Machine.{State, empty, answer, due, turn}
 use Rattle.transactions.specs.Runs.{Call, after, state_after, repeated, unless_over}
-use Rattle.service.specs.declared.notes.Note.{Note}
+use Rattle.service.specs.declared.post.Note.{Note}
 use Rattle.service.specs.Noted.{answer_of}
 use Rattle.service.specs.Taken.{failures_then}
-use Rattle.service.specs.Sending.{Act, Put, Noted, Repeated, GaveUp, fate_of, fates, sent_by, sent_again, datagrams, fails_at, failures, call_of, calls, kept_after, IsAsked, AreAsked, Does, IsSentOut}
+use Rattle.service.specs.Sending.{Act, Put, Noted, Repeated, GaveUp, fate_of, fates, sent_by, sent_again, datagrams, fails_at, failures, call_of, calls, kept_after, AreAsked, Does, IsSentOut}
 
 -- ---- two parts of what it did
 

@@ -1,5 +1,5 @@
 -- What is said of those whom a service hears.
-use Rattle.std.proofs.Common.{◌≡◌, ⊎_elim, ℕ, ◌/◌, ◌+◌, Bool, true, false, List, [], ◌∷◌, length, Option, Some, None, refl, sym, ap, ◌∙◌, subst, arith}
+use Rattle.std.proofs.Common.{◌≡◌, ⊎_elim, ℕ, ◌/◌, Bool, true, false, List, [], ◌∷◌, Option, Some, None, refl, sym, ap, ◌∙◌, subst}
 use Rattle.std.specs.Prelude.{if◌then◌else◌}
 use Rattle.std.specs.List.{AllByRecursion}
 use Rattle.sip_text.specs.declared.address.Addr.{Addr}
@@ -8,7 +8,6 @@ use Rattle.sip_read.specs.declared.message.Message.TheVariants as message
 use Rattle.sip_read.specs.declared.message.Request.{Request}
 use Rattle.notifier_model.specs.declared.event.Event.{Event}
 use Rattle.notifier_model.specs.declared.event.Event.TheVariants as event
-use Rattle.transport.specs.declared.datagram.Datagram.{Datagram}
 use Rattle.feeds.specs.declared.hearing.Heard.{Heard}
 use Rattle.feeds.specs.declared.hearing.Heard.TheVariants as heard
 use Rattle.feeds.specs.Heard.{event_of, SipSays}

@@ -2,22 +2,22 @@
 use Rattle.std.proofs.Common.{◌≡◌, ℕ, true, List, refl, subst, IfSome, ⊎_elim}
 use Rattle.std.specs.Prelude.{Option, Some, None, String, string_bytes}
 use Rattle.std.specs.declared.alloc.Global.{Global}
-use Rattle.control_lines.specs.declared.answer.Answer.{Answer}
+use Rattle.control_lines.specs.declared.answer.ControlAnswer.{ControlAnswer}
 use Rattle.control_lines.specs.Lines.{answer_text}
 use Rattle.sip_text.specs.declared.address.Addr.{Addr}
 use Rattle.transport.specs.declared.datagram.Datagram.{Datagram}
 use Rattle.feeds.proofs.Telling.{grows_none}
-use Rattle.service.specs.declared.lines.Done.{Done}
-use Rattle.service.specs.declared.lines.Done.TheVariants as did
+use Rattle.service.specs.declared.lines.Handled.{Handled}
+use Rattle.service.specs.declared.lines.Handled.TheVariants as did
 use Rattle.service.specs.Taken.{DeskSeen, IsReply, Offers, IsAnswered, gets_answer, text_or}
 
-pub answered_by : (desk : DeskSeen) (d : Done) (to : Addr) (octets : List ℕ) (old new : Option (List Datagram)) (failures failures' : ℕ)
+pub answered_by : (desk : DeskSeen) (d : Handled) (to : Addr) (octets : List ℕ) (old new : Option (List Datagram)) (failures failures' : ℕ)
     → gets_answer d ≡ true → IsReply desk d octets → Offers to octets old new failures failures' → IsAnswered desk d to old new failures failures'
 answered_by desk d to octets old new failures failures' due is offers =
     rw due (⊎_elim (λ k. (Some octets, is, k)) (λ k. (None, tt, k)) offers)
 
 -- a text, or the answer where there is none
-pub either_text : (P : List ℕ → Type 0) (text : Option (String Global)) (otherwise : Answer) → ((t : String Global) → text ≡ Some t → P (string_bytes t))
+pub either_text : (P : List ℕ → Type 0) (text : Option (String Global)) (otherwise : ControlAnswer) → ((t : String Global) → text ≡ Some t → P (string_bytes t))
     → P (answer_text otherwise) → P (text_or text otherwise)
 either_text P None otherwise some none = none
 either_text P (Some t) otherwise some none = some t refl

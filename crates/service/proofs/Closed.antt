@@ -1,13 +1,13 @@
 -- Three ports that were closed.
-use Rattle.std.proofs.Common.{◌≡◌, ℕ, zero, suc, ◌<◌, List, [], ◌∷◌, ◌++◌, length, map, get_or, refl, ap, sym, ◌∙◌, subst, arith}
-use Rattle.std.proofs.lemmas.List.{nil_from_length, length-map}
+use Rattle.std.proofs.Common.{◌≡◌, ℕ, zero, suc, ◌<◌, true, false, List, [], ◌∷◌, ◌++◌, length, get_or, refl, ap, sym, ◌∙◌, subst, arith}
+use Rattle.std.proofs.lemmas.List.{nil_from_length}
 use Rattle.notifier_model.specs.Start.{Start}
 use Rattle.queues.specs.OutboxSeats.{TakerSeat}
 use Rattle.crew.specs.Ports.{PortSeats}
 use Rattle.crew.specs.Kept.{SameSeats, AllClosed}
 use Rattle.crew.specs.Started.{Hired, IsStarted}
 use Rattle.crew.specs.Joined.{IsPortOf}
-use Rattle.crew.proofs.Keeping.{started_port}
+use Rattle.crew.proofs.Keeping.{started_open, started_port}
 
 -- ---- the crew as it was started
 
@@ -22,17 +22,13 @@ module _ {start : ℕ → Start} {workers n : ℕ} {crew : List Hired} {ports : 
   taker_workers = ap (λ (t : TakerSeat). t.workers) is.takes
 
   -- its ports are open, where there are workers
-  pub ports_open : 0 < workers → (k : ℕ) (p : PortSeats) → k < length ports → 0 < (get_or ports k p).still_open
-  ports_open some k p low =
-      let many = ports_len in
-      let stands : (get_or ports k p).still_open ≡ length (map (λ (h : Hired). h.reads.inbox) crew) = ap (λ (x : PortSeats). x.still_open) (is.dealt.each k p (omega (arith, low, many))) in
-      let size = length-map crew (λ (h : Hired). h.reads.inbox) in
-      let len = is.len in omega (arith, stands, size, len, some)
+  pub ports_open : 0 < workers → (k : ℕ) (p : PortSeats) → k < length ports → (get_or ports k p).is_open ≡ true
+  ports_open some k p low = let many = ports_len in started_open is some k p (omega (arith, low, many))
 
 -- ---- its three ports
 
 module _ (a b c a' b' c' : PortSeats) where
-  all_shut : a'.still_open ≡ 0 → b'.still_open ≡ 0 → c'.still_open ≡ 0 → (k : ℕ) (p : PortSeats) → k < 3 → (get_or (a' ∷ b' ∷ c' ∷ []) k p).still_open ≡ 0
+  all_shut : a'.is_open ≡ false → b'.is_open ≡ false → c'.is_open ≡ false → (k : ℕ) (p : PortSeats) → k < 3 → (get_or (a' ∷ b' ∷ c' ∷ []) k p).is_open ≡ false
   all_shut x y z zero p low = x
   all_shut x y z (suc zero) p low = y
   all_shut x y z (suc (suc zero)) p low = z
@@ -47,7 +43,7 @@ module _ (a b c a' b' c' : PortSeats) where
 
   -- what `join` asks of them
   pub ports_closed : {start : ℕ → Start} {workers : ℕ} {crew : List Hired} {taker : TakerSeat} (is : IsStarted start workers 3 crew (a ∷ b ∷ c ∷ []) taker)
-      (ports : List PortSeats) → ports ≡ a' ∷ b' ∷ c' ∷ [] → a'.still_open ≡ 0 → b'.still_open ≡ 0 → c'.still_open ≡ 0
+      (ports : List PortSeats) → ports ≡ a' ∷ b' ∷ c' ∷ [] → a'.is_open ≡ false → b'.is_open ≡ false → c'.is_open ≡ false
       → SameSeats a a' → SameSeats b b' → SameSeats c c' → (p : ℕ) (q : PortSeats) → p < length ports → IsPortOf crew (get_or ports p q)
   ports_closed {crew = crew} is ports are shut shut' shut'' same same' same'' p q low =
       let P : List PortSeats → Type 0 = λ l. p < length l → IsPortOf crew (get_or l p q) in

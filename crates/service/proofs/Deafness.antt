@@ -3,11 +3,11 @@ use Rattle.std.proofs.Common.{◌≡◌, ◌⊎◌, inl, inr, Bool, true, false,
 use Rattle.transport.specs.Ears.{Misses}
 use Rattle.feeds.specs.declared.feeding.FeedEnd.{FeedEnd}
 use Rattle.feeds.specs.declared.feeding.FeedEnd.TheVariants as ends
-use Rattle.service.specs.declared.lines.Done.{Done}
-use Rattle.service.specs.declared.lines.Done.TheVariants as did
+use Rattle.service.specs.declared.lines.Handled.{Handled}
+use Rattle.service.specs.declared.lines.Handled.TheVariants as did
 use Rattle.service.specs.Taken.{end_after}
 use Rattle.feeds.specs.Fed.{is_fault}
-use Rattle.service.specs.Listening.{IsDeaf, IsDeafAsTold}
+use Rattle.service.specs.Listening.{IsDeafAsTold}
 
 untold : {A : Type 0} → A ⊎ (false ≡ true) → A
 untold told = ⊎_elim (λ was. was) (λ (never : false ≡ true). absurd cc) told
@@ -26,7 +26,7 @@ end_is : (x y : FeedEnd) → Some x ≡ Some y → x ≡ y
 end_is x y e = cc
 
 -- no line ends the taking of lines with a fault
-pub no_fault_after : (d : Done) (end : FeedEnd) → end_after d ≡ Some end → is_fault end ≡ false
+pub no_fault_after : (d : Handled) (end : FeedEnd) → end_after d ≡ Some end → is_fault end ≡ false
 no_fault_after (did.Answered a) end e = absurd cc
 no_fault_after (did.Repeated a) end e = absurd cc
 no_fault_after did.Unanswered end e = absurd cc

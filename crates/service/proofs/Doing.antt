@@ -7,13 +7,13 @@ use Rattle.notifier_model.specs.declared.event.Event.{Event}
 use Rattle.notifier_model.specs.declared.event.Event.TheVariants as happened
 use Rattle.notifier_model.specs.Told.{told_event}
 use Rattle.crew.specs.Ports.{PortSeats}
-use Rattle.control_lines.specs.declared.answer.Answer.TheVariants as answer
+use Rattle.control_lines.specs.declared.answer.ControlAnswer.TheVariants as answer
 use Rattle.control_lines.specs.declared.line.Asked.TheVariants as asked
 use Rattle.control_lines.specs.declared.question.Question.{Question}
 use Rattle.control_lines.specs.Lines.{Asks}
 use Rattle.control_lines.specs.Told.{Row, told}
-use Rattle.service.specs.declared.lines.Done.{Done}
-use Rattle.service.specs.declared.lines.Done.TheVariants as did
+use Rattle.service.specs.declared.lines.Handled.{Handled}
+use Rattle.service.specs.declared.lines.Handled.TheVariants as did
 use Rattle.service.specs.Taken.{told_of, told_by, is_known, IsSent, IsChanged, IsFound, IsDone}
 
 -- what a change tells of mailboxes is what its event tells
@@ -37,7 +37,7 @@ no_line (change.Begin tag) octets asks is = asks.is_control
 no_line (change.Step p) octets asks is = absurd cc
 no_line (change.Forget tag) octets asks is = asks.is_control
 
-pub changed_sent : (c : Change) (e : Event) (rows : List Row) (old new : PortSeats) (d : Done) → told_event c ≡ Some e → is_known rows c ≡ true
+pub changed_sent : (c : Change) (e : Event) (rows : List Row) (old new : PortSeats) (d : Handled) → told_event c ≡ Some e → is_known rows c ≡ true
     → IsSent old e new d → IsChanged c rows (told_of c rows) old new d
 changed_sent c e rows old new (did.Answered answer.Done) is known sent = (e, is, known, refl, sent)
 changed_sent c e rows old new (did.Answered answer.BadLine) is known sent = absurd sent
@@ -56,7 +56,7 @@ changed_sent c e rows old new did.Closing is known sent = sent
 changed_sent c e rows old new did.Gone is known sent = (e, is, known, refl, sent)
 
 module _ (octets : List ℕ) (rows rows' : List Row) (old new : PortSeats) where
-  pub done_changed : (c : Change) (d : Done) → Asks octets (asked.Change c) → IsChanged c rows rows' old new d → IsDone octets rows rows' old new d
+  pub done_changed : (c : Change) (d : Handled) → Asks octets (asked.Change c) → IsChanged c rows rows' old new d → IsDone octets rows rows' old new d
   done_changed c (did.Answered answer.Done) asks is = (is.0, (c, asks, is.2, is.1), is.3 ∙ told_alike c is.0 rows is.1, is.4)
   done_changed c (did.Answered answer.BadLine) asks is = absurd (no_line c octets asks is.0)
   done_changed c (did.Answered answer.UnknownMailbox) asks is = (inl (c, asks, is.0), is.1)
@@ -74,7 +74,7 @@ module _ (octets : List ℕ) (rows rows' : List Row) (old new : PortSeats) where
   done_changed c did.Gone asks is = (is.0, (c, asks, is.2, is.1), is.3 ∙ told_alike c is.0 rows is.1, is.4)
 
 module _ (octets : List ℕ) (rows : List Row) (old new : PortSeats) where
-  pub done_found : (q : Question) (d : Done) → Asks octets (asked.Question q) → IsFound rows q d → IsDone octets rows rows old old d
+  pub done_found : (q : Question) (d : Handled) → Asks octets (asked.Question q) → IsFound rows q d → IsDone octets rows rows old old d
   done_found q (did.Answered answer.Done) asks is = absurd is
   done_found q (did.Answered answer.BadLine) asks is = absurd is
   done_found q (did.Answered answer.UnknownMailbox) asks is = (inr (q, asks, is), (refl, refl))

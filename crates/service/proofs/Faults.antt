@@ -1,5 +1,5 @@
 -- The faults that a service tells.
-use Rattle.std.proofs.Common.{◌≡◌, ◌≤◌, ℕ, Bool, true, false, ◌||◌, refl, sym, ap, ◌∙◌, subst, arith, ⊎_elim}
+use Rattle.std.proofs.Common.{◌≡◌, ◌≤◌, ℕ, Bool, true, false, ◌||◌, refl, sym, ◌∙◌, subst, arith, ⊎_elim}
 use Rattle.transport.specs.Ears.{Misses, no_misses}
 use Rattle.transport.specs.Sockets.{misses}
 use Rattle.transport.specs.declared.udp.UdpWire.{UdpWire}
@@ -13,7 +13,7 @@ use Rattle.service.specs.declared.feeding.Task.TheVariants as task
 use Rattle.service.specs.declared.datagrams.SipDesk.{SipDesk}
 use Rattle.service.specs.declared.lines.ControlDesk.{ControlDesk}
 use Rattle.service.specs.declared.running.Feeders.{Feeders}
-use Rattle.service.specs.declared.running.ServiceOutcome.{ServiceOutcome}
+use Rattle.service.specs.declared.running.ServiceEnd.{ServiceEnd}
 use Rattle.service.specs.Handing.{AreErrands}
 use Rattle.service.specs.Running.{IsLeft, FailsFor, AreFaults, is_faulty}
 use Rattle.service.proofs.Deafness.{deaf_after}
@@ -74,7 +74,7 @@ left_after (task.Time stopwatch) mid left end late first then =
 
 -- ---- what they say of sockets that had not failed before
 
-pub faults_new : {m n : Misses} {o : ServiceOutcome} → m ≡ no_misses → n ≡ no_misses → AreFaults m n o → AreFaults no_misses no_misses o
+pub faults_new : {m n : Misses} {o : ServiceEnd} → m ≡ no_misses → n ≡ no_misses → AreFaults m n o → AreFaults no_misses no_misses o
 faults_new {o = o} none none' are =
     let P : Misses → Type 0 = λ m. IsDeafAsTold (is_fault o.sip || o.sip_fails_late) m (misses o.sip_desk.coming) in
     let Q : Misses → Type 0 = λ n. IsDeafAsTold (is_fault o.lines || o.lines_fail_late) n (misses o.desk.coming) in record {
@@ -104,7 +104,7 @@ hears false true new none none' on deaf = absurd cc
 hears true b new none none' on deaf = absurd cc
 
 -- where no fault is told no socket is deaf and no read of the clock failed
-pub unfailed : (o : ServiceOutcome) → AreFaults no_misses no_misses o → is_faulty o ≡ false
+pub unfailed : (o : ServiceEnd) → AreFaults no_misses no_misses o → is_faulty o ≡ false
     → (IsDeaf (misses o.sip_desk.coming) → ⊥) × (IsDeaf (misses o.desk.coming) → ⊥) × (o.stopwatch.failures ≡ 0)
 unfailed o are no_fault =
     let none = none_of (is_fault o.sip) o.sip_fails_late (is_fault o.lines) o.lines_fail_late (is_fault o.time) no_fault in (

@@ -1,13 +1,13 @@
 -- What is said of control lines from elsewhere than lines are heard from, and of those that the service sent itself.
-use Rattle.std.proofs.Common.{◌≡◌, ⊎_elim, ℕ, Bool, true, false, not, ◌&&◌, List, [], ◌∷◌, Option, Some, None, refl, sym, ap, subst, ◌∙◌}
+use Rattle.std.proofs.Common.{◌≡◌, ⊎_elim, ℕ, Bool, true, false, not, ◌&&◌, List, [], ◌∷◌, Option, Some, None, refl, subst}
 use Rattle.std.specs.List.{AllByRecursion}
-use Rattle.service.specs.declared.lines.Done.{Done}
-use Rattle.service.specs.declared.lines.Done.TheVariants as did
+use Rattle.service.specs.declared.lines.Handled.{Handled}
+use Rattle.service.specs.declared.lines.Handled.TheVariants as did
 use Rattle.service.specs.Taken.{DeskSeen, Line, is_near, is_own, is_named, IsForeign, IsMeant, IsLine, AreLines, MayReply, desk_after, IsSilent, EachForeignIsSilent, EachOwnIsSilent}
 
-no_reply : (desk : DeskSeen) (d : Done) (reply : Option (List ℕ)) → d ≡ did.Foreign → MayReply desk d reply → reply ≡ None
+no_reply : (desk : DeskSeen) (d : Handled) (reply : Option (List ℕ)) → d ≡ did.Foreign → MayReply desk d reply → reply ≡ None
 no_reply desk d None is may = refl
-no_reply desk d (Some octets) is may = let P : Done → Type 0 = λ x. MayReply desk x (Some octets) in absurd (subst P is may)
+no_reply desk d (Some octets) is may = let P : Handled → Type 0 = λ x. MayReply desk x (Some octets) in absurd (subst P is may)
 
 both : {A : Type 0} (b : Bool) → b ≡ false → b ≡ true → A
 both true f t = absurd cc

@@ -1,5 +1,5 @@
 -- The SIP datagrams that were heard so far.
-use Rattle.std.proofs.Common.{◌≡◌, ◌≤◌, ◌<◌, inl, Bool, true, false, ◌||◌, ℕ, List, [], ◌∷◌, ◌++◌, length, take, Option, Some, None, refl, ap, sym, ◌∙◌, subst, arith}
+use Rattle.std.proofs.Common.{◌≡◌, ◌≤◌, inl, Bool, true, false, ◌||◌, ℕ, List, [], ◌∷◌, ◌++◌, length, take, Option, refl, ap, sym, ◌∙◌, subst}
 use Rattle.std.specs.Prelude.{nat_le}
 use Rattle.std.specs.List.{filter}
 use Rattle.std.proofs.lemmas.List.{append-nil, length-take-le}
@@ -264,5 +264,5 @@ module _ {longest : ℕ} {a b : Admission} {moment : ℕ} {old now : PortSeats} 
   served_end Fault stops = served_fault
   served_end Gone stops = absurd stops
 
-  pub hearing_open : now.still_open ≡ old.still_open
+  pub hearing_open : now.is_open ≡ old.is_open
   hearing_open = was.serving.sends.still_open

@@ -1,8 +1,9 @@
 -- Who was judged, and what came of it, one datagram after the other.
-use Rattle.std.proofs.Common.{◌≡◌, ◌⊎◌, ⊎_elim, ℕ, ◌≤◌, zero, suc, ◌+◌, Bool, true, false, List, [], ◌∷◌, ◌++◌, length, Option, Some, None, refl, ap, sym, ◌∙◌, subst, arith, length-append}
-use Rattle.std.specs.List.{filter, filter_map, AllByRecursion}
+use Rattle.std.proofs.Common.{◌≡◌, ◌⊎◌, ⊎_elim, ℕ, ◌≤◌, ◌+◌, Bool, true, false, List, [], ◌∷◌, ◌++◌, length, Option, Some, None, refl, ap, sym, ◌∙◌, subst, arith, length-append}
+use Rattle.std.specs.List.{filter, filter_map}
 use Rattle.std.proofs.lemmas.List.{append-nil, map-append}
 use Rattle.std.proofs.lemmas.List.Elements.{filter-append, filter_map-append}
+use Rattle.sip_text.specs.declared.address.Addr.{Addr}
 use Rattle.transport.specs.Devices.{rises}
 use Rattle.transport.specs.declared.datagram.Datagram.{Datagram}
 use Rattle.transport.specs.Wires.{Grows}
@@ -15,7 +16,7 @@ use Rattle.admission.specs.declared.judging.Verdict.{Verdict}
 use Rattle.admission.specs.declared.judging.Verdict.TheVariants as verdict
 use Rattle.feeds.specs.Heard.{SipSays}
 use Rattle.admission.specs.declared.judging.Arrival.{Arrival}
-use Rattle.service.specs.Admitted.{Case, IsRead, Meets, IsJudged, AreJudged, arrived, is_allowed, said, admitted, refusal_in, Refuses, sent, refusals, fails, unsent, AreRefused}
+use Rattle.service.specs.Admitted.{Case, IsRead, Meets, IsJudged, AreJudged, arrived, allows, is_allowed, said, admitted, refusal, refusal_in, Refuses, sent, refusals, fails, unsent, AreRefused}
 
 abbrev pub case : Datagram → Heard → ℕ → Option Verdict → Bool → Case
 case d h moment v failed = record { came = d; says = h; moment = moment; verdict = v; fails = failed }
@@ -74,6 +75,16 @@ refused_more {cases = cases} {taken = taken} {taken' = taken'} {failures = failu
       counted = counted ∙ ap (rises k) was.counted ∙ sym (rises_more k (unsent cases) failures)
           ∙ ap (λ n. rises n failures) (let e = unsent_more cases c in omega arith);
     }
+
+-- nothing is sent to who is heard
+pub not_refused : (to : Addr) (v : Verdict) → allows v ≡ true → (taken : Option (List Datagram)) (failures : ℕ)
+    → Refuses to (refusal v) taken taken failures failures
+not_refused to verdict.Allowed is taken failures = (grows_none taken, refl)
+not_refused to verdict.Foreign is taken failures = (grows_none taken, refl)
+not_refused to verdict.Limited is taken failures = (grows_none taken, refl)
+not_refused to (verdict.Challenge cause octets) is taken failures = absurd cc
+not_refused to (verdict.Forbidden octets) is taken failures = absurd cc
+not_refused to (verdict.Crowded octets) is taken failures = absurd cc
 
 -- what the wire took of one, and whether it failed
 module _ (d : Datagram) (h : Heard) (moment : ℕ) (old new : Option (List Datagram)) (failures failures' : ℕ) where

@@ -1,5 +1,5 @@
 -- How far the thread that sends is with what it put.
-use Rattle.std.proofs.Common.{◌≡◌, ◌<◌, ℕ, List, [], ◌∷◌, ◌++◌, map, length, Option, Some, None, refl, ap, sym, ◌∙◌, subst, arith}
+use Rattle.std.proofs.Common.{◌≡◌, ◌<◌, ℕ, List, [], ◌∷◌, ◌++◌, map, length, Some, None, refl, ap, sym, ◌∙◌, subst, arith}
 use Rattle.std.specs.Prelude.{slice_get, drop}
 use Rattle.std.proofs.lemmas.List.{append-nil, append_assoc, map-append}
 use Rattle.std.proofs.lemmas.List.Elements.{filter_map-append}
@@ -7,9 +7,9 @@ use Rattle.notifier_model.specs.declared.event.Out.{Out}
 use Rattle.feeds.specs.declared.sending.Fate.{Fate}
 use Rattle.feeds.specs.Emitted.{WireSeen}
 use Rattle.transactions.specs.Machine.{State}
-use Rattle.transactions.specs.Runs.{Call, state_after}
+use Rattle.transactions.specs.Runs.{state_after}
 use Rattle.watchers.specs.Rows.{Row}
-use Rattle.service.specs.declared.put.Put.{Put as OutPut}
+use Rattle.service.specs.declared.fates.Put.{Put as OutPut}
 use Rattle.service.specs.declared.sending.Waiting.{Waiting}
 use Rattle.service.specs.Sending.{Act, Put, Does, call_of, calls, fates, kept_after}
 use Rattle.service.specs.Watched.{IsSeen, AreRowed}

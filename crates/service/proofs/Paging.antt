@@ -1,13 +1,13 @@
 -- Questions for those that watch, and their pages.
 use Rattle.std.proofs.Common.{◌≡◌, ℕ, List, Option, Some, None, refl, sym, subst}
 use Rattle.std.specs.Prelude.{slice_get}
-use Rattle.control_lines.specs.declared.answer.Answer.TheVariants as answer
+use Rattle.control_lines.specs.declared.answer.ControlAnswer.TheVariants as answer
 use Rattle.control_lines.specs.declared.question.Question.TheVariants as question
 use Rattle.control_lines.specs.Told.{Row, place}
 use Rattle.watchers.specs.declared.inquiry.Inquiry.{Inquiry}
 use Rattle.watchers.specs.Rows as watching
 use Rattle.watchers.specs.Pages.{page, page_text}
-use Rattle.service.specs.declared.lines.Done.TheVariants as did
+use Rattle.service.specs.declared.lines.Handled.TheVariants as did
 use Rattle.service.specs.Taken.{IsFound}
 use Rattle.service.specs.Told.{IsInquiry, IsWatched, report}
 use Rattle.service.specs.Watched.{IsPage}

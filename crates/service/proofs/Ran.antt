@@ -17,7 +17,7 @@ use Rattle.service.specs.declared.feeding.Task.{Task}
 use Rattle.service.specs.declared.datagrams.SipDesk.{SipDesk}
 use Rattle.service.specs.declared.lines.ControlDesk.{ControlDesk}
 use Rattle.service.specs.declared.running.Feeders.{Feeders}
-use Rattle.service.specs.declared.running.ServiceOutcome.{ServiceOutcome}
+use Rattle.service.specs.declared.running.ServiceEnd.{ServiceEnd}
 use Rattle.service.specs.Handing.{AreErrands}
 use Rattle.service.specs.Sending.{Act, Outflow, IsSentOut}
 use Rattle.service.specs.Running.{SendsDatagrams, SendsLines, SendsTicks, SendsFor, ThenCloses, Opening, IsFresh, Runs, Leaves}
@@ -79,7 +79,7 @@ module _ {phones : SipDesk UdpWire} {desk : ControlDesk UdpWire} {f : Feeders} (
   sent_ticks sends = let P : Task → Type 0 = λ t. ThenCloses (SendsFor t end) old new in subst P are.time sends
 
 pub runs_are : {start : ℕ → Start} {workers : ℕ} {crew : List Hired} {a b c : PortSeats} {taker : TakerSeat} (is : IsStarted start workers 3 crew (a ∷ b ∷ c ∷ []) taker)
-    (opened : Opening) (admission : Admission) (flow : Outflow) (o : ServiceOutcome) (a' b' c' : PortSeats) (ports : List PortSeats)
+    (opened : Opening) (admission : Admission) (flow : Outflow) (o : ServiceEnd) (a' b' c' : PortSeats) (ports : List PortSeats)
     (got : List (Item Out)) (repeats : ℕ) (acts : List Act) (report : EmitReport)
     → ThenCloses (SendsDatagrams admission o.sip) a a' → ThenCloses (SendsLines opened workers o.lines) b b' → ThenCloses (SendsTicks o.time) c c'
     → ports ≡ a' ∷ b' ∷ c' ∷ [] → IsJoined crew ports got o.report.workers.items
@@ -112,7 +112,7 @@ module _ {start : ℕ → Start} {n m : ℕ} (same : m ≡ n) where
   pub started_with : {crew : List Hired} {ports : List PortSeats} {taker : TakerSeat} → IsStarted start n 3 crew ports taker → IsStarted start m 3 crew ports taker
   started_with {crew = crew} {ports = ports} {taker = taker} is = let P : ℕ → Type 0 = λ k. IsStarted start k 3 crew ports taker in subst P (sym same) is
 
-  pub runs_with : {repeats : ℕ} {opened : Opening} {admission : Admission} {flow : Outflow} {o : ServiceOutcome}
+  pub runs_with : {repeats : ℕ} {opened : Opening} {admission : Admission} {flow : Outflow} {o : ServiceEnd}
       → Runs start m repeats opened admission flow o → Runs start n repeats opened admission flow o
   runs_with {repeats = repeats} {opened = opened} {admission = admission} {flow = flow} {o = o} runs =
       let P : ℕ → Type 0 = λ k. Runs start k repeats opened admission flow o in subst P same runs
@@ -122,7 +122,7 @@ module _ {start : ℕ → Start} {n m : ℕ} (same : m ≡ n) where
 
 -- the same, where the starts and the admission have other names
 module _ {start start' : ℕ → Start} (same : start ≡ start') where
-  pub runs_as : {n repeats : ℕ} {opened : Opening} {a b : Admission} {flow : Outflow} {o : ServiceOutcome} → a ≡ b
+  pub runs_as : {n repeats : ℕ} {opened : Opening} {a b : Admission} {flow : Outflow} {o : ServiceEnd} → a ≡ b
       → Runs start n repeats opened a flow o → Runs start' n repeats opened b flow o
   runs_as {n = n} {repeats = repeats} {opened = opened} {a = a} {b = b} {flow = flow} {o = o} admits runs =
       let P : (ℕ → Start) → Type 0 = λ s. Runs s n repeats opened a flow o in

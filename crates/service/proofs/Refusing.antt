@@ -1,15 +1,15 @@
 -- What came while the service closed, and was refused so far.
-use Rattle.std.proofs.Common.{◌≡◌, ◌≤◌, inl, inr, ◌⊎◌, ℕ, true, false, List, [], ◌∷◌, ◌++◌, length, Option, Some, None, refl, ap, sym, ◌∙◌, subst, arith, ⊎_elim}
-use Rattle.std.specs.List.{filter, AllByRecursion}
+use Rattle.std.proofs.Common.{◌≡◌, inl, inr, ◌⊎◌, ℕ, true, false, List, [], ◌∷◌, ◌++◌, Option, Some, None, refl, ap, sym, ◌∙◌, ⊎_elim}
+use Rattle.std.specs.List.{filter}
 use Rattle.std.proofs.lemmas.List.{append-nil}
 use Rattle.std.proofs.lemmas.List.Elements.{filter-append}
 use Rattle.transport.specs.declared.datagram.Datagram.{Datagram}
 use Rattle.transport.specs.Wires.{Grows}
 use Rattle.feeds.proofs.Telling.{grows_none, grows_more, grows_same}
-use Rattle.control_lines.specs.declared.answer.Answer.TheVariants as answer
+use Rattle.control_lines.specs.declared.answer.ControlAnswer.TheVariants as answer
 use Rattle.control_lines.specs.Lines.{answer_text}
-use Rattle.service.specs.declared.lines.Done.TheVariants as did
-use Rattle.service.specs.Taken.{Hearing, Line, Replies, Offers, datagrams_of, is_line, IsRefused, AreAnswered, AreRefused}
+use Rattle.service.specs.declared.lines.Handled.TheVariants as did
+use Rattle.service.specs.Taken.{Hearing, Line, Replies, Offers, is_line, IsRefused, AreRefused}
 use Rattle.service.proofs.Taking.{all_more, came_more, answered_more}
 
 pub refusing_none : (hearing : Hearing) (given taken : Option (List Datagram)) (failures : ℕ) → AreRefused hearing given given taken taken failures failures

@@ -1,16 +1,15 @@
 -- What is sent again is of a NOTIFY that was put.
-use Rattle.std.proofs.Common.{◌≡◌, ◌≤◌, ℕ, zero, suc, ◌+◌, ◌*◌, Bool, false, List, [], ◌∷◌, ◌++◌, Option, Some, None, refl, ap, sym, ◌∙◌, subst, arith}
+use Rattle.std.proofs.Common.{◌≡◌, ◌≤◌, ℕ, zero, suc, ◌+◌, Bool, false, List, [], ◌∷◌, ◌++◌, Option, Some, None, refl, ap, sym, ◌∙◌, subst, arith}
 use Rattle.std.specs.Prelude.{option_to_list}
 use Rattle.std.specs.List.{AllByRecursion, cons_option}
 use Rattle.notifier_model.specs.declared.event.Out.TheVariants as out
 use Rattle.feeds.specs.declared.sending.Fate.{Fate}
 use Rattle.transport.specs.declared.datagram.Datagram.{Datagram}
-use Rattle.transport.specs.Wires.{datagram}
 use Rattle.transactions.specs.declared.open.Open.{Open}
 use Rattle.transactions.specs.Machine.{State, empty}
-use Rattle.transactions.specs.Runs.{Call, Keep, state_after, is_end, earliest, keeping, times}
+use Rattle.transactions.specs.Runs.{Call, state_after, is_end, earliest, keeping, times}
 use Rattle.transactions.proofs.Histories.{each_repeat}
-use Rattle.service.specs.Sending.{Act, Put, Noted, Repeated, GaveUp, call_of, calls, IsAsked, AreAsked, ends_it, IsOfNotify, EachRepeatIsOfANotify}
+use Rattle.service.specs.Sending.{Act, Put, Noted, Repeated, GaveUp, call_of, calls, AreAsked, ends_it, EachRepeatIsOfANotify}
 use Rattle.service.proofs.Acts.{state_first}
 
 -- what was asked for behind a part

@@ -1,5 +1,5 @@
 -- The rows of live subscriptions after what the thread that sends did.
-use Rattle.std.proofs.Common.{◌≡◌, ◌⊎◌, ℕ, Bool, true, false, List, [], ◌∷◌, ◌++◌, map, Option, Some, None, refl, ap, sym, ◌∙◌, subst, inl, inr}
+use Rattle.std.proofs.Common.{◌≡◌, ◌⊎◌, ℕ, Bool, true, false, List, [], ◌∷◌, ◌++◌, map, Some, refl, ap, sym, ◌∙◌, subst, inl, inr}
 use Rattle.std.specs.Prelude.{option_to_list}
 use Rattle.transactions.specs.declared.open.Open.{Open}
 use Rattle.transactions.specs.Machine.{State, empty, due}
@@ -10,10 +10,10 @@ use Rattle.transport.specs.declared.datagram.Datagram.{Datagram}
 use Rattle.watchers.specs.Rows.{Row, begins, after_notify, without, answered_rows}
 use Rattle.sip_text.specs.declared.address.Addr.{Addr}
 use Rattle.notifier_model.specs.declared.event.Out.TheVariants as out
-use Rattle.service.specs.declared.notes.Note.{Note}
+use Rattle.service.specs.declared.post.Note.{Note}
 use Rattle.service.specs.Noted.{answer_of}
-use Rattle.service.specs.Sending.{Act, Put, Noted, Repeated, GaveUp, call_of, calls}
-use Rattle.service.specs.Watched.{IsSeen, IsRowed, AreRowed, given_up, noted_rows}
+use Rattle.service.specs.Sending.{Act, Put, Repeated, GaveUp, call_of, calls}
+use Rattle.service.specs.Watched.{IsSeen, AreRowed, given_up, noted_rows}
 use Rattle.service.proofs.Acts.{noted, state_first}
 
 rowed_append : (a b : List Act) (s : State) (rows mid rows' : List Row) → AreRowed s a rows mid → AreRowed (state_after (calls a) s) b mid rows'

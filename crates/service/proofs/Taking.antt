@@ -3,6 +3,7 @@ use Rattle.std.proofs.Common.{◌≡◌, inl, inr, ◌⊎◌, ⊎_elim, Bool, tr
 use Rattle.std.specs.List.{filter, AllByRecursion}
 use Rattle.std.proofs.lemmas.List.{append-nil, map-append}
 use Rattle.std.proofs.lemmas.List.Elements.{filter-append, filter_map-append}
+use Rattle.sip_text.specs.declared.address.Addr.{Addr}
 use Rattle.notifier_model.specs.declared.event.Event.{Event}
 use Rattle.crew.specs.Ports.{PortSeats}
 use Rattle.transport.specs.Devices.{one_more, rises}
@@ -14,13 +15,13 @@ use Rattle.feeds.specs.declared.feeding.FeedEnd.TheVariants as ends
 use Rattle.service.specs.Listening.{Stops}
 use Rattle.feeds.specs.Fed.{Sends}
 use Rattle.feeds.proofs.SendingHome.{sends_none, sends_more}
-use Rattle.control_lines.specs.declared.answer.Answer.TheVariants as answer
-use Rattle.service.specs.declared.lines.Done.{Done}
-use Rattle.service.specs.declared.lines.Done.TheVariants as did
+use Rattle.control_lines.specs.declared.answer.ControlAnswer.TheVariants as answer
+use Rattle.service.specs.declared.lines.Handled.{Handled}
+use Rattle.service.specs.declared.lines.Handled.TheVariants as did
 use Rattle.control_lines.specs.Kept.{kept_answer}
 use Rattle.control_lines.specs.Tokens.{token, line}
 use Rattle.control_lines.specs.Told.{Row}
-use Rattle.service.specs.Taken.{DeskSeen, Line, is_near, IsForeign, IsLine, IsMeant, Means, IsDone, IsAgain, IsNews, IsPassed, IsTaken, Stays, told_by, kept_with, desk_after, desk_then, AreLines, end_after, MayReply, Replies, gets_answer, has_none, failures_then, datagrams_of, events, replies, reply_to, is_none, unanswered, AllGoOn, EndsWith, AreTaken, AreAnswered}
+use Rattle.service.specs.Taken.{DeskSeen, Line, is_near, IsForeign, IsLine, IsMeant, Means, IsDone, IsAgain, IsNews, IsPassed, IsTaken, Stays, told_by, kept_with, desk_after, desk_then, AreLines, end_after, MayReply, Replies, gets_answer, has_none, failures_then, datagrams_of, events, replies, reply_to, unanswered, AllGoOn, EndsWith, AreTaken, AreAnswered}
 
 pub all_more : (P : Line → Type 0) (log more : List Line) → AllByRecursion P log → AllByRecursion P more → AllByRecursion P (log ++ more)
 all_more P [] more a b = b
@@ -67,6 +68,15 @@ then_more desk (x ∷ log) l = then_more (desk_after x desk) log l
 
 -- ---- the lines, and what two wires gave and took of them
 
+-- no line changes whose lines are heard
+pub taken_hearing : (source : Addr) (octets : List ℕ) (desk desk' : DeskSeen) (old new : PortSeats) (d : Handled) → IsTaken source octets desk desk' old new d
+    → desk'.hearing ≡ desk.hearing
+taken_hearing source octets desk desk' old new d is =
+    ⊎_elim (λ (p : IsPassed source desk desk' old new d). ap (λ (s : DeskSeen). s.hearing) p.2)
+    (λ (h : (is_near desk source ≡ true) × (IsAgain octets desk desk' old new d ⊎ IsNews octets desk desk' old new d)).
+    ⊎_elim (λ (a : IsAgain octets desk desk' old new d). ap (λ (s : DeskSeen). s.hearing) a.3) (λ (n : IsNews octets desk desk' old new d). ap (λ (s : DeskSeen). s.hearing) n.3) h.1)
+    is
+
 pub record Book (desk : DeskSeen) (given given' taken taken' : Option (List Datagram)) (failures failures' : ℕ) (log : List Line) : Type 0 where
   pub each : AreLines desk log
   pub came_are : Grows given given' (datagrams_of log)
@@ -79,7 +89,7 @@ book_none desk given taken failures = record {
   answered = record { taken = grows_none taken; counted = refl };
 }
 
-module _ (log : List Line) (d : Datagram) (e : Option Event) (x : Done) (k : Bool) (taken taken' after : Option (List Datagram)) (failures failures' more : ℕ)
+module _ (log : List Line) (d : Datagram) (e : Option Event) (x : Handled) (k : Bool) (taken taken' after : Option (List Datagram)) (failures failures' more : ℕ)
     (was : AreAnswered log taken taken' failures failures') where
   none_more : (due : Bool) → gets_answer x ≡ due → more ≡ failures_then due failures' → more ≡ rises (unanswered (log ++ record { came = d; event = e; done = x; is_kept = k; reply = None } ∷ [])) failures
   none_more true is e' =
@@ -129,7 +139,7 @@ taking_none desk p given taken failures = record { log = []; book = book_none de
 module _ {desk at : DeskSeen} {old now : PortSeats} {given given' taken taken' : Option (List Datagram)} {failures failures' : ℕ}
     (was : Taking desk at old now given given' taken taken' failures failures')
     (next : PortSeats) (after after' : Option (List Datagram)) (more : ℕ) (d : Datagram) (reply : Option (List ℕ)) (gave : Grows given' after (d ∷ [])) where
-  book_more : (e : Option Event) (x : Done) (k : Bool) (at' : DeskSeen) → at' ≡ desk_after (record { came = d; event = e; done = x; is_kept = k; reply = reply }) at
+  book_more : (e : Option Event) (x : Handled) (k : Bool) (at' : DeskSeen) → at' ≡ desk_after (record { came = d; event = e; done = x; is_kept = k; reply = reply }) at
       → IsForeign at d.peer e x ⊎ ((is_near at d.peer ≡ true) × IsMeant at d.octets e x) → MayReply at' x reply → Replies (gets_answer x) d.peer reply taken' after' failures' more
       → Book desk given after taken after' failures more (was.log ++ record { came = d; event = e; done = x; is_kept = k; reply = reply } ∷ [])
   book_more e x k at' knows meant may replied =
@@ -141,19 +151,19 @@ module _ {desk at : DeskSeen} {old now : PortSeats} {given given' taken taken' :
         answered = answered_more was.log d e x k taken taken' after' failures failures' more was.book.answered reply replied;
       }
 
-  knows_more : (e : Option Event) (x : Done) (k : Bool) (at' : DeskSeen) → at' ≡ desk_after (record { came = d; event = e; done = x; is_kept = k; reply = reply }) at
+  knows_more : (e : Option Event) (x : Handled) (k : Bool) (at' : DeskSeen) → at' ≡ desk_after (record { came = d; event = e; done = x; is_kept = k; reply = reply }) at
       → at' ≡ desk_then (was.log ++ record { came = d; event = e; done = x; is_kept = k; reply = reply } ∷ []) desk
   knows_more e x k at' is =
       let l : Line = record { came = d; event = e; done = x; is_kept = k; reply = reply } in
       is ∙ ap (desk_after l) was.knows ∙ sym (then_more desk was.log l)
 
-  sends_event : (e : Event) (x : Done) (k : Bool) → Sends now (e ∷ []) next → Sends old (events (was.log ++ record { came = d; event = Some e; done = x; is_kept = k; reply = reply } ∷ [])) next
+  sends_event : (e : Event) (x : Handled) (k : Bool) → Sends now (e ∷ []) next → Sends old (events (was.log ++ record { came = d; event = Some e; done = x; is_kept = k; reply = reply } ∷ [])) next
   sends_event e x k sent =
       let l : Line = record { came = d; event = Some e; done = x; is_kept = k; reply = reply } in
       let P : List Event → Type 0 = λ es. Sends old es next in
       subst P (sym (events_more was.log (l ∷ []))) (sends_more old now next (events was.log) (e ∷ []) was.sends sent)
 
-  sends_same : (x : Done) (k : Bool) → next ≡ now → Sends old (events (was.log ++ record { came = d; event = None; done = x; is_kept = k; reply = reply } ∷ [])) next
+  sends_same : (x : Handled) (k : Bool) → next ≡ now → Sends old (events (was.log ++ record { came = d; event = None; done = x; is_kept = k; reply = reply } ∷ [])) next
   sends_same x k same =
       let l : Line = record { came = d; event = None; done = x; is_kept = k; reply = reply } in
       let P : List Event → Type 0 = λ es. Sends old es now in
@@ -161,7 +171,7 @@ module _ {desk at : DeskSeen} {old now : PortSeats} {given given' taken taken' :
       subst Q (sym same) (subst P (sym (events_more was.log (l ∷ []) ∙ append-nil (events was.log))) was.sends)
 
   module _ (at' : DeskSeen) where
-    with_event : is_near at d.peer ≡ true → (x : Done) (e : Event) (k : Bool) (rows' : List Row) → end_after x ≡ None → kept_answer at.kept.items (token d.octets) ≡ None
+    with_event : is_near at d.peer ≡ true → (x : Handled) (e : Event) (k : Bool) (rows' : List Row) → end_after x ≡ None → kept_answer at.kept.items (token d.octets) ≡ None
         → Means at.rows (line d.octets) (Some e) x → MayReply at' x reply → Replies (gets_answer x) d.peer reply taken' after' failures' more
         → at' ≡ record { workers = at.workers; hearing = at.hearing; rows = rows'; kept = kept_with k (token d.octets) x at.kept } → rows' ≡ told_by e at.rows
         → Sends now (e ∷ []) next → Taking desk at' old next given after taken after' failures more
@@ -175,7 +185,7 @@ module _ {desk at : DeskSeen} {old now : PortSeats} {given given' taken taken' :
           knows = knows_more (Some e) x k at' (knows ∙ ap K rows);
         }
 
-    without : is_near at d.peer ≡ true → (x : Done) (k : Bool) (rows' : List Row) → end_after x ≡ None → kept_answer at.kept.items (token d.octets) ≡ None
+    without : is_near at d.peer ≡ true → (x : Handled) (k : Bool) (rows' : List Row) → end_after x ≡ None → kept_answer at.kept.items (token d.octets) ≡ None
         → Means at.rows (line d.octets) None x → MayReply at' x reply → Replies (gets_answer x) d.peer reply taken' after' failures' more
         → at' ≡ record { workers = at.workers; hearing = at.hearing; rows = rows'; kept = kept_with k (token d.octets) x at.kept } → Stays at.rows rows' now next
         → Taking desk at' old next given after taken after' failures more
@@ -189,7 +199,7 @@ module _ {desk at : DeskSeen} {old now : PortSeats} {given given' taken taken' :
           knows = knows_more None x k at' (knows ∙ ap K stays.0);
         }
 
-    passed : (x : Done) → IsPassed d.peer at at' now next x → end_after x ≡ None → MayReply at' x reply → Replies (gets_answer x) d.peer reply taken' after' failures' more
+    passed : (x : Handled) → IsPassed d.peer at at' now next x → end_after x ≡ None → MayReply at' x reply → Replies (gets_answer x) d.peer reply taken' after' failures' more
         → Taking desk at' old next given after taken after' failures more
     passed x is on may replied =
         let l : Line = record { came = d; event = None; done = x; is_kept = false; reply = reply } in record {
@@ -200,7 +210,7 @@ module _ {desk at : DeskSeen} {old now : PortSeats} {given given' taken taken' :
           knows = knows_more None x false at' is.2;
         }
 
-    again : is_near at d.peer ≡ true → (x : Done) → IsAgain d.octets at at' now next x → end_after x ≡ None → MayReply at' x reply → Replies (gets_answer x) d.peer reply taken' after' failures' more
+    again : is_near at d.peer ≡ true → (x : Handled) → IsAgain d.octets at at' now next x → end_after x ≡ None → MayReply at' x reply → Replies (gets_answer x) d.peer reply taken' after' failures' more
         → Taking desk at' old next given after taken after' failures more
     again near x is on may replied =
         let l : Line = record { came = d; event = None; done = x; is_kept = false; reply = reply } in record {
@@ -211,7 +221,7 @@ module _ {desk at : DeskSeen} {old now : PortSeats} {given given' taken taken' :
           knows = knows_more None x false at' is.3;
         }
 
-    news : is_near at d.peer ≡ true → (x : Done) → kept_answer at.kept.items (token d.octets) ≡ None → (k : Bool) (rows' : List Row)
+    news : is_near at d.peer ≡ true → (x : Handled) → kept_answer at.kept.items (token d.octets) ≡ None → (k : Bool) (rows' : List Row)
         → at' ≡ record { workers = at.workers; hearing = at.hearing; rows = rows'; kept = kept_with k (token d.octets) x at.kept }
         → IsDone (line d.octets) at.rows rows' now next x → MayReply at' x reply → Replies (gets_answer x) d.peer reply taken' after' failures' more
         → end_after x ≡ None → Taking desk at' old next given after taken after' failures more
@@ -231,7 +241,7 @@ module _ {desk at : DeskSeen} {old now : PortSeats} {given given' taken taken' :
     news near did.Closing new k rows' knows is may replied on = absurd cc
     news near did.Gone new k rows' knows is may replied on = absurd cc
 
-    pub taking_more : (x : Done) → IsTaken d.peer d.octets at at' now next x → MayReply at' x reply → Replies (gets_answer x) d.peer reply taken' after' failures' more
+    pub taking_more : (x : Handled) → IsTaken d.peer d.octets at at' now next x → MayReply at' x reply → Replies (gets_answer x) d.peer reply taken' after' failures' more
         → end_after x ≡ None → Taking desk at' old next given after taken after' failures more
     taking_more x is may replied on =
         ⊎_elim (λ p. passed x p on may replied)
@@ -272,7 +282,7 @@ module _ {desk at : DeskSeen} {old now : PortSeats} {given given' taken taken' :
         book.answered,
       )
 
-  last_news : is_near at d.peer ≡ true → (x : Done) (end : FeedEnd) (k : Bool) (rows' : List Row) (at' : DeskSeen)
+  last_news : is_near at d.peer ≡ true → (x : Handled) (end : FeedEnd) (k : Bool) (rows' : List Row) (at' : DeskSeen)
       → at' ≡ record { workers = at.workers; hearing = at.hearing; rows = rows'; kept = kept_with k (token d.octets) x at.kept } → end_after x ≡ Some end → kept_answer at.kept.items (token d.octets) ≡ None
       → IsDone (line d.octets) at.rows rows' now next x → MayReply at' x reply → Replies (gets_answer x) d.peer reply taken' after' failures' more
       → (log : List Line) × Grows given after (datagrams_of log) × AreTaken desk log old next end × AreAnswered log taken after' failures more
@@ -292,7 +302,7 @@ module _ {desk at : DeskSeen} {old now : PortSeats} {given given' taken taken' :
       subst P (end_is ends.Gone end e) (taken_gone near k rows' at' knows new is may replied)
 
   -- a line after which no more are taken
-  pub taken_last : (x : Done) (end : FeedEnd) (at' : DeskSeen) → end_after x ≡ Some end → IsTaken d.peer d.octets at at' now next x → MayReply at' x reply
+  pub taken_last : (x : Handled) (end : FeedEnd) (at' : DeskSeen) → end_after x ≡ Some end → IsTaken d.peer d.octets at at' now next x → MayReply at' x reply
       → Replies (gets_answer x) d.peer reply taken' after' failures' more
       → (log : List Line) × Grows given after (datagrams_of log) × AreTaken desk log old next end × AreAnswered log taken after' failures more
   taken_last x end at' e is may replied =
@@ -321,7 +331,7 @@ module _ {desk at : DeskSeen} {old now : PortSeats} {given given' taken taken' :
   taken_done : (log : List Line) × Grows given given' (datagrams_of log) × AreTaken desk log old now ends.Done × AreAnswered log taken taken' failures failures'
   taken_done = (was.log, was.book.came_are, record { each = was.book.each; stops = inr was.on; sends = was.sends }, was.book.answered)
 
-  pub taking_open : now.still_open ≡ old.still_open
+  pub taking_open : now.is_open ≡ old.is_open
   taking_open = was.sends.still_open
 
   taken_fault : (after : Option (List Datagram)) → Grows given' after []

@@ -1,5 +1,5 @@
 -- A service as its functions hand it on. No public contract cites this.
-use Rattle.std.specs.Prelude.{◌≡◌, ◌<◌, ℕ, List, [], ◌∷◌, length, get_or}
+use Rattle.std.specs.Prelude.{◌≡◌, ◌<◌, ℕ, true, List, [], ◌∷◌, length, get_or}
 use Rattle.notifier_model.specs.Start.{Start}
 use Rattle.crew.specs.Ports.{PortSeats}
 use Rattle.crew.specs.Started.{IsStarted}
@@ -8,21 +8,21 @@ use Rattle.service.specs.declared.feeding.Task.TheVariants as task
 use Rattle.service.specs.declared.datagrams.SipDesk.{SipDesk}
 use Rattle.service.specs.declared.lines.ControlDesk.{ControlDesk}
 use Rattle.service.specs.declared.running.Feeders.{Feeders}
-use Rattle.service.specs.declared.running.Running.{Running}
+use Rattle.service.specs.declared.running.RunningService.{RunningService}
 use Rattle.transactions.specs.Machine.{empty}
 use Rattle.service.specs.Ticks.{new_stopwatch}
 
 -- it was just started with these ports, and workers with these starts
-abbrev pub IsNew : (ℕ → Start) → List PortSeats → Running → Type 0
+abbrev pub IsNew : (ℕ → Start) → List PortSeats → RunningService → Type 0
 IsNew start ports running = IsStarted start running.outgoing.workers 3 running.crew ports running.outgoing.taker
 
 -- no NOTIFY waits for its answer, and so many may
-abbrev pub NoneWaits : ℕ → Running → Type 0
+abbrev pub NoneWaits : ℕ → RunningService → Type 0
 NoneWaits repeats running = running.outgoing.waiting.transactions ≡ empty repeats
 
 -- each port is open
 abbrev pub NoneClosed : List PortSeats → Type 0
-NoneClosed ports = (k : ℕ) (p : PortSeats) → k < length ports → 0 < (get_or ports k p).still_open
+NoneClosed ports = (k : ℕ) (p : PortSeats) → k < length ports → (get_or ports k p).is_open ≡ true
 
 -- the threads were given these ports
 abbrev pub AreLent : List PortSeats → Feeders → Type 0

@@ -5,7 +5,7 @@ use Rattle.feeds.specs.Emitted.{WireSeen}
 use Rattle.transactions.specs.Machine.{State}
 use Rattle.transactions.specs.Runs.{state_after}
 use Rattle.watchers.specs.Rows.{Row}
-use Rattle.service.specs.declared.put.Put.{Put as OutPut}
+use Rattle.service.specs.declared.fates.Put.{Put as OutPut}
 use Rattle.service.specs.declared.sending.Waiting.{Waiting}
 use Rattle.service.specs.Sending.{Act, Put, Does, calls, fates}
 use Rattle.service.specs.Watched.{AreRowed}

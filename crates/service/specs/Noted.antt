@@ -1,5 +1,5 @@
 -- The note of an answer to a NOTIFY.
-use Rattle.std.specs.Prelude.{ℕ, List, Option, Some, None, codes, bytes_eq, option_map, if◌then◌else◌}
+use Rattle.std.specs.Prelude.{ℕ, List, Option, None, codes, bytes_eq, option_map, if◌then◌else◌}
 use Rattle.sip_read.specs.declared.message.Head.{Head}
 use Rattle.sip_read.specs.declared.message.Response.{Response}
 use Rattle.notifier_model.specs.declared.event.Event.{Event}
@@ -7,7 +7,7 @@ use Rattle.notifier_model.specs.declared.event.Event.TheVariants as event
 use Rattle.feeds.specs.declared.hearing.Heard.{Heard}
 use Rattle.feeds.specs.declared.hearing.Heard.TheVariants as heard
 use Rattle.transactions.specs.Runs.{Call, Answer}
-use Rattle.service.specs.declared.notes.Note.{Note}
+use Rattle.service.specs.declared.post.Note.{Note}
 
 -- the local tag of the NOTIFY that a response answers, if it answers one: the From tag is the local one (RFC 3261 section
 -- 17.1.3)

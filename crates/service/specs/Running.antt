@@ -7,7 +7,7 @@
 -- Where the writer fails at a START line its transfer fails too, by port 2.
 --
 -- Answers to NOTIFYs go as notes to the thread that sends, too, which sends a NOTIFY again until its answer was noted.
-use Rattle.std.specs.Prelude.{◌≡◌, ◌||◌, max, ℕ, Bool, true, false, List, [], ◌∷◌}
+use Rattle.std.specs.Prelude.{◌≡◌, ◌||◌, max, ℕ, Bool, List, [], ◌∷◌, false}
 use Rattle.admission.specs.declared.judging.Admission.{Admission}
 use Rattle.admission.specs.declared.network.Network.{Network}
 use Rattle.package.specs.declared.change.Change.{Change}
@@ -16,7 +16,7 @@ use Rattle.notifier_model.specs.declared.event.Event.{Event}
 use Rattle.notifier_model.specs.declared.event.Out.{Out}
 use Rattle.notifier_model.specs.Start.{Start}
 use Rattle.queues.specs.OutboxSeats.{TakerSeat}
-use Rattle.crew.specs.Ports.{PortSeats, IsShut}
+use Rattle.crew.specs.Ports.{PortSeats, IsLeftByClose}
 use Rattle.crew.specs.Kept.{SameSeats}
 use Rattle.crew.specs.Started.{Hired, IsStarted}
 use Rattle.crew.specs.Joined.{IsJoined}
@@ -36,7 +36,7 @@ use Rattle.service.specs.declared.datagrams.SipDesk.{SipDesk}
 use Rattle.service.specs.declared.lines.ControlDesk.{ControlDesk}
 use Rattle.service.specs.declared.lines.ControlPort.{ControlPort}
 use Rattle.service.specs.declared.lines.TheConstants.{KEPT}
-use Rattle.service.specs.declared.running.ServiceOutcome.{ServiceOutcome}
+use Rattle.service.specs.declared.running.ServiceEnd.{ServiceEnd}
 use Rattle.service.specs.Sending.{Act, Outflow, IsSentOut}
 use Rattle.service.specs.Admitted.{Case, AreHeard}
 use Rattle.service.specs.Listening.{IsDeafAsTold}
@@ -86,8 +86,8 @@ SendsFor (task.Time stopwatch) end old new = SendsTicks end old new
 pub record ThenCloses (sends : PortSeats → PortSeats → Type 0) (old new : PortSeats) : Type 0 where
   pub fed_to : PortSeats
   pub fed : sends old fed_to
-  pub shut : new.still_open ≡ 0
-  pub ends : IsShut fed_to new
+  pub shut : new.is_open ≡ false
+  pub ends : IsLeftByClose fed_to new
   pub seats : SameSeats old new
 
 -- what a thread that ended so leaves of what it was to send: a wire that is deaf exactly where it was before or the thread tells of it, or
@@ -112,12 +112,12 @@ pub record Keeps (task : Task) (old : PortSeats) (fed : Fed) : Type 0 where
 -- ---- how it ended
 
 -- is it told that a wire by which something comes in was deaf, or that the clock failed?
-abbrev pub is_faulty : ServiceOutcome → Bool
+abbrev pub is_faulty : ServiceEnd → Bool
 is_faulty o = is_fault o.sip || o.sip_fails_late || is_fault o.lines || o.lines_fail_late || is_fault o.time
 
 -- faults are told truly. Of the wires by which SIP came in and lines did, with what was so of their receives before: each is deaf now
 -- exactly where it was then or a fault of it is told, as its end or late. Of the clock: a read failed exactly where its end tells it
-pub record AreFaults (phones operators : Misses) (o : ServiceOutcome) : Type 0 where
+pub record AreFaults (phones operators : Misses) (o : ServiceEnd) : Type 0 where
   pub sip : IsDeafAsTold (is_fault o.sip || o.sip_fails_late) phones (misses o.sip_desk.coming)
   pub lines : IsDeafAsTold (is_fault o.lines || o.lines_fail_late) operators (misses o.desk.coming)
   pub time : o.stopwatch.failures ≡ failures_at o.time 0
@@ -127,7 +127,7 @@ pub record AreFaults (phones operators : Misses) (o : ServiceOutcome) : Type 0 w
 -- workers with these starts handled, as their reports tell, what the three ports sent until all were closed, the first of them what those
 -- SIP datagrams say that this admission allows; and each of their
 -- outs was sent, written or failed, in order, and NOTIFYs again as their transactions ask for it, of which so many may be open
-pub record Runs (start : ℕ → Start) (workers repeats : ℕ) (opened : Opening) (admission : Admission) (flow : Outflow) (outcome : ServiceOutcome) : Type 0 where
+pub record Runs (start : ℕ → Start) (workers repeats : ℕ) (opened : Opening) (admission : Admission) (flow : Outflow) (outcome : ServiceEnd) : Type 0 where
   -- as it was started
   pub crew : List Hired
   pub sip : PortSeats

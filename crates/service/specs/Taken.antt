@@ -1,5 +1,5 @@
 -- What a service does with control lines, and what it answers.
-use Rattle.std.specs.Prelude.{◌≡◌, ◌≤◌, ◌+◌, ◌&&◌, ◌||◌, ◌==◌, not, ℕ, Bool, true, false, List, [], ◌∷◌, ◌++◌, length, map, ◌⊎◌, Option, Some, None, is_some, String, string_bytes, if◌then◌else◌}
+use Rattle.std.specs.Prelude.{◌≡◌, ◌+◌, ◌&&◌, ◌||◌, ◌==◌, not, ℕ, Bool, true, false, List, [], ◌∷◌, ◌++◌, length, map, ◌⊎◌, Option, Some, None, is_some, String, string_bytes, if◌then◌else◌}
 use Rattle.std.specs.Int.NonZero.{non_zero_u32_get}
 use Rattle.std.specs.List.{filter, filter_map, fold, list_any, AllByRecursion}
 use Rattle.std.specs.Option.{option_map_or}
@@ -21,9 +21,9 @@ use Rattle.transport.specs.Wires.{datagram, Grows}
 use Rattle.feeds.specs.declared.feeding.FeedEnd.{FeedEnd}
 use Rattle.feeds.specs.declared.feeding.FeedEnd.TheVariants as ends
 use Rattle.feeds.specs.Fed.{Sends, Misses}
-use Rattle.control_lines.specs.declared.answer.Answer.{Answer}
-use Rattle.control_lines.specs.declared.answer.Answer.TheVariants as answer
-use Rattle.control_lines.specs.declared.kept.Kept.{Kept}
+use Rattle.control_lines.specs.declared.answer.ControlAnswer.{ControlAnswer}
+use Rattle.control_lines.specs.declared.answer.ControlAnswer.TheVariants as answer
+use Rattle.control_lines.specs.declared.kept.AnsweredLine.{AnsweredLine}
 use Rattle.control_lines.specs.declared.line.Asked.TheVariants as asked
 use Rattle.control_lines.specs.declared.question.Question.{Question}
 use Rattle.control_lines.specs.declared.question.Question.TheVariants as question
@@ -34,9 +34,9 @@ use Rattle.control_lines.specs.Tokens.{token, line}
 use Rattle.control_lines.specs.Told.{Row, place, told, AreUntold}
 use Rattle.watchers.specs.declared.inquiry.Inquiry.{Inquiry}
 use Rattle.service.specs.Told.{IsReport, IsShown, IsInquiry, IsWatched, dumped}
-use Rattle.service.specs.declared.lines.Done.{Done}
+use Rattle.service.specs.declared.lines.Handled.{Handled}
 use Rattle.service.specs.declared.operators.Operators.{Operators}
-use Rattle.service.specs.declared.lines.Done.TheVariants as did
+use Rattle.service.specs.declared.lines.Handled.TheVariants as did
 use Rattle.service.specs.declared.lines.ControlDesk.{ControlDesk}
 
 -- whose lines are heard: the addresses of the service's own sockets, and the networks that are named
@@ -53,7 +53,7 @@ pub record DeskSeen : Type 0 where
   pub workers : ℕ
   pub hearing : Hearing
   pub rows : List Row
-  pub kept : Buffer Kept
+  pub kept : Buffer AnsweredLine
 
 abbrev pub seen : {W : Type 0} → ControlDesk W → DeskSeen
 seen d = record { workers = non_zero_u32_get d.workers; hearing = operators_in d.operators; rows = d.told; kept = d.kept }
@@ -147,7 +147,7 @@ AsksForWatchers rows None from q = q ≡ question.Watchers None from
 AsksForWatchers rows (Some n) from q = (name : List ℕ) × (q ≡ question.Watchers (Some name) from) × (place name rows ≡ Some n)
 
 -- the question asks for this
-abbrev pub IsFound : List Row → Question → Done → Type 0
+abbrev pub IsFound : List Row → Question → Handled → Type 0
 IsFound rows q (did.Answered answer.UnknownMailbox) = NamesNone rows q
 IsFound rows q did.Counters = q ≡ question.Status
 IsFound rows q (did.Shown n) = (name : List ℕ) × (q ≡ question.Show name) × (place name rows ≡ Some n)
@@ -167,13 +167,13 @@ abbrev pub Stays : List Row → List Row → PortSeats → PortSeats → Type 0
 Stays rows rows' old new = (rows' ≡ rows) × (new ≡ old)
 
 -- the event was sent and is answered so, or its worker is gone
-abbrev pub IsSent : PortSeats → Event → PortSeats → Done → Type 0
+abbrev pub IsSent : PortSeats → Event → PortSeats → Handled → Type 0
 IsSent old e new (did.Answered answer.Done) = Sends old (e ∷ []) new
 IsSent old e new did.Gone = Misses old e new
 IsSent old e new other = ⊥
 
 -- the same of a change that the service knows, and its mailbox was told of it. One that is no event is no line
-abbrev pub IsChanged : Change → List Row → List Row → PortSeats → PortSeats → Done → Type 0
+abbrev pub IsChanged : Change → List Row → List Row → PortSeats → PortSeats → Handled → Type 0
 IsChanged c rows rows' old new (did.Answered answer.Done) =
     (e : Event) × (told_event c ≡ Some e) × (is_known rows c ≡ true) × (rows' ≡ told_of c rows) × Sends old (e ∷ []) new
 IsChanged c rows rows' old new (did.Answered answer.UnknownMailbox) = (is_known rows c ≡ false) × Stays rows rows' old new
@@ -184,7 +184,7 @@ IsChanged c rows rows' old new other = ⊥
 
 -- what was done with the line: but for a CLOSE, `ok` only where its event went to its worker, and nothing is sent with any other
 -- answer
-abbrev pub IsDone : List ℕ → List Row → List Row → PortSeats → PortSeats → Done → Type 0
+abbrev pub IsDone : List ℕ → List Row → List Row → PortSeats → PortSeats → Handled → Type 0
 IsDone octets rows rows' old new (did.Answered answer.Done) =
     (e : Event) × Tells rows octets e × (rows' ≡ told_by e rows) × Sends old (e ∷ []) new
 IsDone octets rows rows' old new (did.Answered answer.BadLine) = Asks octets asked.Bad × Stays rows rows' old new
@@ -206,18 +206,18 @@ IsDone octets rows rows' old new did.Closing = Asks octets asked.Close × Stays 
 IsDone octets rows rows' old new did.Gone = (e : Event) × Tells rows octets e × (rows' ≡ told_by e rows) × Misses old e new
 
 -- the answers that are kept, with that to a line with this token, if it is kept
-abbrev pub kept_with : Bool → Option Token → Done → Buffer Kept → Buffer Kept
+abbrev pub kept_with : Bool → Option Token → Handled → Buffer AnsweredLine → Buffer AnsweredLine
 kept_with false t d kept = kept
 kept_with true t (did.Answered a) kept = with_answer kept t a
 kept_with true t other kept = kept
 
 -- its token was answered so before, and nothing was done with it
-abbrev pub IsAgain : List ℕ → DeskSeen → DeskSeen → PortSeats → PortSeats → Done → Type 0
+abbrev pub IsAgain : List ℕ → DeskSeen → DeskSeen → PortSeats → PortSeats → Handled → Type 0
 IsAgain octets desk desk' old new d =
-    (a : Answer) × (d ≡ did.Repeated a) × (kept_answer desk.kept.items (token octets) ≡ Some a) × (desk' ≡ desk) × (new ≡ old)
+    (a : ControlAnswer) × (d ≡ did.Repeated a) × (kept_answer desk.kept.items (token octets) ≡ Some a) × (desk' ≡ desk) × (new ≡ old)
 
 -- it has no token, or one that has no answer yet
-abbrev pub IsNews : List ℕ → DeskSeen → DeskSeen → PortSeats → PortSeats → Done → Type 0
+abbrev pub IsNews : List ℕ → DeskSeen → DeskSeen → PortSeats → PortSeats → Handled → Type 0
 IsNews octets desk desk' old new d =
     (kept_answer desk.kept.items (token octets) ≡ None)
     × (is_kept : Bool) × (rows' : List Row)
@@ -225,16 +225,16 @@ IsNews octets desk desk' old new d =
     × IsDone (line octets) desk.rows rows' old new d
 
 -- it came from elsewhere than lines are heard from, and nothing was done with it
-abbrev pub IsPassed : Addr → DeskSeen → DeskSeen → PortSeats → PortSeats → Done → Type 0
+abbrev pub IsPassed : Addr → DeskSeen → DeskSeen → PortSeats → PortSeats → Handled → Type 0
 IsPassed source desk desk' old new d = (is_near desk source ≡ false) × (d ≡ did.Foreign) × (desk' ≡ desk) × (new ≡ old)
 
-abbrev pub IsTaken : Addr → List ℕ → DeskSeen → DeskSeen → PortSeats → PortSeats → Done → Type 0
+abbrev pub IsTaken : Addr → List ℕ → DeskSeen → DeskSeen → PortSeats → PortSeats → Handled → Type 0
 IsTaken source octets desk desk' old new d =
     IsPassed source desk desk' old new d
     ⊎ ((is_near desk source ≡ true) × (IsAgain octets desk desk' old new d ⊎ IsNews octets desk desk' old new d))
 
 -- how the taking of lines ends after this, if it does
-abbrev pub end_after : Done → Option FeedEnd
+abbrev pub end_after : Handled → Option FeedEnd
 end_after did.Closing = Some ends.Done
 end_after did.Gone = Some ends.Gone
 end_after other = None
@@ -242,10 +242,10 @@ end_after other = None
 -- ---- its answer
 
 -- a text, or this answer where there is none
-abbrev pub text_or : Option (String Global) → Answer → List ℕ
+abbrev pub text_or : Option (String Global) → ControlAnswer → List ℕ
 text_or text otherwise = option_map_or string_bytes text (answer_text otherwise)
 
-abbrev pub IsReply : DeskSeen → Done → List ℕ → Type 0
+abbrev pub IsReply : DeskSeen → Handled → List ℕ → Type 0
 IsReply desk (did.Answered a) octets = octets ≡ answer_text a
 IsReply desk (did.Repeated a) octets = octets ≡ answer_text a
 IsReply desk did.Unanswered octets = ⊥
@@ -259,12 +259,12 @@ IsReply desk did.Closing octets = octets ≡ answer_text answer.Done
 IsReply desk did.Gone octets = octets ≡ answer_text answer.Closed
 
 -- an answer that was sent, or none: the line gets none, or the wire failed at it
-abbrev pub MayReply : DeskSeen → Done → Option (List ℕ) → Type 0
+abbrev pub MayReply : DeskSeen → Handled → Option (List ℕ) → Type 0
 MayReply desk d None = Unit {0}
 MayReply desk d (Some octets) = IsReply desk d octets
 
 -- an answer itself gets none, nor does a line from elsewhere
-abbrev pub gets_answer : Done → Bool
+abbrev pub gets_answer : Handled → Bool
 gets_answer did.Unanswered = false
 gets_answer did.Foreign = false
 gets_answer other = true
@@ -285,7 +285,7 @@ Offers to octets old new failures failures' =
     Replies true to (Some octets) old new failures failures' ⊎ Replies true to None old new failures failures'
 
 -- what was done was answered so, once, or the wire failed at it, or it gets no answer
-abbrev pub IsAnswered : DeskSeen → Done → Addr → Option (List Datagram) → Option (List Datagram) → ℕ → ℕ → Type 0
+abbrev pub IsAnswered : DeskSeen → Handled → Addr → Option (List Datagram) → Option (List Datagram) → ℕ → ℕ → Type 0
 IsAnswered desk d to old new failures failures' =
     (sent : Option (List ℕ)) × MayReply desk d sent × Replies (gets_answer d) to sent old new failures failures'
 
@@ -295,12 +295,12 @@ IsAnswered desk d to old new failures failures' =
 pub record Line : Type 0 where
   pub came : Datagram
   pub event : Option Event
-  pub done : Done
+  pub done : Handled
   pub is_kept : Bool
   pub reply : Option (List ℕ)
 
 -- what was done with a line that was not answered before, behind its token
-abbrev pub Means : List Row → List ℕ → Option Event → Done → Type 0
+abbrev pub Means : List Row → List ℕ → Option Event → Handled → Type 0
 Means rows octets event (did.Answered answer.Done) = (e : Event) × (event ≡ Some e) × Tells rows octets e
 Means rows octets event (did.Answered answer.BadLine) = (event ≡ None) × Asks octets asked.Bad
 Means rows octets event (did.Answered answer.UnknownMailbox) = (event ≡ None) × IsUnknown rows octets
@@ -319,13 +319,13 @@ Means rows octets event did.Closing = (event ≡ None) × Asks octets asked.Clos
 Means rows octets event did.Gone = (e : Event) × (event ≡ Some e) × Tells rows octets e
 
 -- it came from elsewhere than lines are heard from, and tells nothing
-abbrev pub IsForeign : DeskSeen → Addr → Option Event → Done → Type 0
+abbrev pub IsForeign : DeskSeen → Addr → Option Event → Handled → Type 0
 IsForeign desk source event d = (is_near desk source ≡ false) × (event ≡ None) × (d ≡ did.Foreign)
 
 -- its token was answered so before, or it has none or one that was not, and means what was done
-abbrev pub IsMeant : DeskSeen → List ℕ → Option Event → Done → Type 0
+abbrev pub IsMeant : DeskSeen → List ℕ → Option Event → Handled → Type 0
 IsMeant desk octets event d =
-    ((a : Answer) × (event ≡ None) × (d ≡ did.Repeated a) × (kept_answer desk.kept.items (token octets) ≡ Some a))
+    ((a : ControlAnswer) × (event ≡ None) × (d ≡ did.Repeated a) × (kept_answer desk.kept.items (token octets) ≡ Some a))
     ⊎ ((kept_answer desk.kept.items (token octets) ≡ None) × Means desk.rows (line octets) event d)
 
 -- ---- what the desk knows
@@ -408,7 +408,7 @@ abbrev pub AllGoOn : List Line → Type 0
 AllGoOn log = AllByRecursion (λ (l : Line). end_after l.done ≡ None) log
 
 -- after the last of them none are, since this was done with it
-pub record EndsWith (done : Done) (log : List Line) : Type 0 where
+pub record EndsWith (done : Handled) (log : List Line) : Type 0 where
   pub before : List Line
   pub last : Line
   pub whole : log ≡ before ++ last ∷ []

@@ -1,5 +1,5 @@
 -- The rows of the live subscriptions, as the thread that sends keeps them, and a page of some rows.
-use Rattle.std.specs.Prelude.{◌≡◌, ◌⊎◌, ℕ, Bool, true, false, List, [], ◌∷◌, Option, Some, None, option_to_list}
+use Rattle.std.specs.Prelude.{◌≡◌, ◌⊎◌, ℕ, true, false, List, [], ◌∷◌, Option, Some, None, option_to_list}
 use Rattle.notifier_model.specs.declared.event.Out.{Out}
 use Rattle.notifier_model.specs.declared.event.Out.TheVariants as out
 use Rattle.transactions.specs.declared.open.Open.{Open}
@@ -8,7 +8,7 @@ use Rattle.transactions.specs.Runs.{state_after}
 use Rattle.watchers.specs.declared.inquiry.Inquiry.{Inquiry}
 use Rattle.watchers.specs.Rows.{Row, begins, after_notify, without, answered_rows}
 use Rattle.watchers.specs.Pages.{page, page_text}
-use Rattle.service.specs.declared.notes.Note.{Note}
+use Rattle.service.specs.declared.post.Note.{Note}
 use Rattle.service.specs.Sending.{Act, Put, Noted, Repeated, GaveUp, call_of}
 
 -- ---- what one act makes of the rows

@@ -1,11 +1,12 @@
 //! The time, sent on.
-ghost use Rattle.std.specs.Prelude.{◌≡◌, ◌<◌, List, is_none};
+ghost use Rattle.std.specs.Prelude.{◌≡◌, true, List, is_none};
 ghost use Rattle.crew.specs.Kept.{SameSeats};
 ghost use Rattle.feeds.specs.Fed.{failures_at};
 ghost use Rattle.service.specs.Taken.{failures_then};
 ghost use Rattle.notifier_model.specs.declared.event.Event.{Event};
 ghost use Rattle.service.specs.Ticks.{AreNotices, AreTold, new_stopwatch};
 
+use crate::logging::has_room;
 use crate::shared::{COMPLAINTS, Shared};
 use crew::Port;
 use feeds::{FeedEnd, send_event};
@@ -70,7 +71,7 @@ impl Complaints {
         }
     }
 
-    /// Says on standard error once a minute what happened in it, and how often.
+    /// Says on standard error once a minute what happened in it, and how often. Without room it is told a minute later.
     fn look<R: Eprint>(&mut self, rt: &R, shared: &Shared, now: u64) {
         if now.saturating_sub(self.looked) < MINUTE {
             return;
@@ -78,10 +79,10 @@ impl Complaints {
         self.looked = now;
         for (told, (what, count)) in self.told.iter_mut().zip(shared.complaints()) {
             let more = count.saturating_sub(*told);
-            if more > 0 {
+            if more > 0 && has_room() {
                 let _ = eprintln!(rt; "notifyd: {more} {what}");
+                *told = count;
             }
-            *told = count;
         }
         self.tell_unsent(rt, shared);
     }
@@ -90,10 +91,10 @@ impl Complaints {
     fn tell_unsent<R: Eprint>(&mut self, rt: &R, shared: &Shared) {
         let count = shared.unsent();
         let more = count.saturating_sub(self.unsent);
-        self.unsent = count;
-        if more == 0 {
+        if more == 0 || !has_room() {
             return;
         }
+        self.unsent = count;
         let what = "datagrams or lines could not be sent";
         let Some(number) = shared.send_error() else {
             let _ = eprintln!(rt; "notifyd: {more} {what}");
@@ -114,7 +115,7 @@ pub fn tell_time<R: Wait + Clock + Eprint>(
     port: &mut Port,
     shared: &Shared,
 ) -> FeedEnd
-    requires still_open { 0 < port.old.still_open }
+    requires still_open { port.old.is_open ≡ true }
     // Ticks are sent to all workers, each later than the one before, and to its worker that a transfer fails, and nothing else.
     ensures ticks { (events : List Event) × AreNotices 0 events × AreTold events port.old port.new result }
     ensures failures { stopwatch.new.failures ≡ failures_at result stopwatch.old.failures }

@@ -1,5 +1,5 @@
 //! What SIP datagrams say, sent on where their sources are heard.
-ghost use Rattle.std.specs.Prelude.{◌≡◌, ◌≤◌, ◌<◌, List, Option, [], true, nat_le, IfSome};
+ghost use Rattle.std.specs.Prelude.{◌≡◌, ◌≤◌, List, Option, [], true, nat_le, IfSome};
 ghost use Rattle.std.specs.List.{filter};
 ghost use Rattle.admission.specs.declared.judging.Verdict.{Verdict as VerdictSeen};
 ghost use Rattle.admission.specs.Verdicts.{hears};
@@ -16,7 +16,7 @@ ghost use Rattle.transport.specs.declared.datagram.Datagram.{Datagram};
 use crate::listening::{Came, Listening, ROOM, Until};
 use crate::request_log::log_answer;
 use crate::shared::{Counter, Shared};
-use admission::{Admission, Arrival, Cause, Reading, Verdict};
+use admission::{Admission, Arrival, ChallengeCause, Reading, Verdict};
 use crew::Port;
 use feeds::{FeedEnd, Heard, Told, hear_message, tell};
 use notifier_model::Event;
@@ -65,14 +65,14 @@ fn count_unread(shared: &Shared, error: Option<ReadError>) {
 }
 
 /// Counts a request that is challenged, by its cause.
-fn count_challenge(shared: &Shared, cause: Cause) {
+fn count_challenge(shared: &Shared, cause: ChallengeCause) {
     match cause {
-        Cause::Absent => shared.count(Counter::Challenged),
-        Cause::Malformed | Cause::Wrong => {
+        ChallengeCause::Absent => shared.count(Counter::Challenged),
+        ChallengeCause::Malformed | ChallengeCause::Wrong => {
             shared.count(Counter::Challenged);
             shared.count(Counter::Wrong);
         }
-        Cause::Stale => shared.count(Counter::Stale),
+        ChallengeCause::Stale => shared.count(Counter::Stale),
     }
 }
 
@@ -155,8 +155,8 @@ fn next_moment<R: Clock>(rt: &R, shared: &Shared, earlier: u64) -> u64
     }
 }
 
-/// Whether the worker of an event is gone. An event that was sent is counted.
-fn is_gone(shared: &Shared, told: Told) -> bool
+/// Whether the worker of an event is gone. An event that was sent is counted, and so is what can't be read, by this error.
+fn is_gone(shared: &Shared, told: Told, error: Option<ReadError>) -> bool
     ensures { result ≡ is_gone told }
 {
     match told {
@@ -165,7 +165,10 @@ fn is_gone(shared: &Shared, told: Told) -> bool
             shared.count(Counter::Event);
             false
         }
-        Told::Unread | Told::Close => false,
+        Told::Unread | Told::Close => {
+            count_unread(shared, error);
+            false
+        }
     }
 }
 
@@ -226,16 +229,13 @@ impl<W: Ear> SipDesk<W> {
             shared.count_unread(&ReadError::NoMemory);
             return false;
         };
+        if allows(&verdict) {
+            return true;
+        }
         count_verdict(shared, &verdict);
-        let is_allowed = allows(&verdict);
-        refuse(
-            rt,
-            &mut self.going,
-            shared,
-            arrival.source,
-            refusal(verdict),
-        );
-        is_allowed
+        let refusal = refusal(verdict);
+        refuse(rt, &mut self.going, shared, arrival.source, refusal);
+        false
     }
 
     /// Sends what SIP datagrams say whose sources are heard, until the service closes, the wire is deaf or a worker is gone. Who isn't
@@ -248,7 +248,7 @@ impl<W: Ear> SipDesk<W> {
         port: &mut Port,
         shared: &Shared,
     ) -> FeedEnd
-        requires still_open { 0 < port.old.still_open }
+        requires still_open { port.old.is_open ≡ true }
         // Each datagram that came is judged, but for those that are too long. Those that are allowed are handed on, and a refusal goes to
         // the source of each that is refused.
         ensures served { (came : List Datagram) × (cases : List Case)
@@ -289,10 +289,10 @@ impl<W: Ear> SipDesk<W> {
             if !self.admits(rt, alloc, shared, arrival) {
                 continue;
             }
-            count_unread(shared, said.error);
+            let error = said.error;
             shared.notes.put(rt, alloc, &said.heard);
             let told = tell(rt, port, said.heard);
-            if is_gone(shared, told) {
+            if is_gone(shared, told, error) {
                 return FeedEnd::Gone;
             }
         }

@@ -1,7 +1,7 @@
 //! The threads that feed the ports of the crew, each a port of its own.
-ghost use Rattle.std.specs.Prelude.{◌≡◌, ◌<◌, IfOk};
+ghost use Rattle.std.specs.Prelude.{◌≡◌, true, false, IfOk};
 ghost use Rattle.crew.specs.Kept.{SameSeats};
-ghost use Rattle.crew.specs.Ports.{IsShut};
+ghost use Rattle.crew.specs.Ports.{IsLeftByClose};
 ghost use Rattle.feeds.specs.Fed.{is_fault};
 ghost use Rattle.transport.specs.declared.udp.UdpWire.{UdpWire};
 ghost use Rattle.service.specs.declared.clock.Stopwatch.{Stopwatch};
@@ -44,14 +44,14 @@ impl Task {
         port: &mut Port,
         shared: &Shared,
     ) -> FeedEnd
-        requires still_open { 0 < port.old.still_open }
+        requires still_open { port.old.is_open ≡ true }
         ensures sends { SendsFor self.old result port.old port.new }
         ensures fails { IsLeft self.old result (is_fault result) self.new }
         ensures seats { SameSeats port.old port.new }
     {
         match self {
             Task::Datagrams(desk) => desk.hear_datagrams(rt, alloc, port, shared),
-            Task::Lines(desk) => desk.take_lines(rt, alloc, port, shared),
+            Task::Lines(desk) => desk.take_lines(rt, port, shared),
             Task::Time(stopwatch) => tell_time(rt, stopwatch, port, shared),
         }
     }
@@ -145,8 +145,8 @@ impl<F: Drop> From<SpawnError<F>> for NoThread {
 
 /// Closes a port that was fed. The service closes too, whatever ended the feed.
 fn shut<R: Wait>(rt: &R, mut port: Port, shared: &Shared) -> Port
-    ensures shut { result.still_open ≡ 0 }
-    ensures ends { IsShut port result }
+    ensures shut { result.is_open ≡ false }
+    ensures ends { IsLeftByClose port result }
     ensures seats { SameSeats port result }
 {
     shared.close();
@@ -163,7 +163,7 @@ fn do_task<R: Wait + Clock + Eprint>(
     mut task: Task,
     shared: &Shared,
 ) -> Fed
-    requires { 0 < port.still_open }
+    requires { port.is_open ≡ true }
     ensures { Keeps task port result }
 {
     let end = task.feed(rt, alloc, &mut port, shared);
@@ -185,7 +185,7 @@ pub(crate) fn start_feeder<R: Threads + Wait + Clock + Eprint + Copy + Send + 's
     task: Task,
     shared: &Arc<Shared, Global>,
 ) -> Result<Feeder, NoThread>
-    requires { 0 < port.still_open }
+    requires { port.is_open ≡ true }
     ensures port { IfOk result (λ h. h.promise.port.value ≡ port) }
     ensures task { IfOk result (λ h. h.promise.task.value ≡ task) }
 {
@@ -200,7 +200,7 @@ pub(crate) fn start_feeder<R: Threads + Wait + Clock + Eprint + Copy + Send + 's
         &rt,
         errand,
         move || -> Fed
-            requires { 0 < port.still_open }
+            requires { port.is_open ≡ true }
             ensures { Keeps task port result }
         { do_task(&rt, alloc, port, task, &theirs) },
     )?;

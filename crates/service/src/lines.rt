@@ -1,12 +1,12 @@
 //! Control lines, each answered.
-ghost use Rattle.std.specs.Prelude.{◌≡◌, ◌<◌, List, [], Some, IfOk, max};
+ghost use Rattle.std.specs.Prelude.{◌≡◌, true, List, [], Some, IfOk, max};
 ghost use Rattle.std.specs.Int.NonZero.{non_zero_u32_get};
 ghost use Rattle.circular_buffer.specs.Buffer.{buffer};
 ghost use Rattle.transport.specs.Wires.{Grows, datagram};
 ghost use Rattle.crew.specs.Kept.{SameSeats};
 ghost use Rattle.control_lines.specs.Lines.{answer_text};
 ghost use Rattle.control_lines.specs.declared.question.Question.TheVariants as questions;
-ghost use Rattle.service.specs.declared.lines.Done.TheVariants as did;
+ghost use Rattle.service.specs.declared.lines.Handled.TheVariants as did;
 ghost use Rattle.service.specs.Taken as spec;
 ghost use Rattle.service.specs.Taken.{Line, IsSent, IsChanged, IsDone, IsFound, IsTaken, Offers, IsAnswered, AreFirst, datagrams_of, AreTaken, AreAnswered, AreRefused, operators_in, seen};
 ghost use Rattle.feeds.specs.Fed.{is_fault};
@@ -18,7 +18,8 @@ use crate::reports::{counters, dumped, inquiry, shown, watched};
 use crate::shared::{Counter, Shared};
 use admission::Network;
 use control_lines::{
-    Answer, Asked, KeptAnswers, Question, Token, ToldCounts, cut_token, hear_line, is_answer,
+    AnsweredLines, Asked, ControlAnswer, Question, Token, ToldCounts, cut_token, hear_line,
+    is_answer,
 };
 use crew::Port;
 use feeds::{FeedEnd, send_event};
@@ -36,11 +37,11 @@ pub const KEPT: usize = 4096;
 
 /// What is done with a control line.
 #[derive(Clone, Copy)]
-pub enum Done {
+pub enum Handled {
     /// It is answered so, and the service goes on.
-    Answered(Answer),
+    Answered(ControlAnswer),
     /// It came before, with the same token, and is answered so again.
-    Repeated(Answer),
+    Repeated(ControlAnswer),
     /// It is an answer itself, and gets none.
     Unanswered,
     /// It came from elsewhere than lines are heard from: it isn't read, and gets no answer.
@@ -60,123 +61,123 @@ pub enum Done {
 }
 
 /// How the taking of lines ends after this, if it does.
-fn end_after(done: Done) -> Option<FeedEnd>
+fn end_after(done: Handled) -> Option<FeedEnd>
     ensures { result ≡ spec.end_after done }
 {
     match done {
-        Done::Closing => Some(FeedEnd::Done),
-        Done::Gone => Some(FeedEnd::Gone),
-        Done::Answered(_)
-        | Done::Repeated(_)
-        | Done::Unanswered
-        | Done::Foreign
-        | Done::Counters
-        | Done::Shown(_)
-        | Done::Dumped(_)
-        | Done::Watched(_, _) => None,
+        Handled::Closing => Some(FeedEnd::Done),
+        Handled::Gone => Some(FeedEnd::Gone),
+        Handled::Answered(_)
+        | Handled::Repeated(_)
+        | Handled::Unanswered
+        | Handled::Foreign
+        | Handled::Counters
+        | Handled::Shown(_)
+        | Handled::Dumped(_)
+        | Handled::Watched(_, _) => None,
     }
 }
 
 /// Sends an event that a line told.
-fn send<R: Wait>(rt: &R, port: &mut Port, event: Event) -> Done
-    requires still_open { 0 < port.old.still_open }
+fn send<R: Wait>(rt: &R, port: &mut Port, event: Event) -> Handled
+    requires still_open { port.old.is_open ≡ true }
     ensures done { IsSent port.old event port.new result }
     ensures seats { SameSeats port.old port.new }
 {
     if send_event(rt, port, event) {
-        Done::Answered(Answer::Done)
+        Handled::Answered(ControlAnswer::Done)
     } else {
-        Done::Gone
+        Handled::Gone
     }
 }
 
 /// Notes and sends a change. That of a mailbox which the service doesn't have is dropped.
-fn send_change<R: Wait>(rt: &R, port: &mut Port, told: &mut ToldCounts, change: Change) -> Done
-    requires still_open { 0 < port.old.still_open }
+fn send_change<R: Wait>(rt: &R, port: &mut Port, told: &mut ToldCounts, change: Change) -> Handled
+    requires still_open { port.old.is_open ≡ true }
     ensures done { IsChanged change told.old told.new port.old port.new result }
     ensures seats { SameSeats port.old port.new }
 {
     if !is_known(told, &change) {
-        return Done::Answered(Answer::UnknownMailbox);
+        return Handled::Answered(ControlAnswer::UnknownMailbox);
     }
     tell(told, &change);
     match Event::of(change) {
         Some(event) => send(rt, port, event),
-        None => Done::Answered(Answer::BadLine),
+        None => Handled::Answered(ControlAnswer::BadLine),
     }
 }
 
 /// What SHOW asks for.
-fn find_shown(told: &ToldCounts, mailbox: &Text) -> Done
+fn find_shown(told: &ToldCounts, mailbox: &Text) -> Handled
     ensures { IsFound told.now (questions.Show mailbox.now) result }
 {
     match told.place(mailbox.as_str()) {
-        Some(place) => Done::Shown(place),
-        None => Done::Answered(Answer::UnknownMailbox),
+        Some(place) => Handled::Shown(place),
+        None => Handled::Answered(ControlAnswer::UnknownMailbox),
     }
 }
 
 /// What DUMP asks for that names a mailbox.
-fn find_dumped(told: &ToldCounts, mailbox: &Text) -> Done
+fn find_dumped(told: &ToldCounts, mailbox: &Text) -> Handled
     ensures { IsFound told.now (questions.Dump (Some mailbox.now)) result }
 {
     match told.behind(mailbox.as_str()) {
-        Some(place) => Done::Dumped(place),
-        None => Done::Answered(Answer::UnknownMailbox),
+        Some(place) => Handled::Dumped(place),
+        None => Handled::Answered(ControlAnswer::UnknownMailbox),
     }
 }
 
 /// What WATCHERS asks for.
 #[tactic(auto, using(crate::proofs::Paging::found_any, crate::proofs::Paging::found_one, crate::proofs::Paging::found_none))]
-fn find_watched(told: &ToldCounts, mailbox: &Option<Text>, from: u64) -> Done
+fn find_watched(told: &ToldCounts, mailbox: &Option<Text>, from: u64) -> Handled
     ensures { IsFound told.now (questions.Watchers mailbox.now from) result }
 {
     let Some(mailbox) = mailbox else {
-        return Done::Watched(None, from);
+        return Handled::Watched(None, from);
     };
     match told.place(mailbox.as_str()) {
-        Some(place) => Done::Watched(Some(place), from),
-        None => Done::Answered(Answer::UnknownMailbox),
+        Some(place) => Handled::Watched(Some(place), from),
+        None => Handled::Answered(ControlAnswer::UnknownMailbox),
     }
 }
 
 /// What a question asks for.
-fn find(told: &ToldCounts, question: &Question) -> Done
+fn find(told: &ToldCounts, question: &Question) -> Handled
     ensures { IsFound told.now question.now result }
 {
     match question {
-        Question::Status => Done::Counters,
+        Question::Status => Handled::Counters,
         Question::Show(mailbox) => find_shown(told, mailbox),
-        Question::Dump(None) => Done::Dumped(0),
+        Question::Dump(None) => Handled::Dumped(0),
         Question::Dump(Some(mailbox)) => find_dumped(told, mailbox),
         Question::Watchers(mailbox, from) => find_watched(told, mailbox, *from),
     }
 }
 
-/// Does what a control line asks. `Answer::Done` is answered once its event is in the worker's inbox.
+/// Does what a control line asks. `ControlAnswer::Done` is answered once its event is in the worker's inbox.
 pub fn take_line<R: Wait>(
     rt: &R,
     alloc: Global,
     port: &mut Port,
     told: &mut ToldCounts,
     octets: &[u8],
-) -> Done
-    requires still_open { 0 < port.old.still_open }
+) -> Handled
+    requires still_open { port.old.is_open ≡ true }
     ensures done { IsDone octets.now told.old told.new port.old port.new result }
     ensures seats { SameSeats port.old port.new }
 {
     match hear_line(alloc, octets) {
         Asked::Change(change) => send_change(rt, port, told, change),
-        Asked::Close => Done::Closing,
+        Asked::Close => Handled::Closing,
         Asked::Question(question) => find(told, &question),
-        Asked::Nothing => Done::Unanswered,
-        Asked::Bad => Done::Answered(Answer::BadLine),
-        Asked::NoMemory => Done::Answered(Answer::NoMemory),
+        Asked::Nothing => Handled::Unanswered,
+        Asked::Bad => Handled::Answered(ControlAnswer::BadLine),
+        Asked::NoMemory => Handled::Answered(ControlAnswer::NoMemory),
     }
 }
 
 /// Keeps an answer to a line with this token. False where there is no memory for it: the line is done again if it comes again.
-fn keep_answer(kept: &mut KeptAnswers, token: Option<Token>, answer: Answer) -> bool
+fn keep_answer(kept: &mut AnsweredLines, token: Option<Token>, answer: ControlAnswer) -> bool
     ensures { kept.new ≡ spec.kept_with result token (did.Answered answer) kept.old }
 {
     match kept.keep(token, answer) {
@@ -186,20 +187,20 @@ fn keep_answer(kept: &mut KeptAnswers, token: Option<Token>, answer: Answer) -> 
 }
 
 /// Keeps the answer to a line with this token, if it was done and answered. Tells whether it is kept.
-fn keep(kept: &mut KeptAnswers, token: Option<Token>, done: Done) -> bool
+fn keep(kept: &mut AnsweredLines, token: Option<Token>, done: Handled) -> bool
     ensures { kept.new ≡ spec.kept_with result token done kept.old }
 {
     match done {
-        Done::Answered(answer) => keep_answer(kept, token, answer),
-        Done::Repeated(_)
-        | Done::Unanswered
-        | Done::Foreign
-        | Done::Counters
-        | Done::Shown(_)
-        | Done::Dumped(_)
-        | Done::Watched(_, _)
-        | Done::Closing
-        | Done::Gone => false,
+        Handled::Answered(answer) => keep_answer(kept, token, answer),
+        Handled::Repeated(_)
+        | Handled::Unanswered
+        | Handled::Foreign
+        | Handled::Counters
+        | Handled::Shown(_)
+        | Handled::Dumped(_)
+        | Handled::Watched(_, _)
+        | Handled::Closing
+        | Handled::Gone => false,
     }
 }
 
@@ -238,10 +239,12 @@ pub struct ControlPort<W> {
 /// lines with a token.
 #[derive(Drop)]
 pub struct ControlDesk<W> {
+    /// The memory that lines and their answers are read and written in.
+    pub alloc: Global,
     pub coming: W,
     pub going: W,
     pub told: ToldCounts,
-    pub kept: KeptAnswers,
+    pub kept: AnsweredLines,
     /// Whose lines are heard.
     pub operators: Operators,
     /// How many workers the service has.
@@ -272,11 +275,12 @@ impl<W: Drop> ControlDesk<W> {
         } = port;
         let mut told = ToldCounts::new(alloc, mailboxes.as_slice())?;
         tell_each(&mut told, changes.as_slice());
-        let kept = KeptAnswers::with_room(alloc, KEPT)?;
+        let kept = AnsweredLines::with_room(alloc, KEPT)?;
         let Some(workers) = NonZeroU32::new(workers.max(1)) else {
             unreachable!()
         };
         Ok(ControlDesk {
+            alloc,
             coming,
             going,
             told,
@@ -296,7 +300,7 @@ impl<W: Wire> ControlDesk<W> {
     }
 
     /// Sends this answer.
-    fn say<R: Wait>(&mut self, rt: &R, shared: &Shared, to: Addr, answer: Answer)
+    fn say<R: Wait>(&mut self, rt: &R, shared: &Shared, to: Addr, answer: ControlAnswer)
         ensures offered { Offers to (answer_text answer)
             (W.taken self.old.going) (W.taken self.new.going)
             (W.failures self.old.going) (W.failures self.new.going) }
@@ -314,7 +318,7 @@ impl<W: Wire> ControlDesk<W> {
         shared: &Shared,
         to: Addr,
         text: Option<String>,
-        otherwise: Answer,
+        otherwise: ControlAnswer,
     )
         ensures offered { Offers to (spec.text_or text otherwise)
             (W.taken self.old.going) (W.taken self.new.going)
@@ -330,14 +334,7 @@ impl<W: Wire> ControlDesk<W> {
     }
 
     /// Answers what was done. At CLOSE the service closes first.
-    fn answer<R: Wait + Clock>(
-        &mut self,
-        rt: &R,
-        alloc: Global,
-        shared: &Shared,
-        to: Addr,
-        done: Done,
-    )
+    fn answer<R: Wait + Clock>(&mut self, rt: &R, shared: &Shared, to: Addr, done: Handled)
         ensures answered { IsAnswered (seen self.old) done to
             (W.taken self.old.going) (W.taken self.new.going)
             (W.failures self.old.going) (W.failures self.new.going) }
@@ -347,57 +344,55 @@ impl<W: Wire> ControlDesk<W> {
     {
         shared.count(Counter::ControlLine);
         match done {
-            Done::Answered(answer) => self.say(rt, shared, to, answer),
-            Done::Repeated(answer) => self.say(rt, shared, to, answer),
-            Done::Unanswered => {}
-            Done::Foreign => shared.count(Counter::ForeignLine),
-            Done::Counters => {
-                let text = counters(rt, alloc, shared);
-                self.say_text(rt, shared, to, text, Answer::NoMemory);
+            Handled::Answered(answer) => self.say(rt, shared, to, answer),
+            Handled::Repeated(answer) => self.say(rt, shared, to, answer),
+            Handled::Unanswered => {}
+            Handled::Foreign => shared.count(Counter::ForeignLine),
+            Handled::Counters => {
+                let text = counters(rt, self.alloc, shared);
+                self.say_text(rt, shared, to, text, ControlAnswer::NoMemory);
             }
-            Done::Shown(place) => {
-                let text = shown(alloc, &self.told, self.workers, place);
-                self.say_text(rt, shared, to, text, Answer::NoMemory);
+            Handled::Shown(place) => {
+                let text = shown(self.alloc, &self.told, self.workers, place);
+                self.say_text(rt, shared, to, text, ControlAnswer::NoMemory);
             }
-            Done::Dumped(from) => {
-                let text = dumped(alloc, &self.told, from);
-                self.say_text(rt, shared, to, text, Answer::NoMemory);
+            Handled::Dumped(from) => {
+                let text = dumped(self.alloc, &self.told, from);
+                self.say_text(rt, shared, to, text, ControlAnswer::NoMemory);
             }
-            Done::Watched(place, from) => {
-                let text = watched(rt, alloc, shared, inquiry(alloc, &self.told, place, from));
-                self.say_text(rt, shared, to, text, Answer::Busy);
+            Handled::Watched(place, from) => {
+                let text = watched(
+                    rt,
+                    self.alloc,
+                    shared,
+                    inquiry(self.alloc, &self.told, place, from),
+                );
+                self.say_text(rt, shared, to, text, ControlAnswer::Busy);
             }
-            Done::Closing => {
+            Handled::Closing => {
                 shared.close();
-                self.say(rt, shared, to, Answer::Done);
+                self.say(rt, shared, to, ControlAnswer::Done);
             }
-            Done::Gone => self.say(rt, shared, to, Answer::Closed),
+            Handled::Gone => self.say(rt, shared, to, ControlAnswer::Closed),
         }
     }
 
     /// Does what a control line asks, unless it came before with the same token, or its source isn't heard.
-    fn take<R: Wait>(
-        &mut self,
-        rt: &R,
-        alloc: Global,
-        port: &mut Port,
-        source: Addr,
-        octets: &[u8],
-    ) -> Done
-        requires still_open { 0 < port.old.still_open }
+    fn take<R: Wait>(&mut self, rt: &R, port: &mut Port, source: Addr, octets: &[u8]) -> Handled
+        requires still_open { port.old.is_open ≡ true }
         ensures done { IsTaken source octets.now (seen self.old) (seen self.new) port.old port.new result }
         ensures coming { self.new.coming ≡ self.old.coming }
         ensures going { self.new.going ≡ self.old.going }
         ensures seats { SameSeats port.old port.new }
     {
         if !self.hears(source) {
-            return Done::Foreign;
+            return Handled::Foreign;
         }
         let (token, line) = cut_token(octets);
         if let Some(answer) = self.kept.answer_to(token) {
-            return Done::Repeated(answer);
+            return Handled::Repeated(answer);
         }
-        let done = take_line(rt, alloc, port, &mut self.told, line);
+        let done = take_line(rt, self.alloc, port, &mut self.told, line);
         keep(&mut self.kept, token, done);
         done
     }
@@ -409,16 +404,17 @@ impl<W: Ear> ControlDesk<W> {
     pub fn take_lines<R: Wait + Clock + Eprint>(
         &mut self,
         rt: &R,
-        alloc: Global,
         port: &mut Port,
         shared: &Shared,
     ) -> FeedEnd
-        requires still_open { 0 < port.old.still_open }
+        requires still_open { port.old.is_open ≡ true }
         ensures taken { (log : List Line)
             × Grows (W.given self.old.coming) (W.given self.new.coming) (datagrams_of log)
             × AreTaken (seen self.old) log port.old port.new result
             × AreAnswered log (W.taken self.old.going) (W.taken self.new.going)
             (W.failures self.old.going) (W.failures self.new.going) }
+        // Whose lines are heard stays.
+        ensures hearing { operators_in self.new.operators ≡ operators_in self.old.operators }
         // Nothing is sent where lines come in, and nothing is received where answers go.
         ensures coming { Grows (W.taken self.old.coming) (W.taken self.new.coming) [] }
         ensures deaf { IsDeafAsTold (is_fault result) (W.misses self.old.coming) (W.misses self.new.coming) }
@@ -433,8 +429,8 @@ impl<W: Ear> ControlDesk<W> {
                 Came::Nothing => continue,
                 Came::End(end) => return end,
             };
-            let done = self.take(rt, alloc, port, source, &octets[..length]);
-            self.answer(rt, alloc, shared, source, done);
+            let done = self.take(rt, port, source, &octets[..length]);
+            self.answer(rt, shared, source, done);
             if let Some(end) = end_after(done) {
                 return end;
             }
@@ -466,7 +462,7 @@ impl<W: Ear> ControlDesk<W> {
             match listening.look(rt, &mut self.coming, shared, &mut octets) {
                 Came::Datagram(length, source) => {
                     if self.owes(source, &octets[..length]) {
-                        self.say(rt, shared, source, Answer::Closed);
+                        self.say(rt, shared, source, ControlAnswer::Closed);
                     }
                 }
                 Came::Nothing => {}

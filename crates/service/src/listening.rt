@@ -3,6 +3,7 @@ ghost use Rattle.std.specs.Prelude.{[]};
 ghost use Rattle.transport.specs.Wires.{Grows};
 ghost use Rattle.service.specs.Listening.{Gave, IsDeafAsTold, MayCome, tells_deaf};
 
+use crate::logging::has_room;
 use crate::shared::{Counter, Shared};
 use feeds::FeedEnd;
 use sip_text::Addr;
@@ -85,6 +86,9 @@ impl Listening {
         let Some(place) = place else {
             return;
         };
+        if !has_room() {
+            return;
+        }
         let [a, b, c, d] = place.ip;
         let port = place.port;
         let _ = eprintln!(rt; "notifyd: a receive at {a}.{b}.{c}.{d}:{port} failed: {fault}");

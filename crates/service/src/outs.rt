@@ -8,16 +8,18 @@ ghost use Rattle.transactions.specs.Machine.{empty};
 ghost use Rattle.service.specs.Sending.{Act, IsSentOut, fates, outflow};
 ghost use Rattle.service.specs.Watched.{AreRowed};
 
-use crate::put::Put;
+use crate::fates::Put;
 use crate::sending::{Waiting, Watch};
 use crate::shared::{Counter, Shared};
-use crossbeam_utils::sync::Parker;
+use crew::Gate;
+use crossbeam_utils::sync::{Parker, Unparker};
 use feeds::{Fate, Next, next_out, put_out};
 use notifier_model::Out;
 use queues::outbox::Taker;
+use std::alloc::{AllocError, Global};
 use std::io::Write;
 use std::rt::{Clock, Files};
-use std::sync::Wait;
+use std::sync::{Arc, Wait};
 use std::time::Duration;
 use transport::{Sink, Wire};
 
@@ -37,6 +39,40 @@ fn note_error<W: Wire>(shared: &Shared, wire: &W, out: &Out, fate: Fate) {
             shared.note_send_error(wire.send_error());
         }
         _ => {}
+    }
+}
+
+/// Wakes the thread that sends when a worker posts, and closes the service where a worker runs out of memory: what is sent to that worker
+/// nobody would handle any more.
+#[derive(Drop)]
+pub(crate) struct Waker {
+    unparker: Unparker,
+    shared: Arc<Shared, Global>,
+}
+
+impl Waker {
+    /// What the thread that sends sleeps by, and what wakes it.
+    pub(crate) fn pair(
+        alloc: Global,
+        shared: &Arc<Shared, Global>,
+    ) -> Result<(Parker, Waker), AllocError> {
+        let parker = Parker::new(alloc)?;
+        let unparker = parker.unparker().clone()?;
+        shared.window.set_sender(parker.unparker().clone()?);
+        let shared = Arc::try_clone(shared)?;
+        Ok((parker, Waker { unparker, shared }))
+    }
+}
+
+impl Gate for Waker {
+    fn pass(&self, _worker: u32, _index: u64) {}
+
+    fn posted(&self, _worker: u32) {
+        self.unparker.unpark();
+    }
+
+    fn give_up(&self, worker: u32) {
+        self.shared.close_without(worker);
     }
 }
 
@@ -111,6 +147,7 @@ pub(crate) fn send_outs<R: Wait + Clock + Files + Eprint, W: Wire, F: Write>(
         watch.look(rt, shared);
         if watch.is_over(left, outgoing.waiting.len()) {
             outgoing.waiting.settle(rt, shared);
+            outgoing.waiting.given_up.tell_others(rt);
             shared.count_lost(outgoing.waiting.len());
             return;
         }

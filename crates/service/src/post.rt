@@ -1,13 +1,29 @@
-//! What one thread of a service hands to another.
-ghost use Rattle.std.specs.Prelude.{◌<◌};
+//! What one thread of a service hands to another: notes of answers to NOTIFYs, transfers that nobody was told to start, questions and
+//! their pages.
+ghost use Rattle.std.specs.Prelude.{◌≡◌, ◌<◌, IfOk, IfSome, option_copied};
+ghost use Rattle.service.specs.Noted as spec;
 
-use crate::notes::Note;
-use crate::window::Page;
+use crate::window::WatchersPage;
 use crossbeam_queue::ArrayQueue;
-use sip_text::NoMemory;
+use feeds::Heard;
+use notifier_model::Event;
+use package::Progress;
+use sip_read::{Head, Response};
+use sip_text::{NoMemory, Text};
 use std::alloc::Global;
 use std::sync::Wait;
 use watchers::Inquiry;
+
+/// How many notes wait at most for the thread that sends. One more is dropped, which costs a repeat.
+const NOTES: usize = 4096;
+
+/// How many transfers wait at most. One more is left alone: its phone waits until the time of its subscription is over.
+const TRANSFERS: usize = 4096;
+
+/// The status that such a transfer has, and its reason (RFC 3261 section 21.5.1).
+const FAILED: u16 = 500;
+
+const REASON: &str = "Server Internal Error";
 
 /// What one thread hands to another.
 #[derive(Drop)]
@@ -19,7 +35,7 @@ pub(crate) enum Parcel {
     /// Who watches, for the thread that sends.
     Question(Inquiry),
     /// What that is told, for the thread that takes lines.
-    Page(Page),
+    Page(WatchersPage),
 }
 
 /// Parcels from one thread to another, in order. All of a service are of this one type, whatever they carry: no function can be proved
@@ -58,5 +74,106 @@ impl Post {
     /// Takes the next one, if one waits.
     pub(crate) fn take<R: Wait>(&self, rt: &R) -> Option<Parcel> {
         self.queue.pop(rt)
+    }
+}
+
+/// An answer to a NOTIFY: the local tag of its dialog, the number of its CSeq, and the status.
+#[derive(Debug, Drop)]
+pub(crate) struct Note {
+    pub(crate) tag: Text,
+    pub(crate) number: u32,
+    pub(crate) status: u16,
+}
+
+/// The tag of the NOTIFY that a response answers (RFC 3261 section 17.1.3): a NOTIFY is named by the From tag, which is the
+/// local one, and the CSeq.
+#[tactic(auto, unfolding(crate::specs::Noted::answered_tag))]
+fn answered_tag(head: &Head) -> Option<&Text>
+    ensures { option_copied result ≡ spec.answered_tag head.now }
+{
+    if head.cseq_method.is("NOTIFY") {
+        head.from.tag.as_ref()
+    } else {
+        None
+    }
+}
+
+/// The note of what was heard, if that is an answer to a NOTIFY.
+pub(crate) fn new_note(alloc: Global, heard: &Heard) -> Result<Option<Note>, NoMemory>
+    ensures { IfOk result (λ note. note ≡ spec.note_in heard.now) }
+{
+    let Heard::Event(Event::Reply(response)) = heard else {
+        return Ok(None);
+    };
+    let Some(tag) = answered_tag(&response.head) else {
+        return Ok(None);
+    };
+    Ok(Some(Note {
+        tag: tag.copy(alloc)?,
+        number: response.head.cseq,
+        status: response.status,
+    }))
+}
+
+/// The notes that wait for the thread that sends.
+#[derive(Drop)]
+pub(crate) struct Notes {
+    post: Post,
+}
+
+impl Notes {
+    /// No notes.
+    pub(crate) fn new(alloc: Global) -> Result<Notes, NoMemory> {
+        let post = Post::new(alloc, NOTES)?;
+        Ok(Notes { post })
+    }
+
+    /// Puts the note of what was heard, if that is an answer to a NOTIFY. Where there is no room or no memory it is dropped: its
+    /// NOTIFY is sent once more then.
+    pub(crate) fn put<R: Wait>(&self, rt: &R, alloc: Global, heard: &Heard) {
+        if let Ok(Some(note)) = new_note(alloc, heard) {
+            self.post.put(rt, Parcel::Note(note));
+        }
+    }
+
+    /// Takes the next note, if one waits.
+    pub(crate) fn take<R: Wait>(&self, rt: &R) -> Option<Note> {
+        match self.post.take(rt) {
+            Some(Parcel::Note(note)) => Some(note),
+            _ => None,
+        }
+    }
+}
+
+/// The transfers whose START lines were not written, by their tags.
+#[derive(Drop)]
+pub(crate) struct LostStarts {
+    alloc: Global,
+    post: Post,
+}
+
+impl LostStarts {
+    /// None.
+    pub(crate) fn new(alloc: Global) -> Result<LostStarts, NoMemory> {
+        let post = Post::new(alloc, TRANSFERS)?;
+        Ok(LostStarts { alloc, post })
+    }
+
+    /// Puts one more. Where there is no room or no memory it is left alone.
+    pub(crate) fn put<R: Wait>(&self, rt: &R, tag: &Text) {
+        if let Ok(tag) = String::from_str(self.alloc, tag.as_str()) {
+            self.post.put(rt, Parcel::LostStart(tag));
+        }
+    }
+
+    /// Takes the next one, as the step by which it fails.
+    pub(crate) fn take<R: Wait>(&self, rt: &R) -> Option<Progress>
+        ensures { IfSome result (λ p. p.code ≡ 500) }
+    {
+        let Some(Parcel::LostStart(tag)) = self.post.take(rt) else {
+            return None;
+        };
+        let reason = String::from_str(self.alloc, REASON).ok()?;
+        Progress::new(tag, FAILED, reason)
     }
 }

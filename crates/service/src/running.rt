@@ -20,10 +20,9 @@ use crate::datagrams::SipDesk;
 use crate::error::RunError;
 use crate::feeding::{Feeder, Task, start_feeder};
 use crate::lines::{ControlDesk, ControlPort};
-use crate::outs::{Exit, Outgoing, send_outs};
+use crate::outs::{Exit, Outgoing, Waker, send_outs};
 use crate::sending::Waiting;
 use crate::shared::Shared;
-use crate::waking::Waker;
 use crew::{Crew, Port, Report};
 use feeds::FeedEnd;
 use notifier_model::Setup;
@@ -56,7 +55,7 @@ pub struct ServiceWork {
 
 /// What came of a service.
 #[derive(Drop)]
-pub struct ServiceOutcome {
+pub struct ServiceEnd {
     /// Why no more SIP datagrams were taken.
     pub sip: FeedEnd,
     /// Whether the wire by which they come was deaf behind that, while answers were heard.
@@ -77,7 +76,7 @@ pub struct ServiceOutcome {
     pub stopwatch: Stopwatch,
 }
 
-impl ServiceOutcome {
+impl ServiceEnd {
     /// Whether a wire by which something comes in was deaf, or the clock failed.
     pub fn is_faulty(&self) -> bool
         ensures { result ≡ is_faulty self.now }
@@ -92,7 +91,7 @@ impl ServiceOutcome {
 
 /// A crew that runs as a service.
 #[derive(Drop)]
-pub(crate) struct Running {
+pub(crate) struct RunningService {
     pub(crate) crew: Crew,
     pub(crate) outgoing: Outgoing,
     pub(crate) shared: Arc<Shared, Global>,
@@ -100,7 +99,7 @@ pub(crate) struct Running {
 
 /// What it listens with.
 #[derive(Drop)]
-pub(crate) struct Ears {
+pub(crate) struct Desks {
     pub(crate) sip: SipDesk<UdpWire>,
     pub(crate) desk: ControlDesk<UdpWire>,
 }
@@ -159,18 +158,18 @@ fn start_feeders<R: Threads + Wait + Clock + Eprint + Copy + Send + 'static>(
     rt: R,
     alloc: Global,
     ports: &mut Vec<Port>,
-    ears: Ears,
+    desks: Desks,
     shared: &Arc<Shared, Global>,
 ) -> Result<Feeders, Begun>
     requires three { vec_len ports.old ≡ 3 }
     requires still_open { NoneClosed ports.old.items }
     ensures ports { IfOk result (λ f. AreLent ports.old.items f) }
-    ensures errands { IfOk result (AreErrands ears.sip ears.desk) }
+    ensures errands { IfOk result (AreErrands desks.sip desks.desk) }
     ensures none { vec_len ports.new ≡ 0 }
     ensures capacity { vec_capacity ports.new ≡ vec_capacity ports.old }
 {
     let (first, second, third) = take_three(ports);
-    let Ears { sip, desk } = ears;
+    let Desks { sip, desk } = desks;
     let Ok(time) = start_feeder(rt, alloc, third, Task::Time(Stopwatch::new()), shared) else {
         return Err(Begun {
             time: None,
@@ -196,7 +195,7 @@ fn start_feeders<R: Threads + Wait + Clock + Eprint + Copy + Send + 'static>(
 fn wind_up<R: Threads + Wait + Clock + Files + Eprint, W: Wire, F: Write>(
     rt: &R,
     alloc: Global,
-    running: Running,
+    running: RunningService,
     begun: Begun,
     exit: &mut Exit<W, F>,
 )
@@ -206,7 +205,7 @@ fn wind_up<R: Threads + Wait + Clock + Files + Eprint, W: Wire, F: Write>(
         → Leaves start running.outgoing.workers repeats
         (outflow W.taken W.failures F.contents exit.old exit.new) }
 {
-    let Running {
+    let RunningService {
         crew,
         mut outgoing,
         shared,
@@ -220,13 +219,13 @@ fn wind_up<R: Threads + Wait + Clock + Files + Eprint, W: Wire, F: Write>(
 }
 
 /// Sends out what the workers post until the ports have ended, and joins all threads. There is room for the ports.
-fn serve_to_end<R: Threads + Wait + Clock + Files + Eprint, W: Wire, F: Write>(
+fn send_to_end<R: Threads + Wait + Clock + Files + Eprint, W: Wire, F: Write>(
     rt: &R,
-    running: Running,
+    running: RunningService,
     mut ports: Vec<Port>,
     feeders: Feeders,
     exit: &mut Exit<W, F>,
-) -> ServiceOutcome
+) -> ServiceEnd
     requires new { (start : ℕ → Start) × (lent : List PortSeats) × IsNew start lent running × AreLent lent feeders }
     requires none_put { running.outgoing.waiting.burst.items ≡ [] }
     requires errands { (phones : SipDesk UdpWire) × (desk : ControlDesk UdpWire) × AreErrands phones desk feeders }
@@ -239,7 +238,7 @@ fn serve_to_end<R: Threads + Wait + Clock + Files + Eprint, W: Wire, F: Write>(
         → Runs start running.outgoing.workers repeats opened phones.admission
         (outflow W.taken W.failures F.contents exit.old exit.new) result }
 {
-    let Running {
+    let RunningService {
         crew,
         mut outgoing,
         shared,
@@ -254,7 +253,7 @@ fn serve_to_end<R: Threads + Wait + Clock + Files + Eprint, W: Wire, F: Write>(
     ports.push_reserved(lines.port);
     ports.push_reserved(time.port);
     let report = crew.join(rt, ports, outgoing.taker);
-    ServiceOutcome {
+    ServiceEnd {
         sip: sip.end,
         sip_fails_late: sip.fails_late,
         lines: lines.end,
@@ -269,14 +268,14 @@ fn serve_to_end<R: Threads + Wait + Clock + Files + Eprint, W: Wire, F: Write>(
 
 /// Has a crew that was just started run as a service to its end, and joins it. Where a thread is refused all that was started
 /// ends.
-fn serve<R, W, F>(
+fn run_to_end<R, W, F>(
     rt: R,
     alloc: Global,
-    running: Running,
+    running: RunningService,
     mut ports: Vec<Port>,
-    ears: Ears,
+    desks: Desks,
     exit: &mut Exit<W, F>,
-) -> Result<ServiceOutcome, RunError>
+) -> Result<ServiceEnd, RunError>
 where
     R: Threads + Wait + Clock + Files + Eprint + Copy + Send + 'static,
     W: Wire,
@@ -285,17 +284,17 @@ where
     requires new { (start : ℕ → Start) × IsNew start ports.items running }
     requires none_put { running.outgoing.waiting.burst.items ≡ [] }
     ensures served { IfOk result (λ o. (start : ℕ → Start) (repeats : ℕ) → IsNew start ports.items running
-        → NoneWaits repeats running → (opened : Opening) → IsFresh opened running.outgoing.workers (seen ears.desk)
-        → Runs start running.outgoing.workers repeats opened ears.sip.admission
+        → NoneWaits repeats running → (opened : Opening) → IsFresh opened running.outgoing.workers (seen desks.desk)
+        → Runs start running.outgoing.workers repeats opened desks.sip.admission
         (outflow W.taken W.failures F.contents exit.old exit.new) o) }
-    ensures faults { IfOk result (AreFaults (misses ears.sip.coming) (misses ears.desk.coming)) }
+    ensures faults { IfOk result (AreFaults (misses desks.sip.coming) (misses desks.desk.coming)) }
     ensures refused { IfErr result (λ e. e ≡ error.NoThread) }
     ensures left { OnErr result ((start : ℕ → Start) (repeats : ℕ) → IsNew start ports.items running
         → NoneWaits repeats running → Leaves start running.outgoing.workers repeats
         (outflow W.taken W.failures F.contents exit.old exit.new)) }
 {
-    match start_feeders(rt, alloc, &mut ports, ears, &running.shared) {
-        Ok(feeders) => Ok(serve_to_end(&rt, running, ports, feeders, exit)),
+    match start_feeders(rt, alloc, &mut ports, desks, &running.shared) {
+        Ok(feeders) => Ok(send_to_end(&rt, running, ports, feeders, exit)),
         Err(begun) => {
             wind_up(&rt, alloc, running, begun, exit);
             Err(RunError::NoThread)
@@ -337,7 +336,7 @@ pub(crate) struct Sending {
 #[derive(Drop)]
 pub(crate) struct Ready {
     pub(crate) setup: Setup,
-    pub(crate) ears: Ears,
+    pub(crate) desks: Desks,
     pub(crate) sending: Sending,
 }
 
@@ -357,12 +356,12 @@ fn new_waiting(
 }
 
 /// What it listens with, of a service with so many workers. It took no line yet, and hears none that one of its two sockets sends.
-fn new_ears(
+fn new_desks(
     alloc: Global,
     workers: u32,
     sip: SipDesk<UdpWire>,
     desk: ControlPort<UdpWire>,
-) -> Result<Ears, NoMemory>
+) -> Result<Desks, NoMemory>
     ensures sip { IfOk result (λ e. e.sip ≡ sip) }
     ensures coming { IfOk result (λ e. e.desk.coming ≡ desk.coming) }
     ensures fresh { IfOk result (λ e. IsFresh (opening desk) workers (seen e.desk)) }
@@ -370,15 +369,15 @@ fn new_ears(
 {
     let own = [sip.coming.local(), desk.coming.local()];
     let desk = ControlDesk::at(alloc, desk, own, workers)?;
-    Ok(Ears { sip, desk })
+    Ok(Desks { sip, desk })
 }
 
 /// Makes what a service with so many workers begins with.
 fn make_ready(alloc: Global, workers: u32, work: ServiceWork) -> Result<Ready, NoMemory>
     ensures setup { IfOk result (λ r. r.setup ≡ work.setup) }
-    ensures sip { IfOk result (λ r. r.ears.sip ≡ work.sip) }
-    ensures coming { IfOk result (λ r. r.ears.desk.coming ≡ work.desk.coming) }
-    ensures fresh { IfOk result (λ r. IsFresh (opening work.desk) workers (seen r.ears.desk)) }
+    ensures sip { IfOk result (λ r. r.desks.sip ≡ work.sip) }
+    ensures coming { IfOk result (λ r. r.desks.desk.coming ≡ work.desk.coming) }
+    ensures fresh { IfOk result (λ r. IsFresh (opening work.desk) workers (seen r.desks.desk)) }
     ensures none { IfOk result (λ r. r.sending.waiting.transactions ≡ empty work.repeats) }
     ensures none_put { IfOk result (λ r. r.sending.waiting.burst.items ≡ []) }
 {
@@ -393,7 +392,7 @@ fn make_ready(alloc: Global, workers: u32, work: ServiceWork) -> Result<Ready, N
         repeats: _,
         linger,
     } = work;
-    let ears = new_ears(alloc, workers, sip, desk)?;
+    let desks = new_desks(alloc, workers, sip, desk)?;
     shared.set_workers(workers);
     let linger = u64::from(linger) * 1000;
     let sending = Sending {
@@ -403,7 +402,7 @@ fn make_ready(alloc: Global, workers: u32, work: ServiceWork) -> Result<Ready, N
     };
     Ok(Ready {
         setup,
-        ears,
+        desks,
         sending,
     })
 }
@@ -415,7 +414,7 @@ fn start_running<R, P>(
     setup: &Setup,
     boxes: Vec<Vec<P>>,
     sending: Sending,
-) -> Result<(Running, Vec<Port>), RunError>
+) -> Result<(RunningService, Vec<Port>), RunError>
 where
     R: Threads + Wait + Copy + Send + 'static,
     P: Package + 'static,
@@ -441,7 +440,7 @@ where
         linger,
         parker,
     };
-    let running = Running {
+    let running = RunningService {
         crew,
         outgoing,
         shared,
@@ -458,7 +457,7 @@ pub fn run_crew<R, P, W, F>(
     boxes: Vec<Vec<P>>,
     work: ServiceWork,
     exit: &mut Exit<W, F>,
-) -> Result<ServiceOutcome, RunError>
+) -> Result<ServiceEnd, RunError>
 where
     R: Threads + Wait + Clock + Files + Eprint + Copy + Send + 'static,
     P: Package + 'static,
@@ -469,6 +468,8 @@ where
         → Runs (λ w. start_of P.seen work.setup w (get_or boxes.items w b).items) (vec_len boxes) work.repeats
         (opening work.desk) work.sip.admission
         (outflow W.taken W.failures F.contents exit.old exit.new) o) }
+    // Without a worker nothing runs.
+    ensures workers { IfOk result (λ _. 0 < vec_len boxes) }
     // A socket that wasn't deaf before is so now exactly where a fault of it is told; a read of the clock failed exactly where one of
     // it is.
     ensures faults { IfOk result (AreFaults (misses work.sip.coming) (misses work.desk.coming)) }
@@ -481,9 +482,9 @@ where
     let workers = boxes.len() as u32;
     let Ready {
         setup,
-        ears,
+        desks,
         sending,
     } = make_ready(alloc, workers, work)?;
     let (running, ports) = start_running(rt, alloc, &setup, boxes, sending)?;
-    serve(rt, alloc, running, ports, ears, exit)
+    run_to_end(rt, alloc, running, ports, desks, exit)
 }

@@ -10,11 +10,11 @@ ghost use Rattle.service.specs.Keeping.{act_of, AreKept, Tends};
 ghost use Rattle.service.specs.Sending.{Act, Does, fates, kept_after, sent_again};
 ghost use Rattle.service.specs.Taken.{failures_then};
 ghost use Rattle.service.specs.Noted.{answer_of};
-ghost use Rattle.service.specs.declared.notes.Note.{Note};
+ghost use Rattle.service.specs.declared.post.Note.{Note};
 
-use crate::fates::{count, log};
-use crate::notes::Note;
-use crate::put::Put;
+use crate::fates::{Put, tell_fate};
+use crate::given_up::GivenUp;
+use crate::post::Note;
 use crate::shared::{Counter, LAST_MOMENT, Shared};
 use circular_buffer::HeapCircularBuffer;
 use feeds::Idle;
@@ -45,9 +45,6 @@ const OUTS_AT_ONCE: u32 = 512;
 
 /// How many outs are kept as soon as no further one is posted. Behind more the thread waits a little: the worker may not be through yet.
 const FEW: usize = 4;
-
-/// How many milliseconds pass between two lines on NOTIFYs that were given up.
-const MINUTE: u64 = 60_000;
 
 /// How many milliseconds pass between two looks at what the system dropped.
 const SECOND: u64 = 1000;
@@ -155,37 +152,6 @@ impl Watch {
     }
 }
 
-/// The NOTIFYs that were given up, as they are told once a minute.
-#[derive(Clone, Copy)]
-struct GivenUp {
-    /// How many since the last line.
-    count: u64,
-    /// When that was.
-    told: Option<u64>,
-}
-
-impl GivenUp {
-    /// Counts one more at this moment. Says on standard error, where it didn't within the last minute, how many there were, and which
-    /// this one was.
-    fn add<R: Eprint>(&mut self, rt: &R, now: u64, last: &Open) {
-        self.count = self.count.saturating_add(1);
-        if let Some(told) = self.told {
-            if now.saturating_sub(told) < MINUTE {
-                return;
-            }
-        }
-        let count = self.count;
-        let [a, b, c, d] = last.to.ip;
-        let port = last.to.port;
-        let tag = last.tag.as_str();
-        let _ = eprintln!(rt;
-            "notifyd: nobody answered {count} NOTIFYs, the last of them of dialog {tag} at {a}.{b}.{c}.{d}:{port}"
-        );
-        self.count = 0;
-        self.told = Some(now);
-    }
-}
-
 /// Sends a NOTIFY again. Answers whether the wire failed.
 fn send_again<R: Wait, W: Wire>(rt: &R, wire: &mut W, due: &Open, shared: &Shared) -> bool
     ensures taken { Grows (W.taken wire.old) (W.taken wire.new) (sent_again due.now result) }
@@ -215,7 +181,7 @@ pub(crate) struct Waiting {
     is_off: bool,
     /// Whether it is told how many subscriptions a source has.
     counts_sources: bool,
-    given_up: GivenUp,
+    pub(crate) given_up: GivenUp,
 }
 
 impl Waiting {
@@ -238,10 +204,7 @@ impl Waiting {
             burst,
             is_off: room == 0,
             counts_sources: per_source.is_some(),
-            given_up: GivenUp {
-                count: 0,
-                told: None,
-            },
+            given_up: GivenUp::new(),
         })
     }
 
@@ -328,8 +291,7 @@ impl Waiting {
         ensures burst { self.new.burst ≡ self.old.burst }
     {
         let Put { now, out, fate } = put;
-        count(rt, shared, &out, fate);
-        log(rt, shared, &out);
+        tell_fate(rt, shared, &out, fate);
         let ended = self.changed_source(&out);
         self.watch(now, &out);
         let begun = self.changed_source(&out);
@@ -461,6 +423,7 @@ impl Waiting {
         if self.take_notes(rt, shared) {
             return true;
         }
+        self.given_up.look(rt, watch.now());
         shared.set_live(self.watchers.len());
         shared.window.answer(rt, watch.now(), &self.watchers);
         if watch.repeats == 0 {

@@ -2,8 +2,7 @@
 ghost use Rattle.std.specs.Prelude.{◌<◌, ◌^◌, IfSome};
 
 use crate::drops::kernel_drops;
-use crate::lost_starts::LostStarts;
-use crate::notes::Notes;
+use crate::post::{LostStarts, Notes};
 use crate::statuses::Statuses;
 use crate::window::Window;
 use sip_read::ReadError;

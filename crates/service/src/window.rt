@@ -23,13 +23,13 @@ const NAP: u64 = 100;
 
 /// A page of some rows that an inquiry asks for.
 #[derive(Drop)]
-pub(crate) struct Page {
+pub(crate) struct WatchersPage {
     inquiry: Inquiry,
     text: String,
     ghost is_page: { IsPage inquiry (string_bytes text) },
 }
 
-impl Page {
+impl WatchersPage {
     /// What it tells, if it is for this inquiry.
     fn into_text(self, inquiry: &Inquiry) -> Option<String>
         ensures { IfSome result (λ text. IsPage inquiry.now (string_bytes text)) }
@@ -118,6 +118,7 @@ impl Window {
         let Ok(text) = watchers.page(now, &inquiry) else {
             return;
         };
-        self.pages.push(rt, Parcel::Page(Page { inquiry, text }));
+        self.pages
+            .push(rt, Parcel::Page(WatchersPage { inquiry, text }));
     }
 }

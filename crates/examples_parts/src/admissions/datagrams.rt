@@ -1,7 +1,7 @@
 //! Datagrams, and what comes of each.
 
 use crate::admissions::people::admission;
-use admission::{Admission, Arrival, Cause, Reading, Verdict};
+use admission::{Admission, Arrival, ChallengeCause, Reading, Verdict};
 use sip_read::{Message, ReadError, read};
 use sip_text::{Addr, NoMemory};
 use std::alloc::Global;
@@ -232,10 +232,10 @@ fn name(verdict: &Verdict) -> &'static str {
         Verdict::Allowed => "heard",
         Verdict::Foreign => "foreign",
         Verdict::Limited => "limited",
-        Verdict::Challenge(Cause::Absent, _) => "401, no credentials",
-        Verdict::Challenge(Cause::Malformed, _) => "401, malformed credentials",
-        Verdict::Challenge(Cause::Wrong, _) => "401, wrong credentials",
-        Verdict::Challenge(Cause::Stale, _) => "401, stale",
+        Verdict::Challenge(ChallengeCause::Absent, _) => "401, no credentials",
+        Verdict::Challenge(ChallengeCause::Malformed, _) => "401, malformed credentials",
+        Verdict::Challenge(ChallengeCause::Wrong, _) => "401, wrong credentials",
+        Verdict::Challenge(ChallengeCause::Stale, _) => "401, stale",
         Verdict::Forbidden(_) => "403",
         Verdict::Crowded(_) => "503",
     }

@@ -1,5 +1,5 @@
 use Rattle.std.proofs.Common.{Err, ap, inl, inr}
-use Rattle.arguments.specs.declared.status.Status.TheVariants as status
+use Rattle.arguments.specs.declared.exit_status.ExitStatus.TheVariants as status
 use Rattle.commands.specs.UdpRunning.{outcome_of}
 use Rattle.commands.proofs.UdpEnded.{ran, no_bad_arguments, no_bad_script}
 use Rattle.commands.proofs.udp.run.Goals as goal

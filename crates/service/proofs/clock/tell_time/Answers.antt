@@ -1,4 +1,4 @@
-use Rattle.std.proofs.Common.{refl, ◌∙◌, arith}
+use Rattle.std.proofs.Common.{refl, ◌∙◌}
 use Rattle.notifier_model.specs.declared.event.Event.TheVariants as event
 use Rattle.service.proofs.Ticking.{ticking_none, ticking_more, ticking_failed, told_gone}
 use Rattle.service.proofs.clock.tell_time.Goals as goal
@@ -9,7 +9,7 @@ loop-init g c = record { still_open = c.requires.still_open; seats = refl; ticki
 pub loop-preserved-in-Some-take : goal.loop-preserved-in-Some-take
 loop-preserved-in-Some-take g c =
     let sent = c.if-not-send_event.ensures.sent in record {
-      still_open = (let same = sent.still_open in let was = c.loop.invariant.still_open in omega arith);
+      still_open = sent.still_open ∙ c.loop.invariant.still_open;
       seats = c.send_event.ensures.seats ∙ c.loop.invariant.seats;
       ticking = ticking_failed c.loop.invariant.ticking c.send_event.new.port c.in-Some-take.failed c.in-Some-take.ensures sent;
       failures = c.loop.invariant.failures;
@@ -26,7 +26,7 @@ returns-then-not-send_event-2-clause-ticks g c =
 pub loop-preserved : goal.loop-preserved
 loop-preserved g c =
     let sent = c.if-not-send_event-2.ensures.sent in record {
-      still_open = (let same = sent.still_open in let was = c.loop.invariant.still_open in omega arith);
+      still_open = sent.still_open ∙ c.loop.invariant.still_open;
       seats = c.send_event-in-loop.ensures.seats ∙ c.loop.invariant.seats;
       ticking = ticking_more c.loop.invariant.ticking c.send_event-in-loop.new.port c.in-Some-seconds.now c.if-now-second.false sent;
       failures = c.in-Some-seconds.ensures ∙ c.loop.invariant.failures;

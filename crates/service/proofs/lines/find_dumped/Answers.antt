@@ -1,4 +1,3 @@
-use Rattle.std.proofs.Common.{sym}
 use Rattle.service.proofs.Doing.{behind_is, behind_none}
 use Rattle.service.proofs.lines.find_dumped.Goals as goal
 

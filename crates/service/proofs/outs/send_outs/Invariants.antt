@@ -1,4 +1,4 @@
-use Rattle.std.proofs.Common.{◌≡◌, ◌⊎◌, ℕ, List, true}
+use Rattle.std.proofs.Common.{◌≡◌, ◌⊎◌, List, true}
 use Rattle.feeds.specs.declared.sending.EmitReport.{EmitReport}
 use Rattle.feeds.specs.Emitted.{WireSeen, wire_seen, writer_seen, count, fails_to_start}
 use Rattle.feeds.proofs.Emitting.{Running}

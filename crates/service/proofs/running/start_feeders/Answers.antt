@@ -1,15 +1,15 @@
-use Rattle.std.proofs.Common.{◌≡◌, ◌<◌, ◌∷◌, [], ℕ, List, length, get_or, subst, arith}
+use Rattle.std.proofs.Common.{◌≡◌, ◌<◌, ◌∷◌, [], List, subst, arith, ℕ, true, length, get_or}
 use Rattle.crew.specs.Ports.{PortSeats}
 use Rattle.service.specs.Handing.{NoneClosed}
 use Rattle.service.proofs.running.start_feeders.Goals as goal
 
-third_open : (ports : List PortSeats) (a b c : PortSeats) → ports ≡ a ∷ b ∷ c ∷ [] → NoneClosed ports → 0 < c.still_open
+third_open : (ports : List PortSeats) (a b c : PortSeats) → ports ≡ a ∷ b ∷ c ∷ [] → NoneClosed ports → c.is_open ≡ true
 third_open ports a b c all none = let each = subst NoneClosed all none in each 2 a (omega arith)
 
-second_open : (ports : List PortSeats) (a b c : PortSeats) → ports ≡ a ∷ b ∷ c ∷ [] → NoneClosed ports → 0 < b.still_open
+second_open : (ports : List PortSeats) (a b c : PortSeats) → ports ≡ a ∷ b ∷ c ∷ [] → NoneClosed ports → b.is_open ≡ true
 second_open ports a b c all none = let each = subst NoneClosed all none in each 1 a (omega arith)
 
-first_open : (ports : List PortSeats) (a b c : PortSeats) → ports ≡ a ∷ b ∷ c ∷ [] → NoneClosed ports → 0 < a.still_open
+first_open : (ports : List PortSeats) (a b c : PortSeats) → ports ≡ a ∷ b ∷ c ∷ [] → NoneClosed ports → a.is_open ≡ true
 first_open ports a b c all none = let each = subst NoneClosed all none in each 0 a (omega arith)
 
 pub start_feeder-requires-after_bounds : goal.start_feeder-requires-after_bounds

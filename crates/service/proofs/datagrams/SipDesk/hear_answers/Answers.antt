@@ -1,4 +1,4 @@
-use Rattle.std.proofs.Common.{◌∙◌, ◌++◌, ◌∷◌, [], refl, take, false, true}
+use Rattle.std.proofs.Common.{◌++◌, ◌∷◌, [], refl, take, false}
 use Rattle.transport.specs.Wires.{Grows, datagram}
 use Rattle.feeds.specs.Fed.{is_fault}
 use Rattle.feeds.proofs.Telling.{grows_none, grows_more, grows_same}

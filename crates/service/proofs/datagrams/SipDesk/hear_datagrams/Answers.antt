@@ -1,4 +1,4 @@
-use Rattle.std.proofs.Common.{◌≡◌, ◌∙◌, ◌∷◌, [], true, false, refl, sym, ap, take, arith}
+use Rattle.std.proofs.Common.{◌≡◌, ◌∙◌, ◌∷◌, [], true, false, refl, sym, ap, take}
 use Rattle.std.specs.Prelude.{nat_le}
 use Rattle.transport.specs.Wires.{Grows, datagram}
 use Rattle.feeds.specs.Fed.{is_fault}
@@ -124,7 +124,7 @@ loop-preserved g c =
     let given = g.W.Wire.given c.look.new.wire in let taken = g.W.Wire.taken mine.going in let failures = g.W.Wire.failures mine.going in
     let hearing = hearing_sent at.hearing this mine.admission given taken failures gave short judged sent.1 sent.2
     (sym its.2 ∙ c.if-not-admits.false) c.tell-told.new.port c.tell-told.result c.tell-told.ensures.told (sym c.is_gone.ensures ∙ c.if-is_gone.false) in record {
-      still_open = (let now = hearing_open hearing in let same = c.requires.still_open in omega arith);
+      still_open = hearing_open hearing ∙ c.requires.still_open;
       seats = c.tell-told.ensures.seats ∙ at.seats;
       longest = c.admits.ensures.longest ∙ at.longest;
       hearing = rw c.admits.ensures.coming hearing;

@@ -1,4 +1,4 @@
-use Rattle.std.proofs.Common.{◌≡◌, ◌<◌, [], false}
+use Rattle.std.proofs.Common.{◌≡◌, [], true, false}
 use Rattle.transport.specs.Wires.{Grows}
 use Rattle.crew.specs.Kept.{SameSeats}
 use Rattle.service.specs.Listening.{IsDeafAsTold}
@@ -7,7 +7,7 @@ use Rattle.service.proofs.datagrams.SipDesk.hear_datagrams.Given as goal
 
 abbrev pub invariant-loop : goal.invariant-loop
 invariant-loop g l = record {
-  still_open : 0 < l.port.still_open;
+  still_open : l.port.is_open ≡ true;
   seats : SameSeats l.fn.port l.port;
   longest : l.self.longest ≡ l.fn.self.longest;
   hearing : Hearing l.fn.self.longest l.fn.self.admission l.self.admission l.moment l.fn.port l.port

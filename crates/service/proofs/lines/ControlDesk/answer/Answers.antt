@@ -1,8 +1,8 @@
-use Rattle.std.proofs.Common.{◌≡◌, List, ℕ, inl, inr, refl, subst, Option, None, Some, IfSome, String, string_bytes}
+use Rattle.std.proofs.Common.{◌≡◌, inl, inr, refl, subst, Option, IfSome, String, string_bytes}
 use Rattle.std.specs.declared.alloc.Global.{Global}
-use Rattle.control_lines.specs.declared.answer.Answer.TheVariants as answer
+use Rattle.control_lines.specs.declared.answer.ControlAnswer.TheVariants as answer
 use Rattle.control_lines.specs.Lines.{answer_text}
-use Rattle.service.specs.declared.lines.Done.TheVariants as did
+use Rattle.service.specs.declared.lines.Handled.TheVariants as did
 use Rattle.service.specs.Taken.{IsReply, seen}
 use Rattle.service.specs.Told.{IsReport, IsShown, IsInquiry, IsWatched, dumped}
 use Rattle.service.proofs.Answering.{answered_by, foreign_by, unanswered_by, either_text, page_of}

@@ -1,6 +1,6 @@
 use Rattle.std.proofs.Common.{◌≡◌, ℕ, List, inl, inr, refl, sym, ap, subst, ◌∙◌, Option, None, Some}
 use Rattle.circular_buffer.specs.Buffer.{Buffer}
-use Rattle.control_lines.specs.declared.kept.Kept.{Kept}
+use Rattle.control_lines.specs.declared.kept.AnsweredLine.{AnsweredLine}
 use Rattle.control_lines.specs.declared.token.Token.{Token}
 use Rattle.control_lines.specs.Kept.{kept_answer}
 use Rattle.control_lines.specs.Tokens.{token}
@@ -21,7 +21,7 @@ returns-clause-done g c =
     let d = c.take_line-done.result in
     let rows = c.take_line-done.new.told in
     let none : kept_answer desk.kept.items (token c.args.octets.now) ≡ None = ap (kept_answer desk.kept.items) (sym c.cut_token-token.ensures.token) ∙ sym c.answer_to.ensures ∙ c.in_default.is in
-    let K : Buffer Kept → DeskSeen = λ k. record { workers = desk.workers; hearing = desk.hearing; rows = rows; kept = k } in
+    let K : Buffer AnsweredLine → DeskSeen = λ k. record { workers = desk.workers; hearing = desk.hearing; rows = rows; kept = k } in
     inr (
       sym c.hears.ensures ∙ c.if-not-hears.false,
       inr (

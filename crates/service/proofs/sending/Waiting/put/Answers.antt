@@ -1,5 +1,5 @@
-use Rattle.std.proofs.Common.{◌≡◌, ◌∷◌, ◌++◌, [], refl, ap, sym, ◌∙◌, subst}
-use Rattle.service.specs.declared.put.Put.{Put}
+use Rattle.std.proofs.Common.{◌∷◌, ◌++◌, [], refl, ap, sym, ◌∙◌, subst}
+use Rattle.service.specs.declared.fates.Put.{Put}
 use Rattle.service.specs.Sending.{call_of}
 use Rattle.service.specs.Keeping.{AreKept, act_of}
 use Rattle.service.proofs.Acts.{state_first}

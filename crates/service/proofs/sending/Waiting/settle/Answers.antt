@@ -1,6 +1,6 @@
 use Rattle.std.proofs.Common.{refl, ap, sym, ◌∙◌}
 use Rattle.std.specs.Prelude.{drop}
-use Rattle.service.proofs.Keeping.{kept_one, kept_same, first_of, none_first, shorter}
+use Rattle.service.proofs.Keeping.{kept_one, kept_same, first_of, none_first}
 use Rattle.service.proofs.sending.Waiting.settle.Goals as goal
 
 pub loop-put-init : goal.loop-put-init

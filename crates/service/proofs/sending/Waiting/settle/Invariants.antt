@@ -1,4 +1,4 @@
-use Rattle.std.proofs.Common.{ℕ, List, length}
+use Rattle.std.proofs.Common.{List, length}
 use Rattle.transactions.specs.Machine.{State}
 use Rattle.watchers.specs.Rows.{Row}
 use Rattle.service.specs.Sending.{Act}

@@ -1,4 +1,4 @@
-use Rattle.std.proofs.Common.{◌++◌, ◌∷◌, [], refl}
+use Rattle.std.proofs.Common.{◌++◌, ◌∷◌, []}
 use Rattle.service.proofs.Acts.{noted_more}
 use Rattle.service.proofs.Rowing.{rows_noted_more}
 use Rattle.service.proofs.sending.Waiting.take_notes.Goals as goal

@@ -2,7 +2,7 @@ use Rattle.std.proofs.Common.{◌≡◌, List, map}
 use Rattle.transactions.specs.Runs.{state_after}
 use Rattle.service.specs.Noted.{answer_of}
 use Rattle.service.specs.Watched.{noted_rows}
-use Rattle.service.specs.declared.notes.Note.{Note}
+use Rattle.service.specs.declared.post.Note.{Note}
 use Rattle.service.proofs.sending.Waiting.take_notes.Given as goal
 
 abbrev pub invariant-loop : goal.invariant-loop

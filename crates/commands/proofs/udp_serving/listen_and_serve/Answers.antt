@@ -1,9 +1,9 @@
-use Rattle.std.proofs.Common.{◌≡◌, ◌<◌, ℕ, List, [], ◌∷◌, get_or, sym, ap, ◌∙◌, subst, arith}
+use Rattle.std.proofs.Common.{◌≡◌, ℕ, true, List, [], ◌∷◌, get_or, sym, ap, ◌∙◌, subst, arith}
 use Rattle.crew.specs.Ports.{PortSeats}
 use Rattle.commands.specs.UdpRunning.{IsNew, outcome_of}
 use Rattle.commands.specs.UdpServing.{Serves}
 use Rattle.commands.proofs.UdpStarted.{ports_len, port_open}
-use Rattle.commands.proofs.udp_serving.serve.Goals as goal
+use Rattle.commands.proofs.udp_serving.listen_and_serve.Goals as goal
 
 two_are : (ports : List PortSeats) (a b a' b' : PortSeats) → ports ≡ a ∷ b ∷ [] → a' ≡ a → b' ≡ b → ports ≡ a' ∷ b' ∷ []
 two_are ports a b a' b' are first second = are ∙ ap (λ p. p ∷ b ∷ []) (sym first) ∙ ap (λ p. a' ∷ p ∷ []) (sym second)
@@ -14,13 +14,13 @@ take_both-first-requires g c = let is = c.requires.new.1 in let two = ports_len 
 pub start_listener-requires-after_bounds : goal.start_listener-requires-after_bounds
 start_listener-requires-after_bounds g c κs within =
     let second = c.take_both-first.result.1 in
-    let P : List PortSeats → Type 0 = λ l. 0 < (get_or l 1 second).still_open in
+    let P : List PortSeats → Type 0 = λ l. (get_or l 1 second).is_open ≡ true in
     subst P c.take_both-first.ensures.both (port_open c.requires.new.1 1 second (omega arith) c.requires.some)
 
 pub start_listener-requires-2-after_bounds : goal.start_listener-requires-2-after_bounds
 start_listener-requires-2-after_bounds g c κs within =
     let first = c.take_both-first.result.0 in
-    let P : List PortSeats → Type 0 = λ l. 0 < (get_or l 0 first).still_open in
+    let P : List PortSeats → Type 0 = λ l. (get_or l 0 first).is_open ≡ true in
     subst P c.take_both-first.ensures.both (port_open c.requires.new.1 0 first (omega arith) c.requires.some)
 
 pub serve_to_end-requires-clause-new : goal.serve_to_end-requires-clause-new

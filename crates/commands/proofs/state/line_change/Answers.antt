@@ -3,7 +3,7 @@ use Rattle.std.proofs.lemmas.Result.{err_from_is_err_and}
 use Rattle.arguments.specs.MailboxFile.{IsBlank}
 use Rattle.arguments.proofs.LineNames.{never}
 use Rattle.commands.proofs.ToldLines.{no_change}
-use Rattle.commands.proofs.state.change_in.Goals as goal
+use Rattle.commands.proofs.state.line_change.Goals as goal
 
 pub returns-in_err-change-clause-none : goal.returns-in_err-change-clause-none
 returns-in_err-change-clause-none c =

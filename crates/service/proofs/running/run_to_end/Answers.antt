@@ -1,6 +1,6 @@
 use Rattle.std.proofs.Common.{arith}
 use Rattle.service.proofs.Closed.{ports_len, ports_open}
-use Rattle.service.proofs.running.serve.Goals as goal
+use Rattle.service.proofs.running.run_to_end.Goals as goal
 
 pub start_feeders-requires-clause-three : goal.start_feeders-requires-clause-three
 start_feeders-requires-clause-three g c κs within = let three = ports_len c.requires.new.1 in let len = c.args.ports.ok.0 in omega arith
@@ -8,21 +8,21 @@ start_feeders-requires-clause-three g c κs within = let three = ports_len c.req
 pub start_feeders-requires-clause-still_open : goal.start_feeders-requires-clause-still_open
 start_feeders-requires-clause-still_open g c κs within = ports_open c.requires.new.1 c.requires.some
 
-pub serve_to_end-requires-clause-new : goal.serve_to_end-requires-clause-new
-serve_to_end-requires-clause-new g c = (c.requires.new.0, c.args.ports.items, c.requires.new.1, c.in-Ok.ensures.ports)
+pub send_to_end-requires-clause-new : goal.send_to_end-requires-clause-new
+send_to_end-requires-clause-new g c = (c.requires.new.0, c.args.ports.items, c.requires.new.1, c.in-Ok.ensures.ports)
 
-pub serve_to_end-requires-clause-errands : goal.serve_to_end-requires-clause-errands
-serve_to_end-requires-clause-errands g c = (c.args.ears.sip, c.args.ears.desk, c.in-Ok.ensures.errands)
+pub send_to_end-requires-clause-errands : goal.send_to_end-requires-clause-errands
+send_to_end-requires-clause-errands g c = (c.args.desks.sip, c.args.desks.desk, c.in-Ok.ensures.errands)
 
 pub wind_up-requires-clause-new : goal.wind_up-requires-clause-new
 wind_up-requires-clause-new g c = (c.requires.new.0, c.args.ports.items, c.requires.new.1)
 
 pub returns-in-Ok-clause-served : goal.returns-in-Ok-clause-served
 returns-in-Ok-clause-served g c =
-    λ start repeats is none opened fresh. c.serve_to_end.ensures.runs start c.args.ports.items c.args.ears.sip c.args.ears.desk repeats is none c.in-Ok.ensures.ports c.in-Ok.ensures.errands opened fresh
+    λ start repeats is none opened fresh. c.send_to_end.ensures.runs start c.args.ports.items c.args.desks.sip c.args.desks.desk repeats is none c.in-Ok.ensures.ports c.in-Ok.ensures.errands opened fresh
 
 pub returns-in-Ok-clause-faults : goal.returns-in-Ok-clause-faults
-returns-in-Ok-clause-faults g c = c.serve_to_end.ensures.faults c.args.ears.sip c.args.ears.desk c.in-Ok.ensures.errands
+returns-in-Ok-clause-faults g c = c.send_to_end.ensures.faults c.args.desks.sip c.args.desks.desk c.in-Ok.ensures.errands
 
 pub returns-in-Err-clause-left : goal.returns-in-Err-clause-left
 returns-in-Err-clause-left g c = λ start repeats is none. c.wind_up.ensures start c.args.ports.items repeats is none

@@ -5,7 +5,7 @@ use Rattle.service.specs.Handing.{IsNew}
 use Rattle.service.proofs.Closed.{taker_new, taker_workers, ports_closed, pushed_three}
 use Rattle.service.proofs.Ran.{sent_datagrams, sent_lines, sent_ticks, runs_are}
 use Rattle.service.proofs.Faults.{left_phones, left_desk, left_stopwatch, phones_heard, desk_heard, clock_failed}
-use Rattle.service.proofs.running.serve_to_end.Goals as goal
+use Rattle.service.proofs.running.send_to_end.Goals as goal
 
 pub send_outs-requires-clause-workers : goal.send_outs-requires-clause-workers
 send_outs-requires-clause-workers g c = sym (taker_workers c.requires.new.2)

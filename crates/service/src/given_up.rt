@@ -1,0 +1,81 @@
+//! The NOTIFYs that nobody answered, as they are told on standard error.
+
+use crate::logging::has_room;
+use sip_text::Addr;
+use transactions::Open;
+
+/// How many milliseconds pass between two lines.
+const MINUTE: u64 = 60_000;
+
+/// The NOTIFYs that were given up. One is told at once where no line came within the last minute, all others once that is over.
+#[derive(Clone, Copy)]
+pub(crate) struct GivenUp {
+    /// How many were not told yet.
+    count: u64,
+    /// Where the last one was sent.
+    last: Addr,
+    /// When they were told, or for want of room not.
+    told: Option<u64>,
+}
+
+impl GivenUp {
+    /// None yet.
+    pub(crate) fn new() -> GivenUp {
+        GivenUp {
+            count: 0,
+            last: Addr {
+                ip: [0, 0, 0, 0],
+                port: 0,
+            },
+            told: None,
+        }
+    }
+
+    /// Whether no line came within the last minute.
+    fn is_time(&self, now: u64) -> bool {
+        match self.told {
+            Some(told) => now.saturating_sub(told) >= MINUTE,
+            None => true,
+        }
+    }
+
+    /// Counts one more at this moment. Says, where no line came within the last minute, how many there were, and which this one was.
+    pub(crate) fn add<R: Eprint>(&mut self, rt: &R, now: u64, last: &Open) {
+        self.count = self.count.saturating_add(1);
+        self.last = last.to;
+        if !self.is_time(now) || !has_room() {
+            return;
+        }
+        let count = self.count;
+        let [a, b, c, d] = last.to.ip;
+        let port = last.to.port;
+        let tag = last.tag.as_str();
+        let _ = eprintln!(rt;
+            "notifyd: nobody answered {count} NOTIFYs, the last of them of dialog {tag} at {a}.{b}.{c}.{d}:{port}"
+        );
+        self.count = 0;
+        self.told = Some(now);
+    }
+
+    /// Says how many were not told yet, where there are some, and where the last one was sent. Without room they are told later.
+    pub(crate) fn tell_others<R: Eprint>(&mut self, rt: &R) {
+        if self.count == 0 || !has_room() {
+            return;
+        }
+        let count = self.count;
+        let [a, b, c, d] = self.last.ip;
+        let port = self.last.port;
+        let _ = eprintln!(rt;
+            "notifyd: nobody answered {count} more NOTIFYs, the last of them at {a}.{b}.{c}.{d}:{port}"
+        );
+        self.count = 0;
+    }
+
+    /// Tells those that were not told yet, where no line came within the last minute.
+    pub(crate) fn look<R: Eprint>(&mut self, rt: &R, now: u64) {
+        if self.count > 0 && self.is_time(now) {
+            self.told = Some(now);
+            self.tell_others(rt);
+        }
+    }
+}
