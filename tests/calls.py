@@ -140,7 +140,7 @@ FORM = " (one or more characters, none of them a space, `@` or `:`)"
 
 SPAN = " (from a number up to one of as many digits, a million of them at most)"
 
-TIMES = "times that don't go together: --min-time up to --default-time and --refer-time, and these up to --max-time"
+TIMES = "times that don't go together: --min-time up to --default-time and --refer-time, and these up to --max-time (unless set: 60, 3600, 180 and 3600 seconds)"
 
 NOWHERE = "0.0.0.0 is no address for phones: --contact <a.b.c.d:port>"
 
@@ -174,8 +174,8 @@ BAD_SERVICES = [
     (["--listen", "0.0.0.0:5060", "alice"], 1, NOWHERE),
     (["--contact", "0.0.0.0:5060", "alice"], 1, NOWHERE),
     (["--max-time", "600", "alice"], 1, TIMES),
-    (["--mailboxes", "nowhere"], 3, "no such file, or it can't be read: nowhere"),
-    (["--state=nowhere", "alice"], 3, "no such file, or it can't be read: nowhere"),
+    (["--mailboxes", "nowhere"], 3, "no such file, or it can't be read as UTF-8 text: nowhere"),
+    (["--state=nowhere", "alice"], 3, "no such file, or it can't be read as UTF-8 text: nowhere"),
     (["--listen", "198.51.100.1:5060", "alice"], 3, "an address not of this machine: --listen"),
     (["--listen=127.0.0.1:0", "--control=198.51.100.1:5061", "alice"], 3, "an address not of this machine: --control"),
 ]
@@ -197,15 +197,30 @@ MAILBOX_FILES = [
     ("alice\nbob@home\n", None, "line 2: no name of a mailbox: bob@home" + FORM),
     ("sip:alice\n", None, "line 1: no name of a mailbox: sip:alice" + FORM),
     ("alice\n1000-1099\n098-101\n", 105, None),
-    ("alice\n555-1234\n7-07\n", 3, None),
+    ("alice\n555-123-4567\n555-\n+555-1234\n", 4, None),
+    ("alice\n555-1234\n", None, "line 2: no range of mailboxes: 555-1234" + SPAN),
+    ("7-07\n", None, "line 1: no range of mailboxes: 7-07" + SPAN),
+    ("1000-19999\n", None, "line 1: no range of mailboxes: 1000-19999" + SPAN),
+    ("#\n0-999999\n", None, "line 2: no range of mailboxes: 0-999999" + SPAN),
+    ("1000000000000000000-1000000000000000001\n", None, "line 1: no range of mailboxes: 1000000000000000000-1000000000000000001" + SPAN),
     ("alice\n1999-1000\n", None, "line 2: no range of mailboxes: 1999-1000" + SPAN),
     ("0000000-1000000\n", None, "line 1: no range of mailboxes: 0000000-1000000" + SPAN),
 ]
 
-USAGE = b"notifyd: usage: notifyd tell [--json] [--control <a.b.c.d:port>] <line>\n"
+USAGE = b"notifyd: usage: notifyd tell [--control <a.b.c.d:port>] <line>; notifyd tell --json [--control <a.b.c.d:port>] STATUS\n"
 
 # Words behind `tell` that are no call of it.
-BAD_TELLS = [[], ["--control", "127.0.0.1:7000"], ["--control", "localhost:7000", "STATUS"], ["--contact", "STATUS"]]
+BAD_TELLS = [
+    [],
+    ["--control", "127.0.0.1:7000"],
+    ["--control", "localhost:7000", "STATUS"],
+    ["--contact", "STATUS"],
+    ["--json"],
+    ["--json", "DUMP"],
+    ["--json", "WATCHERS"],
+    ["--json", "--control", "127.0.0.1:7000", "SHOW", "alice"],
+    ["--control", "127.0.0.1:7000", "--json", "STATUS"],
+]
 
 # Control lines, what a service with the mailbox alice answers, and whether `notifyd udp` handles an event for it.
 CONTROL_LINES = [

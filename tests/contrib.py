@@ -254,7 +254,9 @@ class Kept:
     def __exit__(self, kind, *_):
         if kind is None:
             self.running.process.send_signal(signal.SIGTERM)
-            same("the exit status", 0, self.running.end().status)
+            ended = self.running.end()
+            self.running.err = ended.err
+            same("the exit status", 0, ended.status)
         self.running.__exit__()
 
 
@@ -285,6 +287,33 @@ def the_status_is_handed_on(program, folder):
         ended = run(os.path.join(TOP, "contrib", "notifyd-run"), words, env={**os.environ, "NOTIFYD": program})
         same("its end", Ended(3, b"", b"notifyd: a port in use: --listen\n"), ended)
         service.close()
+
+
+def the_end_by_a_signal_is_handed_on(program, folder):
+    """What kills the service itself (the system, where memory is short) ends notifyd-run too, so that it is started again."""
+    words = ["--listen", f"127.0.0.1:{free_port()}", "--control", f"127.0.0.1:{free_port()}", "alice"]
+    with Running(os.path.join(TOP, "contrib", "notifyd-run"), words, env={**os.environ, "NOTIFYD": program}) as running:
+        running.lines_until(b"listening at")
+        with open(f"/proc/{running.process.pid}/task/{running.process.pid}/children", encoding="ascii") as file:
+            os.kill(int(file.read().split()[0]), signal.SIGKILL)
+        same("the exit status", 128 + signal.SIGKILL, running.end().status)
+
+
+def a_state_that_is_not_saved_is_not_told(program, folder):
+    """The service that ends doesn't answer DUMP: what was there before isn't what phones hear after the start."""
+    state, notifyd = os.path.join(folder, "state"), os.path.join(folder, "notifyd")
+    with open(state, "w", encoding="ascii") as file:
+        file.write("MAIL alice voice 9 0 0 0\n")
+    with open(notifyd, "w", encoding="utf-8") as file:
+        file.write(f"#!/bin/sh\n[ \"$1\" != tell ] || exit 3\nexec '{program}' \"$@\"\n")
+    os.chmod(notifyd, 0o755)
+    with Kept(notifyd, state, "alice") as service:
+        pass
+    said = f"notifyd-run: the state was not saved; what there was before is {state}.old\n".encode()
+    same("what is said", True, said in service.running.err)
+    same("what stands in the folder", ["notifyd", "state.old"], sorted(os.listdir(folder)))
+    with Kept(program, state, "alice") as service, Phone(service.ports[0], "alice") as phone:
+        phone.leave(phone.subscribe(NO_MESSAGES), NO_MESSAGES)
 
 
 class Notifier:
@@ -496,6 +525,8 @@ def checks():
     yield "contrib: a signal to notifyd-run is a CLOSE", a_signal_is_a_close
     yield "contrib: counts outlive restarts", counts_outlive_restarts
     yield "contrib: notifyd-run hands on the status", the_status_is_handed_on
+    yield "contrib: notifyd-run ends where the service is killed", the_end_by_a_signal_is_handed_on
+    yield "contrib: a state that isn't saved is not told", a_state_that_is_not_saved_is_not_told
 
 
 def checks_apart():

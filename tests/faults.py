@@ -1,7 +1,8 @@
 """`notifyd serve` where the system fails: receives that fail and pass, a socket that is lost, datagrams that are too long, an address
-that is taken away, a worker that runs out of memory. Receives are made to fail by `strace`, and an address is taken away in a network
-namespace: where one of these can't be had, a line says what wasn't tried."""
+that is taken away, a worker that runs out of memory, a log that nobody reads. Receives are made to fail by `strace`, and an address is
+taken away in a network namespace: where one of these can't be had, a line says what wasn't tried."""
 
+import fcntl
 import os
 import re
 import resource
@@ -12,7 +13,8 @@ import sys
 import time
 
 from phone import PATIENCE, open_socket, persist
-from service import SUBSCRIBE, Service, address, counters_become, last_counters
+from repeats import ends_within
+from service import HEARD, SUBSCRIBE, Service, address, counters_become, last_counters
 from suite import LONG_LIMIT, Running, free_port, run, same
 from tags import home_of
 
@@ -51,6 +53,9 @@ MANY = 6000
 
 # So many may live at a worker.
 MOST = 3000
+
+# How Linux sets how many bytes a pipe takes (F_SETPIPE_SZ), and the fewest.
+SET_PIPE_SIZE, PAGE = 1031, 4096
 
 
 class Failing(Service):
@@ -199,8 +204,10 @@ def lines_from_elsewhere_are_dropped(program, folder):
             for line in "MAIL alice voice 2 0 0 0", "STATUS", "CLOSE":
                 same(f"the answer to {line} from elsewhere", "nothing", ask(FAR, line, 1))
             same("what was told", "MAIL alice voice 1 0 0 0", ask("127.0.0.1", "SHOW alice").splitlines()[2])
+            told_here = run("ip", place.inside(program, "tell", "--control", f"{PLACE}:5061", "SHOW", "alice"))
+            same("what this machine is told at the control address", b"MAIL alice voice 1 0 0 0", told_here.out.splitlines()[2])
             counted = dict(line.split(" ", 1) for line in ask(NEAR, "STATUS").splitlines()[1:])
-            same("what is counted", ("6", "3"), (counted["control_lines"], counted["control_foreign"]))
+            same("what is counted", ("7", "3"), (counted["control_lines"], counted["control_foreign"]))
             same("the answer to CLOSE", "ok", ask("127.0.0.1", "CLOSE"))
             ended = running.end()
             same("the exit status", 0, ended.status)
@@ -277,6 +284,50 @@ def a_worker_without_memory_ends_it(program, folder):
         same("how its workers ended", [b"closed", b"nomemory"], sorted(end[0] for end in ends))
 
 
+def answers_are_not_logged(service, count):
+    """So many requests are answered and logged, which nobody reads, while a phone is told of a change. The service closes, and ends."""
+    with service.phone("alice") as phone, service.phone("bob") as asking, service.operator() as operator:
+        phone.subscribe()
+        for number in range(count):
+            same("whether a request is answered", True, asking.is_heard(asking.request("OPTIONS", f"o{number}", 1, "", ())))
+        operator.tell("MAIL alice voice 2 8 0 2")
+        phone.expect_notify("active", HEARD)
+        operator.tell("CLOSE")
+        phone.hear_farewell(HEARD)
+        ends_within(service, 10)
+    return service.running.end()
+
+
+def a_log_that_nobody_reads_is_dropped(program, folder):
+    """Its pipe is full behind some of the answers; what is in it are whole lines."""
+    count = 2500
+    with Service(program, "--log-requests", "alice") as service:
+        ended = answers_are_not_logged(service, count)
+    same("the exit status", 0, ended.status)
+    lines = [line for line in ended.err.decode().split("\n") if "OPTIONS" in line]
+    form = r"notifyd: 127\.0\.0\.1:\d+ OPTIONS <sip:bob@127\.0\.0\.1>;tag=\S+ 405"
+    same("lines that aren't whole", [], [line for line in lines if not re.fullmatch(form, line)])
+    same("whether some were written, and some dropped", True, 0 < len(lines) < count)
+
+
+class OneStream(Service):
+    """A service that writes both of its streams to one pipe, as `2>&1` asks for, which takes no more than a page."""
+
+    def __init__(self, program, *words):
+        self.program, self.sip, self.control = program, free_port(), free_port()
+        places = ("--listen", address(self.sip), "--control", address(self.control))
+        self.running = Running("sh", ["-c", 'exec "$0" "$@" >&2', program, "serve", *places, *words])
+        fcntl.fcntl(self.running.process.stderr, SET_PIPE_SIZE, PAGE)
+
+
+def neither_stream_is_read(program, folder):
+    """The lines of the workers find no room either: that is a fault, and no wait."""
+    with OneStream(program, "--log-requests", "alice") as service:
+        ended = answers_are_not_logged(service, 200)
+    same("the exit status", 3, ended.status)
+    same("what is told", [b"SUBSCRIBE"], [line.split()[2] for line in ended.err.splitlines() if b"listening" not in line])
+
+
 def can_trace():
     """Whether `strace` may make calls fail here."""
     if not shutil.which("strace"):
@@ -301,6 +352,8 @@ def checks():
     yield "serve: less room for datagrams than asked for is told", less_room_is_told
     yield "serve: a worker without memory ends it", a_worker_without_memory_ends_it
     yield "serve: what the system dropped is told", drops_of_the_system_are_told
+    yield "serve: a log that nobody reads keeps nobody waiting", a_log_that_nobody_reads_is_dropped
+    yield "serve: nor do both streams that nobody reads", neither_stream_is_read
     if can_trace():
         yield "serve: receives that fail are tried again, told and counted", failing(*PASSING[:5])
         yield "serve: other receives that fail are tried again, told and counted", failing(*PASSING[5:])

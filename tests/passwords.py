@@ -434,7 +434,7 @@ def bad_files(program, folder):
         file.write("# none\n")
     why = f"notifyd: no user: {path} (a line each: user:realm:hash, as htdigest writes it)\n"
     ended_with(refused(program, folder, "--passwords", path, "alice"), 3, b"", why.encode())
-    why = f"notifyd: no such file, or it can't be read: {path}s\n"
+    why = f"notifyd: no such file, or it can't be read as UTF-8 text: {path}s\n"
     ended_with(refused(program, folder, "--passwords", path + "s", "alice"), 3, b"", why.encode())
 
 

@@ -186,19 +186,21 @@ def a_stale_number_is_done_with(program, folder):
 
 
 def it_is_given_up(program, folder):
-    """A phone that is silent for good, beside one that answers at the fifth time, which is told of a change behind the end of the
-    other."""
+    """Two phones that are silent for good, beside one that answers at the fifth time, which is told of a change behind the end of the
+    others. The first that is given up is told at once, the other one once a minute is over, or at the end of the service."""
     with Service(program, "alice") as service, service.operator() as operator:
-        with Observer(service.sip, "alice") as silent, Observer(service.sip, "alice") as late:
+        observers = [Observer(service.sip, "alice") for _ in range(3)]
+        with observers[0] as silent, observers[1] as other, observers[2] as late:
             dialog = silent.ask("SIP/2.0 200 OK")
             end = time.monotonic() + MOMENTS[-1] + QUIET
+            other.ask("SIP/2.0 200 OK")
             late.ask("SIP/2.0 200 OK")
             late.reply(late.observe(5)[-1])
             are_sends("a NOTIFY that nobody ever answers", silent.observe_until(end), MOMENTS)
             late.hears_nothing(ON_ITS_WAY)
             counters = operator.counters()
-            same("NOTIFYs given up", "1", counters["given_up"])
-            same("how often one was sent again", str(10 + 4), counters["repeats"])
+            same("NOTIFYs given up", "2", counters["given_up"])
+            same("how often one was sent again", str(10 + 10 + 4), counters["repeats"])
             operator.tell("MAIL alice voice 2 8 0 2")
             late.accept(2, HEARD)
             silent.go_on(dialog, 3600)
@@ -206,6 +208,8 @@ def it_is_given_up(program, folder):
             ended = service.close(lambda: late.accept(3))
             log = f"notifyd: nobody answered 1 NOTIFYs, the last of them of dialog {dialog.tag} at {silent.me}\n"
             same("whether the log names the dialog and the phone", True, log.encode() in ended.err)
+            log = f"notifyd: nobody answered 1 more NOTIFYs, the last of them at {other.me}\n"
+            same("whether the log names the other phone", True, log.encode() in ended.err)
 
 
 def a_farewell_comes_again(program, folder):

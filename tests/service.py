@@ -547,7 +547,7 @@ def a_file_names_mailboxes(program, folder):
 def a_file_names_none(program, folder):
     path = os.path.join(folder, "mailboxes")
     words = ["serve", "--listen", address(free_port()), "--control", address(free_port()), "--mailboxes", path]
-    why = f"notifyd: no such file, or it can't be read: {path}\n"
+    why = f"notifyd: no such file, or it can't be read as UTF-8 text: {path}\n"
     ended_with(run(program, words), 3, b"", why.encode())
     with open(path, "w") as file:
         file.write("# some\nalice\nbob and dave\n")
@@ -604,9 +604,9 @@ def a_taken_port_is_told(program, folder):
 def a_file_names_ranges(program, folder):
     path = os.path.join(folder, "mailboxes")
     with open(path, "w") as file:
-        file.write("098-101\n555-1234\n")
+        file.write("098-101\n555-123-4567\n")
     with Service(program, "--mailboxes", path) as service, service.operator() as operator:
-        for user in ("098", "099", "100", "101", "555-1234"):
+        for user in ("098", "099", "100", "101", "555-123-4567"):
             operator.tell(f"MAIL {user} text 1 0 0 0")
             with service.phone(user) as phone:
                 phone.leave(phone.subscribe(A_TEXT), A_TEXT)
