@@ -2,7 +2,7 @@
 //!
 //! - [`messages`]: datagrams as this profile's reader reads them, header values, and the answers and NOTIFYs that are written.
 //! - [`admissions`]: digest authentication, and who is heard.
-//! - [`packages`]: both packages, what a dropped one leaves, and one subscription.
+//! - [`packages`]: both packages, what a dropped one leaves, one subscription, and NOTIFYs that are sent again.
 //!
 //! A module's files stand in the folder of its name, what they read in `data`. There is nothing here that others build on.
 #![tactic(auto)]

@@ -12,7 +12,7 @@ use Rattle.transactions.specs.declared.open.Phase.{Phase}
 use Rattle.transactions.specs.declared.open.Phase.TheVariants.{Trying, Proceeding}
 use Rattle.transactions.specs.Timers.{has_name, is_named, alarm, sent, again, proceeding, longer, is_over}
 use Rattle.transactions.specs.Machine.{State, empty, refusal, is_open, is_full, with_sent, keep, wherever, without, at_name, answered, answer, sooner, soonest, if_up, due, turned, with_turned, turn, next_moment}
-use Rattle.transactions.specs.Runs.{Call, Keep, Answer, Turn, after, state_after, unless_over, repeated, repeat_made, times, is_end, earliest, keeping, EachRepeatIsInOrder, NoneIsPassedOver, NextIsInTime}
+use Rattle.transactions.specs.Runs.{Call, Keep, Answer, Turn, after, state_after, unless_over, repeated, repeat_made, times, repeats, is_end, earliest, keeping, EachRepeatIsDue, NoneIsPassedOver, NextIsInTime}
 use Rattle.std.proofs.lemmas.List.{append-nil}
 use Rattle.transactions.proofs.Listing.{same_some}
 use Rattle.transactions.proofs.Among.{Among, among_push, among_filter, among_soonest, none_among}
@@ -55,8 +55,8 @@ pub record History (limit : ℕ) (past : List Call) (t : Open) : Type 0 where
   pub split : past ≡ earlier ++ keeping t ∷ since
   pub kept : refusal (state_after earlier (empty limit)) t.tag t.number ≡ None
   pub unanswered : AllByRecursion (λ call. is_end t.tag t.number call ≡ false) since
-  pub planned : t.first + earliest (times t.tag t.number since (state_after (earlier ++ keeping t ∷ []) (empty limit))) ≤ t.next
-  pub paced : least (times t.tag t.number since (state_after (earlier ++ keeping t ∷ []) (empty limit))) ≤ t.interval
+  pub planned : t.first + earliest (repeats limit earlier since t) ≤ t.next
+  pub paced : least (repeats limit earlier since t) ≤ t.interval
 
 -- each open transaction has one, and no two have one name
 pub record Known (limit : ℕ) (past : List Call) (s : State) : Type 0 where
@@ -428,7 +428,7 @@ repeated_is s now t e = by (due s now) refl e
     by None k q = absurd (cc)
     by (Some d) k q = let it = unless_is now d t q in (k ∙ ap (λ (x : Open). Some x) it.1, it.0)
 
-pub each_repeat : EachRepeatIsInOrder
+pub each_repeat : EachRepeatIsDue
 each_repeat limit before now t e =
     let it = repeated_is (run_state limit before) now t e in
     let is_due = due_is (run_state limit before) now t it.0 in
@@ -444,7 +444,7 @@ each_repeat limit before now t e =
       kept = h.kept;
       unanswered = h.unanswered;
       waited = omega (arith, planned, early);
-      seldom = ten (times t.tag t.number h.since (state_after (h.earlier ++ keeping t ∷ []) (empty limit))) (omega (arith, planned, early, soon));
+      seldom = ten (repeats limit h.earlier h.since t) (omega (arith, planned, early, soon));
       in_time = soon;
     }
 

@@ -57,8 +57,12 @@ earliest (suc (suc (suc n))) = 7500 + 4000 * n
 abbrev pub keeping : Open → Call
 keeping t = Keep t.first t.tag t.number t.to t.bytes
 
+-- how often the NOTIFY of t came again, where it was kept behind these calls and those came since
+abbrev pub repeats : ℕ → List Call → List Call → Open → ℕ
+repeats limit earlier since t = times t.tag t.number since (state_after (earlier ++ keeping t ∷ []) (empty limit))
+
 -- what holds where the NOTIFY of t is sent again at this moment, after these calls
-pub record IsInOrder (limit : ℕ) (before : List Call) (now : ℕ) (t : Open) : Type 0 where
+pub record IsDueRepeat (limit : ℕ) (before : List Call) (now : ℕ) (t : Open) : Type 0 where
   -- it was kept
   pub earlier : List Call
   pub since : List Call
@@ -67,13 +71,13 @@ pub record IsInOrder (limit : ℕ) (before : List Call) (now : ℕ) (t : Open) :
   -- and no answer that ends it came since
   pub unanswered : AllByRecursion (λ call. is_end t.tag t.number call ≡ false) since
   -- it is time, and it came again less than ten times
-  pub waited : t.first + earliest (times t.tag t.number since (state_after (earlier ++ keeping t ∷ []) (empty limit))) ≤ now
-  pub seldom : times t.tag t.number since (state_after (earlier ++ keeping t ∷ []) (empty limit)) < 10
+  pub waited : t.first + earliest (repeats limit earlier since t) ≤ now
+  pub seldom : repeats limit earlier since t < 10
   -- and not too late
   pub in_time : now < t.first + PATIENCE
 
-abbrev pub EachRepeatIsInOrder : Type 0
-EachRepeatIsInOrder = (limit : ℕ) (before : List Call) (now : ℕ) (t : Open) → repeated (state_after before (empty limit)) now ≡ Some t → IsInOrder limit before now t
+abbrev pub EachRepeatIsDue : Type 0
+EachRepeatIsDue = (limit : ℕ) (before : List Call) (now : ℕ) (t : Open) → repeated (state_after before (empty limit)) now ≡ Some t → IsDueRepeat limit before now t
 
 -- ---- none is forgotten
 

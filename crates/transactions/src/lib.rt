@@ -36,8 +36,6 @@ mod open;
 mod places;
 mod rings;
 mod steps;
-#[cfg(test)]
-mod tests;
 mod transactions;
 mod unkept;
 
