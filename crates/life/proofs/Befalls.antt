@@ -21,7 +21,7 @@ use Rattle.life.specs.Renaming.{renamed_tag, other_tag, renamed_request, renamed
 use Rattle.life.specs.Apart.{all_keys, has_new_key, is_open_to}
 use Rattle.life.specs.IsolationLaws.{IsLike}
 use Rattle.life.proofs.Renamed.{renamed_deed, renamed_life, birth-renamed, above-renamed, grant-renamed, overdue-renamed, number-renamed, misfit-renamed, key-renamed}
-use Rattle.life.proofs.Mine.{its_event, mine, mine-own, now-mine, content-mine, fresh-apart, new-own}
+use Rattle.life.proofs.Mine.{its_event, mine, mine-own, now-mine, content-mine, fresh-new, new-own}
 
 -- ---- tags
 
@@ -126,14 +126,14 @@ module _ (start other : Start) (serial : ℕ) (x : Request) (like : IsLike start
   fresh-same : (past : List Event) (r : Request) → is_new (key_of_request r) (all_keys past) ≡ true → is_fresh other.place.limits (past_of past) (renamed_request old new r) ≡ is_fresh start.place.limits past r
   fresh-same past r h =
       let key : is_new (key_of_request (renamed_request old new r)) (all_keys (past_of past)) ≡ true = subst (λ (o : Option _). is_new o (all_keys (past_of past)) ≡ true) (sym (key-renamed old new r)) (new-own start other serial x past (key_of_request r) h) in
-      rw (fresh-apart other.place.limits (past_of past) (renamed_request old new r) key, fresh-apart start.place.limits past r h) refl
+      rw (fresh-new other.place.limits (past_of past) (renamed_request old new r) key, fresh-new start.place.limits past r h) refl
 
   heard-same : (past : List Event) (r : Request) (l : Life) → (may_hear r l ≡ true → is_new (key_of_request r) (all_keys past) ≡ true)
       → (is_fresh other.place.limits (past_of past) (renamed_request old new r) && may_hear (renamed_request old new r) (ren l)) ≡ (is_fresh start.place.limits past r && may_hear r l)
-  heard-same past r l apart = rw (may-same r l) (by (may_hear r l) refl)
+  heard-same past r l new_keys = rw (may-same r l) (by (may_hear r l) refl)
     where
       by : (d : Bool) → may_hear r l ≡ d → (is_fresh other.place.limits (past_of past) (renamed_request old new r) && d) ≡ (is_fresh start.place.limits past r && d)
-      by true m = rw (fresh-same past r (apart m)) refl
+      by true m = rw (fresh-same past r (new_keys m)) refl
       by false m = and-false (is_fresh other.place.limits (past_of past) (renamed_request old new r)) ∙ sym (and-false (is_fresh start.place.limits past r))
 
   -- what concerns it concerns it there
@@ -153,25 +153,25 @@ module _ (start other : Start) (serial : ℕ) (x : Request) (like : IsLike start
   own-deed : (past : List Event) (e : Event) (l : Life) → is_own start serial x past e ≡ true → concerns old x e ≡ true → is_gone start.place.limits l ≡ false
       → (is_open_to start.place.limits (Some l) e ≡ true → has_new_key past e ≡ true) → deed_at other (past_of past) (its_event start other serial x e) (ren l) ≡ its_deed old new (deed_at start past e l)
   unfolding deed_at renamed_event concerns has_new_key
-  own-deed past (Comes source r) l o h lives apart =
+  own-deed past (Comes source r) l o h lives new_keys =
       its_when old new (is_fresh other.place.limits (past_of past) (renamed_request old new r) && may_hear (renamed_request old new r) (ren l)) (is_fresh start.place.limits past r && may_hear r l)
-      (Heard source (renamed_request old new r)) (Heard source r) (heard-same past r l (λ m. apart (rw (lives, m) refl))) refl
-  own-deed past (Replies r) l o h lives apart = rw (to-notify-same r l) (by_test (is_to_notify start.place.limits r l))
+      (Heard source (renamed_request old new r)) (Heard source r) (heard-same past r l (λ m. new_keys (rw (lives, m) refl))) refl
+  own-deed past (Replies r) l o h lives new_keys = rw (to-notify-same r l) (by_test (is_to_notify start.place.limits r l))
     where
       by_test : (d : Bool) → (if d then answer_deed (renamed_answer old new r) else None) ≡ its_deed old new (if d then answer_deed r else None)
       by_test true = answer-same r
       by_test false = refl
-  own-deed past (Mails m) l o h lives apart = its_when old new (is_changed other (past_of past) m) (is_changed start past m) MailChanged MailChanged (changed-same past m o h) refl
-  own-deed past (Progresses p) l o h lives apart =
+  own-deed past (Mails m) l o h lives new_keys = its_when old new (is_changed other (past_of past) m) (is_changed start past m) MailChanged MailChanged (changed-same past m o h) refl
+  own-deed past (Progresses p) l o h lives new_keys =
       its_when old new (is_refer (birth (ren l))) (is_refer (birth l)) (Progressed (record p { tag = other_tag old new p.tag })) (Progressed p) (ap (λ (y : Request). is_refer y) (birth-renamed old new l)) refl
-  own-deed past (Ticks t) l o h lives apart =
+  own-deed past (Ticks t) l o h lives new_keys =
       ap (λ (n : ℕ). tick_deed other.place.limits n (ren l)) (now-event past (Ticks t) o) ∙ tick-same (now (Ticks t ∷ past)) l
-  own-deed past Shuts l o h lives apart = refl
+  own-deed past Shuts l o h lives new_keys = refl
 
   pub own-lived : (past : List Event) (e : Event) (l : Life) → birth l ≡ x → is_own start serial x past e ≡ true → concerns old x e ≡ true → is_gone start.place.limits l ≡ false
       → (is_open_to start.place.limits (Some l) e ≡ true → has_new_key past e ≡ true) → lived other 1 (past_of past) (its_event start other serial x e) (ren l) ≡ its_life old new (lived start serial past e l)
   unfolding lived
-  own-lived past e l b o h lives apart =
+  own-lived past e l b o h lives new_keys =
       rw (birth-renamed old new l, b, h, concerns-alike x e h)
       (its_then old new (now (its_event start other serial x e ∷ past_of past)) (now (e ∷ past)) l (deed_at other (past_of past) (its_event start other serial x e) (ren l)) (deed_at start past e l)
-      (now-event past e o) (own-deed past e l o h lives apart))
+      (now-event past e o) (own-deed past e l o h lives new_keys))

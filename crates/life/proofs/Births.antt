@@ -21,7 +21,7 @@ use Rattle.life.specs.Renaming.{other_tag, renamed_tag, renamed_request, renamed
 use Rattle.life.specs.Apart.{all_keys, has_new_key}
 use Rattle.life.specs.IsolationLaws.{IsLike}
 use Rattle.life.proofs.Renamed.{renamed_life, misfit-renamed, key-renamed, kind-renamed}
-use Rattle.life.proofs.Mine.{its_event, mine, now-mine, fresh-apart, new-own}
+use Rattle.life.proofs.Mine.{its_event, mine, now-mine, fresh-new, new-own}
 use Rattle.life.proofs.Befalls.{its_life}
 
 -- what stands in the way of a request at one box stands in its way at a like one
@@ -97,11 +97,11 @@ module _ (start other : Start) (serial : ℕ) (x : Request) (like : IsLike start
   unfolding fits event_of misplaced_at asked
   fits-alone past h to f =
       let key : is_new (key_of_request (renamed_request old new x)) (all_keys (past_of past)) ≡ true = subst (λ (o : Option _). is_new o (all_keys (past_of past)) ≡ true) (sym (key-renamed old new x)) (new-own start other serial x past (key_of_request x) h) in
-      let fresh : not (is_ack x) ≡ true = sym (fresh-apart start.place.limits past x h) ∙ and-left (is_fresh start.place.limits past x) (is_none (misfit x) && is_placed start x x.head.to.tag) f in
+      let fresh : not (is_ack x) ≡ true = sym (fresh-new start.place.limits past x h) ∙ and-left (is_fresh start.place.limits past x) (is_none (misfit x) && is_placed start x x.head.to.tag) f in
       let rest = and-right (is_fresh start.place.limits past x) (is_none (misfit x) && is_placed start x x.head.to.tag) f in
       let fit = and-left (is_none (misfit x)) (is_placed start x x.head.to.tag) rest in
       let here : is_placed start x None ≡ true = subst (λ (o : Option Bytes). is_placed start x o ≡ true) to (and-right (is_none (misfit x)) (is_placed start x x.head.to.tag) rest) in
-      rw (fresh-apart other.place.limits (past_of past) (renamed_request old new x) key, fresh, misfit-renamed old new x, fit, to) (placed here)
+      rw (fresh-new other.place.limits (past_of past) (renamed_request old new x) key, fresh, misfit-renamed old new x, fit, to) (placed here)
     where
       placed : is_placed start x None ≡ true → is_placed other (renamed_request old new x) None ≡ true
       placed h = unfold misplaced_at event_of asked in (rw like.limits (ap is_none (like_box start.place.limits x (first_box (event_of x).package start.boxes) (first_box (event_of x).package other.boxes) like.content_type like.content) ∙ h))
@@ -158,7 +158,7 @@ module _ (start other : Start) (serial : ℕ) (x : Request) (like : IsLike start
       → ((source : Addr) (r : Request) → e ≡ Comes source r → is_born_at start serial past e ≡ true → birth_at start past e ≡ Some (Born (now past) source r) → x ≡ r)
       → birth_at other (past_of past) (its_event start other serial x e) ≡ its_life old new (if serial == births start past + 1 then birth_at start past e else None)
   unfolding renamed_event has_new_key
-  own-begins past (Comes source r) z o apart of_x = by_tag r.head.to.tag refl
+  own-begins past (Comes source r) z o new_keys of_x = by_tag r.head.to.tag refl
     where
       born : r.head.to.tag ≡ None → birth_at other (past_of past) (Comes source (renamed_request old new r)) ≡ its_life old new (if serial == births start past + 1 then birth_at start past (Comes source r) else None)
       born to =
@@ -169,7 +169,7 @@ module _ (start other : Start) (serial : ℕ) (x : Request) (like : IsLike start
           let there : is_birth other (past_of past) [] (renamed_request old new r) ≡ true =
           subst (λ (y : Request). is_birth other (past_of past) [] (renamed_request old new y) ≡ true) same
           (birth-alone past (lives start past)
-          (subst (λ (y : Request). is_new (key_of_request y) (all_keys past) ≡ true) (sym same) (apart here))
+          (subst (λ (y : Request). is_new (key_of_request y) (all_keys past) ≡ true) (sym same) (new_keys here))
           (subst (λ (y : Request). y.head.to.tag ≡ None) (sym same) to)
           (subst (λ (y : Request). is_birth start past (lives start past) y ≡ true) (sym same) test)) in
           let begins : birth_at other (past_of past) (Comes source (renamed_request old new r)) ≡ Some (Born (now past) source (renamed_request old new r)) =
@@ -179,8 +179,8 @@ module _ (start other : Start) (serial : ℕ) (x : Request) (like : IsLike start
       by_tag : (t : Option Bytes) → r.head.to.tag ≡ t → birth_at other (past_of past) (Comes source (renamed_request old new r)) ≡ its_life old new (if serial == births start past + 1 then birth_at start past (Comes source r) else None)
       by_tag None e = born e
       by_tag (Some tag) e = unborn-tagged other (past_of past) source (renamed_request old new r) (other_tag old new tag) (ap (renamed_tag old new) e) ∙ sym (none_of (serial == births start past + 1) (birth_at start past (Comes source r)) (unborn-tagged start past source r tag e))
-  own-begins past (Replies r) z o apart of_x = unfold birth_at begun in sym (none_of (serial == births start past + 1) None refl)
-  own-begins past (Mails m) z o apart of_x = unfold birth_at begun in sym (none_of (serial == births start past + 1) None refl)
-  own-begins past (Progresses p) z o apart of_x = unfold birth_at begun in sym (none_of (serial == births start past + 1) None refl)
-  own-begins past (Ticks t) z o apart of_x = unfold birth_at begun in sym (none_of (serial == births start past + 1) None refl)
-  own-begins past Shuts z o apart of_x = unfold birth_at begun in sym (none_of (serial == births start past + 1) None refl)
+  own-begins past (Replies r) z o new_keys of_x = unfold birth_at begun in sym (none_of (serial == births start past + 1) None refl)
+  own-begins past (Mails m) z o new_keys of_x = unfold birth_at begun in sym (none_of (serial == births start past + 1) None refl)
+  own-begins past (Progresses p) z o new_keys of_x = unfold birth_at begun in sym (none_of (serial == births start past + 1) None refl)
+  own-begins past (Ticks t) z o new_keys of_x = unfold birth_at begun in sym (none_of (serial == births start past + 1) None refl)
+  own-begins past Shuts z o new_keys of_x = unfold birth_at begun in sym (none_of (serial == births start past + 1) None refl)

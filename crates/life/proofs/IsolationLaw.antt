@@ -64,10 +64,10 @@ once start serial past e l is = by_serial (serial == births start past + 1) refl
     by_serial true f = let at : serial ≡ births start past + 1 = grind (arith, nat_tests) in let none = no_life start past serial (inr (omega arith)) in absurd (let g : Some l ≡ None = sym is ∙ none in cc)
 
 -- what `own_requests_are_new` says of one event
-pub apart_here : (d k more : Bool) → ((not d || k) && more) ≡ true → d ≡ true → k ≡ true
-apart_here true true more h e = refl
-apart_here true false more h e = h
-apart_here false k more h e = absurd (cc)
+pub new_here : (d k more : Bool) → ((not d || k) && more) ≡ true → d ≡ true → k ≡ true
+new_here true true more h e = refl
+new_here true false more h e = h
+new_here false k more h e = absurd (cc)
 
 module _ (start other : Start) (serial : ℕ) (x : Request) (like : IsLike start other x) where
   abbrev old : Bytes
@@ -85,20 +85,12 @@ module _ (start other : Start) (serial : ℕ) (x : Request) (like : IsLike start
     births_is : births other (past_of past) ≡ one_if (is_some (life start past serial))
 
   -- what `own_requests_are_new` says of one event
-  abbrev IsApart : List Event → Event → Type 0
-  IsApart past e = matters start serial x past e ≡ true → has_new_key past e ≡ true
+  abbrev HasNewKey : List Event → Event → Type 0
+  HasNewKey past e = matters start serial x past e ≡ true → has_new_key past e ≡ true
 
-  apart-born : (past : List Event) (e : Event) → IsApart past e → is_born_at start serial past e ≡ true → has_new_key past e ≡ true
+  key-born : (past : List Event) (e : Event) → HasNewKey past e → is_born_at start serial past e ≡ true → has_new_key past e ≡ true
   unfolding matters
-  apart-born past e apart h = apart (rw h refl)
-
-  apart-heard : (past : List Event) (e : Event) (l : Life) → life start past serial ≡ Some l → is_own start serial x past e ≡ true → IsApart past e → is_open_to start.place.limits (Some l) e ≡ true → has_new_key past e ≡ true
-  unfolding matters
-  apart-heard past e l is o apart h = apart (rw (o, is, h) (last (is_born_at start serial past e)))
-    where
-      last : (d : Bool) → (d || true) ≡ true
-      last true = refl
-      last false = refl
+  key-born past e new_keys h = new_keys (rw h refl)
 
   concerned : (past : List Event) (e : Event) (l : Life) → life start past serial ≡ Some l → is_own start serial x past e ≡ true → concerns old x e ≡ true
   unfolding is_own
@@ -107,6 +99,14 @@ module _ (start other : Start) (serial : ℕ) (x : Request) (like : IsLike start
       first : (a b : Bool) → b ≡ false → (a || b) ≡ true → a ≡ true
       first true b f h = refl
       first false b f h = absurd (cc)
+
+  key-heard : (past : List Event) (e : Event) (l : Life) → life start past serial ≡ Some l → is_own start serial x past e ≡ true → HasNewKey past e → is_open_to start.place.limits (Some l) e ≡ true → has_new_key past e ≡ true
+  unfolding matters
+  key-heard past e l is o new_keys h = new_keys (rw (concerned past e l is o, is, h) (last (is_born_at start serial past e)))
+    where
+      last : (d : Bool) → (d || true) ≡ true
+      last true = refl
+      last false = refl
 
   of_its : (past : List Event) (e : Event) → life start past serial ≡ None → IsBornOf start serial x (e ∷ past) → (source : Addr) (r : Request) → e ≡ Comes source r → is_born_at start serial past e ≡ true → birth_at start past e ≡ Some (Born (now past) source r) → x ≡ r
   unfolding is_born_at birth
@@ -124,23 +124,23 @@ module _ (start other : Start) (serial : ℕ) (x : Request) (like : IsLike start
   gone-same : (l : Life) → is_gone other.place.limits (renamed_life old new l) ≡ is_gone start.place.limits l
   gone-same l = gone-renamed old new other.place.limits l ∙ by_limits (λ limits. is_gone limits l)
 
-  same-lived : (past : List Event) (e : Event) (l : Life) → is_own start serial x past e ≡ true → IsBornOf start serial x (e ∷ past) → life start past serial ≡ Some l → is_gone start.place.limits l ≡ false → IsApart past e → lived other 1 (past_of past) (its_event start other serial x e) (renamed_life old new l) ≡ its_life old new (lived start serial past e l)
-  same-lived past e l h born is lives apart = own-lived start other serial x like past e l (born_before start serial x past e born l is) h (concerned past e l is h) lives (apart-heard past e l is h apart)
+  same-lived : (past : List Event) (e : Event) (l : Life) → is_own start serial x past e ≡ true → IsBornOf start serial x (e ∷ past) → life start past serial ≡ Some l → is_gone start.place.limits l ≡ false → HasNewKey past e → lived other 1 (past_of past) (its_event start other serial x e) (renamed_life old new l) ≡ its_life old new (lived start serial past e l)
+  same-lived past e l h born is lives new_keys = own-lived start other serial x like past e l (born_before start serial x past e born l is) h (concerned past e l is h) lives (key-heard past e l is h new_keys)
 
   -- what befalls it, in both runs
-  own-befell : (past : List Event) (e : Event) → Stands past → IsBornOf start serial x (e ∷ past) → is_own start serial x past e ≡ true → IsApart past e → befell other (past_of past) (its_event start other serial x e) 1 ≡ its_life old new (befell start past e serial)
-  own-befell past e st born h apart = by_life (life start past serial) refl
+  own-befell : (past : List Event) (e : Event) → Stands past → IsBornOf start serial x (e ∷ past) → is_own start serial x past e ≡ true → HasNewKey past e → befell other (past_of past) (its_event start other serial x e) 1 ≡ its_life old new (befell start past e serial)
+  own-befell past e st born h new_keys = by_life (life start past serial) refl
     where
       by_life : (o : Option Life) → life start past serial ≡ o → befell other (past_of past) (its_event start other serial x e) 1 ≡ its_life old new (befell start past e serial)
       by_life None is =
           let z : births other (past_of past) ≡ 0 = st.births_is ∙ rw is refl in
           let none : life other (past_of past) 1 ≡ None = st.life_is ∙ rw is refl in
           befell-unborn other (past_of past) (its_event start other serial x e) 1 none
-          ∙ (rw z (own-begins start other serial x like past e z h (apart-born past e apart) (of_its past e is born)) ∙ ap (its_life old new) (sym (befell-unborn start past e serial is)))
+          ∙ (rw z (own-begins start other serial x like past e z h (key-born past e new_keys) (of_its past e is born)) ∙ ap (its_life old new) (sym (befell-unborn start past e serial is)))
       by_life (Some l) is =
           let some : life other (past_of past) 1 ≡ Some (renamed_life old new l) = st.life_is ∙ rw is refl in
           befell-born other (past_of past) (its_event start other serial x e) 1 (renamed_life old new l) some
-          ∙ (rw (gone-same l) (its_if (is_gone start.place.limits l) _ (lived start serial past e l) (λ alive. same-lived past e l h born is alive apart)) ∙ ap (its_life old new) (sym (befell-born start past e serial l is)))
+          ∙ (rw (gone-same l) (its_if (is_gone start.place.limits l) _ (lived start serial past e l) (λ alive. same-lived past e l h born is alive new_keys)) ∙ ap (its_life old new) (sym (befell-born start past e serial l is)))
 
   -- ---- the birth is the only one
 
@@ -166,14 +166,14 @@ module _ (start other : Start) (serial : ℕ) (x : Request) (like : IsLike start
   its-before None p = refl
   its-before (Some m) p = refl
 
-  own-births : (past : List Event) (e : Event) → Stands past → IsBornOf start serial x (e ∷ past) → is_own start serial x past e ≡ true → IsApart past e
+  own-births : (past : List Event) (e : Event) → Stands past → IsBornOf start serial x (e ∷ past) → is_own start serial x past e ≡ true → HasNewKey past e
       → births other (past_of past) + one_if (is_some (birth_at other (past_of past) (its_event start other serial x e))) ≡ one_if (is_some (or_before (befell start past e serial) (life start past serial)))
-  own-births past e st born h apart = by_life (life start past serial) refl
+  own-births past e st born h new_keys = by_life (life start past serial) refl
     where
       by_life : (o : Option Life) → life start past serial ≡ o → births other (past_of past) + one_if (is_some (birth_at other (past_of past) (its_event start other serial x e))) ≡ one_if (is_some (or_before (befell start past e serial) o))
       by_life None is =
           let z : births other (past_of past) ≡ 0 = st.births_is ∙ rw is refl in
-          let begins = own-begins start other serial x like past e z h (apart-born past e apart) (of_its past e is born) in
+          let begins = own-begins start other serial x like past e z h (key-born past e new_keys) (of_its past e is born) in
           rw (z, begins, befell-unborn start past e serial is) (begun (if serial == births start past + 1 then birth_at start past e else None))
         where
           begun : (o : Option Life) → 0 + one_if (is_some (its_life old new o)) ≡ one_if (is_some (or_before o None))
@@ -187,10 +187,10 @@ module _ (start other : Start) (serial : ℕ) (x : Request) (like : IsLike start
           lives None = refl
           lives (Some m) = refl
 
-  own_stands : (past : List Event) (e : Event) → Stands past → IsBornOf start serial x (e ∷ past) → is_own start serial x past e ≡ true → IsApart past e → Stands (e ∷ past)
-  own_stands past e st born h apart = record {
-    life_is = rw (mine-own start other serial x past e h, life-next other (past_of past) (its_event start other serial x e) 1, life-next start past e serial, own-befell past e st born h apart, st.life_is) (its-before (befell start past e serial) (life start past serial));
-    births_is = rw (mine-own start other serial x past e h, births-next other (past_of past) (its_event start other serial x e), life-next start past e serial) (own-births past e st born h apart);
+  own_stands : (past : List Event) (e : Event) → Stands past → IsBornOf start serial x (e ∷ past) → is_own start serial x past e ≡ true → HasNewKey past e → Stands (e ∷ past)
+  own_stands past e st born h new_keys = record {
+    life_is = rw (mine-own start other serial x past e h, life-next other (past_of past) (its_event start other serial x e) 1, life-next start past e serial, own-befell past e st born h new_keys, st.life_is) (its-before (befell start past e serial) (life start past serial));
+    births_is = rw (mine-own start other serial x past e h, births-next other (past_of past) (its_event start other serial x e), life-next start past e serial) (own-births past e st born h new_keys);
   }
 
   other_stands : (past : List Event) (e : Event) → Stands past → IsBornOf start serial x past → is_own start serial x past e ≡ false → Stands (e ∷ past)
@@ -207,13 +207,13 @@ module _ (start other : Start) (serial : ℕ) (x : Request) (like : IsLike start
 
   stands : (past : List Event) → IsBornOf start serial x past → own_requests_are_new start serial x past ≡ true → Stands past
   unfolding own_requests_are_new
-  stands [] born apart = none_stands
-  stands (e ∷ past) born apart =
-      let more = and-right (not (matters start serial x past e) || has_new_key past e) (own_requests_are_new start serial x past) apart in
+  stands [] born new_keys = none_stands
+  stands (e ∷ past) born new_keys =
+      let more = and-right (not (matters start serial x past e) || has_new_key past e) (own_requests_are_new start serial x past) new_keys in
       by (stands past (born_before start serial x past e born) more) (is_own start serial x past e) refl
     where
       by : Stands past → (d : Bool) → is_own start serial x past e ≡ d → Stands (e ∷ past)
-      by st true h = own_stands past e st born h (apart_here (matters start serial x past e) (has_new_key past e) (own_requests_are_new start serial x past) apart)
+      by st true h = own_stands past e st born h (new_here (matters start serial x past e) (has_new_key past e) (own_requests_are_new start serial x past) new_keys)
       by st false h = other_stands past e st (born_before start serial x past e born) h
 
   -- ---- what is told
@@ -253,18 +253,18 @@ module _ (start other : Start) (serial : ℕ) (x : Request) (like : IsLike start
   born-of : (past : List Event) (e : Event) → IsBornOf start serial x (e ∷ past) → (m : Life) → befell start past e serial ≡ Some m → birth m ≡ x
   born-of past e born m is = born m (life-next start past e serial ∙ rw is refl)
 
-  told-here : (past : List Event) (e : Event) → Stands past → IsBornOf start serial x (e ∷ past) → is_own start serial x past e ≡ true → IsApart past e
+  told-here : (past : List Event) (e : Event) → Stands past → IsBornOf start serial x (e ∷ past) → is_own start serial x past e ≡ true → HasNewKey past e
       → notices_at other (its_event start other serial x e ∷ past_of past) (befell other (past_of past) (its_event start other serial x e) 1) ≡ notices_at start (e ∷ past) (befell start past e serial)
-  told-here past e st born h apart =
-      rw (own-befell past e st born h apart)
+  told-here past e st born h new_keys =
+      rw (own-befell past e st born h new_keys)
       (subst (λ (es : List Event). notices_at other es (its_life old new (befell start past e serial)) ≡ notices_at start (e ∷ past) (befell start past e serial)) (mine-own start other serial x past e h) (told-same (e ∷ past) (befell start past e serial) (born-of past e born)))
 
-  told-own : (past : List Event) (e : Event) → notices start serial past ≡ notices other 1 (past_of past) → Stands past → IsBornOf start serial x (e ∷ past) → is_own start serial x past e ≡ true → IsApart past e → notices start serial (e ∷ past) ≡ notices other 1 (past_of (e ∷ past))
+  told-own : (past : List Event) (e : Event) → notices start serial past ≡ notices other 1 (past_of past) → Stands past → IsBornOf start serial x (e ∷ past) → is_own start serial x past e ≡ true → HasNewKey past e → notices start serial (e ∷ past) ≡ notices other 1 (past_of (e ∷ past))
   unfolding notices
-  told-own past e ih st born h apart =
+  told-own past e ih st born h new_keys =
       subst (λ (es : List Event). notices start serial (e ∷ past) ≡ notices other 1 es) (sym (mine-own start other serial x past e h))
       (ap (λ (ns : List Notification). ns ++ notices_at start (e ∷ past) (befell start past e serial)) ih
-      ∙ ap (λ (ns : List Notification). notices other 1 (past_of past) ++ ns) (sym (told-here past e st born h apart)))
+      ∙ ap (λ (ns : List Notification). notices other 1 (past_of past) ++ ns) (sym (told-here past e st born h new_keys)))
 
   told-other : (past : List Event) (e : Event) → notices start serial past ≡ notices other 1 (past_of past) → IsBornOf start serial x past → is_own start serial x past e ≡ false → notices start serial (e ∷ past) ≡ notices other 1 (past_of (e ∷ past))
   unfolding notices
@@ -272,22 +272,22 @@ module _ (start other : Start) (serial : ℕ) (x : Request) (like : IsLike start
 
   alone : (past : List Event) → IsBornOf start serial x past → own_requests_are_new start serial x past ≡ true → notices start serial past ≡ notices other 1 (past_of past)
   unfolding own_requests_are_new
-  alone [] born apart = notices-none
-  alone (e ∷ past) born apart =
+  alone [] born new_keys = notices-none
+  alone (e ∷ past) born new_keys =
       let before = born_before start serial x past e born in
-      let more = and-right (not (matters start serial x past e) || has_new_key past e) (own_requests_are_new start serial x past) apart in
+      let more = and-right (not (matters start serial x past e) || has_new_key past e) (own_requests_are_new start serial x past) new_keys in
       by (alone past before more) (stands past before more) (is_own start serial x past e) refl
     where
       by : notices start serial past ≡ notices other 1 (past_of past) → Stands past → (d : Bool) → is_own start serial x past e ≡ d → notices start serial (e ∷ past) ≡ notices other 1 (past_of (e ∷ past))
-      by ih st true h = told-own past e ih st born h (apart_here (matters start serial x past e) (has_new_key past e) (own_requests_are_new start serial x past) apart)
+      by ih st true h = told-own past e ih st born h (new_here (matters start serial x past e) (has_new_key past e) (own_requests_are_new start serial x past) new_keys)
       by ih st false h = told-other past e ih (born_before start serial x past e born) h
 
 pub alone_law : AloneLaw
 unfolding born_of
-alone_law start other serial x past born like apart = alone start other serial x like past (λ l is. let e : Some (birth l) ≡ Some x = sym (ap (option_map birth) is) ∙ born in cc) apart
+alone_law start other serial x past born like new_keys = alone start other serial x like past (λ l is. let e : Some (birth l) ≡ Some x = sym (ap (option_map birth) is) ∙ born in cc) new_keys
 
 pub same_law : SameLaw
 same_law start other serial serial' x past past' both =
-    alone_law start other serial x past both.born both.like both.apart
+    alone_law start other serial x past both.born both.like both.new_keys
     ∙ (ap (notices other 1) (both.same (tag_of other.place 1))
-    ∙ sym (alone_law other other serial' x past' both.born_too (record { limits = refl; content_type = refl; content = refl }) both.apart_too))
+    ∙ sym (alone_law other other serial' x past' both.born_too (record { limits = refl; content_type = refl; content = refl }) both.new_keys_too))

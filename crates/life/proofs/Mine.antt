@@ -74,9 +74,9 @@ among-keys limits key (Ticks t ∷ past) h = among-keys limits key past h
 among-keys limits key (Shuts ∷ past) h = among-keys limits key past h
 
 -- a request with a new key is fresh if it is no ACK
-pub fresh-apart : (limits : Limits) (past : List Event) (r : Request) → is_new (key_of_request r) (all_keys past) ≡ true → is_fresh limits past r ≡ not (is_ack r)
+pub fresh-new : (limits : Limits) (past : List Event) (r : Request) → is_new (key_of_request r) (all_keys past) ≡ true → is_fresh limits past r ≡ not (is_ack r)
 unfolding is_fresh
-fresh-apart limits past r h = rw (by_key (key_of_request r) h) (last_true (not (is_ack r)))
+fresh-new limits past r h = rw (by_key (key_of_request r) h) (last_true (not (is_ack r)))
   where
     by_key : (o : Option Key) → is_new o (all_keys past) ≡ true → is_new o (take limits.kept (keys limits past)) ≡ true
     by_key None h = refl

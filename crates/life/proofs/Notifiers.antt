@@ -57,8 +57,8 @@ has_same = record {
   born = refl;
   born_too = refl;
   like = record { limits = refl; content_type = refl; content = refl };
-  apart = refl;
-  apart_too = refl;
+  new_keys = refl;
+  new_keys_too = refl;
   same = λ tag. refl;
 }
 

@@ -1,4 +1,4 @@
--- Where no two requests have one key, those of each subscription are apart.
+-- Where no two requests have one key, those of each subscription are new.
 use Rattle.std.proofs.Common.{◌≡◌, ℕ, List, [], ◌∷◌, ◌++◌, Bool, true, false, not, ◌&&◌, refl}
 use Rattle.std.specs.Prelude.{◌||◌}
 use Rattle.sip_read.specs.declared.message.Request.{Request}
@@ -22,13 +22,13 @@ same-new past (Progresses p) = refl
 same-new past (Ticks t) = refl
 same-new past Shuts = refl
 
-weaker : (here own may new old more : Bool) → ((not (own || here) || (old && new)) && more) ≡ true → (not (here || ((own || here) && may)) || new) ≡ true
-weaker true own may true old more h = last (not (true || ((own || true) && may)))
+weaker : (here own may new old more : Bool) → ((not (own || here) || (old && new)) && more) ≡ true → (not (here || (own && may)) || new) ≡ true
+weaker true own may true old more h = last (not (true || (own && may)))
   where
     last : (d : Bool) → (d || true) ≡ true
     last true = refl
     last false = refl
-weaker false own may true old more h = last (not (false || ((own || false) && may)))
+weaker false own may true old more h = last (not (false || (own && may)))
   where
     last : (d : Bool) → (d || true) ≡ true
     last true = refl
@@ -41,15 +41,15 @@ weaker false true may false true more h = absurd (cc)
 weaker false true may false false more h = absurd (cc)
 weaker false false may false old more h = refl
 
-apart_of_own_keys : (start : Start) (serial : ℕ) (x : Request) (later : List Key) (past : List Event) → own_keys_are_unique start serial x later past ≡ true → own_requests_are_new start serial x past ≡ true
+new_by_own_keys : (start : Start) (serial : ℕ) (x : Request) (later : List Key) (past : List Event) → own_keys_are_unique start serial x later past ≡ true → own_requests_are_new start serial x past ≡ true
 unfolding own_keys_are_unique own_requests_are_new matters is_own
-apart_of_own_keys start serial x later [] h = refl
-apart_of_own_keys start serial x later (e ∷ past) h =
-    let more = apart_of_own_keys start serial x (all_keys (e ∷ []) ++ later) past (and-right (not (is_own start serial x past e) || (has_none_of later e && has_none_of (all_keys past) e)) (own_keys_are_unique start serial x (all_keys (e ∷ []) ++ later) past) h) in
-    let here : (not (is_born_at start serial past e || ((concerns (tag_of start.place serial) x e || is_born_at start serial past e) && is_open_to start.place.limits (life start past serial) e)) || has_none_of (all_keys past) e) ≡ true =
+new_by_own_keys start serial x later [] h = refl
+new_by_own_keys start serial x later (e ∷ past) h =
+    let more = new_by_own_keys start serial x (all_keys (e ∷ []) ++ later) past (and-right (not (is_own start serial x past e) || (has_none_of later e && has_none_of (all_keys past) e)) (own_keys_are_unique start serial x (all_keys (e ∷ []) ++ later) past) h) in
+    let here : (not (is_born_at start serial past e || (concerns (tag_of start.place serial) x e && is_open_to start.place.limits (life start past serial) e)) || has_none_of (all_keys past) e) ≡ true =
     weaker (is_born_at start serial past e) (concerns (tag_of start.place serial) x e) (is_open_to start.place.limits (life start past serial) e) (has_none_of (all_keys past) e) (has_none_of later e) (own_keys_are_unique start serial x (all_keys (e ∷ []) ++ later) past) h in
     rw (← same-new past e, here) more
 
 pub own_keys_law : OwnKeysLaw
 own_keys_law start other serial x past born like own_keys =
-    alone_law start other serial x past born like (apart_of_own_keys start serial x [] past own_keys)
+    alone_law start other serial x past born like (new_by_own_keys start serial x [] past own_keys)

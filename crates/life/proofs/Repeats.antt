@@ -19,8 +19,8 @@ use Rattle.life.proofs.NextLives.{befell-born, life-next}
 use Rattle.life.specs.Own.{is_own, born_of}
 use Rattle.life.specs.Apart.{all_keys, has_new_key, matters, own_requests_are_new}
 use Rattle.life.specs.IsolationLaws.{AgainLaw}
-use Rattle.life.proofs.Mine.{fresh-apart}
-use Rattle.life.proofs.IsolationLaw.{once, apart_here}
+use Rattle.life.proofs.Mine.{fresh-new}
+use Rattle.life.proofs.IsolationLaw.{once, new_here}
 
 -- ---- a request against which nothing stands is no ACK
 
@@ -106,7 +106,7 @@ low-own l t source r = let e : nat_lt r.head.cseq r.head.cseq ≡ false = grind 
 heard-first : (start : Start) (serial : ℕ) (past : List Event) (r : Request) (l : Life) → is_in_dialog (tag_of start.place serial) (birth l) r ≡ true → is_new (key_of_request r) (all_keys past) ≡ true → may_hear r l ≡ true → hears start serial past r l ≡ true
 unfolding hears
 heard-first start serial past r l dialog key may =
-    rw (dialog, fresh-apart start.place.limits past r key, no_ack r (fit may), may) refl
+    rw (dialog, fresh-new start.place.limits past r key, no_ack r (fit may), may) refl
   where
     fit : may_hear r l ≡ true → is_none (misfit r) ≡ true
     fit h = unfold may_hear in (and-left (is_none (misfit r)) (is_above l r.head.cseq) h)
@@ -135,14 +135,14 @@ born-of start serial x past (Some l) h = (l, refl, cc)
 
 pub again_law : AgainLaw
 unfolding born_of own_requests_are_new matters is_own concerns has_new_key
-again_law start serial x later past source again r born own apart =
+again_law start serial x later past source again r born own new_keys =
     let b = born-of start serial x past (life start past serial) born in
     let here = once start serial past (Comes source r) b.0 b.1 in
     let dialog : is_in_dialog (tag_of start.place serial) x r ≡ true = first (is_in_dialog (tag_of start.place serial) x r) (is_born_at start serial past (Comes source r)) here own in
     let q = quiet-on start serial later (Comes source r ∷ past) r (quiet-first start serial past source r b.0 b.1 (subst (λ (y : Request). is_in_dialog (tag_of start.place serial) y r ≡ true) (sym b.2) dialog)
-    (λ h. apart_here (matters start serial x past (Comes source r)) (is_new (key_of_request r) (all_keys past)) (own_requests_are_new start serial x past) apart (counted b.0 b.1 own h))) in
+    (λ h. new_here (matters start serial x past (Comes source r)) (is_new (key_of_request r) (all_keys past)) (own_requests_are_new start serial x past) new_keys (counted b.0 b.1 dialog h))) in
     let late = once start serial (later ++ Comes source r ∷ past) (Comes again r) q.l q.is in
-    rw (late, q.is, q.still) (and-false (is_in_dialog (tag_of start.place serial) x r || false))
+    rw (late, q.is, q.still) (and-false (is_in_dialog (tag_of start.place serial) x r))
   where
     first : (a b : Bool) → b ≡ false → (a || b) ≡ true → a ≡ true
     first true b e h = refl
@@ -152,5 +152,5 @@ again_law start serial x later past source again r born own apart =
     last true = refl
     last false = refl
 
-    counted : (l : Life) → life start past serial ≡ Some l → is_own start serial x past (Comes source r) ≡ true → quiet start.place.limits r l ≡ true → matters start serial x past (Comes source r) ≡ true
+    counted : (l : Life) → life start past serial ≡ Some l → is_in_dialog (tag_of start.place serial) x r ≡ true → quiet start.place.limits r l ≡ true → matters start serial x past (Comes source r) ≡ true
     counted l is o h = rw (o, is, h) (last (is_born_at start serial past (Comes source r)))

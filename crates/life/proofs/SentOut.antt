@@ -9,6 +9,6 @@ use Rattle.life.specs.IsolationLaws.{OutsLaw}
 use Rattle.life.proofs.IsolationLaw.{alone_law}
 
 pub outs_law : OutsLaw
-outs_law start other serial x es ok small born like apart =
+outs_law start other serial x es ok small born like new_keys =
     subst (λ (told : List Notification). AreNotifies (tag_of start.place serial) told (notifies_with (tag_of start.place serial) (outs start es)))
-    (alone_law start other serial x (newest_first es) born like apart) (life_law start serial es ok small)
+    (alone_law start other serial x (newest_first es) born like new_keys) (life_law start serial es ok small)

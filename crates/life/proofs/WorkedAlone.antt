@@ -58,9 +58,9 @@ unfoldable told_alone : Start → Start → ℕ → Request → List Event → L
 unfolding Tag.local_tag Tag.refusal_tag Requests.key_of_request Requests.is_sip_uri Requests.user_part Requests.event_of Requests.asked Requests.granted Requests.asks_nothing Requests.is_unwatched Requests.birth_of Requests.is_malformed Requests.misfit Requests.misplaced_at Requests.is_full Requests.denial Table.told Table.accept Table.fetch Table.refresh Table.end Table.changed Table.is_answer_to Block.block_word Block.double_rounds Block.diagonal_round Block.column_round Block.quarter_round Steps.u32_at Hex.encode_with Fmt.digits Past.now Past.last_counts Past.mail_content Past.content Past.is_among Past.keys_with Past.keys Past.is_fresh Past.fits Life.birth Life.last_heard Life.cseqs Life.is_above Life.address Life.end_of_grant Life.status Life.is_touched Life.number Life.just_made Life.unanswered Life.is_overdue Life.ended Life.terminated Life.is_removed Life.is_gone Lives.is_in_dialog Lives.is_answer_in_dialog Lives.concerns Lives.may_hear Lives.is_to_notify Lives.answer_deed Lives.is_due Lives.tick_deed Lives.is_changed Lives.deed_at Lives.lived Lives.count_alive Lives.is_birth Lives.begun Lives.befalls Lives.go_on Lives.after Lives.lives Lives.births Lives.life Lives.birth_at Lives.befell Notices.phase Notices.body Notices.notice_of Notices.notices_at Notices.notices Lives.is_born_at Own.is_own Own.own Renaming.renamed_event Renaming.renamed Apart.all_keys Apart.has_new_key Apart.matters Apart.own_requests_are_new
 told_alone start other serial x es = map shown (notices other 1 (renamed (tag_of start.place serial) (tag_of other.place 1) (own start serial x (newest_first es))))
 
-unfoldable apart : Start → ℕ → Request → List Event → Bool
+unfoldable are_new : Start → ℕ → Request → List Event → Bool
 unfolding Tag.local_tag Tag.refusal_tag Requests.key_of_request Requests.is_sip_uri Requests.user_part Requests.event_of Requests.asked Requests.granted Requests.asks_nothing Requests.is_unwatched Requests.birth_of Requests.is_malformed Requests.misfit Requests.misplaced_at Requests.is_full Requests.denial Table.told Table.accept Table.fetch Table.refresh Table.end Table.changed Table.is_answer_to Block.block_word Block.double_rounds Block.diagonal_round Block.column_round Block.quarter_round Steps.u32_at Hex.encode_with Fmt.digits Past.now Past.last_counts Past.mail_content Past.content Past.is_among Past.keys_with Past.keys Past.is_fresh Past.fits Life.birth Life.last_heard Life.cseqs Life.is_above Life.address Life.end_of_grant Life.status Life.is_touched Life.number Life.just_made Life.unanswered Life.is_overdue Life.ended Life.terminated Life.is_removed Life.is_gone Lives.is_in_dialog Lives.is_answer_in_dialog Lives.concerns Lives.may_hear Lives.is_to_notify Lives.answer_deed Lives.is_due Lives.tick_deed Lives.is_changed Lives.deed_at Lives.lived Lives.count_alive Lives.is_birth Lives.begun Lives.befalls Lives.go_on Lives.after Lives.lives Lives.births Lives.life Lives.birth_at Lives.befell Notices.phase Notices.body Notices.notice_of Notices.notices_at Notices.notices Lives.is_born_at Own.is_own Own.own Renaming.renamed_event Renaming.renamed Apart.all_keys Apart.has_new_key Apart.matters Apart.own_requests_are_new
-apart start serial x es = own_requests_are_new start serial x (newest_first es)
+are_new start serial x es = own_requests_are_new start serial x (newest_first es)
 
 -- ---- starts and requests
 
@@ -151,9 +151,9 @@ bobs_own : alone_of whole bobs 2 (bob (codes "z9hG4bKb1")) events_two ≡
 unfolding alone_of renamed_event
 bobs_own = refl
 
-bobs_apart : apart whole 2 (bob (codes "z9hG4bKb1")) events_two ≡ true
-unfolding apart
-bobs_apart = refl
+bobs_are_new : are_new whole 2 (bob (codes "z9hG4bKb1")) events_two ≡ true
+unfolding are_new
+bobs_are_new = refl
 
 -- of these alone it is told the same
 bobs_told_alone : told_alone whole bobs 2 (bob (codes "z9hG4bKb1")) events_two ≡ bobs_notifies
@@ -208,9 +208,9 @@ one_key_alone : told_alone (of_worker 0 (both_box ∷ []) kept_one) (of_worker 0
 unfolding told_alone
 one_key_alone = refl
 
-one_key_apart : apart (of_worker 0 (both_box ∷ []) kept_one) 1 subscribe_1 events_one_key ≡ false
-unfolding apart
-one_key_apart = refl
+one_key_not_new : are_new (of_worker 0 (both_box ∷ []) kept_one) 1 subscribe_1 events_one_key ≡ false
+unfolding are_new
+one_key_not_new = refl
 
 -- It is the first box of its package that has to be like: here only the second is.
 second_box : told_alone whole (of_worker 0 (empty_box ∷ bobs_box ∷ []) usual) 2 (bob (codes "z9hG4bKb1")) events_two ≡ []
@@ -247,13 +247,13 @@ unfolding told
 twice_both = refl
 
 -- a SUBSCRIBE that comes again is none of its own events, and stands in nobody's way
-retransmitted : apart start 1 subscribe_1 (comes subscribe_1 ∷ comes subscribe_1 ∷ voice 1 ∷ []) ≡ true
-unfolding apart
+retransmitted : are_new start 1 subscribe_1 (comes subscribe_1 ∷ comes subscribe_1 ∷ voice 1 ∷ []) ≡ true
+unfolding are_new
 retransmitted = refl
 
 -- nor does one in the dialog
-retransmitted_within : apart start 1 subscribe_1 (comes subscribe_1 ∷ comes (within tag_1 2 subscribe_2) ∷ comes (within tag_1 2 subscribe_2) ∷ []) ≡ true
-unfolding apart
+retransmitted_within : are_new start 1 subscribe_1 (comes subscribe_1 ∷ comes (within tag_1 2 subscribe_2) ∷ comes (within tag_1 2 subscribe_2) ∷ []) ≡ true
+unfolding are_new
 retransmitted_within = refl
 
 -- ---- one worker or two: bob's subscription is the second of one worker, or the first of worker 1, to which alice's events don't go
@@ -291,9 +291,9 @@ taken_key_alone : told_alone (of_worker 0 (both_box ∷ []) usual) bobs 2 (bob (
 unfolding told_alone
 taken_key_alone = refl
 
-taken_key_apart : apart (of_worker 0 (both_box ∷ []) usual) 2 (bob (codes "z9hG4bKb1")) events_taken_key ≡ false
-unfolding apart
-taken_key_apart = refl
+taken_key_not_new : are_new (of_worker 0 (both_box ∷ []) usual) 2 (bob (codes "z9hG4bKb1")) events_taken_key ≡ false
+unfolding are_new
+taken_key_not_new = refl
 
 -- A request that names bob's tag before he has it, with the key of his SUBSCRIBE: alone his SUBSCRIBE matters as its
 -- retransmission, and he isn't born. So the key of the birth has to be new too.

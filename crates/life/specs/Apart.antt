@@ -6,11 +6,11 @@ use Rattle.notifier_model.specs.declared.event.Event.{Event}
 use Rattle.notifier_model.specs.declared.event.Event.TheVariants.{Request as Comes, Reply as Replies, Mail as Mails, Progress as Progresses, Tick as Ticks, Shut as Shuts}
 use Rattle.notifier_model.specs.declared.row.Key.{Key}
 use Rattle.notifier_model.specs.Limits.{Limits}
-use Rattle.notifier_model.specs.Start.{StartBy}
+use Rattle.notifier_model.specs.Start.{StartBy, tag_of}
 use Rattle.notifier_model.specs.Requests.{key_of_request}
 use Rattle.life.specs.Past.{is_new, with_key}
 use Rattle.life.specs.Life.{Life, is_gone}
-use Rattle.life.specs.Lives.{may_hear, life, is_born_at}
+use Rattle.life.specs.Lives.{concerns, may_hear, life, is_born_at}
 use Rattle.life.specs.Own.{is_own}
 
 -- ---- keys (RFC 3261 section 17.2.3)
@@ -34,7 +34,7 @@ has_new_key past (Progresses p) = true
 has_new_key past (Ticks t) = true
 has_new_key past Shuts = true
 
--- Is it open to this event, unless that is a retransmission: as long as it lives, to a request that it may hear.
+-- may it hear this event, as far as itself goes: a request, while it lives?
 abbrev pub is_open_to : Limits → Option Life → Event → Bool
 is_open_to limits None e = false
 is_open_to limits (Some l) (Comes source r) = not (is_gone limits l) && may_hear r l
@@ -47,10 +47,11 @@ is_open_to limits (Some l) Shuts = false
 -- ---- requests that matter
 
 module _ {maps : Maps} where
-  -- does the event matter to it as a request: as its birth, or as one of its own that it is open to?
+  -- does the event matter to it as a request: is it born of it, or may it hear it, in its dialog?
   unfoldable pub matters : StartBy maps → ℕ → Request → List Event → Event → Bool
   matters start serial x past e =
-      is_born_at start serial past e || (is_own start serial x past e && is_open_to start.place.limits (life start past serial) e)
+      is_born_at start serial past e
+      || (concerns (tag_of start.place serial) x e && is_open_to start.place.limits (life start past serial) e)
 
   -- Each request that matters to it names no transaction, or one that no request before it names. A request that comes again
   -- doesn't matter, so whoever retransmits does no harm.

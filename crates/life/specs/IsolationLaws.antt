@@ -45,7 +45,7 @@ OutsLaw = (start other : Start) (serial : ℕ) (x : Request) (es : List Event) �
 
 -- ---- requests that come again
 
--- A request of its own that came while it lived doesn't matter when it comes again, if it was apart the first time.
+-- A request of its own, behind its birth, doesn't matter when it comes again, if its requests were new then.
 abbrev pub AgainLaw : Type 0
 AgainLaw = (start : Start) (serial : ℕ) (x : Request) (later past : List Event) (source again : Addr) (r : Request) →
     born_of start serial past ≡ Some x → is_own start serial x past (Comes source r) ≡ true →
@@ -54,14 +54,14 @@ AgainLaw = (start : Start) (serial : ℕ) (x : Request) (later past : List Event
 
 -- ---- two runs
 
--- A subscription in two runs: born of x in both, apart in both, and with the same own events but for its tag, whatever else
--- happened in either, and whichever worker and serial it had.
+-- A subscription in two runs: born of x in both, its requests new in both, and with the same own events but for its tag,
+-- whatever else happened in either, and whichever worker and serial it had.
 pub record HasSameOwn (start other : Start) (serial serial' : ℕ) (x : Request) (past past' : List Event) : Type 0 where
   pub born : born_of start serial past ≡ Some x
   pub born_too : born_of other serial' past' ≡ Some x
   pub like : IsLike start other x
-  pub apart : own_requests_are_new start serial x past ≡ true
-  pub apart_too : own_requests_are_new other serial' x past' ≡ true
+  pub new_keys : own_requests_are_new start serial x past ≡ true
+  pub new_keys_too : own_requests_are_new other serial' x past' ≡ true
   pub same : (tag : List ℕ) →
       renamed (tag_of start.place serial) tag (own start serial x past)
       ≡ renamed (tag_of other.place serial') tag (own other serial' x past')

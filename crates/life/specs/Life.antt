@@ -137,7 +137,7 @@ number limits (Then t deed l) = number limits l + one_if (is_touched limits (The
 unfoldable pub just_made : Limits → ℕ → Life → List Unanswered
 just_made limits moment l = if is_touched limits l then record { number = number limits l; moment = moment } ∷ [] else []
 
--- the NOTIFYs so far that no final answer but a 481 came to since they were made, the oldest first
+-- the NOTIFYs so far, the oldest first, without those that a final answer closed: a 481 closes none
 unfoldable pub unanswered : Limits → Life → List Unanswered
 unanswered limits (Born t source r) = just_made limits t (Born t source r)
 unanswered limits (Then t (Answered n) l) = filter (λ notify. not (notify.number == n)) (unanswered limits l)

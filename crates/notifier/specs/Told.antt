@@ -53,7 +53,8 @@ abbrev pub Names : List ℕ × List ℕ → After → Type 0
 Names watch (Stays row out) = Unit {0}
 Names watch (Goes gone out) = topic gone.want ≡ watch
 
-pub record IsTold (rule : Row → Turned) (row : Row) (after : After) : Type 0 where
+-- what the code makes of a row, its NOTIFY and its transfer, is what the rule says
+pub record FollowsRule (rule : Row → Turned) (row : Row) (after : After) : Type 0 where
   pub stays : row_after after ≡ (rule row).row
   pub sends : option_to_list (out_after after) ≡ map out_of (rule row).notifies
   pub forgets : option_to_list (transfer_after after) ≡ gone_at rule row

@@ -4,6 +4,7 @@
 ghost use Rattle.std.specs.Prelude.{◌≡◌, IfOk};
 ghost use Rattle.event_headers.specs.Values.{StateValue as State};
 ghost use Rattle.subscription.specs.Written.{state_of};
+ghost use Rattle.sip_write.specs.Notify.{notify_text};
 ghost use Rattle.notifier_model.specs.Out.{Notifies, out_of};
 ghost use Rattle.notifier_model.specs.Rows as spec;
 ghost use Rattle.notifier.specs.Tellers.{telling};
@@ -41,21 +42,18 @@ pub struct Teller<'a, P: Package> {
 }
 
 impl<P: Package> Teller<'_, P> {
-    /// The NOTIFY that tells of a subscription, to this address.
-    pub fn notice_out(
+    /// The bytes of the NOTIFY that tells of a subscription.
+    fn notice_bytes(
         &self,
         alloc: Global,
-        to: Addr,
         usage: &Usage,
         want: &Want,
         notice: Notice,
-    ) -> Result<Out, NoMemory>
-        ensures { IfOk result (λ out. out ≡ out_of (Notifies to
-            (spec.notify (telling P.seen self.now) usage.now want.now notice))) }
+    ) -> Result<Octets, NoMemory>
+        ensures { IfOk result (λ bytes. bytes ≡ notify_text
+            (spec.notify (telling P.seen self.now) usage.now want.now notice)) }
     {
-        let package = want.event.package();
-        let tag = usage.local_tag.copy(alloc)?;
-        let found = first_box(self.boxes, package);
+        let found = first_box(self.boxes, want.event.package());
         let body = body(alloc, found, want.resource.as_str())?;
         let state = state_value(alloc, notice.phase)?;
         let text = NotifyText {
@@ -74,12 +72,29 @@ impl<P: Package> Teller<'_, P> {
         };
         let mut bytes = Vec::new(alloc);
         write_notify(alloc, &text, &mut bytes)?;
+        Ok(Octets::new(bytes))
+    }
+
+    /// The NOTIFY that tells of a subscription, to this address.
+    pub fn notice_out(
+        &self,
+        alloc: Global,
+        to: Addr,
+        usage: &Usage,
+        want: &Want,
+        notice: Notice,
+    ) -> Result<Out, NoMemory>
+        ensures { IfOk result (λ out. out ≡ out_of (Notifies to
+            (spec.notify (telling P.seen self.now) usage.now want.now notice))) }
+    {
+        let tag = usage.local_tag.copy(alloc)?;
+        let bytes = self.notice_bytes(alloc, usage, want, notice)?;
         Ok(Out::Notify {
             tag,
             number: notice.number,
             terminated: matches!(notice.phase, Phase::Terminated(_)),
             to,
-            bytes: Octets::new(bytes),
+            bytes,
         })
     }
 }

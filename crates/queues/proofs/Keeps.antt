@@ -45,8 +45,8 @@ module _ {T : Type 0} where
         sent = λ _. [];
         taken = [];
         senders = 0;
-        seat = λ _. 0;
-        receiver = 0;
+        seat_of = λ _. 0;
+        receiver_seat = 0;
         in_order = λ p. refl;
         ends_last = λ p. tt;
         unmade = λ p h. refl;
@@ -68,18 +68,18 @@ module _ {T : Type 0} where
           sent = sent;
           taken = h.taken;
           senders = h.senders;
-          seat = h.seat;
-          receiver = h.receiver;
+          seat_of = h.seat_of;
+          receiver_seat = h.receiver_seat;
           in_order = λ p. items_of_more p h.taken items x ∙ ap (λ l. l ++ items_of p (x ∷ [])) (h.in_order p);
           ends_last = λ p. ⊎_elim
               (λ (t : x.from ≡ p). subst NothingAfterEnd (sym (here p t)) (ends_snoc (h.sent p) x (none_ended p t)))
               (λ (t : x.from ≢ p). subst NothingAfterEnd (sym (none p t)) (h.ends_last p)) (same_or_not x.from p);
           unmade = λ p le. none p (λ e. let f = mine.2 in omega arith) ∙ h.unmade p le;
-          known = all_set (λ j u. KnowsSent h.seat sent h.senders j u × KnowsTaken h.receiver h.taken h.senders j u) views pass w
+          known = all_set (λ j u. KnowsSent h.seat_of sent h.senders j u × KnowsTaken h.receiver_seat h.taken h.senders j u) views pass w
               ((λ _. (mine.0, ap (λ l. l ++ x ∷ []) mine.1 ∙ sym (here v.number from), mine.2)), λ e. absurd (true≢false (sym e)))
               (λ j u other e. (
                 (λ p. let old = (h.known j u e).0 p in
-                    let apart : x.from ≢ u.number = λ q. other (sym old.0 ∙ ap h.seat (sym q ∙ from) ∙ mine.0) in
+                    let apart : x.from ≢ u.number = λ q. other (sym old.0 ∙ ap h.seat_of (sym q ∙ from) ∙ mine.0) in
                     (old.0, old.1 ∙ sym (none u.number apart), old.2)),
                 (h.known j u e).1,
               ));
@@ -104,12 +104,12 @@ module _ {T : Type 0} where
           sent = h.sent;
           taken = h.taken ++ x ∷ [];
           senders = h.senders;
-          seat = h.seat;
-          receiver = h.receiver;
+          seat_of = h.seat_of;
+          receiver_seat = h.receiver_seat;
           in_order = λ q. ap (items_of q) (append_assoc h.taken (x ∷ []) items) ∙ h.in_order q;
           ends_last = h.ends_last;
           unmade = h.unmade;
-          known = all_set (λ j u. KnowsSent h.seat h.sent h.senders j u × KnowsTaken h.receiver (h.taken ++ x ∷ []) h.senders j u) views pass w
+          known = all_set (λ j u. KnowsSent h.seat_of h.sent h.senders j u × KnowsTaken h.receiver_seat (h.taken ++ x ∷ []) h.senders j u) views pass w
               (known.0, λ _. (mine.0, ap (λ l. l ++ x ∷ []) mine.1, mine.2))
               (λ j u other e. ((h.known j u e).0, λ q. absurd (other (((h.known j u e).1 q).0 ∙ sym mine.0))));
         },
@@ -126,21 +126,21 @@ module _ {T : Type 0} where
       let w : View T = sender_view v.senders [] in
       let n : ℕ = length vs in
       let senders : ℕ = v.senders + 1 in
-      let seat : ℕ → ℕ = λ q. if q == v.senders then n else h.seat q in
-      let Known : ℕ → View T → Type 0 = λ j u. KnowsSent seat h.sent senders j u × KnowsTaken h.receiver h.taken senders j u in
-      let stays : (j : ℕ) (u : View T) → KnowsSent h.seat h.sent h.senders j u → KnowsSent seat h.sent senders j u = λ j u old p.
+      let seat : ℕ → ℕ = λ q. if q == v.senders then n else h.seat_of q in
+      let Known : ℕ → View T → Type 0 = λ j u. KnowsSent seat h.sent senders j u × KnowsTaken h.receiver_seat h.taken senders j u in
+      let stays : (j : ℕ) (u : View T) → KnowsSent h.seat_of h.sent h.senders j u → KnowsSent seat h.sent senders j u = λ j u old p.
       let o = old p in
       let below : u.number < h.senders = o.2 in
-      (seat_else h.seat v.senders n u.number (λ e. absurd (omega arith)) ∙ o.0, o.1, omega arith) in
+      (seat_else h.seat_of v.senders n u.number (λ e. absurd (omega arith)) ∙ o.0, o.1, omega arith) in
       let olds : AllViews Known vs = all_set Known views pass (with_sender v) (stays pass (with_sender v) known.0, λ _. (mine.0, mine.1, refl))
       (λ j u other e. (stays j u (h.known j u e).0, λ q. absurd (other (((h.known j u e).1 q).0 ∙ sym mine.0)))) in
-      let new : Known n w = ((λ _. (seat_here h.seat v.senders n, sym (h.unmade v.senders (omega arith)), omega arith)), λ p. absurd (true≢false (sym p))) in
+      let new : Known n w = ((λ _. (seat_here h.seat_of v.senders n, sym (h.unmade v.senders (omega arith)), omega arith)), λ p. absurd (true≢false (sym p))) in
       record {
         sent = h.sent;
         taken = h.taken;
         senders = senders;
-        seat = seat;
-        receiver = h.receiver;
+        seat_of = seat;
+        receiver_seat = h.receiver_seat;
         in_order = h.in_order;
         ends_last = h.ends_last;
         unmade = λ p le. h.unmade p (omega arith);
@@ -157,21 +157,21 @@ module _ {T : Type 0} where
       let was : get_elem? views other ≡ some s = ⊎_elim (λ x. absurd (ne x.0)) (λ x. x.1) (at_set views pass other both s at') in
       let theirs = (h.known other s was).0 sends in
       let mine = (h.known pass v at).1 may in
-      let seat : ℕ → ℕ = λ q. if q == s.number then pass else h.seat q in
-      let Known : ℕ → View T → Type 0 = λ j y. KnowsSent seat h.sent h.senders j y × KnowsTaken h.receiver h.taken h.senders j y in
+      let seat : ℕ → ℕ = λ q. if q == s.number then pass else h.seat_of q in
+      let Known : ℕ → View T → Type 0 = λ j y. KnowsSent seat h.sent h.senders j y × KnowsTaken h.receiver_seat h.taken h.senders j y in
       let now : AllViews (λ j y. j ≢ other → Known j y) vs = all_set (λ j y. j ≢ other → Known j y) views pass both
-      (λ _. ((λ _. (seat_here h.seat s.number pass, theirs.1, theirs.2)), λ _. mine))
+      (λ _. ((λ _. (seat_here h.seat_of s.number pass, theirs.1, theirs.2)), λ _. mine))
       (λ j y _ e apart. (
         (λ p. let old = (h.known j y e).0 p in
-            (seat_else h.seat s.number pass y.number (λ q. apart (sym old.0 ∙ ap h.seat q ∙ theirs.0)) ∙ old.0, old.1, old.2)),
+            (seat_else h.seat_of s.number pass y.number (λ q. apart (sym old.0 ∙ ap h.seat_of q ∙ theirs.0)) ∙ old.0, old.1, old.2)),
         (h.known j y e).1,
       )) in
       record {
         sent = h.sent;
         taken = h.taken;
         senders = h.senders;
-        seat = seat;
-        receiver = h.receiver;
+        seat_of = seat;
+        receiver_seat = h.receiver_seat;
         in_order = h.in_order;
         ends_last = h.ends_last;
         unmade = h.unmade;

@@ -5,6 +5,10 @@ use Rattle.queues.specs.declared.items.Item.{Item}
 use Rattle.queues.specs.declared.items.Entry.{Entry}
 use Rattle.queues.specs.declared.items.Entry.TheVariants.{Value, End}
 
+-- the first list begins with the second
+abbrev pub StartsWith : {A : Type 0} → List A → List A → Type 0
+StartsWith {A} all front = (rest : List A) × (all ≡ front ++ rest)
+
 module _ {T : Type 0} where
   abbrev pub is_end_entry : Entry T → Bool
   is_end_entry (Value x) = false
@@ -26,9 +30,6 @@ module _ {T : Type 0} where
   abbrev pub NothingAfterEnd : List (Item T) → Type 0
   NothingAfterEnd [] = Unit {0}
   NothingAfterEnd (x ∷ xs) = (is_end x ≡ true → xs ≡ []) × NothingAfterEnd xs
-
-  abbrev pub StartsWith : List (Item T) → List (Item T) → Type 0
-  StartsWith all front = (rest : List (Item T)) × (all ≡ front ++ rest)
 
   -- what was taken of the sender is the beginning of what it sent, and all of that where its end mark was taken
   abbrev pub TookInOrder : ℕ → List (Item T) → List (Item T) → Type 0

@@ -50,24 +50,27 @@ module _ {T : Type 0} where
 
   -- a sender has one seat, and there is known what it sent
   abbrev pub KnowsSent : (ℕ → ℕ) → (ℕ → List (Item T)) → ℕ → ℕ → View T → Type 0
-  KnowsSent seat sent senders pass v = v.is_sender ≡ true
-      → (seat v.number ≡ pass) × (v.sent ≡ sent v.number) × (v.number < senders)
+  KnowsSent seat_of sent senders seat v = v.is_sender ≡ true
+      → (seat_of v.number ≡ seat) × (v.sent ≡ sent v.number) × (v.number < senders)
 
   -- the receiver has one seat, and there is known what was taken, and how many senders were made
   abbrev pub KnowsTaken : ℕ → List (Item T) → ℕ → ℕ → View T → Type 0
-  KnowsTaken receiver taken senders pass v = v.is_receiver ≡ true
-      → (pass ≡ receiver) × (v.taken ≡ taken) × (v.senders ≡ senders)
+  KnowsTaken receiver_seat taken senders seat v = v.is_receiver ≡ true
+      → (seat ≡ receiver_seat) × (v.taken ≡ taken) × (v.senders ≡ senders)
 
-  -- of what the queue holds, and of what is known at the seats, each at its number: there are a list `taken` and for each
-  -- sender a list `sent`, such that of each sender the items in `taken` and then in `held` are, in order, those it sent
+  -- The rule, of what the queue holds and of what is known at each seat, by the seat's number. For some `sent` (what each sender
+  -- sent) and `taken`: each sender's items among those taken, and then among those held, are what it sent, in order; nothing
+  -- follows an end mark; and each seat that knows a list knows that one.
   pub record IsInOrder (held : List (Item T)) (views : List (View T)) : Type 0 where
     pub sent : ℕ → List (Item T)
     pub taken : List (Item T)
+    -- how many were made
     pub senders : ℕ
-    pub seat : ℕ → ℕ
-    pub receiver : ℕ
+    -- the number of each sender's seat
+    pub seat_of : ℕ → ℕ
+    pub receiver_seat : ℕ
     pub in_order : (sender : ℕ) → items_of sender (taken ++ held) ≡ sent sender
     pub ends_last : (sender : ℕ) → NothingAfterEnd (sent sender)
     pub unmade : (sender : ℕ) → senders ≤ sender → sent sender ≡ []
-    pub known : (pass : ℕ) (v : View T) → get_elem? views pass ≡ some v
-        → KnowsSent seat sent senders pass v × KnowsTaken receiver taken senders pass v
+    pub known : (seat : ℕ) (v : View T) → get_elem? views seat ≡ some v
+        → KnowsSent seat_of sent senders seat v × KnowsTaken receiver_seat taken senders seat v

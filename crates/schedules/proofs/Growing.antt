@@ -5,7 +5,7 @@ use Rattle.std.proofs.lemmas.List.{append-nil, map-append}
 use Rattle.std.proofs.lemmas.List.Elements.{filter_map-append}
 use Rattle.std.proofs.lemmas.Bool.Decides.{eqb_tells}
 use Rattle.queues.specs.declared.items.Item.{Item}
-use Rattle.queues.specs.Items.{items_of, has_end}
+use Rattle.queues.specs.Items.{items_of, has_end, StartsWith}
 use Rattle.notifier_model.specs.declared.place.Place.{Place}
 use Rattle.notifier_model.specs.declared.event.Event.{Event}
 use Rattle.notifier_model.specs.Start.{Start}
@@ -15,7 +15,6 @@ use Rattle.notifier_model.specs.Run.{empty, run_from, made_from, made}
 use Rattle.queues.specs.Values.{values, value_in}
 use Rattle.notifier_model.specs.Home.{at_the_stop}
 use Rattle.queues.specs.InboxEvents.{have_ended, events_of}
-use Rattle.schedules.specs.Laws.{AreFirst}
 
 module _ {T : Type 0} where
   pub values-append : (xs ys : List (Item T)) → values (xs ++ ys) ≡ values xs ++ values ys
@@ -40,7 +39,7 @@ made_from-append place b (e ∷ es) more =
     ∙ sym (append_assoc (step place b e).outs (made_from place (step place b e).book es) (made_from place (run_from place (step place b e).book es) more))
 
 -- what events make, more events only add to
-pub outs_grow : (start : Start) (es more : List Event) → AreFirst (map out_of (made start es)) (map out_of (made start (es ++ more)))
+pub outs_grow : (start : Start) (es more : List Event) → StartsWith (map out_of (made start (es ++ more))) (map out_of (made start es))
 unfolding made
 outs_grow start es more =
     let added : List Send = made_from start.place (run_from start.place (empty start) es) more in

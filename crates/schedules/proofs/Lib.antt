@@ -5,4 +5,6 @@ pub mod Steps
 pub mod Others
 pub mod Told
 pub mod Numbering
+pub mod Endings
+pub mod Reaching
 pub mod WorkedWorlds

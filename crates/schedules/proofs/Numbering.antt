@@ -14,7 +14,8 @@ use Rattle.life.proofs.Numbers.{numbers_law}
 use Rattle.life.proofs.Ends.{ends_law}
 use Rattle.queues.specs.Values.{values}
 use Rattle.schedules.specs.World.{world, its_events}
-use Rattle.schedules.specs.Laws.{AreFirst, its_tag, its_notices, number_of, is_terminated, none_follows, Rise, RisingLaw}
+use Rattle.queues.specs.Items.{StartsWith}
+use Rattle.schedules.specs.Laws.{its_tag, its_notices, number_of, is_terminated, none_follows, Rise, RisingLaw}
 use Rattle.schedules.proofs.Cases.{and-left, and-right}
 use Rattle.schedules.proofs.Fronts.{first_of_all}
 use Rattle.schedules.proofs.Told.{cut, world_law}
@@ -35,14 +36,14 @@ take-up_to (suc n) m le = ⊎_elim
     (λ (lt : m < suc n). take-append-le m (up_to n) (suc n ∷ []) (let l : length (up_to n) ≡ n = length-up_to n in omega arith) ∙ take-up_to n m (omega arith)) (eq-or-lt_of_le le)
 
 -- the first of them are the first of them
-first-up_to : (some : List ℕ) (n : ℕ) → AreFirst some (up_to n) → some ≡ up_to (length some)
+first-up_to : (some : List ℕ) (n : ℕ) → StartsWith (up_to n) some → some ≡ up_to (length some)
 first-up_to some n h =
     let whole : n ≡ length some + length h.0 = sym (length-up_to n) ∙ ap length h.1 ∙ length-append some h.0 in
     sym (take-append_seam some h.0) ∙ ap (take (length some)) (sym h.1) ∙ take-up_to n (length some) (omega arith)
 
 -- ---- of all notices the first ones
 
-map-first : {A B : Type 0} (f : A → B) (some all : List A) → AreFirst some all → AreFirst (map f some) (map f all)
+map-first : {A B : Type 0} (f : A → B) (some all : List A) → StartsWith all some → StartsWith (map f all) (map f some)
 map-first f some all h = (map f h.0, ap (map f) h.1 ∙ map-append f some h.0)
 
 ends-first : (some rest : List Notification) → ends_once (some ++ rest) ≡ true → ends_once some ≡ true
@@ -71,13 +72,13 @@ ends-are tag (n ∷ m ∷ told) (out ∷ []) h = absurd h.1
 ends-are tag (n ∷ m ∷ told) (out ∷ next ∷ outs) h = rw (ap is_terminated h.0.out_is, ends-are tag (m ∷ told) (next ∷ outs) h.1) refl
 
 -- of NOTIFYs that are the first notices of a life
-pub first_rise : (start : Start) (serial : ℕ) (past : List Event) (tag : List ℕ) (front : List Notification) (got : List Out) → AreFirst front (notices start serial past) → AreNotifies tag front got → Rise got
+pub first_rise : (start : Start) (serial : ℕ) (past : List Event) (tag : List ℕ) (front : List Notification) (got : List Out) → StartsWith (notices start serial past) front → AreNotifies tag front got → Rise got
 first_rise start serial past tag front got first are =
     let all : List Notification = notices start serial past in
     let numbered : map (λ (n : Notification). n.number) all ≡ up_to (length all) = numbers_law start serial past in
     let numbers : map number_of got ≡ map (λ (n : Notification). n.number) front = numbers-are tag front got are in
-    let rising : AreFirst (map number_of got) (up_to (length all)) =
-    subst (λ (l : List ℕ). AreFirst (map number_of got) l) numbered (subst (λ (l : List ℕ). AreFirst l (map (λ (n : Notification). n.number) all)) (sym numbers) (map-first (λ (n : Notification). n.number) front all first)) in
+    let rising : StartsWith (up_to (length all)) (map number_of got) =
+    subst (λ (l : List ℕ). StartsWith l (map number_of got)) numbered (subst (λ (l : List ℕ). StartsWith (map (λ (n : Notification). n.number) all) l) (sym numbers) (map-first (λ (n : Notification). n.number) front all first)) in
     record {
       numbers = first-up_to (map number_of got) (length all) rising ∙ ap up_to (length-map got number_of);
       ends = ends-are tag front got are ∙ ends-first front first.0 (ap ends_once (sym first.1) ∙ ends_law start serial past);

@@ -5,7 +5,7 @@ use Rattle.std.proofs.lemmas.Slice.Eq.{bytes_eq-Decides}
 use Rattle.queues.specs.declared.items.Item.{Item}
 use Rattle.queues.specs.declared.items.Entry.{Entry}
 use Rattle.queues.specs.declared.items.Entry.TheVariants.{Value, End}
-use Rattle.queues.specs.Items.{items_of}
+use Rattle.queues.specs.Items.{items_of, StartsWith}
 use Rattle.queues.proofs.ItemLists.{items_of_first}
 use Rattle.queues.specs.Values.{values}
 use Rattle.notifier_model.specs.declared.place.Place.{Place}
@@ -16,7 +16,6 @@ use Rattle.notifier_model.specs.Start.{Start, tag_of}
 use Rattle.life.specs.Laws.{IsStart, notifies_with, IsOfALife, AreOfLives, outs}
 use Rattle.life.proofs.Owners.{no_other_law}
 use Rattle.life.proofs.TagTexts.{worker_of_tag}
-use Rattle.schedules.specs.Laws.{AreFirst}
 use Rattle.schedules.proofs.Cases.{if_is}
 
 -- ---- what another worker makes has none with this tag
@@ -59,7 +58,7 @@ nothing_left [] ys e = (refl, e)
 nothing_left (x ∷ xs) ys e = absurd (cc)
 
 -- of an empty list the first part is empty
-pub none_first : {A : Type 0} (some all : List A) → AreFirst some all → all ≡ [] → some ≡ []
+pub none_first : {A : Type 0} (some all : List A) → StartsWith all some → all ≡ [] → some ≡ []
 none_first some all h e = (nothing_left some h.0 (sym h.1 ∙ e)).0
 
 pub notifies-append : (tag : List ℕ) (xs ys : List Out) → notifies_with tag (xs ++ ys) ≡ notifies_with tag xs ++ notifies_with tag ys

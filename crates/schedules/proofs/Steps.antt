@@ -4,7 +4,7 @@ use Rattle.std.specs.Prelude.{if◌then◌else◌, nat_lt, ◌==◌}
 use Rattle.std.proofs.lemmas.List.{append-nil}
 use Rattle.std.proofs.lemmas.Bool.Decides.{nat_tests}
 use Rattle.queues.specs.declared.items.Item.{Item}
-use Rattle.queues.specs.Items.{items_of, has_end, NothingAfterEnd}
+use Rattle.queues.specs.Items.{items_of, has_end, NothingAfterEnd, StartsWith}
 use Rattle.queues.proofs.ItemLists.{items_of-append, items_of_first, items_of_more, items_of_same, ends_snoc, ends_front, not_nil}
 use Rattle.notifier_model.specs.declared.event.Event.{Event}
 use Rattle.notifier_model.specs.declared.event.Out.{Out}
@@ -13,7 +13,7 @@ use Rattle.notifier_model.specs.Run.{made}
 use Rattle.queues.specs.Values.{values, value_item, end_item}
 use Rattle.queues.specs.InboxEvents.{have_ended}
 use Rattle.schedules.specs.World.{Crew, Step, Send, Take, Post, Get, Quit, Worker, World, new_worker, new_world, sends, takes_first, takes, posts, quits, its_events, all_outs, lacking, first_or_end, next_post, at, posted_to, got_first, is_step_of, stepped, after, world}
-use Rattle.schedules.specs.Laws.{AreFirst, InboxKeeps, InboxLaw, OutboxLaw}
+use Rattle.schedules.specs.Laws.{InboxKeeps, InboxLaw, OutboxLaw}
 use Rattle.schedules.proofs.Cases.{if_is, and-left, not_so, same_number, is_below}
 use Rattle.schedules.proofs.Fronts.{first_of_all, next_first}
 use Rattle.schedules.proofs.Growing.{values-append, outs_grow, events_grow}
@@ -23,7 +23,7 @@ pub record Known (crew : Crew) (w : ℕ) (v : Worker) (outs : List (Item Out)) :
   pub inbox : InboxKeeps crew.ports v
   pub posted_are : items_of w outs ≡ v.posted
   pub ends_last : NothingAfterEnd v.posted
-  pub made_first : AreFirst (values v.posted) (all_outs crew w v)
+  pub made_first : StartsWith (all_outs crew w v) (values v.posted)
   pub absent : crew.workers ≤ w → v.posted ≡ []
 
 abbrev pub Knows : Crew → World → Type 0
@@ -68,7 +68,7 @@ pub above : (a b : ℕ) → nat_lt a b ≡ false → b ≤ a
 above a b e = grind (arith, nat_tests)
 
 -- the next item is of a port that has not ended
-next_item : (ports : ℕ) (v : Worker) (x : Item Event) (rest : List (Item Event)) → v.held ≡ x ∷ rest → InboxKeeps ports v → (x.from < ports) × (has_end (items_of x.from v.taken) ≡ false)
+pub next_item : (ports : ℕ) (v : Worker) (x : Item Event) (rest : List (Item Event)) → v.held ≡ x ∷ rest → InboxKeeps ports v → (x.from < ports) × (has_end (items_of x.from v.taken) ≡ false)
 next_item ports v x rest is k =
     let whole : items_of x.from v.taken ++ x ∷ items_of x.from rest ≡ v.sent x.from =
     ap (λ l. items_of x.from v.taken ++ l) (sym (items_of_first x.from x rest refl)) ∙ sym (items_of-append x.from v.taken (x ∷ rest)) ∙ ap (λ l. items_of x.from (v.taken ++ l)) (sym is) ∙ k.in_order x.from in
@@ -92,37 +92,37 @@ known-takes crew w v outs (x ∷ rest) is k =
       posted_are = k.posted_are;
       ends_last = k.ends_last;
       made_first =
-          let grown : AreFirst (all_outs crew w v) (map out_of (made (crew.start w) (its_events crew w v ++ more.0))) = outs_grow (crew.start w) (its_events crew w v) more.0 in
-          let Q : List Event → Type 0 = λ es. AreFirst (values v.posted) (map out_of (made (crew.start w) es)) in
+          let grown : StartsWith (map out_of (made (crew.start w) (its_events crew w v ++ more.0))) (all_outs crew w v) = outs_grow (crew.start w) (its_events crew w v) more.0 in
+          let Q : List Event → Type 0 = λ es. StartsWith (map out_of (made (crew.start w) es)) (values v.posted) in
           subst Q (sym more.1) (first_of_all (values v.posted) (all_outs crew w v) (map out_of (made (crew.start w) (its_events crew w v ++ more.0))) k.made_first grown);
       absent = k.absent;
     }
 
 -- ---- Post
 
-some_same : {A : Type 0} {a b : A} → Some a ≡ Some b → a ≡ b
+pub some_same : {A : Type 0} {a b : A} → Some a ≡ Some b → a ≡ b
 some_same is = cc
 
 -- what a worker may post next
 record MayPost (crew : Crew) (w : ℕ) (v : Worker) (x : Item Out) : Type 0 where
   its_own : x.from ≡ w
-  made_first : AreFirst (values (v.posted ++ x ∷ [])) (all_outs crew w v)
+  made_first : StartsWith (all_outs crew w v) (values (v.posted ++ x ∷ []))
 
-may_post_end : (crew : Crew) (w : ℕ) (v : Worker) → AreFirst (values v.posted) (all_outs crew w v) → MayPost crew w v (end_item w)
+may_post_end : (crew : Crew) (w : ℕ) (v : Worker) → StartsWith (all_outs crew w v) (values v.posted) → MayPost crew w v (end_item w)
 may_post_end crew w v h = record {
   its_own = refl;
-  made_first = subst (λ (l : List Out). AreFirst l (all_outs crew w v)) (sym (values-append v.posted (end_item w ∷ []) ∙ append-nil (values v.posted))) h;
+  made_first = subst (λ (l : List Out). StartsWith (all_outs crew w v) l) (sym (values-append v.posted (end_item w ∷ []) ∙ append-nil (values v.posted))) h;
 }
 
-may_post : (crew : Crew) (w : ℕ) (v : Worker) (lacks : List Out) (ended : Bool) (x : Item Out) → AreFirst (values v.posted) (all_outs crew w v) → lacking crew w v ≡ lacks → first_or_end w lacks ended ≡ Some x → MayPost crew w v x
+may_post : (crew : Crew) (w : ℕ) (v : Worker) (lacks : List Out) (ended : Bool) (x : Item Out) → StartsWith (all_outs crew w v) (values v.posted) → lacking crew w v ≡ lacks → first_or_end w lacks ended ≡ Some x → MayPost crew w v x
 may_post crew w v [] true x h lacks is = subst (MayPost crew w v) (some_same is) (may_post_end crew w v h)
 may_post crew w v [] false x h lacks is = absurd (cc)
 may_post crew w v (out ∷ more) ended x h lacks is = subst (MayPost crew w v) (some_same is) (record {
   its_own = refl;
-  made_first = subst (λ (l : List Out). AreFirst l (all_outs crew w v)) (sym (values-append v.posted (value_item w out ∷ []))) (next_first (values v.posted) (all_outs crew w v) more out h lacks);
+  made_first = subst (λ (l : List Out). StartsWith (all_outs crew w v) l) (sym (values-append v.posted (value_item w out ∷ []))) (next_first (values v.posted) (all_outs crew w v) more out h lacks);
 })
 
-next_is : (crew : Crew) (w : ℕ) (v : Worker) (x : Item Out) → AreFirst (values v.posted) (all_outs crew w v) → next_post crew w v ≡ Some x → (has_end v.posted ≡ false) × MayPost crew w v x
+next_is : (crew : Crew) (w : ℕ) (v : Worker) (x : Item Out) → StartsWith (all_outs crew w v) (values v.posted) → next_post crew w v ≡ Some x → (has_end v.posted ≡ false) × MayPost crew w v x
 next_is crew w v x h =
     if_is (λ (o : Option (Item Out)). o ≡ Some x → (has_end v.posted ≡ false) × MayPost crew w v x) (has_end v.posted) None
     (if v.has_quit then Some (end_item w) else first_or_end w (lacking crew w v) (have_ended crew.ports v.taken))
@@ -181,7 +181,7 @@ known-quits crew w v outs k = record {
   absent = k.absent;
 }
 
-knows-stepped : (crew : Crew) (s : World) (step : Step) → is_step_of crew step ≡ true → Knows crew s → Knows crew (stepped crew s step)
+pub knows-stepped : (crew : Crew) (s : World) (step : Step) → is_step_of crew step ≡ true → Knows crew s → Knows crew (stepped crew s step)
 knows-stepped crew s (Send port w entry) of k =
     knows-at crew s w (sends (record { from = port; entry = entry })) (λ u. known-sends crew u (s.worker u) (s.got ++ s.held) (record { from = port; entry = entry })
     (is_below port crew.ports (and-left (nat_lt port crew.ports) (nat_lt w crew.workers) of)) (k u)) k
@@ -196,7 +196,7 @@ knows-after crew s (step ∷ more) k =
     knows-after crew (if is_step_of crew step then stepped crew s step else s) more
     (if_is (λ (t : World). Knows crew t) (is_step_of crew step) (stepped crew s step) s (λ e. knows-stepped crew s step e k) (λ e. k))
 
-knows-new : (crew : Crew) → Knows crew new_world
+pub knows-new : (crew : Crew) → Knows crew new_world
 knows-new crew w = record {
   inbox = record { in_order = λ port. refl; ends_last = λ port. tt; no_others = λ port le. refl };
   posted_are = refl;

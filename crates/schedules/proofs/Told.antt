@@ -1,7 +1,7 @@
 -- What a watcher is told: the first NOTIFYs of a life, and the first of those that were posted.
 use Rattle.std.proofs.Common.{◌≡◌, ℕ, ◌<◌, ◌≤◌, ◌^◌, Bool, true, false, List, [], ◌∷◌, ◌++◌, refl, ap, sym, ◌∙◌, subst, eq-eqb, arith}
 use Rattle.std.specs.Prelude.{nat_lt, ◌==◌}
-use Rattle.queues.specs.Items.{items_of}
+use Rattle.queues.specs.Items.{items_of, StartsWith}
 use Rattle.queues.specs.Values.{values}
 use Rattle.queues.proofs.ItemLists.{items_of-append}
 use Rattle.notifier_model.specs.declared.event.Event.{Event}
@@ -10,7 +10,7 @@ use Rattle.notifier_model.specs.Out.{Notification}
 use Rattle.life.specs.Laws.{notifies_with, AreNotifies, outs}
 use Rattle.life.proofs.Outs.{life_law}
 use Rattle.schedules.specs.World.{Crew, Step, its_events, all_outs, world}
-use Rattle.schedules.specs.Laws.{AreFirst, AreStarts, its_tag, its_notices, WorldLaw}
+use Rattle.schedules.specs.Laws.{AreStarts, its_tag, its_notices, WorldLaw}
 use Rattle.schedules.proofs.Cases.{never_both, is_below}
 use Rattle.schedules.proofs.Fronts.{first_of_all}
 use Rattle.schedules.proofs.Growing.{values-append}
@@ -27,13 +27,13 @@ pub none_at_all : (tag : List ℕ) → notifies_with tag [] ≡ []
 unfolding notifies_with
 none_at_all tag = refl
 
-notifies-first : (tag : List ℕ) (some all : List Out) → AreFirst some all → AreFirst (notifies_with tag some) (notifies_with tag all)
+notifies-first : (tag : List ℕ) (some all : List Out) → StartsWith all some → StartsWith (notifies_with tag all) (notifies_with tag some)
 notifies-first tag some all h = (notifies_with tag h.0, ap (notifies_with tag) h.1 ∙ notifies-append tag some h.0)
 
 -- of NOTIFYs that are these notices, the first are the first notices
 pub record Cut (tag : List ℕ) (notices : List Notification) (some : List Out) : Type 0 where
   pub front : List Notification
-  pub first : AreFirst front notices
+  pub first : StartsWith notices front
   pub are : AreNotifies tag front some
 
 pub cut : (tag : List ℕ) (notices : List Notification) (some rest : List Out) → AreNotifies tag notices (some ++ rest) → Cut tag notices some
@@ -47,7 +47,7 @@ cut tag (notice ∷ notices) (out ∷ some) rest h =
 got_alone : (crew : Crew) (steps : List Step) (w serial : ℕ) → AreStarts crew → w < crew.workers → IsAlone (its_tag crew w serial) w (world crew steps).got
 got_alone crew steps w serial ok lt v other = by_number (nat_lt v crew.workers) refl
   where
-    first : AreFirst (values (items_of v (world crew steps).got)) (values ((world crew steps).worker v).posted)
+    first : StartsWith (values ((world crew steps).worker v).posted) (values (items_of v (world crew steps).got))
     first = (values (items_of v (world crew steps).held), ap values (sym (knows crew steps v).posted_are ∙ items_of-append v (world crew steps).got (world crew steps).held) ∙ values-append (items_of v (world crew steps).got) (items_of v (world crew steps).held))
 
     by_number : (d : Bool) → nat_lt v crew.workers ≡ d → with_tag (its_tag crew w serial) (items_of v (world crew steps).got) ≡ []
@@ -77,10 +77,10 @@ world_law crew steps w serial ok lt small =
     let posted : List Out = values (s.worker w).posted in
     let first = notifies-first tag posted (outs (crew.start w) es) k.made_first in
     let c = cut tag (its_notices crew s w serial) (notifies_with tag posted) first.0 (subst (AreNotifies tag (its_notices crew s w serial)) first.1 all) in
-    let got : AreFirst (with_tag tag (items_of w s.got)) (notifies_with tag posted) = notifies-first tag (values (items_of w s.got)) posted (values (items_of w s.held), ap values (sym k.posted_are ∙ items_of-append w s.got s.held) ∙ values-append (items_of w s.got) (items_of w s.held)) in
+    let got : StartsWith (notifies_with tag posted) (with_tag tag (items_of w s.got)) = notifies-first tag (values (items_of w s.got)) posted (values (items_of w s.held), ap values (sym k.posted_are ∙ items_of-append w s.got s.held) ∙ values-append (items_of w s.got) (items_of w s.held)) in
     record {
       told = c.front;
       of_its_life = c.first;
       posted = c.are;
-      got = subst (λ (l : List Out). AreFirst l (notifies_with tag posted)) (sym (own_alone tag w s.got (got_alone crew steps w serial ok lt))) got;
+      got = subst (λ (l : List Out). StartsWith (notifies_with tag posted) l) (sym (own_alone tag w s.got (got_alone crew steps w serial ok lt))) got;
     }

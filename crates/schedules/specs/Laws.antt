@@ -1,6 +1,7 @@
 -- The laws of a crew's world: what stands in its lists, whatever the order of the steps.
 use Rattle.std.specs.Prelude.{ℕ, ◌≡◌, ◌<◌, ◌≤◌, ◌^◌, Bool, true, false, not, ◌&&◌, List, [], ◌∷◌, ◌++◌, map, length}
-use Rattle.queues.specs.Items.{items_of, NothingAfterEnd}
+use Rattle.std.specs.List.{list_all}
+use Rattle.queues.specs.Items.{items_of, NothingAfterEnd, StartsWith}
 use Rattle.notifier_model.specs.declared.event.Out.{Out}
 use Rattle.notifier_model.specs.declared.event.Out.TheVariants.{Answer, Notify, Start as Begins}
 use Rattle.notifier_model.specs.Start.{tag_of}
@@ -8,11 +9,7 @@ use Rattle.notifier_model.specs.Out.{Notification}
 use Rattle.life.specs.Notices.{newest_first, notices}
 use Rattle.life.specs.Laws.{IsStart, notifies_with, AreNotifies, up_to}
 use Rattle.queues.specs.Values.{values}
-use Rattle.schedules.specs.World.{Crew, Step, Worker, World, its_events, world}
-
--- these are the first of those
-abbrev pub AreFirst : {A : Type 0} → List A → List A → Type 0
-AreFirst {A} some all = (rest : List A) × (all ≡ some ++ rest)
+use Rattle.schedules.specs.World.{Crew, Step, Send, Take, Post, Get, Quit, Worker, World, its_events, all_outs, world}
 
 -- ---- the queues
 
@@ -54,17 +51,16 @@ its_notices crew s w serial =
 
 -- The NOTIFYs of this subscription that its worker posted are the first of its life over the events that the worker took; and
 -- those among all that the taker got are the first of these.
-pub record IsTold (crew : Crew) (s : World) (w serial : ℕ) : Type 0 where
+pub record TellsFront (crew : Crew) (s : World) (w serial : ℕ) : Type 0 where
   pub told : List Notification
-  pub of_its_life : AreFirst told (its_notices crew s w serial)
+  pub of_its_life : StartsWith (its_notices crew s w serial) told
   pub posted : AreNotifies (its_tag crew w serial) told (notifies_with (its_tag crew w serial) (values (s.worker w).posted))
   pub got :
-      AreFirst (notifies_with (its_tag crew w serial) (values s.got))
-      (notifies_with (its_tag crew w serial) (values (s.worker w).posted))
+      StartsWith (notifies_with (its_tag crew w serial) (values (s.worker w).posted)) (notifies_with (its_tag crew w serial) (values s.got))
 
 abbrev pub WorldLaw : Type 0
 WorldLaw = (crew : Crew) (steps : List Step) (w serial : ℕ) → AreStarts crew → w < crew.workers → serial < 2 ^ 64 →
-    IsTold crew (world crew steps) w serial
+    TellsFront crew (world crew steps) w serial
 
 -- ---- what is known of the NOTIFYs that were got
 
@@ -92,3 +88,23 @@ pub record Rise (notifies : List Out) : Type 0 where
 abbrev pub RisingLaw : Type 0
 RisingLaw = (crew : Crew) (steps : List Step) (w serial : ℕ) → AreStarts crew → w < crew.workers → serial < 2 ^ 64 →
     Rise (notifies_with (its_tag crew w serial) (values (world crew steps).got))
+
+-- ---- that all can be told
+
+-- a step of a worker or of the taker, none by which a worker quits
+abbrev pub is_work : Step → Bool
+is_work (Send port w entry) = false
+is_work (Take w) = true
+is_work (Post w) = true
+is_work Get = true
+is_work (Quit w) = false
+
+-- All that was sent is told: each worker took it, and of each that didn't quit the taker got all that the notifier makes of that.
+pub record IsDone (crew : Crew) (s : World) : Type 0 where
+  pub taken : (w port : ℕ) → w < crew.workers → items_of port (s.worker w).taken ≡ (s.worker w).sent port
+  pub got : (w : ℕ) → w < crew.workers → (s.worker w).has_quit ≡ false → values (items_of w s.got) ≡ all_outs crew w (s.worker w)
+
+-- from each world on some work leads there
+abbrev pub NoDeadEndLaw : Type 0
+NoDeadEndLaw = (crew : Crew) (steps : List Step) →
+    (work : List Step) × (list_all is_work work ≡ true) × IsDone crew (world crew (steps ++ work))

@@ -18,7 +18,7 @@ use Rattle.scripts.specs.declared.script.Control.TheVariants as control
 use Rattle.scripts.specs.Changes.{is_mail, is_progress, mail_of, progress_of}
 use Rattle.sip_text.specs.Reading.{◌>>=◌, cut_at, plain_number, plain_up_to, text_of}
 use Rattle.scripts.specs.Reading.{class_of, count_at, counts_of, mail_words, mail_at, progress_words, progress_at, named_at}
-use Rattle.scripts.specs.Script.{class_text, mail_text, progress_text, control_text, IsMail, IsProgress, IsTold, IsControl}
+use Rattle.scripts.specs.Script.{class_text, mail_text, progress_text, control_text, IsMail, IsProgress, MayBeTold, IsControl}
 use Rattle.sip_text.proofs.Cuts.{test_some, cut_takes, cut_again, Lacks, lacks_append, all_lacks}
 use Rattle.sip_text.proofs.Pieces.{bind_some, some_is, and_both}
 use Rattle.sip_text.proofs.PlainNumbers.{number_takes, number_again, up_to_takes, up_to_again}
@@ -362,7 +362,7 @@ progress_word g h =
     let rest : List ℕ = g.tag ++ 32 ∷ (decimal g.code ++ 32 ∷ g.reason) in
     record { name = codes "PROGRESS"; rest = rest; whole = refl; lacks = refl; not_close = refl; not_sip = refl; named = rw (progress_again g rest h refl) refl }
 
-pub change_word : (c : Change) → IsTold c → HasWord (control.Change c)
+pub change_word : (c : Change) → MayBeTold c → HasWord (control.Change c)
 change_word (change.Mail m) h = mail_word m h
 change_word (change.Begin tag) h = absurd h
 change_word (change.Step g) h = progress_word g h

@@ -89,20 +89,20 @@ pub record IsProgress (p : Progress) : Type 0 where
   pub allowed : IsAllowedProgress p
 
 -- counts of a mailbox, or how far a transfer has come
-abbrev pub IsTold : Change → Type 0
-IsTold (change.Mail m) = IsMail m
-IsTold (change.Begin tag) = ⊥
-IsTold (change.Step p) = IsProgress p
-IsTold (change.Forget tag) = ⊥
+abbrev pub MayBeTold : Change → Type 0
+MayBeTold (change.Mail m) = IsMail m
+MayBeTold (change.Begin tag) = ⊥
+MayBeTold (change.Step p) = IsProgress p
+MayBeTold (change.Forget tag) = ⊥
 
 abbrev pub IsControl : Control → Type 0
-IsControl (control.Change c) = IsTold c
+IsControl (control.Change c) = MayBeTold c
 IsControl (control.Tick n) = n < 2 ^ 64
 IsControl control.Close = Unit {0}
 
 abbrev pub IsBlock : Block → Type 0
 IsBlock (block.Sip addr octets) = IsAddr addr × (length octets ≤ 65536)
-IsBlock (block.Change c) = IsTold c
+IsBlock (block.Change c) = MayBeTold c
 IsBlock (block.Tick n) = n < 2 ^ 64
 
 -- ---- the relations

@@ -9,7 +9,7 @@ ghost use Rattle.notifier_model.specs.Out.{out_of};
 ghost use Rattle.notifier_model.specs.Rows as spec;
 ghost use Rattle.notifier.specs.Stored.{rows_of, row_at, IsIndexed, Turns};
 ghost use Rattle.notifier.specs.Tellers.{rule_by};
-ghost use Rattle.notifier.specs.Told.{IsTold};
+ghost use Rattle.notifier.specs.Told.{FollowsRule};
 
 use crate::incoming::Incoming;
 use crate::notice::Teller;
@@ -74,7 +74,7 @@ impl<P: Package> Teller<'_, P> {
     fn tell(&self, alloc: Global, cause: &Cause<'_>, row: Row) -> Result<After, NoMemory>
         requires clock { self.now.clock < 2 ^ 63 }
         requires live { CanTell self.now.place.now self.now.clock cause.now row }
-        ensures { IfOk result (λ after. IsTold (rule_by P.seen self.now cause.now) row after) }
+        ensures { IfOk result (λ after. FollowsRule (rule_by P.seen self.now cause.now) row after) }
     {
         match cause {
             Cause::Response(response) => Ok(take_answer(response, row)),

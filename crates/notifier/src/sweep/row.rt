@@ -8,7 +8,7 @@ ghost use Rattle.notifier_model.specs.Fields.{value_of};
 ghost use Rattle.notifier_model.specs.Out.{Notifies, out_of};
 ghost use Rattle.notifier.specs.Sound.{IsLive};
 ghost use Rattle.notifier.specs.Tellers.{telling};
-ghost use Rattle.notifier.specs.Told.{IsTold, gone_from};
+ghost use Rattle.notifier.specs.Told.{FollowsRule, gone_from};
 
 use crate::incoming::Incoming;
 use crate::notice::Teller;
@@ -103,7 +103,7 @@ fn closed(number: u32, row: Row) -> Row
 
 /// A response: a 481 to a NOTIFY ends its subscription without another, and another final answer closes its NOTIFY.
 pub fn take_answer(response: &Response, row: Row) -> After
-    ensures { IsTold (spec.answered response.now) row result }
+    ensures { FollowsRule (spec.answered response.now) row result }
 {
     if !row.sub.is_answered_by(response) {
         return After::Stays(row, None);
@@ -119,7 +119,7 @@ pub fn take_answer(response: &Response, row: Row) -> After
 
 /// A request that is denied in its dialog moves the last CSeq of the row with this serial.
 pub fn count(wanted: u32, request: &Request, row: Row) -> After
-    ensures { IsTold (spec.only wanted (spec.counted request.now)) row result }
+    ensures { FollowsRule (spec.only wanted (spec.counted request.now)) row result }
 {
     if row.serial != wanted {
         return After::Stays(row, None);
@@ -159,6 +159,19 @@ fn new_target(alloc: Global, contact: &Field<Text>) -> Result<Option<Text>, NoMe
 }
 
 impl<P: Package> Teller<'_, P> {
+    /// The row, which waits for an answer to this NOTIFY too.
+    fn opened(&self, notice: Notice, mut row: Row) -> Result<Row, NoMemory>
+        ensures { IfOk result (λ opened. opened ≡ spec.opened self.now.clock notice row) }
+    {
+        let mut unanswered = row.unanswered.into_vec();
+        unanswered.push(Unanswered {
+            number: notice.number,
+            moment: self.clock,
+        })?;
+        row.unanswered = Values::new(unanswered);
+        Ok(row)
+    }
+
     /// A row whose subscription goes on, as it is with this NOTIFY, which goes to this address.
     pub fn goes_on(
         &self,
@@ -171,15 +184,7 @@ impl<P: Package> Teller<'_, P> {
             (spec.notify (telling P.seen self.now) row.sub.usage row.sub.want notice))))) }
     {
         let out = self.notice_out(alloc, to, row.sub.usage(), row.sub.want(), notice)?;
-        let mut unanswered = row.unanswered.into_vec();
-        unanswered.push(Unanswered {
-            number: notice.number,
-            moment: self.clock,
-        })?;
-        let row = Row {
-            unanswered: Values::new(unanswered),
-            ..row
-        };
+        let row = self.opened(notice, row)?;
         Ok(After::Stays(row, Some(out)))
     }
 
@@ -201,7 +206,7 @@ impl<P: Package> Teller<'_, P> {
 
     /// The end of a row, with a last NOTIFY that says why.
     fn end(&self, alloc: Global, reason: Reason, row: Row) -> Result<After, NoMemory>
-        ensures { IfOk result (λ after. IsTold
+        ensures { IfOk result (λ after. FollowsRule
             (spec.ends (telling P.seen self.now) reason) row after) }
     {
         let Row { sub, .. } = row;
@@ -211,7 +216,7 @@ impl<P: Package> Teller<'_, P> {
 
     /// Time: a row of which a NOTIFY was unanswered for too long goes, else one whose time is up gets a last NOTIFY.
     pub fn time_out(&self, alloc: Global, row: Row) -> Result<After, NoMemory>
-        ensures { IfOk result (λ after. IsTold
+        ensures { IfOk result (λ after. FollowsRule
             (spec.times_out (telling P.seen self.now)) row after) }
     {
         if is_overdue(self.clock, &row) {
@@ -225,7 +230,7 @@ impl<P: Package> Teller<'_, P> {
 
     /// The planned stop: each row gets a last NOTIFY.
     pub fn stop(&self, alloc: Global, row: Row) -> Result<After, NoMemory>
-        ensures { IfOk result (λ after. IsTold
+        ensures { IfOk result (λ after. FollowsRule
             (spec.stops (telling P.seen self.now)) row after) }
     {
         self.end(alloc, Reason::Deactivated, row)
@@ -234,7 +239,7 @@ impl<P: Package> Teller<'_, P> {
     /// A change to what a row watches.
     fn tell_change(&self, alloc: Global, is_over: bool, row: Row) -> Result<After, NoMemory>
         requires { IsLive self.now.clock row }
-        ensures { IfOk result (λ after. IsTold
+        ensures { IfOk result (λ after. FollowsRule
             (spec.tells_change (telling P.seen self.now) is_over) row after) }
     {
         let to = row.sub.want().to;
@@ -255,7 +260,7 @@ impl<P: Package> Teller<'_, P> {
         row: Row,
     ) -> Result<After, NoMemory>
         requires { IsLive self.now.clock row }
-        ensures { IfOk result (λ after. IsTold
+        ensures { IfOk result (λ after. FollowsRule
             (spec.tells_watcher (telling P.seen self.now)
             name.now resource.now is_over) row after) }
     {
@@ -295,7 +300,7 @@ impl<P: Package> Teller<'_, P> {
     fn renew_row(&self, alloc: Global, incoming: &Incoming<'_>, row: Row) -> Result<After, NoMemory>
         requires clock { self.now.clock < 2 ^ 63 }
         requires here { incoming.now.place.now ≡ self.now.place.now }
-        ensures { IfOk result (λ after. IsTold
+        ensures { IfOk result (λ after. FollowsRule
             (spec.renewed (telling P.seen self.now)
             incoming.now.source incoming.now.request.now) row after) }
     {
@@ -326,7 +331,7 @@ impl<P: Package> Teller<'_, P> {
     ) -> Result<After, NoMemory>
         requires clock { self.now.clock < 2 ^ 63 }
         requires here { incoming.now.place.now ≡ self.now.place.now }
-        ensures { IfOk result (λ after. IsTold
+        ensures { IfOk result (λ after. FollowsRule
             (spec.only wanted
             (spec.renewed (telling P.seen self.now)
             incoming.now.source incoming.now.request.now)) row after) }

@@ -6,7 +6,7 @@ use Rattle.notifier.specs.declared.store.rows.Rows.{Rows}
 use Rattle.notifier.specs.declared.sweep.row.After.TheVariants.{Stays, Goes}
 use Rattle.notifier.specs.Among.{said_at, gone_with}
 use Rattle.notifier.specs.Tellers.{telling, rule_by}
-use Rattle.notifier.specs.Told.{IsTold}
+use Rattle.notifier.specs.Told.{FollowsRule}
 use Rattle.notifier.specs.Watchers.{topic, is_topic, is_watched}
 use Rattle.notifier_model.specs.Out.{out_of}
 use Rattle.notifier.specs.Stored.{alarm_of}
@@ -22,7 +22,7 @@ returns-in-Goes-clause-indexed g c =
     let new : Rows = c.let_go.new.self in
     let row = c.in-Some-try_remove.row in
     let rule = rule_by g.P.Package.seen c.args.self.now c.args.cause.now in
-    let told : IsTold rule row (Goes c.in-Goes.gone c.in-Goes.out) = subst (IsTold rule row) c.in-Goes.is c.in_ok-after.ensures in
+    let told : FollowsRule rule row (Goes c.in-Goes.gone c.in-Goes.out) = subst (FollowsRule rule row) c.in-Goes.is c.in_ok-after.ensures in
     let found : tree.get nat_cmp old.order c.args.serial ≡ Some c.in-Some.key = cc in
     indexed _ _ _ _ _ c.requires.indexed
     (go_moves old new c.args.serial c.in-Some.key row c.requires.indexed found (sym c.in-Some-try_remove.ensures.value)
@@ -36,7 +36,7 @@ returns-in-Goes-clause-turns g c =
     let new : Rows = c.let_go.new.self in
     let row = c.in-Some-try_remove.row in
     let rule = rule_by g.P.Package.seen c.args.self.now c.args.cause.now in
-    let told : IsTold rule row (Goes c.in-Goes.gone c.in-Goes.out) = subst (IsTold rule row) c.in-Goes.is c.in_ok-after.ensures in
+    let told : FollowsRule rule row (Goes c.in-Goes.gone c.in-Goes.out) = subst (FollowsRule rule row) c.in-Goes.is c.in_ok-after.ensures in
     let found : tree.get nat_cmp old.order c.args.serial ≡ Some c.in-Some.key = cc in
     let there = row_there old old c.args.serial c.in-Some.key row c.requires.indexed found (sym c.in-Some-try_remove.ensures.value) in
     turns_by old new c.args.serial (λ r. (rule r).row) row None there told.stays
@@ -51,7 +51,7 @@ returns-in-Goes-clause-out g c =
     let old = c.args.rows.now in
     let row = c.in-Some-try_remove.row in
     let rule = rule_by g.P.Package.seen c.args.self.now c.args.cause.now in
-    let told : IsTold rule row (Goes c.in-Goes.gone c.in-Goes.out) = subst (IsTold rule row) c.in-Goes.is c.in_ok-after.ensures in
+    let told : FollowsRule rule row (Goes c.in-Goes.gone c.in-Goes.out) = subst (FollowsRule rule row) c.in-Goes.is c.in_ok-after.ensures in
     let found : tree.get nat_cmp old.order c.args.serial ≡ Some c.in-Some.key = cc in
     let there = row_there old old c.args.serial c.in-Some.key row c.requires.indexed found (sym c.in-Some-try_remove.ensures.value) in
     told.sends ∙ sym (ap (λ o. map out_of (said_at rule o)) there)
@@ -61,7 +61,7 @@ returns-in-Goes-clause-gone g c =
     let old = c.args.rows.now in
     let row = c.in-Some-try_remove.row in
     let rule = rule_by g.P.Package.seen c.args.self.now c.args.cause.now in
-    let told : IsTold rule row (Goes c.in-Goes.gone c.in-Goes.out) = subst (IsTold rule row) c.in-Goes.is c.in_ok-after.ensures in
+    let told : FollowsRule rule row (Goes c.in-Goes.gone c.in-Goes.out) = subst (FollowsRule rule row) c.in-Goes.is c.in_ok-after.ensures in
     let found : tree.get nat_cmp old.order c.args.serial ≡ Some c.in-Some.key = cc in
     let there = row_there old old c.args.serial c.in-Some.key row c.requires.indexed found (sym c.in-Some-try_remove.ensures.value) in
     told.forgets ∙ sym (ap (gone_with rule) there)
@@ -73,7 +73,7 @@ returns-in_ok-put_back-in-Stays-clause-out g c =
     let old = c.args.rows.now in
     let row = c.in-Some-try_remove.row in
     let rule = rule_by g.P.Package.seen c.args.self.now c.args.cause.now in
-    let told : IsTold rule row (Stays c.in-Stays.row c.in-Stays.out) = subst (IsTold rule row) c.in-Stays.is c.in_ok-after.ensures in
+    let told : FollowsRule rule row (Stays c.in-Stays.row c.in-Stays.out) = subst (FollowsRule rule row) c.in-Stays.is c.in_ok-after.ensures in
     let found : tree.get nat_cmp old.order c.args.serial ≡ Some c.in-Some.key = cc in
     let there = row_there old old c.args.serial c.in-Some.key row c.requires.indexed found (sym c.in-Some-try_remove.ensures.value) in
     told.sends ∙ sym (ap (λ o. map out_of (said_at rule o)) there)
@@ -83,7 +83,7 @@ returns-in_ok-put_back-in-Stays-clause-gone g c =
     let old = c.args.rows.now in
     let row = c.in-Some-try_remove.row in
     let rule = rule_by g.P.Package.seen c.args.self.now c.args.cause.now in
-    let told : IsTold rule row (Stays c.in-Stays.row c.in-Stays.out) = subst (IsTold rule row) c.in-Stays.is c.in_ok-after.ensures in
+    let told : FollowsRule rule row (Stays c.in-Stays.row c.in-Stays.out) = subst (FollowsRule rule row) c.in-Stays.is c.in_ok-after.ensures in
     let found : tree.get nat_cmp old.order c.args.serial ≡ Some c.in-Some.key = cc in
     let there = row_there old old c.args.serial c.in-Some.key row c.requires.indexed found (sym c.in-Some-try_remove.ensures.value) in
     told.forgets ∙ sym (ap (gone_with rule) there)
@@ -95,7 +95,7 @@ returns-in_ok-put_back-in-Stays-clause-indexed g c =
     let back = c.in_ok-put_back-in-Stays.ensures in
     let row = c.in-Some-try_remove.row in
     let rule = rule_by g.P.Package.seen c.args.self.now c.args.cause.now in
-    let told : IsTold rule row (Stays c.in-Stays.row c.in-Stays.out) = subst (IsTold rule row) c.in-Stays.is c.in_ok-after.ensures in
+    let told : FollowsRule rule row (Stays c.in-Stays.row c.in-Stays.out) = subst (FollowsRule rule row) c.in-Stays.is c.in_ok-after.ensures in
     let found : tree.get nat_cmp old.order c.args.serial ≡ Some c.in-Some.key = cc in
     let serial : c.in-Stays.row.serial ≡ row.serial = subst (λ o. IfSome o (λ r. r.serial ≡ row.serial)) (sym told.stays) (cause_serials (telling g.P.Package.seen c.args.self.now) c.args.cause.now row) in
     let watch : topic c.in-Stays.row.sub.want ≡ topic row.sub.want = subst (λ o. IfSome o (λ r. topic r.sub.want ≡ topic row.sub.want)) (sym told.stays) (cause_same (telling g.P.Package.seen c.args.self.now) c.args.cause.now row) in
@@ -111,7 +111,7 @@ returns-in_ok-put_back-in-Stays-clause-turns g c =
     let back = c.in_ok-put_back-in-Stays.ensures in
     let row = c.in-Some-try_remove.row in
     let rule = rule_by g.P.Package.seen c.args.self.now c.args.cause.now in
-    let told : IsTold rule row (Stays c.in-Stays.row c.in-Stays.out) = subst (IsTold rule row) c.in-Stays.is c.in_ok-after.ensures in
+    let told : FollowsRule rule row (Stays c.in-Stays.row c.in-Stays.out) = subst (FollowsRule rule row) c.in-Stays.is c.in_ok-after.ensures in
     let found : tree.get nat_cmp old.order c.args.serial ≡ Some c.in-Some.key = cc in
     let there = row_there old old c.args.serial c.in-Some.key row c.requires.indexed found (sym c.in-Some-try_remove.ensures.value) in
     let serial : c.in-Stays.row.serial ≡ row.serial = subst (λ o. IfSome o (λ r. r.serial ≡ row.serial)) (sym told.stays) (cause_serials (telling g.P.Package.seen c.args.self.now) c.args.cause.now row) in
