@@ -50,8 +50,8 @@ pub record Ends (line : List ℕ) (came : Came) (old new : SpeakerSeen) : Type 0
   pub turns : Grows old.turns new.turns (replicate vain (line, Ok None) ++ (line, came) ∷ [])
 
 -- the line was asked until an answer came, which stands in the room now, or the device failed, or five times in vain
-abbrev pub IsTold : List ℕ → TellOutcome → SpeakerSeen → SpeakerSeen → List ℕ → Type 0
-IsTold line (outcome.Done n) old new room = (n ≤ length room) × IsYes (take n room) × Ends line (Ok (Some (take n room))) old new
-IsTold line (outcome.Refused n) old new room = (n ≤ length room) × ¬ (IsYes (take n room)) × Ends line (Ok (Some (take n room))) old new
-IsTold line outcome.Silent old new room = IsSilent 5 line old new
-IsTold line outcome.Fault old new room = (e : SpeakerFault) × Ends line (Err e) old new
+abbrev pub ComesOf : List ℕ → TellOutcome → SpeakerSeen → SpeakerSeen → List ℕ → Type 0
+ComesOf line (outcome.Done n) old new room = (n ≤ length room) × IsYes (take n room) × Ends line (Ok (Some (take n room))) old new
+ComesOf line (outcome.Refused n) old new room = (n ≤ length room) × ¬ (IsYes (take n room)) × Ends line (Ok (Some (take n room))) old new
+ComesOf line outcome.Silent old new room = IsSilent 5 line old new
+ComesOf line outcome.Fault old new room = (e : SpeakerFault) × Ends line (Err e) old new

@@ -2,7 +2,7 @@
 ghost use Rattle.std.specs.Prelude.{◌≡◌, ◌≤◌, ℕ, List, [], ◌∷◌, length, Option, None, Ok, Some};
 ghost use Rattle.transport.specs.Devices.{one_more};
 ghost use Rattle.transport.specs.Wires.{Grows};
-ghost use Rattle.control_lines.specs.Asking.{status_of, came_in, Turn, IsTold};
+ghost use Rattle.control_lines.specs.Asking.{status_of, came_in, Turn, ComesOf};
 
 use crate::answer::is_yes;
 use std::sync::Wait;
@@ -71,7 +71,7 @@ pub fn tell_line<R: Wait, S: Speaker>(
     line: &[u8],
     room: &mut [u8],
 ) -> TellOutcome
-    ensures { IsTold line.now result
+    ensures { ComesOf line.now result
         (record { asked = S.asked speaker.old; turns = S.turns speaker.old })
         (record { asked = S.asked speaker.new; turns = S.turns speaker.new }) room.new }
 {

@@ -1,21 +1,32 @@
 -- That each event a port sent to a worker has its home there.
-use Rattle.std.proofs.Common.{◌≡◌, ⊎_elim, ℕ, zero, suc, ◌<◌, Bool, true, false, ◌||◌, eq-eqb, List, [], ◌∷◌, length, map, get_or, set, Some, refl, ap, sym, ◌∙◌, subst, arith}
+use Rattle.std.proofs.Common.{◌≡◌, ◌⊎◌, ⊎_elim, ℕ, zero, suc, ◌<◌, Bool, true, false, ◌||◌, eq-eqb, List, [], ◌∷◌, length, map, get_or, set, Some, refl, ap, sym, ◌∙◌, subst, arith}
 use Rattle.std.specs.Prelude.{slice_get, ◌==◌}
 use Rattle.std.specs.List.{All}
 use Rattle.std.proofs.lemmas.List.{get_or-set_other, get_or-set_same, length-set, get_or-map, length-map}
 use Rattle.std.proofs.lemmas.List.Elements.{All-nil, All-push}
 use Rattle.std.proofs.lemmas.Bool.Decides.{eqb_tells}
+use Rattle.std.proofs.lemmas.Option.{get_or_from_slice_get, slice_get-get_or, slice_get_within}
 use Rattle.queues.specs.Values.{values, value_item, end_item}
 use Rattle.notifier_model.specs.declared.event.Event.{Event}
 use Rattle.notifier_model.specs.Home.{home, is_for_all, comes_to}
 use Rattle.queues.specs.InboxSeats.{Inbox, SenderSeat, with_sent}
 use Rattle.crew.proofs.Folds.{values_value, values_end}
-use Rattle.crew.specs.Ports.{PortSeats, new_seat, sent_first, Closes, ClosesSome}
-use Rattle.crew.specs.AtHome.{NewLaw, SendLaw, TickLaw, CloseLaw}
+use Rattle.crew.specs.Ports.{PortSeats, new_seat, port_of, sent_first, sends_first, Closes, ClosesSome, SendsTo}
+use Rattle.crew.specs.AtHome.{AreAtHome, NewLaw, SendLaw, TickLaw, CloseLaw}
 
 -- all that a seat sent comes to worker w of n
 abbrev Comes : ℕ → ℕ → SenderSeat → Type 0
 Comes n w s = All (λ e. comes_to n w e ≡ true) (values s.sent)
+
+-- each seat's, by its number
+abbrev Home : ℕ → List SenderSeat → Type 0
+Home n seats = (w : ℕ) (s : SenderSeat) → w < length seats → Comes n w (get_or seats w s)
+
+at_home_all : (n : ℕ) (seats : List SenderSeat) → Home n seats → AreAtHome n seats
+at_home_all n seats home w s is = subst (Comes n w) (get_or_from_slice_get seats w s s is) (home w s (slice_get_within seats w s is))
+
+at_home_each : (n : ℕ) (seats : List SenderSeat) → AreAtHome n seats → Home n seats
+at_home_each n seats home w s low = home w (get_or seats w s) (slice_get-get_or seats w s low)
 
 comes_more : (n w p : ℕ) (e : Event) (s : SenderSeat) → comes_to n w e ≡ true → Comes n w s → Comes n w (with_sent s (value_item p e))
 comes_more n w p e s here was =
@@ -38,28 +49,26 @@ at_home n e = or_true (is_for_all e) (home e n == home e n) (eq-eqb (home e n) (
 
 -- ---- a new port
 
-pub new_law : NewLaw
-new_law inboxes number n w s low =
+new_home : (inboxes : List Inbox) (number n : ℕ) → Home n (port_of inboxes number).seats
+new_home inboxes number n w s low =
     let P : ℕ → Type 0 = λ m. w < m in
     let inside : w < length inboxes = subst P (length-map inboxes (λ i. new_seat i number)) low in
     let Q : SenderSeat → Type 0 = λ x. Comes n w x in
     let i : Inbox = s.inbox in
     subst Q (sym (get_or-map (λ j. new_seat j number) inboxes w i s inside)) (All-nil (λ e. comes_to n w e ≡ true))
 
--- ---- a send
+pub new_law : NewLaw
+new_law inboxes number n = at_home_all n (port_of inboxes number).seats (new_home inboxes number n)
 
-stood : (seats : List SenderSeat) (v : ℕ) (s x : SenderSeat) → slice_get seats v ≡ Some x → get_or seats v s ≡ x
-stood [] v s x e = absurd cc
-stood (t ∷ seats) zero s x e = cc
-stood (t ∷ seats) (suc v) s x e = stood seats v s x e
+-- ---- a send
 
 pub fits : (seats : List SenderSeat) (v : ℕ) (x : SenderSeat) → slice_get seats v ≡ Some x → v < length seats
 fits [] v x e = absurd cc
 fits (t ∷ seats) zero x e = omega arith
 fits (t ∷ seats) (suc v) x e = let k = fits seats v x e in omega arith
 
-pub send_law : SendLaw
-send_law old new n e was sent w s low =
+send_home : (old new : PortSeats) (n : ℕ) (e : Event) → Home n old.seats → SendsTo old (home e n) e new → Home n new.seats
+send_home old new n e was sent w s low =
     let v : ℕ = home e n in let t : SenderSeat = sent.seat in let u : SenderSeat = with_sent t (value_item t.number e) in
     let seats : new.seats ≡ set old.seats v u = ap (λ (p : PortSeats). p.seats) sent.stands in
     let inside : w < length old.seats = let l = ap length seats ∙ length-set old.seats v u in omega arith in
@@ -68,12 +77,15 @@ send_law old new n e was sent w s low =
     ⊎_elim
     (λ k. let same : w ≡ v = k.1 in
     let at : get_or new.seats w s ≡ u = ap (λ l. get_or l w s) seats ∙ ap (λ j. get_or (set old.seats v u) j s) same ∙ get_or-set_same old.seats v u s here in
-    let is : get_or old.seats w s ≡ t = ap (λ j. get_or old.seats j s) same ∙ stood old.seats v s t sent.stood in
+    let is : get_or old.seats w s ≡ t = ap (λ j. get_or old.seats j s) same ∙ get_or_from_slice_get old.seats v t s sent.stood in
     let P : ℕ → Type 0 = λ j. comes_to n j e ≡ true in
     subst Q (sym at) (comes_more n w t.number e t (subst P (sym same) (at_home n e)) (subst Q is (was w s inside))))
     (λ k. let other = k.1 in
     subst Q (sym (ap (λ l. get_or l w s) seats ∙ get_or-set_other old.seats v w u s other)) (was w s inside))
     (eqb_tells w v)
+
+pub send_law : SendLaw
+send_law old new n e was sent = at_home_all n new.seats (send_home old new n e (at_home_each n old.seats was) sent)
 
 -- ---- a tick
 
@@ -88,10 +100,13 @@ tick_at n o (suc i) w e [] s here low was = absurd (omega arith)
 tick_at n o (suc i) zero e (t ∷ seats) s here low was = comes_more n o t.number e t here was
 tick_at n o (suc i) (suc w) e (t ∷ seats) s here low was = tick_at n o i w e seats s here (omega arith) was
 
-pub tick_law : TickLaw
-tick_law old n i e all was w s low =
+tick_home : (old : PortSeats) (n i : ℕ) (e : Event) → is_for_all e ≡ true → Home n old.seats → Home n (sends_first i e old).seats
+tick_home old n i e all was w s low =
     let inside : w < length old.seats = let l = len_first i e old.seats in omega arith in
     tick_at n w i w e old.seats s (true_or (is_for_all e) (home e n == w) all) inside (was w s inside)
+
+pub tick_law : TickLaw
+tick_law old n i e all was = at_home_all n (sends_first i e old).seats (tick_home old n i e all (at_home_each n old.seats was))
 
 -- ---- closing
 
@@ -121,6 +136,9 @@ all_at n w true old new s e closes was low =
     let inside : w < length old.seats = let l = ap length is ∙ length-map old.seats (λ x. with_sent x (end_item x.number)) in omega arith in
     let P : List SenderSeat → Type 0 = λ l. Comes n w (get_or l w s) in subst P (sym is) (ended_at n w w old.seats s was inside)
 
-pub close_law : CloseLaw
-close_law old new n was closes w s low =
+close_home : (old new : PortSeats) (n : ℕ) → Home n old.seats → Closes old new ⊎ ClosesSome old.seats new.seats → Home n new.seats
+close_home old new n was closes w s low =
     ⊎_elim (λ k. all_at n w old.is_open old new s refl k (was w s) low) (λ k. some_at n w w old.seats new.seats s k (was w s) low) closes
+
+pub close_law : CloseLaw
+close_law old new n was closes = at_home_all n new.seats (close_home old new n (at_home_each n old.seats was) closes)

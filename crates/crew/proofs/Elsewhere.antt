@@ -1,9 +1,10 @@
 -- What the other workers took.
 use Rattle.std.proofs.Common.{◌≡◌, ◌==◌, ◌<◌, ℕ, Bool, true, false, List, [], ◌∷◌, ◌++◌, length, map, get_or, refl, ap, sym, subst, ◌∙◌, arith}
-use Rattle.std.specs.Prelude.{if◌then◌else◌}
-use Rattle.std.specs.List.{All}
+use Rattle.std.specs.Prelude.{if◌then◌else◌, Contains, Some, slice_get}
+use Rattle.std.specs.List.{All, AllZip}
 use Rattle.std.proofs.lemmas.List.{get_or_append_left, length-append, get_or-map}
-use Rattle.std.proofs.lemmas.List.Elements.{All-nil, All-cons, All-head, All-tail, All-append}
+use Rattle.std.proofs.lemmas.List.Elements.{All-nil, All-cons, All-head, All-tail, All-append, All-contains, All-contains_itself}
+use Rattle.std.proofs.lemmas.Option.{get_or_from_slice_get, slice_get-get_or, slice_get_within}
 use Rattle.queues.specs.declared.items.Item.{Item}
 use Rattle.queues.specs.declared.items.Entry.{Entry}
 use Rattle.queues.specs.declared.items.Entry.TheVariants.{Value, End}
@@ -16,15 +17,16 @@ use Rattle.queues.specs.InboxEvents.{events_of, have_ended}
 use Rattle.queues.specs.InboxSeats.{SenderSeat, ReceiverSeat}
 use Rattle.crew.proofs.Folds.{values-append}
 use Rattle.crew.specs.Joined.{Reported, IsSeatOf, IsHeard, IsJoined}
+use Rattle.crew.specs.AtHome.{AreAtHome}
 use Rattle.crew.specs.Kept.{emptied}
 use Rattle.crew.specs.Ports.{PortSeats, new_seat, no_seats}
 use Rattle.crew.specs.Started.{Hired}
 use Rattle.crew.proofs.Keeping.{started_port}
-use Rattle.crew.proofs.Zipped.{zip_len, zip_at}
+use Rattle.crew.proofs.Zipped.{zip_len, zip_get}
 use Rattle.crew.specs.declared.report.WorkerReport.{WorkerReport}
 use Rattle.life.proofs.Homes.{nowhere_else_law}
 use Rattle.notifier_model.specs.declared.event.Out.{Out}
-use Rattle.crew.specs.Elsewhere.{IsEveryPort, AllAtHome, events_taken, EveryPortLaw, NowhereElseLaw}
+use Rattle.crew.specs.Elsewhere.{HaveAllSeats, AllAtHome, events_taken, EveryPortLaw, NowhereElseLaw}
 
 -- ---- lists
 
@@ -82,6 +84,9 @@ all_events n w ports stop taken h =
 
 -- ---- the ports of a new crew
 
+among : (ports : List PortSeats) (k : ℕ) (d : PortSeats) → k < length ports → Contains ports (get_or ports k d)
+among ports k d low = All-contains_itself ports k d low
+
 seats_map : (p : ℕ) (crew : List Hired) → map emptied (map (λ i. new_seat i p) (map (λ (h : Hired). h.reads.inbox) crew)) ≡ map (λ (h : Hired). new_seat h.reads.inbox p) crew
 seats_map p [] = refl
 seats_map p (h ∷ crew) = ap (λ l. new_seat h.reads.inbox p ∷ l) (seats_map p crew)
@@ -89,21 +94,25 @@ seats_map p (h ∷ crew) = ap (λ l. new_seat h.reads.inbox p ∷ l) (seats_map 
 pub every_port : EveryPortLaw
 every_port start n crew dealt ports taker is all =
     let sizes : length ports ≡ n = all.len ∙ is.dealt.len in
-    let len : (p : ℕ) (q : PortSeats) → p < length ports → length (get_or ports p q).seats ≡ length crew = λ p q low. (let port = started_port is ports all p q low in zip_len IsSeatOf crew (get_or ports p q).seats port.seats) in record {
+    let len : All (λ (q : PortSeats). length q.seats ≡ length crew) ports = λ p q low. (let port = started_port is ports all p q low in zip_len IsSeatOf crew (get_or ports p q).seats port.seats) in record {
       len = len;
-      each = λ w k h inside few.
-          let count : (get_or crew w h).reads.ports ≡ n = ap (λ (r : ReceiverSeat). r.ports) ((is.each w h inside).hears) in
-          let low : k < length ports = omega arith in (
-            k,
-            low,
-            λ q s.
-                let seats : List SenderSeat = (get_or ports k q).seats in
-                let same : map emptied seats ≡ map (λ (x : Hired). new_seat x.reads.inbox k) crew =
-                all.seats k q (let l = all.len in omega arith) ∙ ap (λ (x : PortSeats). map emptied x.seats) (is.dealt.each k q (omega arith)) ∙ seats_map k crew in
-                let fits : w < length seats = let l = len k q low in omega arith in
-                let at : emptied (get_or seats w s) ≡ new_seat (get_or crew w h).reads.inbox k =
-                sym (get_or-map emptied seats w s s fits) ∙ ap (λ l. get_or l w s) same ∙ get_or-map (λ (x : Hired). new_seat x.reads.inbox k) crew w h s inside in
-                ap (λ (x : SenderSeat). x.number) at,
+      each = λ w k h here few.
+          let inside : w < length crew = slice_get_within crew w h here in
+          let hired : get_or crew w h ≡ h = get_or_from_slice_get crew w h h here in
+          let count : h.reads.ports ≡ n = ap (λ (x : Hired). x.reads.ports) (sym hired) ∙ ap (λ (r : ReceiverSeat). r.ports) ((is.each w h inside).hears) in
+          let low : k < length ports = omega arith in
+          let q : PortSeats = get_or ports k no_seats in
+          let s : SenderSeat = new_seat h.reads.inbox k in
+          let same : map emptied q.seats ≡ map (λ (x : Hired). new_seat x.reads.inbox k) crew =
+          all.seats k no_seats (let l = all.len in omega arith) ∙ ap (λ (x : PortSeats). map emptied x.seats) (is.dealt.each k no_seats (omega arith)) ∙ seats_map k crew in
+          let fits : w < length q.seats = let l = len k no_seats low in omega arith in
+          let at : emptied (get_or q.seats w s) ≡ new_seat (get_or crew w h).reads.inbox k =
+          sym (get_or-map emptied q.seats w s s fits) ∙ ap (λ l. get_or l w s) same ∙ get_or-map (λ (x : Hired). new_seat x.reads.inbox k) crew w h s inside in (
+            q,
+            get_or q.seats w s,
+            among ports k no_seats low,
+            slice_get-get_or q.seats w s fits,
+            ap (λ (x : SenderSeat). x.number) at,
           );
     }
 
@@ -111,31 +120,25 @@ every_port start n crew dealt ports taker is all =
 
 -- each event that a worker took comes to it
 pub all_come : (crew : List Hired) (ports : List PortSeats) (got : List (Item Out)) (reports : List WorkerReport) (w : ℕ) (h : Hired) (r : WorkerReport)
-    → IsJoined crew ports got reports → IsEveryPort crew ports → AllAtHome crew ports → w < length crew
-    → All (λ e. comes_to (length crew) w e ≡ true) (events_taken crew reports w h r)
-all_come crew ports got reports w h r joined every home low =
+    → IsJoined crew ports got reports → HaveAllSeats crew ports → AllAtHome crew ports → slice_get crew w ≡ Some h → slice_get reports w ≡ Some r
+    → All (λ e. comes_to (length crew) w e ≡ true) (events_taken h r)
+all_come crew ports got reports w h r joined seats home here there =
     let n : ℕ = length crew in
     let P : Event → Type 0 = λ e. comes_to n w e ≡ true in
-    let hired : Hired = get_or crew w h in
-    let report : WorkerReport = get_or reports w r in
-    let told : Reported hired got report = zip_at (λ (x : Hired) (y : WorkerReport). Reported x got y) crew reports joined.reported w h r low in
-    let q : PortSeats = no_seats in
-    let s : SenderSeat = new_seat hired.reads.inbox 0 in
-    let came : (k : ℕ) → k < hired.reads.ports → All P (values (items_of k report.receiver.taken)) = λ k lt.
-    let at = every.each w k h low lt in
-    let p : ℕ = at.0 in
-    let inside : p < length ports = at.1 in
-    let seat : SenderSeat = get_or (get_or ports p q).seats w s in
-    let is : seat.number ≡ k = at.2 q s in
-    let fits : w < length (get_or ports p q).seats = let l = every.len p q inside in omega arith in
-    let all = joined.heard p q inside in
-    let heard : IsHeard report seat = zip_at IsHeard reports (get_or ports p q).seats all w r s (let l = zip_len IsHeard reports (get_or ports p q).seats all in omega arith) in
-    subst (λ (j : ℕ). All P (values (items_of j report.receiver.taken))) is
-    (all_that_came P seat.sent (items_of seat.number report.receiver.taken) heard.came.0 (home p q inside w s fits)) in
-    all_events n w hired.reads.ports hired.start.place.stop report.receiver.taken
-    (all_of_each P hired.reads.ports report.receiver.taken told.among came)
+    let told : Reported h got r = zip_get (λ (x : Hired) (y : WorkerReport). Reported x got y) crew reports joined.reported w h r here there in
+    let came : (k : ℕ) → k < h.reads.ports → All P (values (items_of k r.receiver.taken)) = λ k lt.
+    let at = seats.each w k h here lt in
+    let q : PortSeats = at.0 in
+    let seat : SenderSeat = at.1 in
+    let all = All-contains (λ (x : PortSeats). AllZip IsHeard reports x.seats) ports q joined.heard at.2 in
+    let heard : IsHeard r seat = zip_get IsHeard reports q.seats all w r seat there at.3 in
+    let home_here : AreAtHome n q.seats = All-contains (λ (x : PortSeats). AreAtHome n x.seats) ports q home at.2 in
+    subst (λ (j : ℕ). All P (values (items_of j r.receiver.taken))) at.4
+    (all_that_came P seat.sent (items_of seat.number r.receiver.taken) heard.came.0 (home_here w seat at.3)) in
+    all_events n w h.reads.ports h.start.place.stop r.receiver.taken
+    (all_of_each P h.reads.ports r.receiver.taken told.among came)
 
 pub nowhere_else_joined : NowhereElseLaw
-nowhere_else_joined crew ports got reports start serial other source x past h r joined every home born low elsewhere =
-    nowhere_else_law (length crew) serial other start source x past (events_taken crew reports other h r) born elsewhere
-    (all_come crew ports got reports other h r joined every home low)
+nowhere_else_joined crew ports got reports start serial other source x past h r joined seats home born elsewhere here there =
+    nowhere_else_law (length crew) serial other start source x past (events_taken h r) born elsewhere
+    (all_come crew ports got reports other h r joined seats home here there)

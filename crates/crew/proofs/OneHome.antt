@@ -1,8 +1,9 @@
 -- A subscription was born of a request that its worker took, which has its home there.
 use Rattle.std.proofs.Common.{◌≡◌, ◌<◌, ◌≤◌, ◌^◌, ℕ, true, List, [], ◌∷◌, Option, Some, None, length, get_or, refl, ap, sym, subst, ◌∙◌, arith}
-use Rattle.std.specs.Prelude.{option_map}
+use Rattle.std.specs.Prelude.{option_map, slice_get}
 use Rattle.std.specs.List.{All}
 use Rattle.std.proofs.lemmas.Bool.Decides.{nat_tests}
+use Rattle.std.proofs.lemmas.Option.{get_or_from_slice_get, slice_get_within}
 use Rattle.std.proofs.lemmas.List.Elements.{All-nil, All-cons, All-head, All-tail}
 use Rattle.sip_text.specs.declared.address.Addr.{Addr}
 use Rattle.sip_read.specs.declared.message.Request.{Request}
@@ -19,7 +20,7 @@ use Rattle.life.specs.Own.{born_of}
 use Rattle.life.proofs.Deeds.{lived_is}
 use Rattle.life.proofs.Homes.{nowhere_else_law}
 use Rattle.life.proofs.NextLives.{After, birth_of_some, each_life}
-use Rattle.crew.specs.Elsewhere.{IsEveryPort, AllAtHome, events_taken}
+use Rattle.crew.specs.Elsewhere.{HaveAllSeats, AllAtHome, events_taken}
 use Rattle.crew.specs.Laws.{its_tag}
 use Rattle.crew.specs.OneHome.{OneHomeLaw}
 use Rattle.crew.specs.Started.{Hired}
@@ -72,17 +73,18 @@ at_home : (n w : ℕ) (source : Addr) (x : Request) → comes_to n w (Comes sour
 at_home n w source x h = grind (arith, nat_tests)
 
 pub one_home_law : OneHomeLaw
-one_home_law start crew got reports w other serial x h r run every home here there elsewhere born =
+one_home_law start crew got reports w v serial x h g r s run seats home elsewhere here there here' there' born =
     let n : ℕ = length crew in
     let P : Event → Type 0 = λ e. comes_to n w e ≡ true in
-    let hired : Hired = get_or crew w h in
-    let past : List Event = newest_first (events_taken crew reports w h r) in
-    let all : All P past = all_onto P [] (events_taken crew reports w h r) (All-nil P) (all_come crew run.ports got reports w h r run.joined every home here) in
-    let came_from = born_came P hired.start serial past x all born in
-    let begins : hired.start ≡ start w = (let is = run.started.each w h here in is.begins) in
-    let number : hired.start.place.worker ≡ w = ap (λ (s : Start). s.place.worker) begins ∙ run.starts.numbers w here in
+    let inside : w < n = slice_get_within crew w h here in
+    let hired : get_or crew w h ≡ h = get_or_from_slice_get crew w h h here in
+    let past : List Event = newest_first (events_taken h r) in
+    let all : All P past = all_onto P [] (events_taken h r) (All-nil P) (all_come crew run.ports got reports w h r run.joined seats home here there) in
+    let came_from = born_came P h.start serial past x all born in
+    let begins : h.start ≡ start w = ap (λ (y : Hired). y.start) (sym hired) ∙ (let is = run.started.each w h inside in is.begins) in
+    let number : h.start.place.worker ≡ w = ap (λ (y : Start). y.place.worker) begins ∙ run.starts.numbers w inside in
     let few : n ≤ 2 ^ 64 = (let l = run.starts.few in omega arith) in
-    nowhere_else_law n serial other hired.start came_from.0 x past (events_taken crew reports other h r)
+    nowhere_else_law n serial v h.start came_from.0 x past (events_taken g s)
     (record { below = (let is = number in omega arith); few = few; born = born; home = at_home n w came_from.0 x came_from.1 ∙ sym number })
     (λ same. elsewhere (same ∙ number))
-    (all_come crew run.ports got reports other h r run.joined every home there)
+    (all_come crew run.ports got reports v g s run.joined seats home here' there')

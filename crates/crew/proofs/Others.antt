@@ -1,8 +1,9 @@
 -- What the taker got of the other workers has no NOTIFY of a worker's subscription.
-use Rattle.std.proofs.Common.{◌≡◌, ◌≢◌, ◌==◌, ◌<◌, ◌≤◌, ◌^◌, ℕ, Bool, true, false, List, [], ◌∷◌, length, get_or, refl, ap, sym, subst, ◌∙◌, eq-eqb, ne_eqb, arith}
-use Rattle.std.specs.Prelude.{nat_lt}
+use Rattle.std.proofs.Common.{◌≡◌, ⊎_elim, ◌≢◌, ◌==◌, ◌<◌, ◌≤◌, ◌^◌, ℕ, Bool, true, false, List, [], ◌∷◌, length, get_or, refl, ap, sym, subst, ◌∙◌, eq-eqb, ne_eqb, arith}
+use Rattle.std.specs.Prelude.{nat_lt, Some, slice_get}
 use Rattle.std.proofs.lemmas.List.{append-nil}
 use Rattle.std.proofs.lemmas.List.Elements.{All-nil, All-head, All-tail, All-push}
+use Rattle.std.proofs.lemmas.Option.{get_or_from_slice_get, slice_get_cases, slice_get_within}
 use Rattle.queues.specs.declared.items.Item.{Item}
 use Rattle.queues.specs.Items.{items_of}
 use Rattle.queues.specs.Values.{values}
@@ -16,6 +17,7 @@ use Rattle.crew.specs.Joined.{Reported}
 use Rattle.crew.specs.Started.{Hired}
 use Rattle.crew.specs.declared.report.WorkerReport.{WorkerReport}
 use Rattle.life.specs.Laws.{IsStart, AreNotifies, notifies_with}
+use Rattle.schedules.specs.Laws.{Rise}
 use Rattle.schedules.proofs.Cases.{never_both, is_below}
 use Rattle.schedules.proofs.Steps.{above}
 use Rattle.schedules.proofs.Numbering.{first_rise}
@@ -23,7 +25,7 @@ use Rattle.schedules.proofs.Told.{none_at_all}
 use Rattle.schedules.proofs.Others.{IsStrange, others_strange, others_silent, with_tag, IsAlone, own_alone}
 use Rattle.crew.specs.Laws.{events_handled, its_notices, its_past, its_tag}
 use Rattle.crew.proofs.Joined.{joined_life_law}
-use Rattle.crew.proofs.Zipped.{zip_at}
+use Rattle.crew.proofs.Zipped.{zip_at, zip_len}
 
 -- ---- what was got is of the crew's workers
 
@@ -92,21 +94,33 @@ module _ (start : ℕ → Start) (crew : List Hired) (got : List (Item Out)) (re
           ap (with_tag (its_tag (hired_at w) serial)) (none_above (length crew) v got (above v (length crew) e) by)
           ∙ none_at_all (its_tag (hired_at w) serial)
 
+  whole_at : (w serial : ℕ) → w < length crew → serial < 2 ^ 64
+      → AreNotifies (its_tag (hired_at w) serial) (its_notices (hired_at w) (get_or reports w r) serial) (with_tag (its_tag (hired_at w) serial) got)
+  whole_at w serial lt small =
+      let hired : Hired = hired_at w in
+      let report : WorkerReport = get_or reports w r in
+      let tag : List ℕ = its_tag hired serial in
+      let of_worker = joined_life_law hired got report serial (starts_well w lt) small (told w lt) in
+      let all : with_tag tag got ≡ with_tag tag (items_of hired.posts.number got) =
+      own_alone tag w got (alone w serial lt) ∙ ap (λ k. with_tag tag (items_of k got)) (sym (posts_as w lt)) in
+      subst (AreNotifies tag (its_notices hired report serial)) (sym all) of_worker
+
 pub whole_law : WholeLaw
-whole_law start crew got reports w serial h r run by lt small =
-    let hired : Hired = get_or crew w h in
-    let report : WorkerReport = get_or reports w r in
-    let tag : List ℕ = its_tag hired serial in
-    let of_worker = joined_life_law hired got report serial (starts_well start crew got reports h r run by w lt) small (told start crew got reports h r run by w lt) in
-    let all : with_tag tag got ≡ with_tag tag (items_of hired.posts.number got) =
-    own_alone tag w got (alone start crew got reports h r run by w serial lt)
-    ∙ ap (λ k. with_tag tag (items_of k got)) (sym (posts_as start crew got reports h r run by w lt)) in
-    subst (AreNotifies tag (its_notices hired report serial)) (sym all) of_worker
+whole_law start crew got reports w serial h r run by here there small =
+    let lt : w < length crew = slice_get_within crew w h here in
+    subst (λ (x : WorkerReport). AreNotifies (its_tag h serial) (its_notices h x serial) (with_tag (its_tag h serial) got)) (get_or_from_slice_get reports w r r there)
+    (subst (λ (x : Hired). AreNotifies (its_tag x serial) (its_notices x (get_or reports w r) serial) (with_tag (its_tag x serial) got)) (get_or_from_slice_get crew w h h here)
+    (whole_at start crew got reports h r run by w serial lt small))
 
 pub rising_law : RisingLaw
-rising_law start crew got reports w serial h r run by lt small =
-    let hired : Hired = get_or crew w h in
-    let past = its_past hired (get_or reports w r) in
-    let all = its_notices hired (get_or reports w r) serial in
-    first_rise hired.start serial past (its_tag hired serial) all (notifies_with (its_tag hired serial) (values got))
-    ([], sym (append-nil all)) (whole_law start crew got reports w serial h r run by lt small)
+rising_law start crew got reports w serial h run by here small =
+    ⊎_elim
+    (λ there. rises there.0 there.2)
+    (λ past. absurd (let lt = slice_get_within crew w h here in let same = zip_len (λ (x : Hired) (y : WorkerReport). Reported x got y) crew reports run.joined.reported in let le = past.0 in omega arith))
+    (slice_get_cases reports w).1
+  where
+    rises : (r : WorkerReport) → slice_get reports w ≡ Some r → Rise (with_tag (its_tag h serial) got)
+    rises r there =
+        let all = its_notices h r serial in
+        first_rise h.start serial (its_past h r) (its_tag h serial) all (with_tag (its_tag h serial) got)
+        ([], sym (append-nil all)) (whole_law start crew got reports w serial h r run by here there small)

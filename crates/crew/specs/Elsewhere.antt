@@ -1,5 +1,5 @@
 -- That no other worker of a joined crew got what concerns a subscription, ticks and the planned stop apart.
-use Rattle.std.specs.Prelude.{ℕ, ◌≡◌, ◌<◌, true, List, length, get_or}
+use Rattle.std.specs.Prelude.{ℕ, ◌≡◌, ◌<◌, true, List, length, Contains, slice_get, Some}
 use Rattle.std.specs.List.{All}
 use Rattle.sip_text.specs.declared.address.Addr.{Addr}
 use Rattle.sip_read.specs.declared.message.Request.{Request}
@@ -20,31 +20,31 @@ use Rattle.crew.specs.declared.report.WorkerReport.{WorkerReport}
 use Rattle.life.specs.Lives.{concerns}
 use Rattle.life.specs.Together.{IsBornAtHome}
 
--- every port of the crew is among these: of each worker's inbox one has the seat of each number
-pub record IsEveryPort (crew : List Hired) (ports : List PortSeats) : Type 0 where
-  pub len : (p : ℕ) (q : PortSeats) → p < length ports → length (get_or ports p q).seats ≡ length crew
-  pub each : (w k : ℕ) (h : Hired) → w < length crew → k < (get_or crew w h).reads.ports
-      → (p : ℕ) × (p < length ports) × ((q : PortSeats) (s : SenderSeat) → (get_or (get_or ports p q).seats w s).number ≡ k)
+-- these ports have all seats: each has one for each worker, and each number of a worker's inbox is that of one of their seats there
+pub record HaveAllSeats (crew : List Hired) (ports : List PortSeats) : Type 0 where
+  pub len : All (λ (q : PortSeats). length q.seats ≡ length crew) ports
+  pub each : (w k : ℕ) (h : Hired) → slice_get crew w ≡ Some h → k < h.reads.ports
+      → (q : PortSeats) × (s : SenderSeat) × Contains ports q × (slice_get q.seats w ≡ Some s) × (s.number ≡ k)
 
 -- each port sent events to their homes, and to all what goes to all
 abbrev pub AllAtHome : List Hired → List PortSeats → Type 0
-AllAtHome crew ports = (p : ℕ) (q : PortSeats) → p < length ports → AreAtHome (length crew) (get_or ports p q).seats
+AllAtHome crew ports = All (λ (q : PortSeats). AreAtHome (length crew) q.seats) ports
 
--- all events that worker w took from its inbox, and the planned stop where there is one
-abbrev pub events_taken : List Hired → List WorkerReport → ℕ → Hired → WorkerReport → List Event
-events_taken crew reports w h r =
-    events_of (get_or crew w h).start.place.stop (get_or crew w h).reads.ports (get_or reports w r).receiver.taken
+-- all events that the worker took from its inbox, and the planned stop where there is one
+abbrev pub events_taken : Hired → WorkerReport → List Event
+events_taken h report = events_of h.start.place.stop h.reads.ports report.receiver.taken
 
--- the ports of a new crew, closed, are every port
+-- the ports of a new crew, closed, have all seats
 abbrev pub EveryPortLaw : Type 0
 EveryPortLaw = (start : ℕ → Start) (n : ℕ) (crew : List Hired) (dealt ports : List PortSeats) (taker : TakerSeat) →
-    IsStarted start (length crew) n crew dealt taker → AllClosed dealt ports → IsEveryPort crew ports
+    IsStarted start (length crew) n crew dealt taker → AllClosed dealt ports → HaveAllSeats crew ports
 
--- Where every port was handed to `join` and sent events to their homes, a worker other than the one that a subscription has its
--- home at took nothing that concerns it, but what goes to all.
+-- Where the ports that were handed to `join` have all seats and sent events to their homes, a worker other than the one that a
+-- subscription has its home at took nothing that concerns it, but what goes to all.
 abbrev pub NowhereElseLaw : Type 0
 NowhereElseLaw = (crew : List Hired) (ports : List PortSeats) (got : List (Item Out)) (reports : List WorkerReport)
     (start : Start) (serial other : ℕ) (source : Addr) (x : Request) (past : List Event) (h : Hired) (r : WorkerReport) →
-    IsJoined crew ports got reports → IsEveryPort crew ports → AllAtHome crew ports →
-    IsBornAtHome (length crew) start serial source x past → other < length crew → (other ≡ start.place.worker → ⊥) →
-    All (λ e. concerns (tag_of start.place serial) x e ≡ true → is_for_all e ≡ true) (events_taken crew reports other h r)
+    IsJoined crew ports got reports → HaveAllSeats crew ports → AllAtHome crew ports →
+    IsBornAtHome (length crew) start serial source x past → (other ≡ start.place.worker → ⊥) →
+    slice_get crew other ≡ Some h → slice_get reports other ≡ Some r →
+    All (λ e. concerns (tag_of start.place serial) x e ≡ true → is_for_all e ≡ true) (events_taken h r)

@@ -1,5 +1,6 @@
 -- What contracts see of a port of a crew.
 use Rattle.std.specs.Prelude.{◌≡◌, ◌⊎◌, ◌<◌, ℕ, Bool, true, false, nat_lt, List, [], ◌∷◌, ◌++◌, length, map, get_or, take, drop, slice_get, slice_set, Some}
+use Rattle.std.specs.List.{All}
 use Rattle.notifier_model.specs.declared.event.Event.{Event}
 use Rattle.queues.specs.Values.{end_item, value_item}
 use Rattle.queues.specs.InboxSeats.{Inbox, SenderSeat, with_sent}
@@ -36,11 +37,11 @@ TakeSeats old new seats n = (k : ℕ) (d : PortSeats) (s : SenderSeat) → k < n
 
 -- no port was closed: each is open, or has no seat yet
 abbrev pub NoneWasClosed : List PortSeats → Type 0
-NoneWasClosed ports = (k : ℕ) (d : PortSeats) → k < length ports → (get_or ports k d).is_open ≡ false → (get_or ports k d).seats ≡ []
+NoneWasClosed ports = All (λ (p : PortSeats). p.is_open ≡ false → p.seats ≡ []) ports
 
 -- each port may take a seat more
 abbrev pub HaveRoom : List PortSeats → Type 0
-HaveRoom ports = (k : ℕ) (d : PortSeats) → k < length ports → length (get_or ports k d).seats < 256
+HaveRoom ports = All (λ (p : PortSeats). length p.seats < 256) ports
 
 -- one item more at the w-th of these seats, and nothing else
 pub record SendsAt (old : List SenderSeat) (w : ℕ) (event : Event) (new : List SenderSeat) : Type 0 where

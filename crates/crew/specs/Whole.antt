@@ -1,5 +1,5 @@
 -- All that the taker of a joined crew got of a subscription, from whichever worker.
-use Rattle.std.specs.Prelude.{ℕ, ◌≡◌, ◌<◌, ◌^◌, List, [], ◌∷◌, length, get_or}
+use Rattle.std.specs.Prelude.{ℕ, ◌≡◌, ◌<◌, ◌^◌, List, [], ◌∷◌, length, slice_get, Some}
 use Rattle.queues.specs.declared.items.Item.{Item}
 use Rattle.queues.specs.Values.{values}
 use Rattle.notifier_model.specs.declared.event.Out.{Out}
@@ -45,14 +45,13 @@ pub record IsCrewRun (start : ℕ → Start) (crew : List Hired) (got : List (It
 abbrev pub WholeLaw : Type 0
 WholeLaw = (start : ℕ → Start) (crew : List Hired) (got : List (Item Out)) (reports : List WorkerReport)
     (w serial : ℕ) (h : Hired) (r : WorkerReport) →
-    IsCrewRun start crew got reports → AllBy (length crew) got → w < length crew → serial < 2 ^ 64 →
-    AreNotifies (its_tag (get_or crew w h) serial)
-    (its_notices (get_or crew w h) (get_or reports w r) serial)
-    (notifies_with (its_tag (get_or crew w h) serial) (values got))
+    IsCrewRun start crew got reports → AllBy (length crew) got →
+    slice_get crew w ≡ Some h → slice_get reports w ≡ Some r → serial < 2 ^ 64 →
+    AreNotifies (its_tag h serial) (its_notices h r serial) (notifies_with (its_tag h serial) (values got))
 
 -- They are numbered 1, 2, 3 and so on, and none follows a terminated one.
 abbrev pub RisingLaw : Type 0
 RisingLaw = (start : ℕ → Start) (crew : List Hired) (got : List (Item Out)) (reports : List WorkerReport)
-    (w serial : ℕ) (h : Hired) (r : WorkerReport) →
-    IsCrewRun start crew got reports → AllBy (length crew) got → w < length crew → serial < 2 ^ 64 →
-    Rise (notifies_with (its_tag (get_or crew w h) serial) (values got))
+    (w serial : ℕ) (h : Hired) →
+    IsCrewRun start crew got reports → AllBy (length crew) got → slice_get crew w ≡ Some h → serial < 2 ^ 64 →
+    Rise (notifies_with (its_tag h serial) (values got))

@@ -72,7 +72,7 @@ pub fn nowhere_else()
     ensures { NowhereElseLaw }
 {}
 
-/// The ports of a new crew, each closed and handed in, are every port.
+/// The ports of a new crew, each closed and handed in, have all seats.
 pub fn every_port()
     ensures { EveryPortLaw }
 {}

@@ -22,7 +22,7 @@ use Rattle.transport.specs.Wires.{Grows}
 use Rattle.feeds.specs.declared.sending.Fate.{Fate}
 use Rattle.feeds.specs.declared.sending.Fate.TheVariants.{Sent, Started, Failed}
 use Rattle.feeds.specs.declared.sending.EmitReport.{EmitReport}
-use Rattle.feeds.specs.Emitted.{Fates, MayMeet, Writes, WritesAll, line_of, counted, is_start, datagram_sent, sent_datagrams, lines, is_sent, is_started, is_failed, fails_to_start, fails_to_send, count, AllMeet, IsCounted, WireSeen, WriterSeen, IsEmitted}
+use Rattle.feeds.specs.Emitted.{Fates, MayMeet, Writes, WritesAll, line_of, counted, is_start, datagram_sent, sent_datagrams, lines, is_sent, is_started, is_failed, fails_to_start, fails_to_send, count, AllMeet, IsCounted, WireSeen, WriterSeen, AreMet}
 use Rattle.feeds.proofs.Telling.{grows_none, grows_more, grows_same}
 
 abbrev pub one : Out → Fate → Fates
@@ -131,24 +131,22 @@ module _ {S : Type 0} (flushed : S → Bool) where
 
 -- ---- the loop
 
-pub emitting_none : (workers : ℕ) (got : List (Item Out)) (wire : WireSeen) (writer : WriterSeen)
-    → IsEmitted workers [] got got wire wire writer writer (record { sent = 0; starts = 0; failed = 0 })
-emitting_none workers got wire writer = record {
+pub meeting_none : (workers : ℕ) (got : List (Item Out)) (writer : WriterSeen)
+    → AreMet workers [] got got writer writer (record { sent = 0; starts = 0; failed = 0 })
+meeting_none workers got writer = record {
   outs = ([], sym (append-nil got), refl, All-nil (λ (x : Item Out). x.from < workers));
   meet = tt;
   counts = record { total = refl; sent = refl; starts = refl; failed = refl };
-  taken = grows_none wire.taken;
-  wire_failures = refl;
   writer_failures = refl;
   wrote = refl;
   written = λ none. appends_none writer.contents;
 }
 
-module _ {workers : ℕ} {log : Fates} {got got' : List (Item Out)} {wire wire' : WireSeen} {writer writer' : WriterSeen} {report : EmitReport}
-    (was : IsEmitted workers log got got' wire wire' writer writer' report) where
-  pub emitting_end : (next : List (Item Out)) (w : ℕ) → w < workers → next ≡ got' ++ end_item w ∷ []
-      → IsEmitted workers log got next wire wire' writer writer' report
-  emitting_end next w low more =
+module _ {workers : ℕ} {log : Fates} {got got' : List (Item Out)} {writer writer' : WriterSeen} {report : EmitReport}
+    (was : AreMet workers log got got' writer writer' report) where
+  pub meeting_end : (next : List (Item Out)) (w : ℕ) → w < workers → next ≡ got' ++ end_item w ∷ []
+      → AreMet workers log got next writer writer' report
+  meeting_end next w low more =
       let items : List (Item Out) = was.outs.0 in record {
         outs = (
           items ++ end_item w ∷ [],
@@ -158,25 +156,20 @@ module _ {workers : ℕ} {log : Fates} {got got' : List (Item Out)} {wire wire' 
         );
         meet = was.meet;
         counts = was.counts;
-        taken = was.taken;
-        wire_failures = was.wire_failures;
         writer_failures = was.writer_failures;
         wrote = was.wrote;
         written = was.written;
       }
 
-  pub emitting_out : (next : List (Item Out)) (w : ℕ) (o : Out) (f : Fate) (after : WireSeen) (after' : WriterSeen)
+  pub meeting_out : (next : List (Item Out)) (w : ℕ) (o : Out) (f : Fate) (after' : WriterSeen)
       → w < workers → next ≡ got' ++ value_item w o ∷ [] → MayMeet o f
-      → Grows wire'.taken after.taken (sent_datagrams (one o f))
-      → after.failures ≡ rises (count fails_to_send (one o f)) wire'.failures
       → after'.failures ≡ rises (count fails_to_start (one o f)) writer'.failures
       → Writes writer'.contents after'.contents o f
-      → IsEmitted workers (log ++ one o f) got next wire after writer after' (counted report f)
-  emitting_out next w o f after after' low more may took failed failed' wrote_it =
+      → AreMet workers (log ++ one o f) got next writer after' (counted report f)
+  meeting_out next w o f after' low more may failed' wrote_it =
       let items : List (Item Out) = was.outs.0 in
-      let P : List Datagram → Type 0 = λ l. Grows wire.taken after.taken l in
       let Q : List ℕ → Type 0 = λ l. Appends writer.contents after'.contents l in
-      let sends : ℕ = count fails_to_send (one o f) in let starts : ℕ = count fails_to_start (one o f) in
+      let starts : ℕ = count fails_to_start (one o f) in
       let all = count_more fails_to_start log (one o f) in record {
         outs = (
           items ++ value_item w o ∷ [],
@@ -186,11 +179,6 @@ module _ {workers : ℕ} {log : Fates} {got got' : List (Item Out)} {wire wire' 
         );
         meet = meet_more log (one o f) was.meet (may, tt);
         counts = counted_more log o f report was.counts;
-        taken = subst P (sym (filter_map-append (λ (x : Out × Fate). datagram_sent x.0 x.1) log (one o f)))
-            (grows_more wire.taken wire'.taken after.taken (sent_datagrams log) (sent_datagrams (one o f)) was.taken took);
-        wire_failures = failed ∙ ap (rises sends) was.wire_failures
-            ∙ sym (rises_more sends (count fails_to_send log) wire.failures)
-            ∙ ap (λ n. rises n wire.failures) (let e = count_more fails_to_send log (one o f) in omega arith);
         writer_failures = failed' ∙ ap (rises starts) was.writer_failures
             ∙ sym (rises_more starts (count fails_to_start log) writer.failures)
             ∙ ap (λ n. rises n writer.failures) (omega arith);
@@ -201,30 +189,53 @@ module _ {workers : ℕ} {log : Fates} {got got' : List (Item Out)} {wire wire' 
             (was.written (omega arith)) (wrote writer'.contents after'.contents o f wrote_it (omega arith)));
       }
 
+-- ---- the wire
+
+-- it took what was sent of these, and failed at the others
+pub record HasSent (log : Fates) (wire wire' : WireSeen) : Type 0 where
+  pub taken : Grows wire.taken wire'.taken (sent_datagrams log)
+  pub failures : wire'.failures ≡ rises (count fails_to_send log) wire.failures
+
+pub sent_none : (wire : WireSeen) → HasSent [] wire wire
+sent_none wire = record { taken = grows_none wire.taken; failures = refl }
+
+pub sent_more : {log : Fates} {wire wire' after : WireSeen} → HasSent log wire wire' → (o : Out) (f : Fate)
+    → Grows wire'.taken after.taken (sent_datagrams (one o f)) → after.failures ≡ rises (count fails_to_send (one o f)) wire'.failures
+    → HasSent (log ++ one o f) wire after
+sent_more {log = log} {wire = wire} {wire' = wire'} {after = after} was o f took failed =
+    let P : List Datagram → Type 0 = λ l. Grows wire.taken after.taken l in
+    let sends : ℕ = count fails_to_send (one o f) in record {
+      taken = subst P (sym (filter_map-append (λ (x : Out × Fate). datagram_sent x.0 x.1) log (one o f)))
+          (grows_more wire.taken wire'.taken after.taken (sent_datagrams log) (sent_datagrams (one o f)) was.taken took);
+      failures = failed ∙ ap (rises sends) was.failures
+          ∙ sym (rises_more sends (count fails_to_send log) wire.failures)
+          ∙ ap (λ n. rises n wire.failures) (let e = count_more fails_to_send log (one o f) in omega arith);
+    }
+
 -- ---- the taker
 
 -- what became of the outs so far, the taker's seat at the start and now, and how many workers haven't ended
-pub record Running (log : Fates) (t0 t : TakerSeat) (left : ℕ) (told told' : Option (List Datagram)) (wire wire' : WireSeen) (writer writer' : WriterSeen) (report : EmitReport) : Type 0 where
+pub record Running (log : Fates) (t0 t : TakerSeat) (left : ℕ) (told told' : Option (List Datagram)) (writer writer' : WriterSeen) (report : EmitReport) : Type 0 where
   pub outbox : t.outbox ≡ t0.outbox
   pub workers : t.workers ≡ t0.workers
   pub left_is : left + count_ended t0.workers t.got ≡ t0.workers
   pub given : Grows told told' []
-  pub emitted : IsEmitted t0.workers log t0.got t.got wire wire' writer writer' report
+  pub met : AreMet t0.workers log t0.got t.got writer writer' report
 
-pub running_first : (t : TakerSeat) (left : ℕ) (told : Option (List Datagram)) (wire : WireSeen) (writer : WriterSeen)
-    → left ≡ t.workers → count_ended t.workers t.got ≡ 0 → Running [] t t left told told wire wire writer writer (record { sent = 0; starts = 0; failed = 0 })
-running_first t left told wire writer all none = record {
+pub running_first : (t : TakerSeat) (left : ℕ) (told : Option (List Datagram)) (writer : WriterSeen)
+    → left ≡ t.workers → count_ended t.workers t.got ≡ 0 → Running [] t t left told told writer writer (record { sent = 0; starts = 0; failed = 0 })
+running_first t left told writer all none = record {
   outbox = refl;
   workers = refl;
   left_is = omega arith;
   given = grows_none told;
-  emitted = emitting_none t.workers t.got wire writer;
+  met = meeting_none t.workers t.got writer;
 }
 
-module _ {log : Fates} {t0 t : TakerSeat} {left : ℕ} {told told' : Option (List Datagram)} {wire wire' : WireSeen} {writer writer' : WriterSeen} {report : EmitReport}
-    (was : Running log t0 t left told told' wire wire' writer writer' report) where
+module _ {log : Fates} {t0 t : TakerSeat} {left : ℕ} {told told' : Option (List Datagram)} {writer writer' : WriterSeen} {report : EmitReport}
+    (was : Running log t0 t left told told' writer writer' report) where
   pub running_end : (u : TakerSeat) (left' w : ℕ) → Took t (posted.Ended w) u → left' + 1 ≡ left
-      → Running log t0 u left' told told' wire wire' writer writer' report
+      → Running log t0 u left' told told' writer writer' report
   running_end u left' w took one =
       let low : w < t0.workers = subst (λ n. w < n) was.workers took.1.0 in
       let got : u.got ≡ t.got ++ end_item w ∷ [] = ap (λ (x : TakerSeat). x.got) took.0 in
@@ -234,17 +245,15 @@ module _ {log : Fates} {t0 t : TakerSeat} {left : ℕ} {told told' : Option (Lis
         workers = ap (λ (x : TakerSeat). x.workers) took.0 ∙ was.workers;
         left_is = (let l = was.left_is in omega arith);
         given = was.given;
-        emitted = emitting_end was.emitted u.got w low got;
+        met = meeting_end was.met u.got w low got;
       }
 
-  pub running_out : (u : TakerSeat) (w : ℕ) (o : Out) (f : Fate) (told'' : Option (List Datagram)) (after : WireSeen) (after' : WriterSeen)
+  pub running_out : (u : TakerSeat) (w : ℕ) (o : Out) (f : Fate) (told'' : Option (List Datagram)) (after' : WriterSeen)
       → Took t (posted.Out w o) u → MayMeet o f → Grows told' told'' []
-      → Grows wire'.taken after.taken (sent_datagrams (one o f))
-      → after.failures ≡ rises (count fails_to_send (one o f)) wire'.failures
       → after'.failures ≡ rises (count fails_to_start (one o f)) writer'.failures
       → Writes writer'.contents after'.contents o f
-      → Running (log ++ one o f) t0 u left told told'' wire after writer after' (counted report f)
-  running_out u w o f told'' after after' took may none took_it failed failed' wrote_it =
+      → Running (log ++ one o f) t0 u left told told'' writer after' (counted report f)
+  running_out u w o f told'' after' took may none failed wrote_it =
       let got : u.got ≡ t.got ++ value_item w o ∷ [] = ap (λ (x : TakerSeat). x.got) took.0 in
       let same : count_ended t0.workers u.got ≡ count_ended t0.workers t.got =
       ap (count_ended t0.workers) got ∙ ended_value t0.workers t.got (value_item w o) refl in record {
@@ -252,14 +261,14 @@ module _ {log : Fates} {t0 t : TakerSeat} {left : ℕ} {told told' : Option (Lis
         workers = ap (λ (x : TakerSeat). x.workers) took.0 ∙ was.workers;
         left_is = (let l = was.left_is in omega arith);
         given = grows_same told told' told'' [] was.given none;
-        emitted = emitting_out was.emitted u.got w o f after after' (subst (λ n. w < n) was.workers took.1.0) got may took_it failed failed' wrote_it;
+        met = meeting_out was.met u.got w o f after' (subst (λ n. w < n) was.workers took.1.0) got may failed wrote_it;
       }
 
   -- the same taker by another name, where as many are left
-  pub running_as : (u : TakerSeat) (left' : ℕ) → u ≡ t → left' ≡ left → Running log t0 u left' told told' wire wire' writer writer' report
+  pub running_as : (u : TakerSeat) (left' : ℕ) → u ≡ t → left' ≡ left → Running log t0 u left' told told' writer writer' report
   running_as u left' same as_many =
-      let P : TakerSeat → Type 0 = λ k. Running log t0 k left' told told' wire wire' writer writer' report in
-      let Q : ℕ → Type 0 = λ n. Running log t0 t n told told' wire wire' writer writer' report in subst P (sym same) (subst Q (sym as_many) was)
+      let P : TakerSeat → Type 0 = λ k. Running log t0 k left' told told' writer writer' report in
+      let Q : ℕ → Type 0 = λ n. Running log t0 t n told told' writer writer' report in subst P (sym same) (subst Q (sym as_many) was)
 
   pub running_done : left ≡ 0 → AllEnded t0.workers t.got
   running_done none = all_ended t0.workers t.got (let l = was.left_is in omega arith)

@@ -18,7 +18,7 @@ use Rattle.feeds.specs.declared.feeding.Told.TheVariants as came
 use Rattle.feeds.specs.declared.feeding.FeedReport.{FeedReport}
 use Rattle.feeds.specs.declared.feeding.FeedEnd.TheVariants.{Done, Gone}
 use Rattle.feeds.specs.Heard.{Says}
-use Rattle.feeds.specs.Fed.{Log, datagrams, event_heard, events, is_unread, unread, is_close, closes, AllSay, Sends, Misses, IsTold, Ends, IsFed}
+use Rattle.feeds.specs.Fed.{Log, datagrams, event_heard, events, is_unread, unread, is_close, closes, AllSay, Sends, Misses, IsPassedOn, Ends, IsFed}
 use Rattle.feeds.proofs.SendingHome.{sends_none, sends_more}
 
 -- ---- a log, and one datagram more
@@ -164,26 +164,26 @@ module _ {language : Language} {old now : PortSeats} {told told' : Option (List 
   -- ---- by what came of the datagram
 
   pub step_sent : (next : PortSeats) (after : Option (List Datagram)) (d : Datagram) (h : Heard) → Grows told' after (d ∷ [])
-      → Says language d h → IsTold h now next came.Sent → Feeding language old next told after (seen + 1) missed
+      → Says language d h → IsPassedOn h now next came.Sent → Feeding language old next told after (seen + 1) missed
   step_sent next after d (heard.Event e) more says is = feeding_event next after d e more says is
   step_sent next after d heard.Unread more says is = absurd is
   step_sent next after d heard.Close more says is = absurd is
 
   pub step_unread : (next : PortSeats) (after : Option (List Datagram)) (d : Datagram) (h : Heard) → Grows told' after (d ∷ [])
-      → Says language d h → IsTold h now next came.Unread → Feeding language old next told after (seen + 1) (missed + 1)
+      → Says language d h → IsPassedOn h now next came.Unread → Feeding language old next told after (seen + 1) (missed + 1)
   step_unread next after d (heard.Event e) more says is = absurd is
   step_unread next after d heard.Unread more says is = feeding_unread next after d more says is
   step_unread next after d heard.Close more says is = absurd is
 
   pub step_close : (count : ℕ) → seen < count → (next : PortSeats) (after : Option (List Datagram)) (d : Datagram) (h : Heard) → Grows told' after (d ∷ [])
-      → Says language d h → IsTold h now next came.Close
+      → Says language d h → IsPassedOn h now next came.Close
       → (log : Log) × Grows told after (datagrams log) × IsFed language count log old next (record { seen = seen + 1; unread = missed; end = Done })
   step_close count low next after d (heard.Event e) more says is = absurd is
   step_close count low next after d heard.Unread more says is = absurd is
   step_close count low next after d heard.Close more says is = fed_close count low next after d more says is
 
   pub step_gone : (count : ℕ) → seen < count → (next : PortSeats) (after : Option (List Datagram)) (d : Datagram) (h : Heard) → Grows told' after (d ∷ [])
-      → Says language d h → IsTold h now next came.Gone
+      → Says language d h → IsPassedOn h now next came.Gone
       → (log : Log) × Grows told after (datagrams log) × IsFed language count log old next (record { seen = seen + 1; unread = missed; end = Gone })
   step_gone count low next after d (heard.Event e) more says is = fed_gone count low next after d e more says is
   step_gone count low next after d heard.Unread more says is = absurd is

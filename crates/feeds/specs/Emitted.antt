@@ -146,15 +146,18 @@ wire_seen taken failures wire = record { taken = taken wire; failures = failures
 abbrev pub writer_seen : {W : Type 0} → (W → Option (List ℕ)) → SinkSeen W → WriterSeen
 writer_seen contents sink = record { contents = contents sink.writer; failures = sink.failures }
 
--- the outs that were got of the workers met these fates. The wire took, in order, just the datagrams that were sent, and failed
--- at the others; the writer failed at each transfer that isn't written; it took of each out, in order, what that is, and so,
--- where it never failed, the lines of all
-pub record IsEmitted (workers : ℕ) (log : Fates) (got got' : List (Item Out)) (wire wire' : WireSeen) (writer writer' : WriterSeen) (report : EmitReport) : Type 0 where
+-- the outs that were got of the workers met these fates. The writer failed at each transfer that isn't written; it took of each out, in
+-- order, what that is, and so, where it never failed, the lines of all
+pub record AreMet (workers : ℕ) (log : Fates) (got got' : List (Item Out)) (writer writer' : WriterSeen) (report : EmitReport) : Type 0 where
   pub outs : AreGot workers log got got'
   pub meet : AllMeet log
   pub counts : IsCounted log report
-  pub taken : Grows wire.taken wire'.taken (sent_datagrams log)
-  pub wire_failures : wire'.failures ≡ rises (count fails_to_send log) wire.failures
   pub writer_failures : writer'.failures ≡ rises (count fails_to_start log) writer.failures
   pub wrote : WritesAll writer.contents log writer'.contents
   pub written : count fails_to_start log ≡ 0 → Appends writer.contents writer'.contents (lines log)
+
+-- they did, and the wire took, in order, just the datagrams that were sent, and failed at the others
+pub record IsEmitted (workers : ℕ) (log : Fates) (got got' : List (Item Out)) (wire wire' : WireSeen) (writer writer' : WriterSeen) (report : EmitReport) : Type 0 where
+  pub met : AreMet workers log got got' writer writer' report
+  pub taken : Grows wire.taken wire'.taken (sent_datagrams log)
+  pub wire_failures : wire'.failures ≡ rises (count fails_to_send log) wire.failures

@@ -80,19 +80,19 @@ AllSay language log = AllByRecursion (λ (x : Datagram × Heard). Says language 
 -- ---- one datagram
 
 -- what came of it: a port that sent its event, or couldn't, or had none to send
-abbrev pub IsTold : Heard → PortSeats → PortSeats → Told → Type 0
-IsTold (heard.Event e) old new told.Sent = Sends old (e ∷ []) new
-IsTold (heard.Event e) old new told.Gone = Misses old e new
-IsTold (heard.Event e) old new told.Unread = ⊥
-IsTold (heard.Event e) old new told.Close = ⊥
-IsTold heard.Unread old new told.Sent = ⊥
-IsTold heard.Unread old new told.Gone = ⊥
-IsTold heard.Unread old new told.Unread = new ≡ old
-IsTold heard.Unread old new told.Close = ⊥
-IsTold heard.Close old new told.Sent = ⊥
-IsTold heard.Close old new told.Gone = ⊥
-IsTold heard.Close old new told.Unread = ⊥
-IsTold heard.Close old new told.Close = new ≡ old
+abbrev pub IsPassedOn : Heard → PortSeats → PortSeats → Told → Type 0
+IsPassedOn (heard.Event e) old new told.Sent = Sends old (e ∷ []) new
+IsPassedOn (heard.Event e) old new told.Gone = Misses old e new
+IsPassedOn (heard.Event e) old new told.Unread = ⊥
+IsPassedOn (heard.Event e) old new told.Close = ⊥
+IsPassedOn heard.Unread old new told.Sent = ⊥
+IsPassedOn heard.Unread old new told.Gone = ⊥
+IsPassedOn heard.Unread old new told.Unread = new ≡ old
+IsPassedOn heard.Unread old new told.Close = ⊥
+IsPassedOn heard.Close old new told.Sent = ⊥
+IsPassedOn heard.Close old new told.Gone = ⊥
+IsPassedOn heard.Close old new told.Unread = ⊥
+IsPassedOn heard.Close old new told.Close = new ≡ old
 
 -- ---- all of them
 

@@ -43,10 +43,10 @@ event_in (control.Change c) = told_event c
 event_in (control.Tick n) = Some (event.Tick n)
 event_in control.Close = None
 
--- why a line is not read: it is none, or memory ran out
+-- why a line is not read: it is none, or memory ran out, which a CLOSE doesn't need
 abbrev pub IsNoLine : List ℕ → ScriptError → Type 0
 IsNoLine octets error.BadScript = (c : Control) → ¬ (IsControlLine octets c)
-IsNoLine octets error.NoMemory = Unit {0}
+IsNoLine octets error.NoMemory = ¬ (IsControlLine octets control.Close)
 IsNoLine octets error.Device = ⊥
 
 abbrev pub ControlSays : List ℕ → Heard → Type 0

@@ -1,5 +1,5 @@
 -- What was sent out of a subscription, from whichever worker of a joined crew.
-use Rattle.std.specs.Prelude.{ℕ, ◌<◌, ◌^◌, List, [], length, map, get_or}
+use Rattle.std.specs.Prelude.{ℕ, ◌≡◌, ◌<◌, ◌^◌, List, [], length, map, slice_get, Some}
 use Rattle.queues.specs.declared.items.Item.{Item}
 use Rattle.notifier_model.specs.declared.event.Out.{Out}
 use Rattle.notifier_model.specs.Start.{Start}
@@ -8,10 +8,9 @@ use Rattle.feeds.specs.declared.sending.Fate.{Fate}
 use Rattle.feeds.specs.Emitted.{Fates, IsEmitted, WireSeen, WriterSeen}
 use Rattle.crew.specs.Started.{Hired}
 use Rattle.crew.specs.declared.report.WorkerReport.{WorkerReport}
-use Rattle.life.specs.Notices.{newest_first, notices}
 use Rattle.life.specs.Laws.{AreNotifies, notifies_with}
 use Rattle.schedules.specs.Laws.{Rise}
-use Rattle.crew.specs.Laws.{events_handled, its_tag}
+use Rattle.crew.specs.Laws.{its_notices, its_tag}
 use Rattle.crew.specs.Whole.{IsCrewRun}
 
 -- the outs that met a fate
@@ -25,8 +24,6 @@ EmittedLaw = (start : ℕ → Start) (crew : List Hired) (got : List (Item Out))
     (w serial : ℕ) (h : Hired) (r : WorkerReport)
     (fates : Fates) (wire wire' : WireSeen) (writer writer' : WriterSeen) (report : EmitReport) →
     IsCrewRun start crew got reports → IsEmitted (length crew) fates [] got wire wire' writer writer' report →
-    w < length crew → serial < 2 ^ 64 →
-    AreNotifies (its_tag (get_or crew w h) serial)
-    (notices (get_or crew w h).start serial (newest_first (events_handled (get_or crew w h) (get_or reports w r))))
-    (notifies_with (its_tag (get_or crew w h) serial) (outs_of fates))
-    × Rise (notifies_with (its_tag (get_or crew w h) serial) (outs_of fates))
+    slice_get crew w ≡ Some h → slice_get reports w ≡ Some r → serial < 2 ^ 64 →
+    AreNotifies (its_tag h serial) (its_notices h r serial) (notifies_with (its_tag h serial) (outs_of fates))
+    × Rise (notifies_with (its_tag h serial) (outs_of fates))

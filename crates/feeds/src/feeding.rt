@@ -2,7 +2,7 @@
 ghost use Rattle.std.specs.Prelude.{◌≡◌, ◌∷◌, [], true, MatchBool};
 ghost use Rattle.crew.specs.Kept.{SameSeats};
 ghost use Rattle.transport.specs.Wires.{Grows};
-ghost use Rattle.feeds.specs.Fed.{Sends, Misses, IsTold, Log, datagrams, IsFed, is_fault, failures_at};
+ghost use Rattle.feeds.specs.Fed.{Sends, Misses, IsPassedOn, Log, datagrams, IsFed, is_fault, failures_at};
 
 use crate::hearing::{Heard, Language, hear};
 use crew::Port;
@@ -92,7 +92,7 @@ pub fn send_event<R: Wait>(rt: &R, port: &mut Port, happened: Event) -> bool
 /// Sends what was heard: its event, if it has one.
 pub fn tell<R: Wait>(rt: &R, port: &mut Port, heard: Heard) -> Told
     requires still_open { port.old.is_open ≡ true }
-    ensures told { IsTold heard port.old port.new result }
+    ensures told { IsPassedOn heard port.old port.new result }
     ensures seats { SameSeats port.old port.new }
 {
     match heard {
