@@ -1,11 +1,16 @@
 -- Why a service is refused.
 use Rattle.std.proofs.Common.{◌≡◌, ◌<◌, ◌≤◌, ◌⊎◌, inl, inr, ⊎_elim, Bool, true, [], ◌∷◌, length, get_or, sym, ap, ◌∙◌, subst, arith}
-use Rattle.std.specs.Prelude.{IfErr, IfSome, OnOk, Result, Ok, Err, Option, Some, None, ℕ, List, false, slice_get}
+use Rattle.std.specs.Prelude.{IfOk, IfErr, IfSome, Result, Ok, Err, Option, Some, None, ℕ, List, false, slice_get}
 use Rattle.arguments.specs.declared.flag.AddressFlag.{AddressFlag}
 use Rattle.arguments.specs.declared.setting.Setting.{Setting}
 use Rattle.arguments.specs.declared.setting.Setting.TheVariants as setting
 use Rattle.arguments.specs.Settings.{AreSettings}
 use Rattle.arguments.specs.Choices.{state_of}
+use Rattle.arguments.specs.declared.choices.Choices.{Choices}
+use Rattle.notifier_model.specs.Limits.{AreLimits}
+use Rattle.commands.specs.declared.ranged.Ranged.{Ranged}
+use Rattle.commands.specs.Ranges.{ranges, IsFirstOut}
+use Rattle.commands.specs.Plans.{limits_of, AreRead}
 use Rattle.commands.specs.declared.error.ServeError.{ServeError}
 use Rattle.commands.specs.declared.error.ServeError.TheVariants as error
 use Rattle.transport.specs.Devices.{SinkSeen}
@@ -13,18 +18,17 @@ use Rattle.service.specs.declared.running.ServiceEnd.{ServiceEnd}
 use Rattle.service.specs.Running.{is_faulty}
 use Rattle.service.proofs.Faults.{unfailed}
 use Rattle.commands.specs.UdpEnds.{all_closed, Tells}
-use Rattle.feeds.specs.Emitted.{writer_seen}
-use Rattle.commands.specs.Serving.{Serves, EndsWell}
-use Rattle.commands.specs.Refused.{IsOther, IsNoSocket, IsOfFile, IsOfState, IsOfNamedState, IsOfPasswords, IsOfAdmission, IsOfSetting, IsOfOne, NameFile, NameState, NamePasswords, IsListened, IsRefusal, asks_for_text, AskForText, IsStatus, status_of}
+use Rattle.commands.specs.Serving.{Serves, EndedWell, CanEndWell}
+use Rattle.commands.specs.Refused.{IsOther, IsNoSocket, IsOfFile, IsOfState, IsOfNamedState, IsOfPasswords, IsOfAdmission, IsOfSetting, IsOfOne, NameFile, NameState, NamePasswords, IsListened, IsRefusal, asks_for_text, AskForText, IsStatus, status_of, status_after}
 
 pub other_is : (words : List (List ℕ)) (e : ServeError) → IsOther e → IsRefusal words e
 other_is words (error.Options e) is = absurd is
-other_is words error.Times is = absurd is
+other_is words (error.Times r) is = absurd is
 other_is words error.NoContact is = absurd is
 other_is words error.NoMailbox is = absurd is
 other_is words (error.File path) is = absurd is
 other_is words (error.Line path line e) is = absurd is
-other_is words (error.StateLine path line) is = absurd is
+other_is words (error.StateLine path line fault) is = absurd is
 other_is words error.NoPasswords is = absurd is
 other_is words (error.PasswordLine path e) is = absurd is
 other_is words (error.NoUsers path) is = absurd is
@@ -37,14 +41,19 @@ other_is words error.System is = tt
 other_is words error.Device is = tt
 other_is words error.NoMemory is = tt
 
+-- a number is out of its range
+pub times_are : (words : List (List ℕ)) (choices : Choices) (names : List (List ℕ)) (e : ServeError) → AreRead words choices names
+    → ((r : Ranged) × (e ≡ error.Times r) × IsFirstOut (ranges choices.numbers) r) → ¬ (AreLimits (limits_of choices.numbers)) → IsRefusal words e
+times_are words choices names e read is none = subst (IsRefusal words) (sym is.1) (choices, names, read, is.2, none)
+
 pub no_socket_is : (which : AddressFlag) (e : ServeError) → IsNoSocket which e → IsListened which → IsOther e
 no_socket_is which (error.Options e) is listened = absurd is
-no_socket_is which error.Times is listened = absurd is
+no_socket_is which (error.Times r) is listened = absurd is
 no_socket_is which error.NoContact is listened = absurd is
 no_socket_is which error.NoMailbox is listened = absurd is
 no_socket_is which (error.File path) is listened = absurd is
 no_socket_is which (error.Line path line e) is listened = absurd is
-no_socket_is which (error.StateLine path line) is listened = absurd is
+no_socket_is which (error.StateLine path line fault) is listened = absurd is
 no_socket_is which error.NoPasswords is listened = absurd is
 no_socket_is which (error.PasswordLine path e) is listened = absurd is
 no_socket_is which (error.NoUsers path) is listened = absurd is
@@ -80,12 +89,12 @@ memory_of_setting (setting.Mailbox name) e is = is
 
 of_file_is : (words : List (List ℕ)) (path : List ℕ) (e : ServeError) → NameFile words path → IsOfFile path e → IsRefusal words e
 of_file_is words path (error.Options e) names is = absurd is
-of_file_is words path error.Times names is = absurd is
+of_file_is words path (error.Times r) names is = absurd is
 of_file_is words path error.NoContact names is = absurd is
 of_file_is words path error.NoMailbox names is = absurd is
 of_file_is words path (error.File named) names is = inl (subst (NameFile words) (sym is) names)
 of_file_is words path (error.Line named line e) names is = (subst (NameFile words) (sym is.0) names, is.1)
-of_file_is words path (error.StateLine named line) names is = absurd is
+of_file_is words path (error.StateLine named line fault) names is = absurd is
 of_file_is words path error.NoPasswords names is = absurd is
 of_file_is words path (error.PasswordLine named e) names is = absurd is
 of_file_is words path (error.NoUsers named) names is = absurd is
@@ -121,12 +130,12 @@ of_one_is words settings e are is = of_setting_is words settings is.0 is.1 e are
 
 of_path_is : (words : List (List ℕ)) (path : List ℕ) (e : ServeError) → NameState words path → IsOfState path e → IsRefusal words e
 of_path_is words path (error.Options e) names is = absurd is
-of_path_is words path error.Times names is = absurd is
+of_path_is words path (error.Times r) names is = absurd is
 of_path_is words path error.NoContact names is = absurd is
 of_path_is words path error.NoMailbox names is = absurd is
 of_path_is words path (error.File named) names is = inr (inl (subst (NameState words) (sym is) names))
 of_path_is words path (error.Line named line e) names is = absurd is
-of_path_is words path (error.StateLine named number) names is = (subst (NameState words) (sym is.0) names, is.1, is.2)
+of_path_is words path (error.StateLine named number fault) names is = (subst (NameState words) (sym is.0) names, is.1, is.2, is.3)
 of_path_is words path error.NoPasswords names is = absurd is
 of_path_is words path (error.PasswordLine named e) names is = absurd is
 of_path_is words path (error.NoUsers named) names is = absurd is
@@ -145,12 +154,12 @@ of_state_is words settings e are (inr is) = of_path_is words is.0 e (settings, a
 
 of_users_is : (words : List (List ℕ)) (path : List ℕ) (e : ServeError) → NamePasswords words path → IsOfPasswords path e → IsRefusal words e
 of_users_is words path (error.Options e) names is = absurd is
-of_users_is words path error.Times names is = absurd is
+of_users_is words path (error.Times r) names is = absurd is
 of_users_is words path error.NoContact names is = absurd is
 of_users_is words path error.NoMailbox names is = absurd is
 of_users_is words path (error.File named) names is = inr (inr (subst (NamePasswords words) (sym is) names))
 of_users_is words path (error.Line named line e) names is = absurd is
-of_users_is words path (error.StateLine named line) names is = absurd is
+of_users_is words path (error.StateLine named line fault) names is = absurd is
 of_users_is words path error.NoPasswords names is = absurd is
 of_users_is words path (error.PasswordLine named e) names is = (subst (NamePasswords words) (sym is.0) names, is.1)
 of_users_is words path (error.NoUsers named) names is = subst (NamePasswords words) (sym is) names
@@ -171,32 +180,60 @@ of_admission_is words settings e are (inr (inr (inl (inr is)))) = subst (IsRefus
 of_admission_is words settings e are (inr (inr (inr is))) = of_users_is words is.0 e (settings, are, is.1) is.2
 
 -- a service that ran and was closed off so ended well
-pub ended_well : {W T E : Type 0} (contents : W → Option (List ℕ)) (words : List (List ℕ)) (r : Result T E) (before between after : SinkSeen W) (o : ServiceEnd)
-    → Serves contents words before between o → OnOk r (is_faulty o ≡ false) → OnOk r (all_closed o.report.workers.items ≡ true)
-    → OnOk r (Tells contents o.report.workers.items between after) → OnOk r (EndsWell words)
-ended_well contents words (Ok x) before between after o served no_fault closed told = record {
-  plan = served.plan;
-  is_plan = served.is_plan;
-  local = served.local;
-  is_at = served.is_at;
-  outcome = o;
-  flow = record {
-    wire = served.ran.wire;
-    wire' = served.ran.wire';
-    writer = writer_seen contents before;
-    writer' = writer_seen contents between;
-  };
-  runs = served.ran.runs;
+pub ended_well : {W : Type 0} (contents : W → Option (List ℕ)) (words : List (List ℕ)) (before between after : SinkSeen W) (o : ServiceEnd)
+    → Serves contents words before between o → is_faulty o ≡ false → all_closed o.report.workers.items ≡ true
+    → Tells contents o.report.workers.items between after → EndedWell contents words before after o
+ended_well contents words before between after o served no_fault closed told = record {
+  between = between;
+  serves = served;
   sip_hears = (unfailed o served.faults no_fault).0;
   lines_hear = (unfailed o served.faults no_fault).1;
   clock_failures = (unfailed o served.faults no_fault).2;
   no_fault = no_fault;
   closed = closed;
-  last = writer_seen contents after;
-  told = told.written;
-  no_failure = told.no_failure;
+  told = told;
 }
-ended_well contents words (Err e) before between after o served no_fault closed told = told
+
+-- a sink by what its writer tells
+abbrev as_told : {W : Type 0} → (W → Option (List ℕ)) → SinkSeen W → SinkSeen (Option (List ℕ))
+as_told contents sink = record { writer = contents sink.writer; failures = sink.failures; is_flushed = sink.is_flushed }
+
+-- what ended well could
+pub can_end_well : {W : Type 0} (contents : W → Option (List ℕ)) (words : List (List ℕ)) (before after : SinkSeen W) (o : ServiceEnd)
+    → EndedWell contents words before after o → CanEndWell words
+can_end_well contents words before after o ended = record {
+  before = as_told contents before;
+  after = as_told contents after;
+  outcome = o;
+  well = record {
+    between = as_told contents ended.between;
+    serves = record {
+      plan = ended.serves.plan;
+      is_plan = ended.serves.is_plan;
+      local = ended.serves.local;
+      is_at = ended.serves.is_at;
+      ran = record { wire = ended.serves.ran.wire; wire' = ended.serves.ran.wire'; runs = ended.serves.ran.runs };
+      faults = ended.serves.faults;
+    };
+    sip_hears = ended.sip_hears;
+    lines_hear = ended.lines_hear;
+    clock_failures = ended.clock_failures;
+    no_fault = ended.no_fault;
+    closed = ended.closed;
+    told = record { written = ended.told.written; flushed = ended.told.flushed; no_failure = ended.told.no_failure };
+  };
+}
+
+-- the status of an attempt
+pub status_is : {T W : Type 0} (contents : W → Option (List ℕ)) (words : List (List ℕ)) (before : SinkSeen W) (after : T → SinkSeen W) (outcome : T → ServiceEnd)
+    (came : Result T ServeError) (status : ℕ)
+    → IfOk came (λ s. EndedWell contents words before (after s) (outcome s)) → IfErr came (IsRefusal words) → status ≡ status_after came → IsStatus words status
+status_is contents words before after outcome (Ok s) status well refused is = inl (is, inr (can_end_well contents words before (after s) (outcome s) well))
+status_is contents words before after outcome (Err e) status well refused is = inr (e, refused, is)
+
+-- memory ran out before the words were read
+pub wants_memory : (words : List (List ℕ)) (status : ℕ) → status ≡ status_of error.NoMemory → IsStatus words status
+wants_memory words status is = inr (error.NoMemory, tt, is)
 
 -- a text that was printed, or could not be
 pub printed : (words : List (List ℕ)) (status : ℕ) → AskForText words → (status ≡ 0) ⊎ (status ≡ status_of error.Device) → IsStatus words status

@@ -10,19 +10,19 @@ use Rattle.scripts.specs.declared.error.ScriptError.{ScriptError}
 use Rattle.scripts.specs.declared.error.ScriptError.TheVariants as error
 use Rattle.scripts.specs.Script.{IsControlLine, Answers}
 use Rattle.arguments.specs.MailboxFile.{IsBlank}
-use Rattle.commands.specs.State.{TellsChange, Tells, IsNoChange, listed, Adds, AreTold}
+use Rattle.commands.specs.State.{TellsChange, Tells, IsNoChange, listed, Adds, AreFromLines}
 
-none_told : AreTold []
+none_told : AreFromLines []
 none_told = λ k d below. absurd (omega (arith, below))
 
-listed_told : (line : List ℕ) (said : Option Change) → Tells line said → AreTold (listed said)
+listed_told : (line : List ℕ) (said : Option Change) → Tells line said → AreFromLines (listed said)
 listed_told line None tells = none_told
 listed_told line (Some c) tells = All-push (λ (x : Change). (l : List ℕ) × TellsChange l x) [] c none_told (line, tells)
 
 -- with a line more
-pub adds_told : (line : List ℕ) (old new : List Change) → AreTold old → Adds line old new → AreTold new
+pub adds_told : (line : List ℕ) (old new : List Change) → AreFromLines old → Adds line old new → AreFromLines new
 adds_told line old new told adds =
-    subst AreTold (sym adds.added) (All-append (λ (x : Change). (l : List ℕ) × TellsChange l x) old (listed adds.said) told (listed_told line adds.said adds.tells))
+    subst AreFromLines (sym adds.added) (All-append (λ (x : Change). (l : List ℕ) × TellsChange l x) old (listed adds.said) told (listed_told line adds.said adds.tells))
 
 -- a line that is refused tells no change, unless memory ran out
 pub no_change : (line : List ℕ) (e : ScriptError) → ¬ (IsBlank line) → ((c : Control) → IsControlLine line c → Answers (λ (x : Control). x) (Err e) c)

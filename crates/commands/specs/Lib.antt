@@ -1,5 +1,7 @@
+pub mod Lines
 pub mod State
 pub mod Heard
+pub mod Ranges
 pub mod Plans
 pub mod Serving
 pub mod Refused

@@ -1,6 +1,7 @@
 -- What the words behind `notifyd serve` ask for, and what its workers start from.
-use Rattle.std.specs.Prelude.{◌≡◌, ◌≢◌, ℕ, not, List, [], ◌∷◌, ◌++◌, Option, Some, None}
-use Rattle.std.specs.List.{All}
+use Rattle.std.specs.Prelude.{◌≡◌, ◌≢◌, ℕ, not, List, [], ◌∷◌, ◌++◌, Option, Some, None, if◌then◌else◌}
+use Rattle.std.specs.List.{All, fold}
+use Rattle.control_lines.specs.Told.{is_held}
 use Rattle.sip_text.specs.declared.address.Addr.{Addr}
 use Rattle.notifier_model.specs.Limits.{Limits, AreLimits, IsWithin}
 use Rattle.notifier_model.specs.declared.place.Setup.{Setup}
@@ -45,6 +46,14 @@ pub record AddsNames (line : List ℕ) (old new : List (List ℕ)) : Type 0 wher
 abbrev pub AreNamed : List Setting → List (List ℕ) → Type 0
 AreNamed [] names = names ≡ []
 AreNamed (s ∷ settings) names = (front rest : List (List ℕ)) × (names ≡ front ++ rest) × Names s front × AreNamed settings rest
+
+-- with this name behind the others, unless it is one of them
+abbrev pub with_name : List (List ℕ) → List ℕ → List (List ℕ)
+with_name names name = if is_held names name then names else names ++ name ∷ []
+
+-- these names, each once, where it comes first
+abbrev pub each_once : List (List ℕ) → List (List ℕ)
+each_once names = fold with_name [] names
 
 -- ---- numbers
 
@@ -110,7 +119,9 @@ pub record AreOperators (words : List (List ℕ)) (networks : List Network) : Ty
 
 -- the words ask for this
 pub record IsPlan (words : List (List ℕ)) (plan : Plan) : Type 0 where
-  pub read : AreRead words plan.choices plan.mailboxes.items
+  pub named : List (List ℕ)
+  pub read : AreRead words plan.choices named
+  pub once : plan.mailboxes.items ≡ each_once named
   pub changes : AreChanges words plan.changes.items
   pub heard : AreHeard words plan.admission
   pub operators : AreOperators words plan.operators.items

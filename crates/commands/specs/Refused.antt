@@ -5,7 +5,7 @@
 --   1        the words ask for no service
 --   3        an address, a file, a thread or a socket can't be had, or one failed
 --   4        memory was wanting
-use Rattle.std.specs.Prelude.{◌≡◌, ◌⊎◌, ℕ, ℤ, pos, Bool, true, ◌||◌, List, [], ◌∷◌, Option, Some, None, Contains, slice_get, codes, bytes_eq}
+use Rattle.std.specs.Prelude.{◌≡◌, ◌⊎◌, ℕ, ℤ, pos, Bool, true, ◌||◌, List, [], ◌∷◌, Option, Some, None, Result, Ok, Err, Contains, slice_get, codes, bytes_eq}
 use Rattle.notifier_model.specs.Limits.{AreLimits}
 use Rattle.digest.specs.declared.passwords.Passwords.{Passwords}
 use Rattle.digest.specs.declared.passwords.PasswordsError.{PasswordsError}
@@ -26,9 +26,10 @@ use Rattle.service.specs.declared.error.RunError.TheVariants as run
 use Rattle.commands.specs.declared.error.ServeError.{ServeError}
 use Rattle.commands.specs.declared.error.ServeError.TheVariants as error
 use Rattle.commands.specs.Plans.{limits_of, IsReached, AreRead}
-use Rattle.commands.specs.State.{IsNoChange}
+use Rattle.commands.specs.Ranges.{ranges, IsFirstOut}
+use Rattle.commands.specs.State.{IsNoChange, IsFault}
 use Rattle.commands.specs.Heard.{needs_passwords}
-use Rattle.commands.specs.Serving.{EndsWell}
+use Rattle.commands.specs.Serving.{CanEndWell}
 
 -- an address in another form may be a host that can't be found
 abbrev pub status_of_words : OptionsError → ℕ
@@ -58,12 +59,12 @@ status_of_line wrong.NoMemory = 4
 
 abbrev pub status_of : ServeError → ℕ
 status_of (error.Options e) = status_of_words e
-status_of error.Times = 1
+status_of (error.Times r) = 1
 status_of error.NoContact = 1
 status_of error.NoMailbox = 1
 status_of (error.File path) = 3
 status_of (error.Line path line e) = status_of_line e
-status_of (error.StateLine path line) = 3
+status_of (error.StateLine path line fault) = 3
 status_of error.NoPasswords = 1
 status_of (error.PasswordLine path e) = 3
 status_of (error.NoUsers path) = 3
@@ -90,12 +91,12 @@ IsListened address.Control = Unit {0}
 -- a cause that isn't in the words
 abbrev pub IsOther : ServeError → Type 0
 IsOther (error.Options e) = ⊥
-IsOther error.Times = ⊥
+IsOther (error.Times r) = ⊥
 IsOther error.NoContact = ⊥
 IsOther error.NoMailbox = ⊥
 IsOther (error.File path) = ⊥
 IsOther (error.Line path line e) = ⊥
-IsOther (error.StateLine path line) = ⊥
+IsOther (error.StateLine path line fault) = ⊥
 IsOther error.NoPasswords = ⊥
 IsOther (error.PasswordLine path e) = ⊥
 IsOther (error.NoUsers path) = ⊥
@@ -117,12 +118,12 @@ IsTooMany number = (number ≡ Some (pos 23)) ⊎ (number ≡ Some (pos 24))
 -- no socket is to be had where this option says, for this cause
 abbrev pub IsNoSocket : AddressFlag → ServeError → Type 0
 IsNoSocket which (error.Options e) = ⊥
-IsNoSocket which error.Times = ⊥
+IsNoSocket which (error.Times r) = ⊥
 IsNoSocket which error.NoContact = ⊥
 IsNoSocket which error.NoMailbox = ⊥
 IsNoSocket which (error.File path) = ⊥
 IsNoSocket which (error.Line path line e) = ⊥
-IsNoSocket which (error.StateLine path line) = ⊥
+IsNoSocket which (error.StateLine path line fault) = ⊥
 IsNoSocket which error.NoPasswords = ⊥
 IsNoSocket which (error.PasswordLine path e) = ⊥
 IsNoSocket which (error.NoUsers path) = ⊥
@@ -150,12 +151,12 @@ IsOfLine e = (line : List ℕ) × IsNoLine line e
 -- the file at this path can't be read, or a line of it, for this cause
 abbrev pub IsOfFile : List ℕ → ServeError → Type 0
 IsOfFile path (error.Options e) = ⊥
-IsOfFile path error.Times = ⊥
+IsOfFile path (error.Times r) = ⊥
 IsOfFile path error.NoContact = ⊥
 IsOfFile path error.NoMailbox = ⊥
 IsOfFile path (error.File named) = named ≡ path
 IsOfFile path (error.Line named line e) = (named ≡ path) × IsOfLine e
-IsOfFile path (error.StateLine named line) = ⊥
+IsOfFile path (error.StateLine named line fault) = ⊥
 IsOfFile path error.NoPasswords = ⊥
 IsOfFile path (error.PasswordLine named e) = ⊥
 IsOfFile path (error.NoUsers named) = ⊥
@@ -197,12 +198,12 @@ NameFile words path =
 -- the file of changes at this path can't be read, or a line of it, for this cause
 abbrev pub IsOfState : List ℕ → ServeError → Type 0
 IsOfState path (error.Options e) = ⊥
-IsOfState path error.Times = ⊥
+IsOfState path (error.Times r) = ⊥
 IsOfState path error.NoContact = ⊥
 IsOfState path error.NoMailbox = ⊥
 IsOfState path (error.File named) = named ≡ path
 IsOfState path (error.Line named line e) = ⊥
-IsOfState path (error.StateLine named number) = (named ≡ path) × (line : List ℕ) × IsNoChange line
+IsOfState path (error.StateLine named number fault) = (named ≡ path) × (line : List ℕ) × IsNoChange line × IsFault line fault
 IsOfState path error.NoPasswords = ⊥
 IsOfState path (error.PasswordLine named e) = ⊥
 IsOfState path (error.NoUsers named) = ⊥
@@ -232,12 +233,12 @@ IsOfPassword e = (old : Passwords) × (line : List ℕ) × (number : ℕ) × IsW
 -- the file of passwords at this path can't be read, or a line of it, or it has no user, for this cause
 abbrev pub IsOfPasswords : List ℕ → ServeError → Type 0
 IsOfPasswords path (error.Options e) = ⊥
-IsOfPasswords path error.Times = ⊥
+IsOfPasswords path (error.Times r) = ⊥
 IsOfPasswords path error.NoContact = ⊥
 IsOfPasswords path error.NoMailbox = ⊥
 IsOfPasswords path (error.File named) = named ≡ path
 IsOfPasswords path (error.Line named line e) = ⊥
-IsOfPasswords path (error.StateLine named line) = ⊥
+IsOfPasswords path (error.StateLine named line fault) = ⊥
 IsOfPasswords path error.NoPasswords = ⊥
 IsOfPasswords path (error.PasswordLine named e) = (named ≡ path) × IsOfPassword e
 IsOfPasswords path (error.NoUsers named) = named ≡ path
@@ -280,13 +281,14 @@ NameUser words user =
 -- the words ask for no service for this cause. What stands in a file, and of the system and memory, no contract can tell
 abbrev pub IsRefusal : List (List ℕ) → ServeError → Type 0
 IsRefusal words (error.Options e) = AreWrong words e
-IsRefusal words error.Times =
-    (choices : Choices) × (names : List (List ℕ)) × AreRead words choices names × ¬ (AreLimits (limits_of choices.numbers))
+IsRefusal words (error.Times r) =
+    (choices : Choices) × (names : List (List ℕ)) × AreRead words choices names × IsFirstOut (ranges choices.numbers) r
+    × ¬ (AreLimits (limits_of choices.numbers))
 IsRefusal words error.NoContact = (choices : Choices) × (names : List (List ℕ)) × AreRead words choices names × ¬ (IsReached choices)
 IsRefusal words error.NoMailbox = (choices : Choices) × AreRead words choices []
 IsRefusal words (error.File path) = NameFile words path ⊎ NameState words path ⊎ NamePasswords words path
 IsRefusal words (error.Line path line e) = NameFile words path × IsOfLine e
-IsRefusal words (error.StateLine path number) = NameState words path × (line : List ℕ) × IsNoChange line
+IsRefusal words (error.StateLine path number fault) = NameState words path × (line : List ℕ) × IsNoChange line × IsFault line fault
 IsRefusal words error.NoPasswords = (settings : List Setting) × AreSettings words settings × HaveNoPasswords settings
 IsRefusal words (error.PasswordLine path e) = NamePasswords words path × IsOfPassword e
 IsRefusal words (error.NoUsers path) = NamePasswords words path
@@ -309,7 +311,12 @@ asks_for_text word = bytes_eq word (codes "--help") || (bytes_eq word (codes "-h
 abbrev pub AskForText : List (List ℕ) → Type 0
 AskForText words = (word : List ℕ) × (words ≡ word ∷ []) × (asks_for_text word ≡ true)
 
--- 0 only where the words ask for a text, or for a service that ended well; any other is that of a cause
+-- the status of what came: 0, or that of its own cause
+abbrev pub status_after : {T : Type 0} → Result T ServeError → ℕ
+status_after (Ok came) = 0
+status_after (Err e) = status_of e
+
+-- 0 only where the words ask for a text, or for a service of which some run ends well; any other is that of a cause
 abbrev pub IsStatus : List (List ℕ) → ℕ → Type 0
 IsStatus words status =
-    ((status ≡ 0) × (AskForText words ⊎ EndsWell words)) ⊎ ((e : ServeError) × IsRefusal words e × (status ≡ status_of e))
+    ((status ≡ 0) × (AskForText words ⊎ CanEndWell words)) ⊎ ((e : ServeError) × IsRefusal words e × (status ≡ status_of e))

@@ -1,18 +1,15 @@
 -- A service that an operator runs, from its words to its end.
 use Rattle.std.specs.Prelude.{◌≡◌, ◌≢◌, ℕ, true, false, List, Option}
-use Rattle.std.specs.Io.KnownBytes.{Appends}
 use Rattle.sip_text.specs.declared.address.Addr.{Addr}
 use Rattle.transport.specs.Devices.{SinkSeen}
 use Rattle.notifier_model.specs.Start.{Start, place_of}
 use Rattle.arguments.specs.Setup.{dealt_names}
 use Rattle.arguments.specs.Told.{boxes_told}
-use Rattle.feeds.specs.Emitted.{WireSeen, WriterSeen, writer_seen}
-use Rattle.commands.specs.UdpEnds.{all_closed}
-use Rattle.commands.specs.UdpLines.{worker_lines}
+use Rattle.feeds.specs.Emitted.{WireSeen, writer_seen}
+use Rattle.commands.specs.UdpEnds.{all_closed, Tells}
 use Rattle.service.specs.declared.running.ServiceEnd.{ServiceEnd}
 use Rattle.service.specs.declared.running.ServiceWork.{ServiceWork}
 use Rattle.service.specs.Listening.{IsDeaf}
-use Rattle.service.specs.Sending.{Outflow}
 use Rattle.service.specs.Running.{Opening, Runs, AreFaults, is_faulty, opening}
 use Rattle.admission.specs.declared.judging.Admission.{Admission}
 use Rattle.arguments.specs.declared.choices.Choices.{Choices}
@@ -85,21 +82,22 @@ module _ {W : Type 0} (contents : W → Option (List ℕ)) where
     pub ran : Ran (start_at plan local) plan.workers plan.choices.numbers.repeats (opening_of plan) plan.admission before after outcome
     pub faults : AreFaults no_misses no_misses outcome
 
--- the words ask for a service, which ran to its end, and all went well: neither of its two sockets was deaf, no read of the clock
--- failed, no thread tells of a fault, each worker came to the end of what was sent to it, and the lines of the workers were written
-pub record EndsWell (words : List (List ℕ)) : Type 0 where
-  pub plan : Plan
-  pub is_plan : IsPlan words plan
-  pub local : Addr
-  pub is_at : IsAt plan.choices.listen local
+  -- that service ended well: neither of its two sockets was deaf, no read of the clock failed, no thread tells of a fault, each worker
+  -- came to the end of what was sent to it, and then the lines of the workers were written
+  pub record EndedWell (words : List (List ℕ)) (before after : SinkSeen W) (outcome : ServiceEnd) : Type 0 where
+    pub between : SinkSeen W
+    pub serves : Serves words before between outcome
+    pub sip_hears : IsDeaf (misses outcome.sip_desk.coming) → ⊥
+    pub lines_hear : IsDeaf (misses outcome.desk.coming) → ⊥
+    pub clock_failures : outcome.stopwatch.failures ≡ 0
+    pub no_fault : is_faulty outcome ≡ false
+    pub closed : all_closed outcome.report.workers.items ≡ true
+    pub told : Tells contents outcome.report.workers.items between after
+
+-- Some run of the service that the words ask for ends well, over a writer that is seen as what it tells. It needn't be the run of the call
+-- whose contract says this
+pub record CanEndWell (words : List (List ℕ)) : Type 0 where
+  pub before : SinkSeen (Option (List ℕ))
+  pub after : SinkSeen (Option (List ℕ))
   pub outcome : ServiceEnd
-  pub flow : Outflow
-  pub runs : Runs (start_at plan local) plan.workers plan.choices.numbers.repeats (opening_of plan) plan.admission flow outcome
-  pub sip_hears : IsDeaf (misses outcome.sip_desk.coming) → ⊥
-  pub lines_hear : IsDeaf (misses outcome.desk.coming) → ⊥
-  pub clock_failures : outcome.stopwatch.failures ≡ 0
-  pub no_fault : is_faulty outcome ≡ false
-  pub closed : all_closed outcome.report.workers.items ≡ true
-  pub last : WriterSeen
-  pub told : Appends flow.writer'.contents last.contents (worker_lines outcome.report.workers.items)
-  pub no_failure : last.failures ≡ flow.writer'.failures
+  pub well : EndedWell (λ contents. contents) words before after outcome

@@ -8,7 +8,7 @@
 use Rattle.std.specs.Prelude.{◌≡◌, ◌≢◌, ◌⊎◌, ℕ, Bool, true, false, List, [], ◌∷◌, ◌++◌, length, codes, bytes_eq, if◌then◌else◌}
 use Rattle.hex.specs.Hex.{encode_lower}
 use Rattle.control_lines.specs.declared.asking.TellOutcome.{TellOutcome}
-use Rattle.control_lines.specs.Asking.{SpeakerSeen, IsTold, status_of}
+use Rattle.control_lines.specs.Asking.{SpeakerSeen, ComesOf, status_of}
 use Rattle.arguments.specs.declared.tell.TellCall.{TellCall}
 use Rattle.arguments.specs.Tell.{IsTellCall}
 
@@ -16,7 +16,7 @@ use Rattle.arguments.specs.Tell.{IsTellCall}
 pub record TellsLine (line : List ℕ) (old new : SpeakerSeen) (status : ℕ) : Type 0 where
   pub came : TellOutcome
   pub room : List ℕ
-  pub told : IsTold line came old new room
+  pub told : ComesOf line came old new room
   pub status_is : (status ≡ status_of came) ⊎ (status ≡ 3)
 
 -- a line behind the token of these bytes

@@ -8,8 +8,9 @@ ghost use Rattle.commands.specs.Telling.{TellsLine, TellsPage, IsAskedAs, AskFor
 ghost use Rattle.commands.specs.Telling as spec;
 
 use crate::answers::{Form, next_line, next_place, print_answer};
+use crate::urgency::is_too_urgent;
 use arguments::{ExitStatus, TellCall, TellError, parse_tell};
-use control_lines::{Speaker, SpeakerFault, TellOutcome, UdpSpeaker, tell_line};
+use control_lines::{ControlAnswer, Speaker, SpeakerFault, TellOutcome, UdpSpeaker, tell_line};
 use sip_text::{Addr, NoMemory, Text};
 use std::alloc::Global;
 use std::net::Net;
@@ -40,11 +41,15 @@ fn new_speaker<R: Wait + Net>(rt: &R, call: &TellCall) -> Result<UdpSpeaker, Spe
     UdpSpeaker::to(rt, call.control.unwrap_or(CONTROL))
 }
 
-/// What came of a line: the exit status, and the word that says where more is told.
+/// What came of a line.
 #[derive(Drop)]
 pub struct Told {
+    /// The exit status.
     pub status: u8,
+    /// The word that says where more is told.
     pub more: Option<Text>,
+    /// Whether the answer was `bad line`.
+    pub is_bad: bool,
 }
 
 /// Asks a line by this speaker, and prints what came of it. Answers the exit status: 3 also where that couldn't be printed.
@@ -62,10 +67,12 @@ pub fn ask_line<R: Wait + Print + Eprint + AllocGlobal, S: Speaker>(
     let mut room = [0; ROOM];
     let outcome = tell_line(rt, speaker, line.as_str().as_bytes(), &mut room);
     let mut more = None;
+    let mut is_bad = false;
     let written = match outcome {
         TellOutcome::Done(length) | TellOutcome::Refused(length) => {
             let answer = received(&room, length);
             more = next_place(rt.alloc(), answer);
+            is_bad = answer == ControlAnswer::BadLine.text().as_bytes();
             print_answer(rt, answer, form)
         }
         TellOutcome::Silent => eprintln!(rt; "notifyd: nobody answered"),
@@ -75,7 +82,11 @@ pub fn ask_line<R: Wait + Print + Eprint + AllocGlobal, S: Speaker>(
         Ok(()) => outcome.status(),
         Err(_) => ExitStatus::DeviceFault.code(),
     };
-    Told { status, more }
+    Told {
+        status,
+        more,
+        is_bad,
+    }
 }
 
 /// The line behind a token of these bytes.
@@ -132,6 +143,16 @@ fn following(alloc: Global, line: &Text, more: Option<Text>) -> Result<Option<Te
     }
 }
 
+/// Says on standard error why a line is bad that has the form of a MAIL line.
+fn explain<R: Eprint + AllocGlobal>(rt: &R, line: &Text) -> Result<(), NoMemory> {
+    if is_too_urgent(rt.alloc(), line.as_str())? {
+        let _ = eprintln!(rt;
+            "notifyd: more are urgent than there are (<new> <old> <urgent new> <urgent old>)"
+        );
+    }
+    Ok(())
+}
+
 /// Asks a line by a speaker of its own: so no late answer to another line is taken for one to this.
 fn ask_anew<R: Wait + Net + RandomSource + Print + Eprint + AllocGlobal>(
     rt: &R,
@@ -146,9 +167,14 @@ fn ask_anew<R: Wait + Net + RandomSource + Print + Eprint + AllocGlobal>(
         return Ok(Told {
             status: ExitStatus::DeviceFault.code(),
             more: None,
+            is_bad: false,
         });
     };
-    ask_page(rt, &mut speaker, line, form)
+    let told = ask_page(rt, &mut speaker, line, form)?;
+    if told.is_bad {
+        explain(rt, line)?;
+    }
+    Ok(told)
 }
 
 /// Asks the line of a call and prints the answer, and so for each page that follows. Answers the exit status: that of the last page, or
@@ -163,6 +189,7 @@ fn ask_pages<R: Wait + Net + RandomSource + Print + Eprint + AllocGlobal>(
     let Told {
         mut status,
         mut more,
+        ..
     } = ask_anew(rt, call, &call.line, form)?;
     let mut line = call.line.copy(rt.alloc())?;
     'pages: for _page in 1..PAGES {

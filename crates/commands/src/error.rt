@@ -3,6 +3,7 @@ ghost use Rattle.std.specs.Prelude.{◌≡◌};
 ghost use Rattle.commands.specs.declared.error.ServeError.TheVariants as error;
 ghost use Rattle.commands.specs.Refused.{of_run, status_of, status_of_words};
 
+use crate::ranged::Ranged;
 use arguments::{AddressFlag, ExitStatus, Flag, OptionsError};
 use digest::PasswordsError;
 use service::RunError;
@@ -10,15 +11,26 @@ use sip_text::{NoMemory, Text};
 use std::alloc::{AllocError, AllocFailed};
 use thiserror::Error;
 
+/// Why a line of a file of changes is refused.
+#[derive(Clone, Copy, Debug, PartialEq, Eq, Drop, Error)]
+pub enum StateFault {
+    /// It is no MAIL line.
+    #[error("no MAIL line")]
+    NoMail,
+    /// It has the form of one, but more are urgent than there are.
+    #[error("more are urgent than there are")]
+    TooUrgent,
+}
+
 /// Why a service doesn't run, or has ended. The text is one line.
 #[derive(Debug, Drop, Error)]
 pub enum ServeError {
     /// The arguments ask for no service.
     #[error("{0}")]
     Options(OptionsError),
-    /// The times of the limits don't go together.
-    #[error("times that don't go together: --min-time up to --default-time and --refer-time, and these up to --max-time (unless set: 60, 3600, 180 and 3600 seconds)")]
-    Times,
+    /// A time isn't in the range that other times leave.
+    #[error("times that don't go together: {0} (--min-time is the least, --max-time the greatest)")]
+    Times(Ranged),
     /// Phones would be told 0.0.0.0: it is named for them, or the service listens there and none is.
     #[error("0.0.0.0 is no address for phones: --contact <a.b.c.d:port>")]
     NoContact,
@@ -32,8 +44,8 @@ pub enum ServeError {
     #[error("{path}, line {line}: {error}", path = .0.as_str(), line = .1, error = .2)]
     Line(Text, u64, OptionsError),
     /// A line of a file of changes is no MAIL line.
-    #[error("{path}, line {line}: no MAIL line (MAIL <mailbox> <class> <new> <old> <urgent new> <urgent old>)", path = .0.as_str(), line = .1)]
-    StateLine(Text, u64),
+    #[error("{path}, line {line}: {fault} (MAIL <mailbox> <class> <new> <old> <urgent new> <urgent old>)", path = .0.as_str(), line = .1, fault = .2)]
+    StateLine(Text, u64, StateFault),
     /// Something is said of users, and no file of their passwords is named.
     #[error("no passwords: --watch, --nonce-time and --old-digest need --passwords <file>")]
     NoPasswords,
@@ -92,7 +104,7 @@ impl ServeError {
     {
         match self {
             ServeError::Options(error) => options_status(error),
-            ServeError::Times
+            ServeError::Times(_)
             | ServeError::NoContact
             | ServeError::NoMailbox
             | ServeError::NoPasswords

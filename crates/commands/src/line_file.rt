@@ -3,6 +3,7 @@ ghost use Rattle.std.specs.Prelude.{◌≡◌, List, ℕ, IfErr, OnOk};
 ghost use Rattle.std.specs.IoError.{error_kind};
 ghost use Rattle.commands.specs.declared.error.ServeError.{ServeError};
 ghost use Rattle.commands.specs.declared.error.ServeError.TheVariants as error;
+ghost use Rattle.commands.specs.Lines.{IsLineText};
 ghost use Rattle.commands.specs.Refused.{IsUnread};
 
 use crate::error::ServeError;
@@ -12,7 +13,10 @@ use std::io::{BufRead, BufReader, ErrorKind};
 use std::rt::Files;
 use std::{fs, io};
 
-/// A line of a file, without its line feed.
+/// The mark that some editors put in front of a file (RFC 3629 section 6).
+const MARK: &str = "\u{feff}";
+
+/// A line of a file, without its line feed, and the first one without a mark in front.
 #[derive(Clone, Copy)]
 pub(crate) struct FileLine<'a> {
     /// The path of the file.
@@ -20,6 +24,21 @@ pub(crate) struct FileLine<'a> {
     /// Which line it is, from 1 on.
     pub(crate) number: u64,
     pub(crate) text: &'a str,
+}
+
+impl<'a> FileLine<'a> {
+    /// The line with this number. The mark in front of the first one is no part of it.
+    fn new(path: &'a Text, number: u64, line: &'a str) -> FileLine<'a>
+        ensures path { result.path.now ≡ path.now }
+        ensures number { result.number ≡ number }
+        ensures text { IsLineText number line.now result.text.now }
+    {
+        let text = match line.strip_prefix(MARK) {
+            Some(rest) if number == 1 => rest,
+            _ => line,
+        };
+        FileLine { path, number, text }
+    }
 }
 
 /// What the lines of a file are taken into, one after the other.
@@ -72,8 +91,7 @@ fn take_lines<B: BufRead + Drop, T: TakesLines>(
             Err(fault) => return Err(unread(alloc, path, &fault)),
         };
         number = number.saturating_add(1);
-        let text = line.as_str();
-        taker.take_line(alloc, FileLine { path, number, text })?;
+        taker.take_line(alloc, FileLine::new(path, number, line.as_str()))?;
     }
     Ok(())
 }

@@ -1,14 +1,16 @@
 //! The mailboxes that the settings of a service name, by themselves or by files.
-ghost use Rattle.std.specs.Prelude.{IfOk, IfErr, OnOk};
+ghost use Rattle.std.specs.Prelude.{◌≡◌, map, string_bytes, IfOk, IfErr, OnOk};
 ghost use Rattle.std.specs.List.{All};
 ghost use Rattle.arguments.specs.Settings.{IsMailbox};
+ghost use Rattle.commands.specs.Plans as spec;
 ghost use Rattle.commands.specs.Plans.{Names, AddsNames, AreNamed};
 ghost use Rattle.commands.specs.Refused.{IsOfFile, IsOfSetting, IsOfOne};
 
 use crate::error::ServeError;
 use crate::line_file::{FileLine, TakesLines, take_file};
 use arguments::{Setting, line_mailboxes};
-use sip_text::Text;
+use indexmap::IndexSet;
+use sip_text::{NoMemory, Text};
 use std::alloc::Global;
 use std::rt::Files;
 
@@ -84,4 +86,26 @@ pub(crate) fn named_mailboxes<R: Files + AllocGlobal>(
         names.append(&mut more)?;
     }
     Ok(names)
+}
+
+/// These names as a set, which keeps them in order.
+fn name_set(alloc: Global, names: Vec<Text>) -> Result<IndexSet<String>, NoMemory>
+    ensures { IfOk result (λ set. map string_bytes set.keys ≡ spec.each_once names.items) }
+{
+    let mut set = IndexSet::new(alloc);
+    for name in names {
+        set.insert(name.into_string())?;
+    }
+    Ok(set)
+}
+
+/// These names, each once, where it comes first.
+pub(crate) fn each_once(alloc: Global, names: Vec<Text>) -> Result<Vec<Text>, NoMemory>
+    ensures { IfOk result (λ once. once.items ≡ spec.each_once names.items) }
+{
+    let mut once = Vec::new(alloc);
+    for name in name_set(alloc, names)? {
+        once.push(Text::new(name))?;
+    }
+    Ok(once)
 }

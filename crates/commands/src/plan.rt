@@ -2,13 +2,16 @@
 ghost use Rattle.std.specs.Prelude.{◌≡◌, ◌↔◌, Some, IsTrue, IfOk, IfErr, OnErr};
 ghost use Rattle.notifier_model.specs.Limits.{AreLimits};
 ghost use Rattle.commands.specs.declared.error.ServeError.TheVariants as error;
+ghost use Rattle.commands.specs.declared.ranged.Ranged.{Ranged};
+ghost use Rattle.commands.specs.Ranges.{ranges, IsFirstOut};
 ghost use Rattle.commands.specs.Plans as spec;
 ghost use Rattle.commands.specs.Plans.{IsCount, IsSeed, IsReached, IsPlan};
 ghost use Rattle.commands.specs.Refused.{IsRefusal};
 
 use crate::admitting::{new_admission, secret};
 use crate::error::ServeError;
-use crate::mailboxes::named_mailboxes;
+use crate::mailboxes::{each_once, named_mailboxes};
+use crate::ranged::number_out;
 use crate::state::told_changes;
 use admission::{Admission, Network};
 use arguments::{Choices, Numbers, control_networks, parse_settings};
@@ -27,6 +30,7 @@ pub struct Plan {
     pub limits: Limits,
     pub seed: [u8; 32],
     pub workers: u32,
+    /// Each once.
     pub mailboxes: Vec<Text>,
     /// What is told of mailboxes before the first datagram is heard.
     pub changes: Vec<Change>,
@@ -36,14 +40,18 @@ pub struct Plan {
     pub operators: Vec<Network>,
 }
 
-/// The limits that the numbers ask for. Their times may not go together.
+/// The limits that the numbers ask for. An error names the first number that is out of its range: times may not go together.
+#[tactic(auto, using(crate::proofs::FirstOut::are_limits, crate::proofs::FirstOut::are_none))]
 fn chosen_limits(numbers: &Numbers) -> Result<Limits, ServeError>
     ensures limits { IfOk result (λ limits. limits ≡ spec.limits_of numbers.now) }
     ensures within { IfOk result AreLimits }
     ensures times { OnErr result (¬ (AreLimits (spec.limits_of numbers.now))) }
-    ensures refused { IfErr result (λ e. e ≡ error.Times) }
+    ensures refused { IfErr result (λ e. (r : Ranged) × (e ≡ error.Times r) × IsFirstOut (ranges numbers.now) r) }
 {
-    Limits::new(
+    if let Some(ranged) = number_out(numbers) {
+        return Err(ServeError::Times(ranged));
+    }
+    let Some(limits) = Limits::new(
         numbers.min_time,
         numbers.max_time,
         numbers.default_time,
@@ -54,8 +62,10 @@ fn chosen_limits(numbers: &Numbers) -> Result<Limits, ServeError>
         numbers.kept,
         numbers.inbox,
         numbers.outbox,
-    )
-    .ok_or(ServeError::Times)
+    ) else {
+        unreachable!()
+    };
+    Ok(limits)
 }
 
 /// The seed that was asked for, or 32 bytes of the system's randomness.
@@ -131,7 +141,7 @@ where
 }
 
 /// What the words ask for: files are read and the system is asked for randomness, and no socket is opened.
-#[tactic(auto, using(crate::proofs::Refused::other_is))]
+#[tactic(auto, using(crate::proofs::Refused::other_is, crate::proofs::Refused::times_are, crate::proofs::Once::once_some))]
 pub fn new_plan<R>(rt: &R, words: &[Text]) -> Result<Plan, ServeError>
 where
     R: Threads + Files + RandomSource + AllocGlobal,
@@ -151,6 +161,7 @@ where
     if mailboxes.is_empty() {
         return Err(ServeError::NoMailbox);
     }
+    let mailboxes = each_once(rt.alloc(), mailboxes)?;
     Ok(Plan {
         choices,
         limits: chosen_limits(&choices.numbers)?,

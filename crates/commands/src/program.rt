@@ -7,9 +7,9 @@ ghost use Rattle.transport.specs.Sockets.{misses};
 ghost use Rattle.service.specs.Running.{AreFaults, is_faulty, opening};
 ghost use Rattle.commands.specs.UdpEnds as ends;
 ghost use Rattle.commands.specs.UdpEnds.{Tells};
-ghost use Rattle.commands.specs.Refused.{AskForText, IsOther, IsRefusal, IsStatus, status_of};
+ghost use Rattle.commands.specs.Refused.{AskForText, IsOther, IsRefusal, IsStatus, status_after, status_of};
 ghost use Rattle.commands.specs.declared.error.ServeError.TheVariants as error;
-ghost use Rattle.commands.specs.Serving.{AreOpen, EndsWell, IsWork, Ran, Serves, new_sink};
+ghost use Rattle.commands.specs.Serving.{AreOpen, EndedWell, IsWork, Ran, Serves, new_sink};
 
 use crate::error::ServeError;
 use crate::help::{HELP, asked_text};
@@ -250,6 +250,7 @@ where
     ensures closed { OnOk result (ends.all_closed served.old.outcome.report.workers.items ≡ true) }
     ensures told { OnOk result
         (Tells F.contents served.old.outcome.report.workers.items served.old.sink served.new.sink) }
+    ensures outcome { served.new.outcome ≡ served.old.outcome }
     ensures refused { IfErr result IsOther }
 {
     say_spent_worker(rt, &served.shared);
@@ -268,9 +269,16 @@ where
     }
 }
 
-/// Runs the service that the words ask for, to its end.
+/// Runs the service that the words ask for to its end, over this writer, and writes there what its workers did. It answers a service that
+/// ended well. Who reads is waited for once the service has ended.
 #[tactic(auto, using(crate::proofs::Refused::other_is))]
-fn attempt<R, P, M>(rt: R, words: &[Text], make: &M) -> Result<(), ServeError>
+fn attempt<R, F, P, M>(
+    rt: R,
+    words: &[Text],
+    writer: F,
+    patience: &Patience,
+    make: &M,
+) -> Result<Served<F>, ServeError>
 where
     R: Threads
         + Wait
@@ -278,24 +286,24 @@ where
         + Clock
         + Files
         + RandomSource
-        + Print
         + Eprint
         + AllocGlobal
         + Copy
         + Send
         + 'static,
+    F: Write + Drop,
     P: Package + 'static,
     M: Fn(Wanted) -> Result<P, NoMemory>,
     requires callable { M.IsAlwaysCallable make.now }
     requires gives { Gives P.seen (M.post make.now) }
-    ensures well { OnOk result (EndsWell words.now) }
+    // It is this very run that ended well: what it left is answered.
+    ensures well { IfOk result (λ s. EndedWell F.contents words.now (new_sink writer) s.sink s.outcome) }
     ensures refused { IfErr result (IsRefusal words.now) }
 {
-    let patience = Patience::new(rt.alloc())?;
-    let writer = Prompt::new(io::writer(&rt), &patience)?;
     let mut served = serve_words(rt, words, writer, make)?;
     patience.wait();
-    close_off(&rt, &mut served)
+    close_off(&rt, &mut served)?;
+    Ok(served)
 }
 
 /// Prints a text that the words asked for alone. Answers the exit status.
@@ -323,6 +331,16 @@ fn tell_why<R: Eprint>(rt: &R, error: &ServeError) -> u8
         let _ = eprintln!(rt; "notifyd: {error}");
     }
     error.status()
+}
+
+/// The exit status of what came of the words, whose error is told on standard error.
+fn exit_status<R: Eprint, T>(rt: &R, came: &Result<T, ServeError>) -> u8
+    ensures status { result ≡ status_after came.now }
+{
+    match came {
+        Ok(_) => ExitStatus::Done.code(),
+        Err(error) => tell_why(rt, error),
+    }
 }
 
 /// `notifyd serve` with these words behind it. Answers the exit status: 0 where a service ended well, or where a text was asked for
@@ -354,8 +372,12 @@ where
     if let Some(text) = asked_text(words) {
         return print_text(&rt, text);
     }
-    match attempt(rt, words, make) {
-        Ok(()) => ExitStatus::Done.code(),
-        Err(error) => tell_why(&rt, &error),
-    }
+    let Ok(patience) = Patience::new(rt.alloc()) else {
+        return tell_why(&rt, &ServeError::NoMemory);
+    };
+    let Ok(writer) = Prompt::new(io::writer(&rt), &patience) else {
+        return tell_why(&rt, &ServeError::NoMemory);
+    };
+    let came = attempt(rt, words, writer, &patience, make);
+    exit_status(&rt, &came)
 }

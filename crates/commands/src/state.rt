@@ -1,11 +1,12 @@
 //! The MAIL lines of a file that are done before a service hears anything.
 ghost use Rattle.std.specs.Prelude.{◌≡◌, ◌≢◌, IfOk, IfErr, OnOk};
 ghost use Rattle.arguments.specs.Choices.{with_state, state_of};
-ghost use Rattle.commands.specs.State.{Tells, IsNoChange, Adds, AreTold, IsState};
+ghost use Rattle.commands.specs.State.{Tells, IsNoChange, IsFault, Adds, AreFromLines, IsState};
 ghost use Rattle.commands.specs.Refused.{IsOfState, IsOfNamedState};
 
-use crate::error::ServeError;
+use crate::error::{ServeError, StateFault};
 use crate::line_file::{FileLine, TakesLines, take_file};
+use crate::urgency::is_too_urgent;
 use arguments::{Setting, is_blank};
 use package::Change;
 use scripts::{Control, ScriptError, parse_control};
@@ -27,6 +28,17 @@ fn line_change(alloc: Global, line: &str) -> Result<Option<Change>, ScriptError>
     }
 }
 
+/// Why a line is no MAIL line.
+fn line_fault(alloc: Global, line: &str) -> Result<StateFault, NoMemory>
+    ensures { IfOk result (IsFault line.now) }
+{
+    if is_too_urgent(alloc, line)? {
+        Ok(StateFault::TooUrgent)
+    } else {
+        Ok(StateFault::NoMail)
+    }
+}
+
 /// Adds what a line of a file tells. A line that is no MAIL line is refused.
 fn add_told(alloc: Global, changes: &mut Vec<Change>, line: FileLine<'_>) -> Result<(), ServeError>
     ensures added { OnOk result (Adds line.entry.text.now changes.old.items changes.new.items) }
@@ -36,7 +48,10 @@ fn add_told(alloc: Global, changes: &mut Vec<Change>, line: FileLine<'_>) -> Res
         Ok(Some(change)) => changes.push(change)?,
         Ok(None) => {}
         Err(ScriptError::NoMemory) => return Err(ServeError::NoMemory),
-        Err(_) => return Err(ServeError::StateLine(line.path.copy(alloc)?, line.number)),
+        Err(_) => {
+            let fault = line_fault(alloc, line.text)?;
+            return Err(ServeError::StateLine(line.path.copy(alloc)?, line.number, fault));
+        }
     }
     Ok(())
 }
@@ -44,16 +59,16 @@ fn add_told(alloc: Global, changes: &mut Vec<Change>, line: FileLine<'_>) -> Res
 /// Changes, to which the lines of a file add, in order.
 impl TakesLines for Vec<Change> {
     ghost use Rattle.std.proofs.Common.{⊎_elim, subst, sym, refl};
-    ghost use Rattle.commands.specs.State.{AreTold};
+    ghost use Rattle.commands.specs.State.{AreFromLines};
     ghost use Rattle.commands.specs.Refused.{IsOfState};
 
-    ghost is_sound = { λ changes. AreTold changes.items };
+    ghost is_sound = { λ changes. AreFromLines changes.items };
 
     ghost refuses = { IsOfState };
 
     fn take_line(&mut self, alloc: Global, line: FileLine<'_>) -> Result<(), ServeError>
-        requires sound { AreTold self.old.items }
-        ensures sound { OnOk result (AreTold self.new.items) }
+        requires sound { AreFromLines self.old.items }
+        ensures sound { OnOk result (AreFromLines self.new.items) }
         ensures added { OnOk result (Adds line.entry.text.now self.old.items self.new.items) }
         ensures refused { IfErr result (IsOfState line.entry.path.now) }
     {

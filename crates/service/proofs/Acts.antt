@@ -15,7 +15,7 @@ use Rattle.transport.specs.Wires.{datagram, Grows}
 use Rattle.feeds.specs.declared.sending.Fate.{Fate}
 use Rattle.feeds.specs.declared.sending.Fate.TheVariants.{Sent, Started, Failed}
 use Rattle.feeds.specs.declared.sending.EmitReport.{EmitReport}
-use Rattle.feeds.specs.Emitted.{Fates, WireSeen, WriterSeen, MayMeet, Writes, count, counted, sent_datagrams, fails_to_send, fails_to_start, is_start}
+use Rattle.feeds.specs.Emitted.{Fates, WireSeen, WriterSeen, MayMeet, Writes, count, counted, datagram_sent, sent_datagrams, fails_to_send, fails_to_start, is_start}
 use Rattle.feeds.proofs.Emitting.{Running, one, running_out, rises_more, flushed_more}
 use Rattle.feeds.proofs.Telling.{grows_none, grows_more, grows_same}
 use Rattle.transactions.specs.declared.open.Open.{Open}
@@ -25,7 +25,7 @@ use Rattle.transactions.specs.Runs.{Call, after, state_after, repeated, unless_o
 use Rattle.service.specs.declared.post.Note.{Note}
 use Rattle.service.specs.Noted.{answer_of}
 use Rattle.service.specs.Taken.{failures_then}
-use Rattle.service.specs.Sending.{Act, Put, Noted, Repeated, GaveUp, fate_of, fates, sent_by, sent_again, datagrams, fails_at, failures, call_of, calls, kept_after, AreAsked, Does, IsSentOut}
+use Rattle.service.specs.Sending.{Act, Put, Noted, Repeated, GaveUp, fate_of, fates, sent_by, sent_again, datagrams, fails_at, failures, call_of, calls, kept_after, AreAsked, Does, IsSentOut, WithoutRepeatsLaw}
 
 -- ---- two parts of what it did
 
@@ -136,47 +136,32 @@ module _ (now : ℕ) (t : Open) (s u : State) (is_due : due s now ≡ Some t) (t
   pub does_give_up : (w : WireSeen) → is_over now t ≡ true → Does (GaveUp now ∷ []) s u w w
   does_give_up w over = record { taken = grows_none w.taken; failed = refl; asked = ((t, is_due, over), tt); open_now = turned }
 
--- ---- with the repeats left out
+-- ---- the outs
 
-abbrev grown : {T : Type 0} → Option (List T) → List T → Option (List T)
-grown None more = None
-grown (Some xs) more = Some (xs ++ more)
-
-grows_so : {T : Type 0} (old : Option (List T)) (more : List T) → Grows old (grown old more) more
-grows_so None more = tt
-grows_so (Some xs) more = refl
-
--- the wire without repeats, after this out
-abbrev pub without_after : WireSeen → Out → Fate → WireSeen
-without_after w o f = record {
-  taken = grown w.taken (sent_datagrams (one o f));
-  failures = rises (count fails_to_send (one o f)) w.failures;
-}
-
-module _ (acts : List Act) {t0 t : TakerSeat} {left : ℕ} {told told' : Option (List Datagram)} {wire without : WireSeen} {writer writer' : WriterSeen} {report : EmitReport}
-    (was : Running (fates acts) t0 t left told told' wire without writer writer' report) where
+module _ (acts : List Act) {t0 t : TakerSeat} {left : ℕ} {told told' : Option (List Datagram)} {writer writer' : WriterSeen} {report : EmitReport}
+    (was : Running (fates acts) t0 t left told told' writer writer' report) where
   -- nothing was taken, and what was done is no out
   pub running_on : (more : List Act) (told'' : Option (List Datagram)) → fates more ≡ [] → Grows told' told'' []
-      → Running (fates (acts ++ more)) t0 t left told told'' wire without writer writer' report
+      → Running (fates (acts ++ more)) t0 t left told told'' writer writer' report
   running_on more told'' none same =
-      let P : Fates → Type 0 = λ l. Running l t0 t left told told'' wire without writer writer' report in
+      let P : Fates → Type 0 = λ l. Running l t0 t left told told'' writer writer' report in
       subst P (sym (filter_map-append fate_of acts more ∙ ap (λ l. fates acts ++ l) none ∙ append-nil (fates acts))) (record {
         outbox = was.outbox;
         workers = was.workers;
         left_is = was.left_is;
         given = grows_same told told' told'' [] was.given same;
-        emitted = was.emitted;
+        met = was.met;
       })
 
   pub running_put : (now : ℕ) (u : TakerSeat) (w : ℕ) (o : Out) (f : Fate) (told'' : Option (List Datagram)) (after' : WriterSeen)
       → Took t (posted.Out w o) u → MayMeet o f → Grows told' told'' []
       → after'.failures ≡ rises (count fails_to_start (one o f)) writer'.failures
       → Writes writer'.contents after'.contents o f
-      → Running (fates (acts ++ Put now o f ∷ [])) t0 u left told told'' wire (without_after without o f) writer after' (counted report f)
+      → Running (fates (acts ++ Put now o f ∷ [])) t0 u left told told'' writer after' (counted report f)
   running_put now u w o f told'' after' took may none failed wrote =
-      let P : Fates → Type 0 = λ l. Running l t0 u left told told'' wire (without_after without o f) writer after' (counted report f) in
+      let P : Fates → Type 0 = λ l. Running l t0 u left told told'' writer after' (counted report f) in
       subst P (sym (filter_map-append fate_of acts (Put now o f ∷ [])))
-      (running_out was u w o f told'' (without_after without o f) after' took may none (grows_so without.taken (sent_datagrams (one o f))) refl failed wrote)
+      (running_out was u w o f told'' after' took may none failed wrote)
 
 -- ---- what was flushed
 
@@ -194,16 +179,23 @@ module _ {S : Type 0} (flushed : S → Bool) (first old : S) (acts : List Act) (
 
 -- ---- all of it
 
-pub sent_out : {limit : ℕ} {t0 t : TakerSeat} {left : ℕ} {told told' : Option (List Datagram)} {acts : List Act} {s u : State} {wire wire' without : WireSeen}
-    {writer writer' : WriterSeen} {report : EmitReport} → Running (fates acts) t0 t left told told' wire without writer writer' report
+pub sent_out : {limit : ℕ} {t0 t : TakerSeat} {left : ℕ} {told told' : Option (List Datagram)} {acts : List Act} {s u : State} {wire wire' : WireSeen}
+    {writer writer' : WriterSeen} {report : EmitReport} → Running (fates acts) t0 t left told told' writer writer' report
     → Does acts s u wire wire' → s ≡ empty limit → IsSentOut limit t0.workers acts t0.got t.got (record { wire = wire; wire' = wire'; writer = writer; writer' = writer' }) report
-sent_out {limit = limit} {acts = acts} {u = u} {wire = wire} {wire' = wire'} {without = without} running does none =
-    let P : State → Type 0 = λ z. Does acts z u wire wire' in record {
-      without = without;
-      emitted = running.emitted;
-      left_open = u;
-      does = subst P none does;
+sent_out {limit = limit} {acts = acts} {u = u} {wire = wire} {wire' = wire'} running does none =
+    let P : State → Type 0 = λ z. Does acts z u wire wire' in let did : Does acts (empty limit) u wire wire' = subst P none does in record {
+      met = running.met;
+      does = record { taken = did.taken; failed = did.failed; asked = did.asked; open_now = refl };
     }
+
+-- ---- all of it but repeats
+
+pub without_repeats : WithoutRepeatsLaw
+without_repeats [] = refl
+without_repeats (Put now o fate ∷ acts) = ap (cons_option (datagram_sent o fate)) (without_repeats acts)
+without_repeats (Noted tag number status ∷ acts) = without_repeats acts
+without_repeats (Repeated now sent fails ∷ acts) = without_repeats acts
+without_repeats (GaveUp now ∷ acts) = without_repeats acts
 
 -- ---- notes, one by one
 

@@ -96,11 +96,11 @@ each_vouched a b k cases old new end own are = each a 0 cases b k own are.judged
 -- ---- where nothing is asked
 
 allowed : (a : Admission) (x : Arrival) (v : Option Verdict) (b : Admission) → IsOpen a → Meets a x v b → v ≡ Some verdict.Allowed
-allowed a x None b is m = absurd (m.0 is)
+allowed a x None b is m = absurd (m.0.0 is)
 allowed a x (Some v) b is m = ap Some (open_allowed a is x v m.0)
 
 stays : (a : Admission) (x : Arrival) (v : Option Verdict) (b : Admission) → IsOpen a → Meets a x v b → b ≡ a
-stays a x None b is m = absurd (m.0 is)
+stays a x None b is m = absurd (m.0.0 is)
 stays a x (Some v) b is m = m.1 ∙ open_stays a is x
 
 pub record All (cases : List Case) : Type 0 where

@@ -1,5 +1,5 @@
 -- What is told of a wire that gets deaf, over several receives.
-use Rattle.std.proofs.Common.{◌≡◌, ◌⊎◌, inl, inr, Bool, true, false, ◌||◌, Some, refl, sym, ap, ⊎_elim}
+use Rattle.std.proofs.Common.{◌≡◌, ◌⊎◌, ◌↔◌, inl, inr, Bool, true, false, ◌||◌, Some, refl, sym, ap, ⊎_elim}
 use Rattle.transport.specs.Ears.{Misses}
 use Rattle.feeds.specs.declared.feeding.FeedEnd.{FeedEnd}
 use Rattle.feeds.specs.declared.feeding.FeedEnd.TheVariants as ends
@@ -21,6 +21,15 @@ deaf_after false b old mid new first next = (
   λ told. ⊎_elim (λ was. next.1 (inl (first.1 (inl was)))) (λ late. next.1 (inr late)) told,
 )
 deaf_after true b old mid new first next = (λ deaf. inr refl, λ told. next.1 (inl (first.1 (inr refl))))
+
+-- an end that tells it, and nothing behind that
+pub deaf_at_end : {Before Now : Type 0} (told : Bool) → (Now ↔ (Before ⊎ (told ≡ true))) → (Now ↔ (Before ⊎ ((told || false) ≡ true)))
+deaf_at_end true is = is
+deaf_at_end false is = is
+
+pub deaf_behind : (told late : Bool) (old mid new : Misses) → IsDeafAsTold (told || false) old mid → IsDeafAsTold late mid new → IsDeafAsTold (told || late) old new
+deaf_behind true late old mid new first next = deaf_after true late old mid new first next
+deaf_behind false late old mid new first next = deaf_after false late old mid new first next
 
 end_is : (x y : FeedEnd) → Some x ≡ Some y → x ≡ y
 end_is x y e = cc

@@ -14,7 +14,7 @@ use Rattle.control_lines.specs.Lines.{Asks}
 use Rattle.control_lines.specs.Told.{Row, told}
 use Rattle.service.specs.declared.lines.Handled.{Handled}
 use Rattle.service.specs.declared.lines.Handled.TheVariants as did
-use Rattle.service.specs.Taken.{told_of, told_by, is_known, IsSent, IsChanged, IsFound, IsDone}
+use Rattle.service.specs.Taken.{told_of, told_by, is_known, IsSent, IsChanged, IsFound, Means, IsDone}
 
 -- what a change tells of mailboxes is what its event tells
 told_alike : (c : Change) (e : Event) (rows : List Row) → told_event c ≡ Some e → told_of c rows ≡ told_by e rows
@@ -57,13 +57,13 @@ changed_sent c e rows old new did.Gone is known sent = (e, is, known, refl, sent
 
 module _ (octets : List ℕ) (rows rows' : List Row) (old new : PortSeats) where
   pub done_changed : (c : Change) (d : Handled) → Asks octets (asked.Change c) → IsChanged c rows rows' old new d → IsDone octets rows rows' old new d
-  done_changed c (did.Answered answer.Done) asks is = (is.0, (c, asks, is.2, is.1), is.3 ∙ told_alike c is.0 rows is.1, is.4)
+  done_changed c (did.Answered answer.Done) asks is = (Some is.0, (is.0, refl, (c, asks, is.2, is.1)), is.3 ∙ told_alike c is.0 rows is.1, is.4)
   done_changed c (did.Answered answer.BadLine) asks is = absurd (no_line c octets asks is.0)
-  done_changed c (did.Answered answer.UnknownMailbox) asks is = (inl (c, asks, is.0), is.1)
-  done_changed c (did.Answered answer.Closed) asks is = is
+  done_changed c (did.Answered answer.UnknownMailbox) asks is = (None, (refl, inl (c, asks, is.0)), is.1.0, is.1.1)
+  done_changed c (did.Answered answer.Closed) asks is = absurd is
   done_changed c (did.Answered answer.NoMemory) asks is = absurd is
   done_changed c (did.Answered answer.Busy) asks is = absurd is
-  done_changed c (did.Repeated a) asks is = is
+  done_changed c (did.Repeated a) asks is = absurd is
   done_changed c did.Unanswered asks is = absurd is
   done_changed c did.Foreign asks is = absurd is
   done_changed c did.Counters asks is = absurd is
@@ -71,23 +71,27 @@ module _ (octets : List ℕ) (rows rows' : List Row) (old new : PortSeats) where
   done_changed c (did.Dumped n) asks is = absurd is
   done_changed c (did.Watched k n) asks is = absurd is
   done_changed c did.Closing asks is = absurd is
-  done_changed c did.Gone asks is = (is.0, (c, asks, is.2, is.1), is.3 ∙ told_alike c is.0 rows is.1, is.4)
+  done_changed c did.Gone asks is = (Some is.0, (is.0, refl, (c, asks, is.2, is.1)), is.3 ∙ told_alike c is.0 rows is.1, is.4)
 
 module _ (octets : List ℕ) (rows : List Row) (old new : PortSeats) where
+  -- what tells nothing
+  pub done_none : (d : Handled) → Means rows octets None d → IsDone octets rows rows old old d
+  done_none d means = (None, means, refl, refl)
+
   pub done_found : (q : Question) (d : Handled) → Asks octets (asked.Question q) → IsFound rows q d → IsDone octets rows rows old old d
   done_found q (did.Answered answer.Done) asks is = absurd is
   done_found q (did.Answered answer.BadLine) asks is = absurd is
-  done_found q (did.Answered answer.UnknownMailbox) asks is = (inr (q, asks, is), (refl, refl))
-  done_found q (did.Answered answer.Closed) asks is = is
+  done_found q (did.Answered answer.UnknownMailbox) asks is = (None, (refl, inr (q, asks, is)), refl, refl)
+  done_found q (did.Answered answer.Closed) asks is = absurd is
   done_found q (did.Answered answer.NoMemory) asks is = absurd is
   done_found q (did.Answered answer.Busy) asks is = absurd is
-  done_found q (did.Repeated a) asks is = is
+  done_found q (did.Repeated a) asks is = absurd is
   done_found q did.Unanswered asks is = absurd is
   done_found q did.Foreign asks is = absurd is
-  done_found q did.Counters asks is = (subst (λ (x : Question). Asks octets (asked.Question x)) is asks, (refl, refl))
-  done_found q (did.Shown n) asks is = (is.0, subst (λ (x : Question). Asks octets (asked.Question x)) is.1 asks, is.2, (refl, refl))
-  done_found q (did.Dumped n) asks is = (q, asks, is, (refl, refl))
-  done_found q (did.Watched k n) asks is = (q, asks, is, (refl, refl))
+  done_found q did.Counters asks is = (None, (refl, subst (λ (x : Question). Asks octets (asked.Question x)) is asks), refl, refl)
+  done_found q (did.Shown n) asks is = (None, (refl, is.0, subst (λ (x : Question). Asks octets (asked.Question x)) is.1 asks, is.2), refl, refl)
+  done_found q (did.Dumped n) asks is = (None, (refl, q, asks, is), refl, refl)
+  done_found q (did.Watched k n) asks is = (None, (refl, q, asks, is), refl, refl)
   done_found q did.Closing asks is = absurd is
   done_found q did.Gone asks is = absurd is
 

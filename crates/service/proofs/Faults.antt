@@ -15,8 +15,8 @@ use Rattle.service.specs.declared.lines.ControlDesk.{ControlDesk}
 use Rattle.service.specs.declared.running.Feeders.{Feeders}
 use Rattle.service.specs.declared.running.ServiceEnd.{ServiceEnd}
 use Rattle.service.specs.Handing.{AreErrands}
-use Rattle.service.specs.Running.{IsLeft, FailsFor, AreFaults, is_faulty}
-use Rattle.service.proofs.Deafness.{deaf_after}
+use Rattle.service.specs.Running.{IsLeftBehind, AreFaults, is_faulty}
+use Rattle.service.proofs.Deafness.{deaf_behind}
 use Rattle.service.specs.Listening.{IsDeaf, IsDeafAsTold}
 use Rattle.service.specs.Ticks.{new_stopwatch}
 
@@ -29,48 +29,51 @@ same_desk a b e = cc
 same_stopwatch : (a b : Stopwatch) → task.Time a ≡ task.Time b → a ≡ b
 same_stopwatch a b e = cc
 
+abbrev Behind : Task → Fed → Type 0
+Behind t fed = IsLeftBehind t fed.end fed.fails_late fed.left
+
 -- what each of them left, once their errands are known
 module _ {phones : SipDesk UdpWire} {desk : ControlDesk UdpWire} {f : Feeders} (are : AreErrands phones desk f) (fed : Fed) where
-  pub left_phones : FailsFor f.sip.promise.task.value fed → FailsFor (task.Datagrams phones) fed
-  left_phones fails = let P : Task → Type 0 = λ t. FailsFor t fed in subst P are.sip fails
+  pub left_phones : Behind f.sip.promise.task.value fed → Behind (task.Datagrams phones) fed
+  left_phones fails = let P : Task → Type 0 = λ t. Behind t fed in subst P are.sip fails
 
-  pub left_desk : FailsFor f.lines.promise.task.value fed → FailsFor (task.Lines desk) fed
-  left_desk fails = let P : Task → Type 0 = λ t. FailsFor t fed in subst P are.lines fails
+  pub left_desk : Behind f.lines.promise.task.value fed → Behind (task.Lines desk) fed
+  left_desk fails = let P : Task → Type 0 = λ t. Behind t fed in subst P are.lines fails
 
-  pub left_stopwatch : FailsFor f.time.promise.task.value fed → FailsFor (task.Time new_stopwatch) fed
-  left_stopwatch fails = let P : Task → Type 0 = λ t. FailsFor t fed in subst P are.time fails
+  pub left_stopwatch : Behind f.time.promise.task.value fed → Behind (task.Time new_stopwatch) fed
+  left_stopwatch fails = let P : Task → Type 0 = λ t. Behind t fed in subst P are.time fails
 
-pub phones_heard : (phones left : SipDesk UdpWire) (fed : Fed) → FailsFor (task.Datagrams phones) fed → fed.left ≡ task.Datagrams left
+pub phones_heard : (phones left : SipDesk UdpWire) (fed : Fed) → Behind (task.Datagrams phones) fed → fed.left ≡ task.Datagrams left
     → IsDeafAsTold (is_fault fed.end || fed.fails_late) (misses phones.coming) (misses left.coming)
 phones_heard phones left fed fails is =
     let P : SipDesk UdpWire → Type 0 = λ d. IsDeafAsTold (is_fault fed.end || fed.fails_late) (misses phones.coming) (misses d.coming) in
     subst P (same_phones fails.0 left (sym fails.1 ∙ is)) fails.2
 
-pub desk_heard : (desk left : ControlDesk UdpWire) (fed : Fed) → FailsFor (task.Lines desk) fed → fed.left ≡ task.Lines left
+pub desk_heard : (desk left : ControlDesk UdpWire) (fed : Fed) → Behind (task.Lines desk) fed → fed.left ≡ task.Lines left
     → IsDeafAsTold (is_fault fed.end || fed.fails_late) (misses desk.coming) (misses left.coming)
 desk_heard desk left fed fails is =
     let P : ControlDesk UdpWire → Type 0 = λ d. IsDeafAsTold (is_fault fed.end || fed.fails_late) (misses desk.coming) (misses d.coming) in
     subst P (same_desk fails.0 left (sym fails.1 ∙ is)) fails.2
 
-pub clock_failed : (left : Stopwatch) (fed : Fed) → FailsFor (task.Time new_stopwatch) fed → fed.left ≡ task.Time left
+pub clock_failed : (left : Stopwatch) (fed : Fed) → Behind (task.Time new_stopwatch) fed → fed.left ≡ task.Time left
     → left.failures ≡ failures_at fed.end 0
 clock_failed left fed fails is =
     let P : Stopwatch → Type 0 = λ s. s.failures ≡ failures_at fed.end 0 in subst P (same_stopwatch fails.0 left (sym fails.1 ∙ is)) fails.2
 
 -- what is left behind the end of a thread and what it hears then
-pub left_after : (t mid left : Task) (end : FeedEnd) (late : Bool) → IsLeft t end (is_fault end) mid → IsLeft mid ends.Done late left
-    → IsLeft t end (is_fault end || late) left
+pub left_after : (t mid left : Task) (end : FeedEnd) (late : Bool) → IsLeftBehind t end false mid → IsLeftBehind mid ends.Done late left
+    → IsLeftBehind t end late left
 left_after (task.Datagrams desk) mid left end late first then =
-    let P : Task → Type 0 = λ t. IsLeft t ends.Done late left in
-    let next : IsLeft (task.Datagrams first.0) ends.Done late left = subst P first.1 then in
-    (next.0, next.1, deaf_after (is_fault end) late (misses desk.coming) (misses first.0.coming) (misses next.0.coming) first.2 next.2)
+    let P : Task → Type 0 = λ t. IsLeftBehind t ends.Done late left in
+    let next : IsLeftBehind (task.Datagrams first.0) ends.Done late left = subst P first.1 then in
+    (next.0, next.1, deaf_behind (is_fault end) late (misses desk.coming) (misses first.0.coming) (misses next.0.coming) first.2 next.2)
 left_after (task.Lines desk) mid left end late first then =
-    let P : Task → Type 0 = λ t. IsLeft t ends.Done late left in
-    let next : IsLeft (task.Lines first.0) ends.Done late left = subst P first.1 then in
-    (next.0, next.1, deaf_after (is_fault end) late (misses desk.coming) (misses first.0.coming) (misses next.0.coming) first.2 next.2)
+    let P : Task → Type 0 = λ t. IsLeftBehind t ends.Done late left in
+    let next : IsLeftBehind (task.Lines first.0) ends.Done late left = subst P first.1 then in
+    (next.0, next.1, deaf_behind (is_fault end) late (misses desk.coming) (misses first.0.coming) (misses next.0.coming) first.2 next.2)
 left_after (task.Time stopwatch) mid left end late first then =
-    let P : Task → Type 0 = λ t. IsLeft t ends.Done late left in
-    let next : IsLeft (task.Time first.0) ends.Done late left = subst P first.1 then in (next.0, next.1, next.2 ∙ first.2)
+    let P : Task → Type 0 = λ t. IsLeftBehind t ends.Done late left in
+    let next : IsLeftBehind (task.Time first.0) ends.Done late left = subst P first.1 then in (next.0, next.1, next.2 ∙ first.2)
 
 -- ---- what they say of sockets that had not failed before
 

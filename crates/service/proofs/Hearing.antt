@@ -18,11 +18,11 @@ use Rattle.feeds.specs.declared.hearing.Heard.TheVariants as heard
 use Rattle.feeds.specs.declared.hearing.Language.TheVariants as language
 use Rattle.feeds.specs.declared.feeding.FeedEnd.{FeedEnd}
 use Rattle.feeds.specs.declared.feeding.FeedEnd.TheVariants.{Done, Fault, Gone}
-use Rattle.service.specs.Listening.{Stops}
+use Rattle.service.specs.Listening.{EndsListening}
 use Rattle.feeds.specs.declared.feeding.Told.{Told}
 use Rattle.feeds.specs.declared.feeding.Told.TheVariants as told
 use Rattle.feeds.specs.Heard.{Says}
-use Rattle.feeds.specs.Fed.{Log, AllSay, IsTold, Sends, event_heard, events, is_close, closes}
+use Rattle.feeds.specs.Fed.{Log, AllSay, IsPassedOn, Sends, event_heard, events, is_close, closes}
 use Rattle.admission.specs.declared.judging.Admission.{Admission}
 use Rattle.service.specs.Admitted.{Case, IsJudged, AreJudged, arrived, is_allowed, admitted, AreHeard, refusals, unsent, AreRefused}
 use Rattle.service.specs.Served.{is_gone, is_short, AreServed}
@@ -75,7 +75,7 @@ none_of_both true b e f = absurd cc
 none_of_both false b e f = f
 
 -- no SIP datagram closes a server
-no_close : (d : Datagram) (h : Heard) (old new : PortSeats) → Says language.Sip d h → IsTold h old new told.Close → ⊥
+no_close : (d : Datagram) (h : Heard) (old new : PortSeats) → Says language.Sip d h → IsPassedOn h old new told.Close → ⊥
 no_close d (heard.Event e) old new says is = is
 no_close d heard.Unread old new says is = is
 no_close d heard.Close old new says is = says
@@ -89,18 +89,18 @@ module _ {log : Log} {old now : PortSeats} (was : Serving log old now) (next : P
         sends = subst P (sym (events_more log (one d h))) (sends_more old now next (events log) (events (one d h)) was.sends sent);
       }
 
-  serving_sent : (h : Heard) → Says language.Sip d h → IsTold h now next told.Sent → Serving (log ++ one d h) old next
+  serving_sent : (h : Heard) → Says language.Sip d h → IsPassedOn h now next told.Sent → Serving (log ++ one d h) old next
   serving_sent (heard.Event e) says is = serving_with (heard.Event e) says refl is
   serving_sent heard.Unread says is = absurd is
   serving_sent heard.Close says is = absurd is
 
-  serving_unread : (h : Heard) → Says language.Sip d h → IsTold h now next told.Unread → Serving (log ++ one d h) old next
+  serving_unread : (h : Heard) → Says language.Sip d h → IsPassedOn h now next told.Unread → Serving (log ++ one d h) old next
   serving_unread (heard.Event e) says is = absurd is
   serving_unread heard.Unread says is =
       let P : PortSeats → Type 0 = λ p. Sends now [] p in serving_with heard.Unread says refl (subst P (sym is) (sends_none now))
   serving_unread heard.Close says is = absurd is
 
-  served_missed : (h : Heard) → Says language.Sip d h → IsTold h now next told.Gone → AreServed (log ++ one d h) old next Gone
+  served_missed : (h : Heard) → Says language.Sip d h → IsPassedOn h now next told.Gone → AreServed (log ++ one d h) old next Gone
   served_missed (heard.Event e) says is = record {
     say = all_more log (one d (heard.Event e)) was.say (says, tt);
     ends = record { before = log; last = d; event = e; mid = now; whole = refl; unclosed = was.unclosed; sent = was.sends; missed = is };
@@ -108,13 +108,13 @@ module _ {log : Log} {old now : PortSeats} (was : Serving log old now) (next : P
   served_missed heard.Unread says is = absurd is
   served_missed heard.Close says is = absurd is
 
-  serving_more : (h : Heard) → Says language.Sip d h → (t : Told) → IsTold h now next t → is_gone t ≡ false → Serving (log ++ one d h) old next
+  serving_more : (h : Heard) → Says language.Sip d h → (t : Told) → IsPassedOn h now next t → is_gone t ≡ false → Serving (log ++ one d h) old next
   serving_more h says told.Sent is on = serving_sent h says is
   serving_more h says told.Unread is on = serving_unread h says is
   serving_more h says told.Close is on = absurd (no_close d h now next says is)
   serving_more h says told.Gone is on = absurd cc
 
-  served_last : (h : Heard) → Says language.Sip d h → (t : Told) → IsTold h now next t → is_gone t ≡ true → AreServed (log ++ one d h) old next Gone
+  served_last : (h : Heard) → Says language.Sip d h → (t : Told) → IsPassedOn h now next t → is_gone t ≡ true → AreServed (log ++ one d h) old next Gone
   served_last h says told.Sent is at = absurd cc
   served_last h says told.Unread is at = absurd cc
   served_last h says told.Close is at = absurd cc
@@ -209,7 +209,7 @@ module _ {longest : ℕ} {a b : Admission} {moment : ℕ} {old now : PortSeats} 
           serving = subst P (sym (admitted_same was.cases c denied)) was.serving;
         }
 
-    module _ (passes : is_allowed c.verdict ≡ true) (next : PortSeats) (t : Told) (is_told : IsTold c.says now next t) where
+    module _ (passes : is_allowed c.verdict ≡ true) (next : PortSeats) (t : Told) (is_told : IsPassedOn c.says now next t) where
       pub hearing_sent : is_gone t ≡ false → Hearing longest a d c.moment old next given after taken sent failures count
       hearing_sent on =
           let P : Log → Type 0 = λ l. Serving l old next in record {
@@ -259,7 +259,7 @@ module _ {longest : ℕ} {a b : Admission} {moment : ℕ} {old now : PortSeats} 
         was.refused,
       )
 
-  pub served_end : (end : FeedEnd) → Stops end → Serves longest a b old now given given' taken taken' failures failures' end
+  pub served_end : (end : FeedEnd) → EndsListening end → Serves longest a b old now given given' taken taken' failures failures' end
   served_end Done stops = served_done
   served_end Fault stops = served_fault
   served_end Gone stops = absurd stops

@@ -13,7 +13,7 @@ use Rattle.service.specs.declared.fates.Put.{Put as OutPut}
 use Rattle.service.specs.declared.sending.Waiting.{Waiting}
 use Rattle.service.specs.Sending.{Act, Put, Does, call_of, calls, fates, kept_after}
 use Rattle.service.specs.Watched.{IsSeen, AreRowed}
-use Rattle.service.specs.Keeping.{act_of, AreKept, Tends}
+use Rattle.service.specs.Keeping.{act_of, AreKept, open_then, GoesOnBy}
 use Rattle.service.proofs.Acts.{state_append, state_first, does_none}
 use Rattle.service.proofs.Rowing.{rowed_more}
 
@@ -48,13 +48,25 @@ module _ {s : State} {rows : List Row} {acts : List Act} {w : Waiting} (is : Are
     rowed = rowed_more acts more s w.transactions rows w.watchers.rows w'.watchers.rows settled_state settled_rows rowed;
   }
 
-  pub does_behind : (more : List Act) (t : State) (wire wire' : WireSeen) → Does more w.transactions t wire wire'
+-- ---- the transactions once the burst is kept
+
+module _ {s : State} {rows : List Row} {acts : List Act} {w : Waiting} (is : AreKept s rows acts w) where
+  open_is : open_then w ≡ state_after (calls acts) s
+  open_is =
+      ap (state_after (calls (map act_of w.burst.items))) is.open_now ∙ sym (state_more is.kept (map act_of w.burst.items) s)
+      ∙ ap (λ (l : List Act). state_after (calls l) s) (sym is.all)
+
+  -- what it goes on by comes behind what was done
+  pub does_behind : {more : List Act} {wire wire' : WireSeen} → Does more (open_then w) (state_after (calls more) (open_then w)) wire wire'
       → Does more (state_after (calls acts) s) (state_after (calls (acts ++ more)) s) wire wire'
-  does_behind more t wire wire' does =
-      let P : State → Type 0 = λ u. Does more u t wire wire' in
-      let from : Does more (state_after (calls acts) s) t wire wire' = subst P settled_state does in
-      let same : t ≡ state_after (calls (acts ++ more)) s = from.open_now ∙ sym (state_more acts more s) in
-      subst (λ (u : State). Does more (state_after (calls acts) s) u wire wire') same from
+  does_behind {more = more} {wire = wire} {wire' = wire'} does =
+      let P : State → Type 0 = λ u. Does more u (state_after (calls more) u) wire wire' in
+      let Q : State → Type 0 = λ u. Does more (state_after (calls acts) s) u wire wire' in
+      subst Q (sym (state_more acts more s)) (subst P open_is does)
+
+-- what was put is kept but for the burst, from there on
+from_here : (w : Waiting) → AreKept w.transactions w.watchers.rows (map act_of w.burst.items) w
+from_here w = record { kept = []; all = refl; open_now = refl; rowed = refl }
 
 -- ---- one of the burst is kept
 
@@ -106,21 +118,23 @@ shorter p items rest is = subst (λ (l : List OutPut). length rest < length l) (
 
 -- ---- nothing was done
 
-pub tends_none : (w : Waiting) (wire : WireSeen) → Tends [] w w wire wire
-tends_none w wire = record {
+pub goes_on_none : (w : Waiting) (wire : WireSeen) → GoesOnBy [] w w wire wire
+goes_on_none w wire = record {
   no_outs = refl;
   kept = λ s rows acts is. subst (λ (l : List Act). AreKept s rows l w) (sym (append-nil acts)) is;
-  does = λ s rows acts is. subst (λ (l : List Act). Does [] (state_after (calls acts) s) (state_after (calls l) s) wire wire) (sym (append-nil acts))
-      (does_none (state_after (calls acts) s) wire);
+  does = does_none (open_then w) wire;
 }
 
 -- all was kept first, and more was done then
-pub tends_more : (w mid w' : Waiting) (more : List Act) (wire wire' : WireSeen)
+pub goes_on_more : (w mid w' : Waiting) (more : List Act) (wire wire' : WireSeen)
     → ((s : State) (rows : List Row) (acts : List Act) → AreKept s rows acts w → AreKept s rows acts mid) → mid.burst.items ≡ [] → w'.burst.items ≡ []
     → fates more ≡ [] → Does more mid.transactions w'.transactions wire wire' → AreRowed mid.transactions more mid.watchers.rows w'.watchers.rows
-    → Tends more w w' wire wire'
-tends_more w mid w' more wire wire' settled none none' no_outs does rowed = record {
-  no_outs = no_outs;
-  kept = λ s rows acts is. kept_more (settled s rows acts is) none more w' none' does.open_now rowed;
-  does = λ s rows acts is. does_behind (settled s rows acts is) none more w'.transactions wire wire' does;
-}
+    → GoesOnBy more w w' wire wire'
+goes_on_more w mid w' more wire wire' settled none none' no_outs does rowed =
+    let same : mid.transactions ≡ open_then w = settled_state (settled _ _ _ (from_here w)) none in
+    let P : State → Type 0 = λ u. Does more u w'.transactions wire wire' in
+    let did : Does more (open_then w) w'.transactions wire wire' = subst P same does in record {
+      no_outs = no_outs;
+      kept = λ s rows acts is. kept_more (settled s rows acts is) none more w' none' does.open_now rowed;
+      does = record { taken = did.taken; failed = did.failed; asked = did.asked; open_now = refl };
+    }

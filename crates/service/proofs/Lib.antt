@@ -13,6 +13,7 @@ pub mod Paging
 pub mod Judging
 pub mod Hearing
 pub mod Admitting
+pub mod Replied
 pub mod Taking
 pub mod Foreign
 pub mod Refusing

@@ -12,16 +12,15 @@ use Rattle.transport.specs.Wires.{Grows}
 use Rattle.feeds.proofs.Telling.{grows_none, grows_more, grows_same}
 use Rattle.feeds.specs.declared.feeding.FeedEnd.{FeedEnd}
 use Rattle.feeds.specs.declared.feeding.FeedEnd.TheVariants as ends
-use Rattle.service.specs.Listening.{Stops}
+use Rattle.service.specs.Listening.{EndsListening}
 use Rattle.feeds.specs.Fed.{Sends}
 use Rattle.feeds.proofs.SendingHome.{sends_none, sends_more}
-use Rattle.control_lines.specs.declared.answer.ControlAnswer.TheVariants as answer
 use Rattle.service.specs.declared.lines.Handled.{Handled}
 use Rattle.service.specs.declared.lines.Handled.TheVariants as did
 use Rattle.control_lines.specs.Kept.{kept_answer}
 use Rattle.control_lines.specs.Tokens.{token, line}
 use Rattle.control_lines.specs.Told.{Row}
-use Rattle.service.specs.Taken.{DeskSeen, Line, is_near, IsForeign, IsLine, IsMeant, Means, IsDone, IsAgain, IsNews, IsPassed, IsTaken, Stays, told_by, kept_with, desk_after, desk_then, AreLines, end_after, MayReply, Replies, gets_answer, has_none, failures_then, datagrams_of, events, replies, reply_to, unanswered, AllGoOn, EndsWith, AreTaken, AreAnswered}
+use Rattle.service.specs.Taken.{DeskSeen, Line, is_near, IsForeign, IsLine, IsMeant, Reaches, IsDone, IsAgain, IsNews, IsPassed, IsTaken, kept_with, desk_after, desk_then, AreLines, end_after, MayReply, Replies, gets_answer, has_none, failures_then, datagrams_of, events, replies, reply_to, unanswered, AllGoOn, EndsWith, AreTaken, AreAnswered}
 
 pub all_more : (P : Line → Type 0) (log more : List Line) → AllByRecursion P log → AllByRecursion P more → AllByRecursion P (log ++ more)
 all_more P [] more a b = b
@@ -170,35 +169,13 @@ module _ {desk at : DeskSeen} {old now : PortSeats} {given given' taken taken' :
       let Q : PortSeats → Type 0 = λ p. Sends old (events (was.log ++ l ∷ [])) p in
       subst Q (sym same) (subst P (sym (events_more was.log (l ∷ []) ∙ append-nil (events was.log))) was.sends)
 
+  sends_reached : (event : Option Event) (x : Handled) (k : Bool) → (end_after x ≡ Some ends.Gone → ⊥) → Reaches event x now next
+      → Sends old (events (was.log ++ record { came = d; event = event; done = x; is_kept = k; reply = reply } ∷ [])) next
+  sends_reached None x k stays same = sends_same x k same
+  sends_reached (Some e) did.Gone k stays missed = absurd (stays refl)
+  sends_reached (Some e) x k stays sent = sends_event e x k sent
+
   module _ (at' : DeskSeen) where
-    with_event : is_near at d.peer ≡ true → (x : Handled) (e : Event) (k : Bool) (rows' : List Row) → end_after x ≡ None → kept_answer at.kept.items (token d.octets) ≡ None
-        → Means at.rows (line d.octets) (Some e) x → MayReply at' x reply → Replies (gets_answer x) d.peer reply taken' after' failures' more
-        → at' ≡ record { workers = at.workers; hearing = at.hearing; rows = rows'; kept = kept_with k (token d.octets) x at.kept } → rows' ≡ told_by e at.rows
-        → Sends now (e ∷ []) next → Taking desk at' old next given after taken after' failures more
-    with_event near x e k rows' on new meant may replied knows rows sent =
-        let l : Line = record { came = d; event = Some e; done = x; is_kept = k; reply = reply } in
-        let K : List Row → DeskSeen = λ rs. record { workers = at.workers; hearing = at.hearing; rows = rs; kept = kept_with k (token d.octets) x at.kept } in record {
-          log = was.log ++ l ∷ [];
-          book = book_more (Some e) x k at' (knows ∙ ap K rows) (inr (near, inr (new, meant))) may replied;
-          on = all_more (λ (y : Line). end_after y.done ≡ None) was.log (l ∷ []) was.on (on, tt);
-          sends = sends_event e x k sent;
-          knows = knows_more (Some e) x k at' (knows ∙ ap K rows);
-        }
-
-    without : is_near at d.peer ≡ true → (x : Handled) (k : Bool) (rows' : List Row) → end_after x ≡ None → kept_answer at.kept.items (token d.octets) ≡ None
-        → Means at.rows (line d.octets) None x → MayReply at' x reply → Replies (gets_answer x) d.peer reply taken' after' failures' more
-        → at' ≡ record { workers = at.workers; hearing = at.hearing; rows = rows'; kept = kept_with k (token d.octets) x at.kept } → Stays at.rows rows' now next
-        → Taking desk at' old next given after taken after' failures more
-    without near x k rows' on new meant may replied knows stays =
-        let l : Line = record { came = d; event = None; done = x; is_kept = k; reply = reply } in
-        let K : List Row → DeskSeen = λ rs. record { workers = at.workers; hearing = at.hearing; rows = rs; kept = kept_with k (token d.octets) x at.kept } in record {
-          log = was.log ++ l ∷ [];
-          book = book_more None x k at' (knows ∙ ap K stays.0) (inr (near, inr (new, meant))) may replied;
-          on = all_more (λ (y : Line). end_after y.done ≡ None) was.log (l ∷ []) was.on (on, tt);
-          sends = sends_same x k stays.1;
-          knows = knows_more None x k at' (knows ∙ ap K stays.0);
-        }
-
     passed : (x : Handled) → IsPassed d.peer at at' now next x → end_after x ≡ None → MayReply at' x reply → Replies (gets_answer x) d.peer reply taken' after' failures' more
         → Taking desk at' old next given after taken after' failures more
     passed x is on may replied =
@@ -225,21 +202,15 @@ module _ {desk at : DeskSeen} {old now : PortSeats} {given given' taken taken' :
         → at' ≡ record { workers = at.workers; hearing = at.hearing; rows = rows'; kept = kept_with k (token d.octets) x at.kept }
         → IsDone (line d.octets) at.rows rows' now next x → MayReply at' x reply → Replies (gets_answer x) d.peer reply taken' after' failures' more
         → end_after x ≡ None → Taking desk at' old next given after taken after' failures more
-    news near (did.Answered answer.Done) new k rows' knows is may replied on = with_event near (did.Answered answer.Done) is.0 k rows' refl new (is.0, refl, is.1) may replied knows is.2 is.3
-    news near (did.Answered answer.BadLine) new k rows' knows is may replied on = without near (did.Answered answer.BadLine) k rows' refl new (refl, is.0) may replied knows is.1
-    news near (did.Answered answer.UnknownMailbox) new k rows' knows is may replied on = without near (did.Answered answer.UnknownMailbox) k rows' refl new (refl, is.0) may replied knows is.1
-    news near (did.Answered answer.Closed) new k rows' knows is may replied on = absurd is
-    news near (did.Answered answer.NoMemory) new k rows' knows is may replied on = without near (did.Answered answer.NoMemory) k rows' refl new refl may replied knows is
-    news near (did.Answered answer.Busy) new k rows' knows is may replied on = absurd is
-    news near (did.Repeated a) new k rows' knows is may replied on = absurd is
-    news near did.Unanswered new k rows' knows is may replied on = without near did.Unanswered k rows' refl new (refl, is.0) may replied knows is.1
-    news near did.Foreign new k rows' knows is may replied on = absurd is
-    news near did.Counters new k rows' knows is may replied on = without near did.Counters k rows' refl new (refl, is.0) may replied knows is.1
-    news near (did.Shown n) new k rows' knows is may replied on = without near (did.Shown n) k rows' refl new (refl, is.0, is.1, is.2) may replied knows is.3
-    news near (did.Dumped n) new k rows' knows is may replied on = without near (did.Dumped n) k rows' refl new (refl, is.0, is.1, is.2) may replied knows is.3
-    news near (did.Watched m n) new k rows' knows is may replied on = without near (did.Watched m n) k rows' refl new (refl, is.0, is.1, is.2) may replied knows is.3
-    news near did.Closing new k rows' knows is may replied on = absurd cc
-    news near did.Gone new k rows' knows is may replied on = absurd cc
+    news near x new k rows' knows is may replied on =
+        let l : Line = record { came = d; event = is.0; done = x; is_kept = k; reply = reply } in
+        let K : List Row → DeskSeen = λ rs. record { workers = at.workers; hearing = at.hearing; rows = rs; kept = kept_with k (token d.octets) x at.kept } in record {
+          log = was.log ++ l ∷ [];
+          book = book_more is.0 x k at' (knows ∙ ap K is.2) (inr (near, inr (new, is.1))) may replied;
+          on = all_more (λ (y : Line). end_after y.done ≡ None) was.log (l ∷ []) was.on (on, tt);
+          sends = sends_reached is.0 x k (λ gone. absurd (let z = sym on ∙ gone in cc)) is.3;
+          knows = knows_more is.0 x k at' (knows ∙ ap K is.2);
+        }
 
     pub taking_more : (x : Handled) → IsTaken d.peer d.octets at at' now next x → MayReply at' x reply → Replies (gets_answer x) d.peer reply taken' after' failures' more
         → end_after x ≡ None → Taking desk at' old next given after taken after' failures more
@@ -254,13 +225,13 @@ module _ {desk at : DeskSeen} {old now : PortSeats} {given given' taken taken' :
       → MayReply at' did.Closing reply → Replies true d.peer reply taken' after' failures' more
       → (log : List Line) × Grows given after (datagrams_of log) × AreTaken desk log old next ends.Done × AreAnswered log taken after' failures more
   taken_close near k rows' at' knows new is may replied =
-      let l : Line = record { came = d; event = None; done = did.Closing; is_kept = k; reply = reply } in
+      let l : Line = record { came = d; event = is.0; done = did.Closing; is_kept = k; reply = reply } in
       let K : List Row → DeskSeen = λ rs. record { workers = at.workers; hearing = at.hearing; rows = rs; kept = kept_with k (token d.octets) did.Closing at.kept } in
-      let book = book_more None did.Closing k at' (knows ∙ ap K is.1.0) (inr (near, inr (new, (refl, is.0)))) may replied in
+      let book = book_more is.0 did.Closing k at' (knows ∙ ap K is.2) (inr (near, inr (new, is.1))) may replied in
       let last : EndsWith did.Closing (was.log ++ l ∷ []) = record { before = was.log; last = l; whole = refl; on = was.on; is = refl } in (
         was.log ++ l ∷ [],
         book.came_are,
-        record { each = book.each; stops = inl last; sends = sends_same did.Closing k is.1.1 },
+        record { each = book.each; stops = inl last; sends = sends_reached is.0 did.Closing k (λ gone. absurd cc) is.3 },
         book.answered,
       )
 
@@ -269,15 +240,16 @@ module _ {desk at : DeskSeen} {old now : PortSeats} {given given' taken taken' :
       → MayReply at' did.Gone reply → Replies true d.peer reply taken' after' failures' more
       → (log : List Line) × Grows given after (datagrams_of log) × AreTaken desk log old next ends.Gone × AreAnswered log taken after' failures more
   taken_gone near k rows' at' knows new is may replied =
-      let l : Line = record { came = d; event = Some is.0; done = did.Gone; is_kept = k; reply = reply } in
+      let l : Line = record { came = d; event = is.0; done = did.Gone; is_kept = k; reply = reply } in
       let K : List Row → DeskSeen = λ rs. record { workers = at.workers; hearing = at.hearing; rows = rs; kept = kept_with k (token d.octets) did.Gone at.kept } in
-      let book = book_more (Some is.0) did.Gone k at' (knows ∙ ap K is.2) (inr (near, inr (new, (is.0, refl, is.1)))) may replied in (
+      let P : Option Event → Type 0 = λ e. Reaches e did.Gone now next in
+      let book = book_more is.0 did.Gone k at' (knows ∙ ap K is.2) (inr (near, inr (new, is.1))) may replied in (
         was.log ++ l ∷ [],
         book.came_are,
         record {
           each = book.each;
           stops = record { before = was.log; last = l; whole = refl; on = was.on; is = refl };
-          sends = record { before = was.log; last = l; event = is.0; mid = now; whole = refl; is = refl; sent = was.sends; missed = is.3 };
+          sends = record { before = was.log; last = l; event = is.1.0; mid = now; whole = refl; is = is.1.1; sent = was.sends; missed = subst P is.1.1 is.3 };
         },
         book.answered,
       )
@@ -345,7 +317,7 @@ module _ {desk at : DeskSeen} {old now : PortSeats} {given given' taken taken' :
 
 -- listening ended, behind a look that gave nothing
 pub taken_end : {desk at : DeskSeen} {old now : PortSeats} {given given' taken taken' : Option (List Datagram)} {failures failures' : ℕ}
-    → Taking desk at old now given given' taken taken' failures failures' → (after : Option (List Datagram)) → Grows given' after [] → (end : FeedEnd) → Stops end
+    → Taking desk at old now given given' taken taken' failures failures' → (after : Option (List Datagram)) → Grows given' after [] → (end : FeedEnd) → EndsListening end
     → (log : List Line) × Grows given after (datagrams_of log) × AreTaken desk log old now end × AreAnswered log taken taken' failures failures'
 taken_end was after none ends.Done stops = taken_done (taking_silent was after none)
 taken_end was after none ends.Fault stops = taken_fault was after none

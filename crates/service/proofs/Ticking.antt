@@ -7,7 +7,7 @@ use Rattle.crew.specs.Ports.{PortSeats}
 use Rattle.feeds.specs.declared.feeding.FeedEnd.TheVariants.{Gone}
 use Rattle.feeds.specs.Fed.{Sends, Misses}
 use Rattle.feeds.proofs.SendingHome.{sends_none, sends_more}
-use Rattle.service.specs.Ticks.{MayTell, second_after, AreNotices, AreTold}
+use Rattle.service.specs.Ticks.{MayTell, second_after, AreNotices, ArePassedOn}
 
 abbrev pub second_then : ℕ → List Event → ℕ
 second_then now [] = now
@@ -55,7 +55,7 @@ module _ {old now : PortSeats} {second : ℕ} (was : Ticking old now second) whe
   pub told_all : (events : List Event) × AreNotices 0 events × Sends old events now
   told_all = (was.events, was.are, was.sends)
 
-  pub told_gone : (next : PortSeats) (e : Event) → MayTell second e → Misses now e next → (events : List Event) × AreNotices 0 events × AreTold events old next Gone
+  pub told_gone : (next : PortSeats) (e : Event) → MayTell second e → Misses now e next → (events : List Event) × AreNotices 0 events × ArePassedOn events old next Gone
   told_gone next e may missing = (
     was.events ++ e ∷ [],
     later e may,

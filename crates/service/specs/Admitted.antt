@@ -4,6 +4,7 @@ use Rattle.std.specs.Prelude.{◌≡◌, ◌≤◌, ◌⊎◌, ℕ, ◌/◌, Boo
 use Rattle.std.specs.List.{filter, filter_map, AllByRecursion}
 use Rattle.sip_text.specs.declared.address.Addr.{Addr}
 use Rattle.sip_read.specs.declared.message.Request.{Request}
+use Rattle.sip_read.specs.declared.message.Response.{Response}
 use Rattle.notifier_model.specs.declared.event.Event.{Event}
 use Rattle.notifier_model.specs.declared.event.Event.TheVariants as event
 use Rattle.crew.specs.Ports.{PortSeats}
@@ -23,7 +24,7 @@ use Rattle.admission.specs.declared.judging.Reading.TheVariants as reading
 use Rattle.admission.specs.declared.judging.Verdict.{Verdict}
 use Rattle.admission.specs.declared.judging.Verdict.TheVariants as verdict
 use Rattle.admission.specs.Inquiries.{IsAdmitted}
-use Rattle.admission.specs.Verdicts.{IsOpen, is_asked, Judges, after}
+use Rattle.admission.specs.Verdicts.{IsOpen, hears, is_asked, Judges, after}
 use Rattle.service.specs.Served.{AreServed}
 
 -- a datagram, what it says, when it was judged, and the verdict: none where memory was wanting. Did the wire fail at the refusal of it?
@@ -64,10 +65,14 @@ pub record IsArrival (c : Case) (x : Arrival) : Type 0 where
 
 -- ---- the verdict
 
--- it is the definition's, and only tokens change. None is found where memory is wanting, which it never is where nothing is asked
+-- memory may be wanting where something is asked of a datagram that is no answer, and whose source is heard
+abbrev pub MayWant : Admission → Arrival → Type 0
+MayWant a x = (IsOpen a → ⊥) × (hears a x.source.ip ≡ true) × (x.reading ≡ reading.Response → ⊥)
+
+-- it is the definition's, and only tokens change. None is found where memory is wanting
 abbrev pub Meets : Admission → Arrival → Option Verdict → Admission → Type 0
 Meets a x (Some v) b = Judges a x v × (b ≡ after a x)
-Meets a x None b = (IsOpen a → ⊥) × ((b ≡ a) ⊎ (b ≡ after a x))
+Meets a x None b = MayWant a x × ((b ≡ a) ⊎ (b ≡ after a x))
 
 pub record IsJudged (a : Admission) (earlier : ℕ) (c : Case) (b : Admission) : Type 0 where
   pub speaks : SipSays c.came.peer c.came.octets c.says
@@ -166,6 +171,16 @@ abbrev pub EachIsVouched : Type 0
 EachIsVouched =
     (a b : Admission) (k : Authentication) (cases : List Case) (old new : PortSeats) (end : FeedEnd)
     → a.authentication ≡ Some k → AreHeard a cases b old new end → AllByRecursion (IsVouched k) (admitted cases)
+
+-- an answer whose source is heard
+abbrev pub IsSentOn : Admission → Case → Type 0
+IsSentOn a c = (r : Response) → c.says ≡ heard.Event (event.Reply r) → hears a c.came.peer.ip ≡ true → is_allowed c.verdict ≡ true
+
+-- each such is sent on
+abbrev pub EachAnswerIsSentOn : Type 0
+EachAnswerIsSentOn =
+    (a b : Admission) (cases : List Case) (old new : PortSeats) (end : FeedEnd) → AreHeard a cases b old new end
+    → AllByRecursion (IsSentOn a) cases
 
 -- where it asks nothing all datagrams are sent on, and none is refused
 abbrev pub OpenHearsAll : Type 0

@@ -21,9 +21,12 @@ pub record AreKept (s : State) (rows : List Row) (acts : List Act) (w : Waiting)
   pub open_now : w.transactions ≡ state_after (calls kept) s
   pub rowed : AreRowed s kept rows w.watchers.rows
 
--- whatever was done until then, these acts come behind it: they are no outs, and all that the wire took meanwhile is theirs
-pub record Tends (more : List Act) (w w' : Waiting) (wire wire' : WireSeen) : Type 0 where
+-- the open transactions once the outs of the burst are kept, too
+abbrev pub open_then : Waiting → State
+open_then w = state_after (calls (map act_of w.burst.items)) w.transactions
+
+-- these acts come behind all that was done until then: they are no outs, and all that the wire took meanwhile is theirs
+pub record GoesOnBy (more : List Act) (w w' : Waiting) (wire wire' : WireSeen) : Type 0 where
   pub no_outs : fates more ≡ []
   pub kept : (s : State) (rows : List Row) (acts : List Act) → AreKept s rows acts w → AreKept s rows (acts ++ more) w'
-  pub does : (s : State) (rows : List Row) (acts : List Act) → AreKept s rows acts w
-      → Does more (state_after (calls acts) s) (state_after (calls (acts ++ more)) s) wire wire'
+  pub does : Does more (open_then w) (state_after (calls more) (open_then w)) wire wire'

@@ -27,16 +27,16 @@ tells_deaf came.Nothing = false
 tells_deaf (came.End end) = is_fault end
 
 -- listening ends since the service goes no further, or with a fault: no worker is gone
-abbrev pub Stops : FeedEnd → Type 0
-Stops ends.Done = Unit {0}
-Stops ends.Fault = Unit {0}
-Stops ends.Gone = ⊥
+abbrev pub EndsListening : FeedEnd → Type 0
+EndsListening ends.Done = Unit {0}
+EndsListening ends.Fault = Unit {0}
+EndsListening ends.Gone = ⊥
 
 -- a datagram is no longer than its room
 abbrev pub MayCome : List ℕ → Came → Type 0
 MayCome octets (came.Datagram count source) = count ≤ length octets
 MayCome octets came.Nothing = Unit {0}
-MayCome octets (came.End end) = Stops end
+MayCome octets (came.End end) = EndsListening end
 
 -- the wire gave the datagram that came: so many of these octets, the first ones. It gave none where none came
 abbrev pub Gave : Option (List Datagram) → Option (List Datagram) → List ℕ → Came → Type 0

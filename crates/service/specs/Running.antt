@@ -40,8 +40,8 @@ use Rattle.service.specs.declared.running.ServiceEnd.{ServiceEnd}
 use Rattle.service.specs.Sending.{Act, Outflow, IsSentOut}
 use Rattle.service.specs.Admitted.{Case, AreHeard}
 use Rattle.service.specs.Listening.{IsDeafAsTold}
-use Rattle.service.specs.Taken.{DeskSeen, Line, AreFirst, AreTaken, seen}
-use Rattle.service.specs.Ticks.{AreNotices, AreTold}
+use Rattle.service.specs.Taken.{DeskSeen, Line, WereTold, AreTaken, seen}
+use Rattle.service.specs.Ticks.{AreNotices, ArePassedOn}
 
 -- ---- what a thread sends through its port until it ends
 
@@ -61,7 +61,7 @@ opening p = record { mailboxes = p.mailboxes.items; changes = p.changes.items; n
 
 -- a desk that takes lines so, with so many workers, and took none yet
 pub record IsFresh (o : Opening) (workers : ℕ) (desk : DeskSeen) : Type 0 where
-  pub first : AreFirst o.mailboxes o.changes desk.rows
+  pub first : WereTold o.mailboxes o.changes desk.rows
   pub unkept : desk.kept ≡ buffer [] KEPT
   pub workers_are : desk.workers ≡ max 1 workers
   pub networks_are : desk.hearing.networks ≡ o.networks
@@ -74,7 +74,7 @@ SendsLines o workers end old new = (desk : DeskSeen) × IsFresh o workers desk �
 
 -- ticks, and that transfers fail whose START lines were not written
 abbrev pub SendsTicks : FeedEnd → PortSeats → PortSeats → Type 0
-SendsTicks end old new = (events : List Event) × AreNotices 0 events × AreTold events old new end
+SendsTicks end old new = (events : List Event) × AreNotices 0 events × ArePassedOn events old new end
 
 abbrev pub SendsFor : Task → FeedEnd → PortSeats → PortSeats → Type 0
 SendsFor (task.Datagrams desk) end old new = SendsDatagrams desk.admission end old new
@@ -90,24 +90,20 @@ pub record ThenCloses (sends : PortSeats → PortSeats → Type 0) (old new : Po
   pub ends : IsLeftByClose fed_to new
   pub seats : SameSeats old new
 
--- what a thread that ended so leaves of what it was to send: a wire that is deaf exactly where it was before or the thread tells of it, or
--- a clock that failed once more exactly where it ends with a fault
-abbrev pub IsLeft : Task → FeedEnd → Bool → Task → Type 0
-IsLeft (task.Datagrams desk) end told left =
-    (d : SipDesk UdpWire) × (left ≡ task.Datagrams d) × IsDeafAsTold told (misses desk.coming) (misses d.coming)
-IsLeft (task.Lines desk) end told left =
-    (d : ControlDesk UdpWire) × (left ≡ task.Lines d) × IsDeafAsTold told (misses desk.coming) (misses d.coming)
-IsLeft (task.Time stopwatch) end told left =
+-- what a thread that ended so leaves of what it was to send, and whether it told of a fault late, behind that: a wire that is deaf exactly
+-- where it was before or the thread tells of a fault, or a clock that failed once more exactly where it ends with one
+abbrev pub IsLeftBehind : Task → FeedEnd → Bool → Task → Type 0
+IsLeftBehind (task.Datagrams desk) end late left =
+    (d : SipDesk UdpWire) × (left ≡ task.Datagrams d) × IsDeafAsTold (is_fault end || late) (misses desk.coming) (misses d.coming)
+IsLeftBehind (task.Lines desk) end late left =
+    (d : ControlDesk UdpWire) × (left ≡ task.Lines d) × IsDeafAsTold (is_fault end || late) (misses desk.coming) (misses d.coming)
+IsLeftBehind (task.Time stopwatch) end late left =
     (s : Stopwatch) × (left ≡ task.Time s) × (s.failures ≡ failures_at end stopwatch.failures)
-
--- it tells of a fault as its end, or late
-abbrev pub FailsFor : Task → Fed → Type 0
-FailsFor t fed = IsLeft t fed.end (is_fault fed.end || fed.fails_late) fed.left
 
 -- a thread has sent this through its port and closed it
 pub record Keeps (task : Task) (old : PortSeats) (fed : Fed) : Type 0 where
   pub sends : ThenCloses (SendsFor task fed.end) old fed.port
-  pub fails : FailsFor task fed
+  pub fails : IsLeftBehind task fed.end fed.fails_late fed.left
 
 -- ---- how it ended
 
@@ -153,7 +149,8 @@ pub record Runs (start : ℕ → Start) (workers repeats : ℕ) (opened : Openin
 -- ---- a service that doesn't run
 
 -- what left by a wire and a writer were outs of workers with these starts: of each all that the one-thread notifier makes of the
--- events that it handled, and no others. Each was sent, written or failed, in order, and NOTIFYs again as in a service that runs
+-- events that it handled, and no others. Of what the ports sent this says nothing. Each out was sent, written or failed, in order, and
+-- NOTIFYs again as in a service that runs
 pub record Leaves (start : ℕ → Start) (workers repeats : ℕ) (flow : Outflow) : Type 0 where
   pub crew : List Hired
   pub ports : List PortSeats

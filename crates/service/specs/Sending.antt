@@ -1,6 +1,6 @@
 -- What the thread that sends does: it sends, writes or fails at each out that the workers post, takes notes of answers to NOTIFYs,
 -- and sends a NOTIFY again whose time has come, or gives it up (RFC 3261 section 17.1.2). Moments are milliseconds.
-use Rattle.std.specs.Prelude.{◌≡◌, ◌<◌, ◌≤◌, ◌+◌, ℕ, Bool, true, false, List, [], ◌∷◌, ◌++◌, length, Option, Some, None, option_map, option_to_list, if◌then◌else◌}
+use Rattle.std.specs.Prelude.{◌≡◌, ◌<◌, ◌≤◌, ◌+◌, ℕ, Bool, true, false, not, List, [], ◌∷◌, ◌++◌, length, Option, Some, None, option_map, option_to_list, if◌then◌else◌}
 use Rattle.std.specs.List.{filter, filter_map, AllByRecursion}
 use Rattle.queues.specs.declared.items.Item.{Item}
 use Rattle.notifier_model.specs.declared.event.NotifyOut.{NotifyOut}
@@ -12,7 +12,7 @@ use Rattle.transport.specs.declared.datagram.Datagram.{Datagram}
 use Rattle.transport.specs.Wires.{datagram, Grows}
 use Rattle.feeds.specs.declared.sending.Fate.{Fate}
 use Rattle.feeds.specs.declared.sending.EmitReport.{EmitReport}
-use Rattle.feeds.specs.Emitted.{Fates, WireSeen, WriterSeen, wire_seen, writer_seen, IsEmitted, datagram_sent, fails_to_send}
+use Rattle.feeds.specs.Emitted.{Fates, WireSeen, WriterSeen, wire_seen, writer_seen, AreMet, datagram_sent, sent_datagrams, fails_to_send}
 use Rattle.service.specs.declared.outs.Exit.{Exit}
 use Rattle.transactions.specs.declared.open.Open.{Open}
 use Rattle.transactions.specs.Timers.{is_over}
@@ -30,7 +30,7 @@ pub data Act : Type 0 where
   -- at this moment it gave up the NOTIFY that was due
   GaveUp : (now : ℕ) → Act
 
--- ---- with the repeats left out
+-- ---- of the outs
 
 abbrev pub fate_of : Act → Option (Out × Fate)
 fate_of (Put now o fate) = Some (o, fate)
@@ -42,7 +42,7 @@ fate_of (GaveUp now) = None
 abbrev pub fates : List Act → Fates
 fates acts = filter_map fate_of acts
 
--- ---- with them
+-- ---- of all, repeats too
 
 abbrev pub sent_by : Act → Option Datagram
 sent_by (Put now o fate) = datagram_sent o fate
@@ -129,13 +129,22 @@ outflow taken failures contents old new = record {
   writer' = writer_seen contents new.sink;
 }
 
--- The outs that were got of the workers met these fates: with the repeats left out the wire has taken just their datagrams, in
--- order. With them it has taken what the acts tell
+-- the outs that were got of the workers met these fates; and the wire has taken what the acts tell, repeats too
 pub record IsSentOut (limit workers : ℕ) (acts : List Act) (got got' : List (Item Out)) (flow : Outflow) (report : EmitReport) : Type 0 where
-  pub without : WireSeen
-  pub emitted : IsEmitted workers (fates acts) got got' flow.wire without flow.writer flow.writer' report
-  pub left_open : State
-  pub does : Does acts (empty limit) left_open flow.wire flow.wire'
+  pub met : AreMet workers (fates acts) got got' flow.writer flow.writer' report
+  pub does : Does acts (empty limit) (state_after (calls acts) (empty limit)) flow.wire flow.wire'
+
+-- ---- what is sent but for repeats
+
+abbrev pub is_repeat : Act → Bool
+is_repeat (Put now o fate) = false
+is_repeat (Noted tag number status) = false
+is_repeat (Repeated now sent fails) = true
+is_repeat (GaveUp now) = false
+
+-- without them just the datagrams of the outs are sent, in order
+abbrev pub WithoutRepeatsLaw : Type 0
+WithoutRepeatsLaw = (acts : List Act) → datagrams (filter (λ act. not (is_repeat act)) acts) ≡ sent_datagrams (fates acts)
 
 -- ---- what that says of each repeat
 

@@ -103,8 +103,8 @@ abbrev pub told_each : List Row → List Change → List Row
 told_each rows changes = fold (λ (told_so_far : List Row) c. told_of c told_so_far) rows changes
 
 -- the mailboxes with these names were told of these changes, in order, and of nothing else
-abbrev pub AreFirst : List (List ℕ) → List Change → List Row → Type 0
-AreFirst names changes rows =
+abbrev pub WereTold : List (List ℕ) → List Change → List Row → Type 0
+WereTold names changes rows =
     (untold : List Row) × AreUntold names untold × (rows ≡ told_each untold changes)
 
 -- ---- what a line means, behind its token, to a service that was told so of its mailboxes
@@ -162,6 +162,11 @@ abbrev pub told_by : Event → List Row → List Row
 told_by (happened.Mail m) rows = told m rows
 told_by other rows = rows
 
+-- what is told of them by an event, if there is one
+abbrev pub rows_after : Option Event → List Row → List Row
+rows_after None rows = rows
+rows_after (Some e) rows = told_by e rows
+
 -- nothing was sent, and no mailbox was told anything
 abbrev pub Stays : List Row → List Row → PortSeats → PortSeats → Type 0
 Stays rows rows' old new = (rows' ≡ rows) × (new ≡ old)
@@ -182,28 +187,35 @@ IsChanged c rows rows' old new did.Gone =
     (e : Event) × (told_event c ≡ Some e) × (is_known rows c ≡ true) × (rows' ≡ told_of c rows) × Misses old e new
 IsChanged c rows rows' old new other = ⊥
 
--- what was done with the line: but for a CLOSE, `ok` only where its event went to its worker, and nothing is sent with any other
--- answer
+-- what a line means that was not answered before, behind its token: the event that it tells, if it tells one, and what is done
+abbrev pub Means : List Row → List ℕ → Option Event → Handled → Type 0
+Means rows octets event (did.Answered answer.Done) = (e : Event) × (event ≡ Some e) × Tells rows octets e
+Means rows octets event (did.Answered answer.BadLine) = (event ≡ None) × Asks octets asked.Bad
+Means rows octets event (did.Answered answer.UnknownMailbox) = (event ≡ None) × IsUnknown rows octets
+Means rows octets event (did.Answered answer.Closed) = ⊥
+Means rows octets event (did.Answered answer.NoMemory) = (event ≡ None) × Asks octets asked.NoMemory
+Means rows octets event (did.Answered answer.Busy) = ⊥
+Means rows octets event (did.Repeated a) = ⊥
+Means rows octets event did.Unanswered = (event ≡ None) × Asks octets asked.Nothing
+Means rows octets event did.Foreign = ⊥
+Means rows octets event did.Counters = (event ≡ None) × Asks octets (asked.Question question.Status)
+Means rows octets event (did.Shown n) =
+    (event ≡ None) × (name : List ℕ) × Asks octets (asked.Question (question.Show name)) × (place name rows ≡ Some n)
+Means rows octets event (did.Dumped n) = (event ≡ None) × (q : Question) × Asks octets (asked.Question q) × BeginsAt rows n q
+Means rows octets event (did.Watched m n) = (event ≡ None) × (q : Question) × Asks octets (asked.Question q) × AsksForWatchers rows m n q
+Means rows octets event did.Closing = (event ≡ None) × Asks octets asked.Close
+Means rows octets event did.Gone = (e : Event) × (event ≡ Some e) × Tells rows octets e
+
+-- the port has sent the event, or its worker is gone; without an event nothing was sent
+abbrev pub Reaches : Option Event → Handled → PortSeats → PortSeats → Type 0
+Reaches None d old new = new ≡ old
+Reaches (Some e) did.Gone old new = Misses old e new
+Reaches (Some e) other old new = Sends old (e ∷ []) new
+
+-- what was done with the line is what it means; its mailbox was told of its event, and the port too
 abbrev pub IsDone : List ℕ → List Row → List Row → PortSeats → PortSeats → Handled → Type 0
-IsDone octets rows rows' old new (did.Answered answer.Done) =
-    (e : Event) × Tells rows octets e × (rows' ≡ told_by e rows) × Sends old (e ∷ []) new
-IsDone octets rows rows' old new (did.Answered answer.BadLine) = Asks octets asked.Bad × Stays rows rows' old new
-IsDone octets rows rows' old new (did.Answered answer.UnknownMailbox) = IsUnknown rows octets × Stays rows rows' old new
-IsDone octets rows rows' old new (did.Answered answer.Closed) = ⊥
-IsDone octets rows rows' old new (did.Answered answer.NoMemory) = Stays rows rows' old new
-IsDone octets rows rows' old new (did.Answered answer.Busy) = ⊥
-IsDone octets rows rows' old new (did.Repeated a) = ⊥
-IsDone octets rows rows' old new did.Unanswered = Asks octets asked.Nothing × Stays rows rows' old new
-IsDone octets rows rows' old new did.Foreign = ⊥
-IsDone octets rows rows' old new did.Counters = Asks octets (asked.Question question.Status) × Stays rows rows' old new
-IsDone octets rows rows' old new (did.Shown n) =
-    (name : List ℕ) × Asks octets (asked.Question (question.Show name)) × (place name rows ≡ Some n) × Stays rows rows' old new
-IsDone octets rows rows' old new (did.Dumped n) =
-    (q : Question) × Asks octets (asked.Question q) × BeginsAt rows n q × Stays rows rows' old new
-IsDone octets rows rows' old new (did.Watched m n) =
-    (q : Question) × Asks octets (asked.Question q) × AsksForWatchers rows m n q × Stays rows rows' old new
-IsDone octets rows rows' old new did.Closing = Asks octets asked.Close × Stays rows rows' old new
-IsDone octets rows rows' old new did.Gone = (e : Event) × Tells rows octets e × (rows' ≡ told_by e rows) × Misses old e new
+IsDone octets rows rows' old new d =
+    (event : Option Event) × Means rows octets event d × (rows' ≡ rows_after event rows) × Reaches event d old new
 
 -- the answers that are kept, with that to a line with this token, if it is kept
 abbrev pub kept_with : Bool → Option Token → Handled → Buffer AnsweredLine → Buffer AnsweredLine
@@ -299,25 +311,6 @@ pub record Line : Type 0 where
   pub is_kept : Bool
   pub reply : Option (List ℕ)
 
--- what was done with a line that was not answered before, behind its token
-abbrev pub Means : List Row → List ℕ → Option Event → Handled → Type 0
-Means rows octets event (did.Answered answer.Done) = (e : Event) × (event ≡ Some e) × Tells rows octets e
-Means rows octets event (did.Answered answer.BadLine) = (event ≡ None) × Asks octets asked.Bad
-Means rows octets event (did.Answered answer.UnknownMailbox) = (event ≡ None) × IsUnknown rows octets
-Means rows octets event (did.Answered answer.Closed) = ⊥
-Means rows octets event (did.Answered answer.NoMemory) = event ≡ None
-Means rows octets event (did.Answered answer.Busy) = ⊥
-Means rows octets event (did.Repeated a) = ⊥
-Means rows octets event did.Unanswered = (event ≡ None) × Asks octets asked.Nothing
-Means rows octets event did.Foreign = ⊥
-Means rows octets event did.Counters = (event ≡ None) × Asks octets (asked.Question question.Status)
-Means rows octets event (did.Shown n) =
-    (event ≡ None) × (name : List ℕ) × Asks octets (asked.Question (question.Show name)) × (place name rows ≡ Some n)
-Means rows octets event (did.Dumped n) = (event ≡ None) × (q : Question) × Asks octets (asked.Question q) × BeginsAt rows n q
-Means rows octets event (did.Watched m n) = (event ≡ None) × (q : Question) × Asks octets (asked.Question q) × AsksForWatchers rows m n q
-Means rows octets event did.Closing = (event ≡ None) × Asks octets asked.Close
-Means rows octets event did.Gone = (e : Event) × (event ≡ Some e) × Tells rows octets e
-
 -- it came from elsewhere than lines are heard from, and tells nothing
 abbrev pub IsForeign : DeskSeen → Addr → Option Event → Handled → Type 0
 IsForeign desk source event d = (is_near desk source ≡ false) × (event ≡ None) × (d ≡ did.Foreign)
@@ -329,10 +322,6 @@ IsMeant desk octets event d =
     ⊎ ((kept_answer desk.kept.items (token octets) ≡ None) × Means desk.rows (line octets) event d)
 
 -- ---- what the desk knows
-
-abbrev pub rows_after : Option Event → List Row → List Row
-rows_after None rows = rows
-rows_after (Some e) rows = told_by e rows
 
 abbrev pub desk_after : Line → DeskSeen → DeskSeen
 desk_after l desk = record {
@@ -396,10 +385,10 @@ pub record MissesLine (log : List Line) (old new : PortSeats) : Type 0 where
   pub missed : Misses mid event new
 
 -- the port has sent the events of the lines, in order, and nothing else; where a worker is gone it missed the last
-abbrev pub SendsLines : List Line → PortSeats → PortSeats → FeedEnd → Type 0
-SendsLines log old new ends.Done = Sends old (events log) new
-SendsLines log old new ends.Fault = Sends old (events log) new
-SendsLines log old new ends.Gone = MissesLine log old new
+abbrev pub SendsEvents : List Line → PortSeats → PortSeats → FeedEnd → Type 0
+SendsEvents log old new ends.Done = Sends old (events log) new
+SendsEvents log old new ends.Fault = Sends old (events log) new
+SendsEvents log old new ends.Gone = MissesLine log old new
 
 -- ---- until when lines are taken
 
@@ -416,16 +405,16 @@ pub record EndsWith (done : Handled) (log : List Line) : Type 0 where
   pub is : last.done ≡ done
 
 -- a CLOSE or a worker that is gone ends it at once, and so does a service that closes for another cause, or a fault
-abbrev pub Stops : List Line → FeedEnd → Type 0
-Stops log ends.Done = EndsWith did.Closing log ⊎ AllGoOn log
-Stops log ends.Fault = AllGoOn log
-Stops log ends.Gone = EndsWith did.Gone log
+abbrev pub EndsTaking : List Line → FeedEnd → Type 0
+EndsTaking log ends.Done = EndsWith did.Closing log ⊎ AllGoOn log
+EndsTaking log ends.Fault = AllGoOn log
+EndsTaking log ends.Gone = EndsWith did.Gone log
 
 -- each of these lines was done as it asks by a desk that knew this at first, until one ended it, and the port has sent their events
 pub record AreTaken (desk : DeskSeen) (log : List Line) (old new : PortSeats) (end : FeedEnd) : Type 0 where
   pub each : AreLines desk log
-  pub stops : Stops log end
-  pub sends : SendsLines log old new end
+  pub stops : EndsTaking log end
+  pub sends : SendsEvents log old new end
 
 -- the wire took the answers, each to who asked, and failed at the others
 pub record AreAnswered (log : List Line) (old new : Option (List Datagram)) (failures failures' : ℕ) : Type 0 where
@@ -447,17 +436,17 @@ abbrev pub is_line : Hearing → Datagram → Bool
 is_line hearing d = is_heard hearing d.peer && is_due d.octets
 
 -- it was answered `closed`, or the wire failed at it
-abbrev pub IsRefused : Line → Type 0
-IsRefused l = (l.done ≡ did.Answered answer.Closed) × ((l.reply ≡ Some (answer_text answer.Closed)) ⊎ (l.reply ≡ None))
+abbrev pub IsTurnedAway : Line → Type 0
+IsTurnedAway l = (l.done ≡ did.Answered answer.Closed) × ((l.reply ≡ Some (answer_text answer.Closed)) ⊎ (l.reply ≡ None))
 
 -- what came until all was sent out, or until nothing could come any more: each from where lines are heard that isn't empty and no answer
 -- itself was answered `closed`, or the other wire failed at it, and nothing else was sent
-pub record AreRefused (hearing : Hearing) (given given' taken taken' : Option (List Datagram)) (failures failures' : ℕ) : Type 0 where
+pub record AreTurnedAway (hearing : Hearing) (given given' taken taken' : Option (List Datagram)) (failures failures' : ℕ) : Type 0 where
   pub came : List Datagram
   pub gave : Grows given given' came
   pub log : List Line
   pub lines : datagrams_of log ≡ filter (is_line hearing) came
-  pub each : AllByRecursion IsRefused log
+  pub each : AllByRecursion IsTurnedAway log
   pub answered : AreAnswered log taken taken' failures failures'
 
 -- ---- what that says of lines from elsewhere, and of those that the service sent itself

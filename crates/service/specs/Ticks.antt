@@ -41,7 +41,7 @@ pub record MissesLast (events : List Event) (old new : PortSeats) : Type 0 where
   pub missed : Misses mid last new
 
 -- the port has sent these, in order, and nothing else; where a worker is gone it missed the last
-abbrev pub AreTold : List Event → PortSeats → PortSeats → FeedEnd → Type 0
-AreTold events old new Done = Sends old events new
-AreTold events old new Fault = Sends old events new
-AreTold events old new Gone = MissesLast events old new
+abbrev pub ArePassedOn : List Event → PortSeats → PortSeats → FeedEnd → Type 0
+ArePassedOn events old new Done = Sends old events new
+ArePassedOn events old new Fault = Sends old events new
+ArePassedOn events old new Gone = MissesLast events old new

@@ -4,23 +4,19 @@ ghost use Rattle.crew.specs.Kept.{SameSeats};
 ghost use Rattle.feeds.specs.Fed.{failures_at};
 ghost use Rattle.service.specs.Taken.{failures_then};
 ghost use Rattle.notifier_model.specs.declared.event.Event.{Event};
-ghost use Rattle.service.specs.Ticks.{AreNotices, AreTold, new_stopwatch};
+ghost use Rattle.service.specs.Ticks.{AreNotices, ArePassedOn, new_stopwatch};
 
-use crate::logging::has_room;
-use crate::shared::{COMPLAINTS, Shared};
+use crate::shared::Shared;
 use crew::Port;
 use feeds::{FeedEnd, send_event};
 use notifier_model::Event;
 use std::rt::Clock;
 use std::sync::Wait;
+use std::thread;
 use std::time::Duration;
-use std::{io, thread};
 
 /// How long the clock sleeps at most before it looks whether the service closes, in milliseconds.
 const NAP: u64 = 100;
-
-/// How many seconds pass between two looks at what goes wrong.
-const MINUTE: u64 = 60;
 
 /// What the time is read by. It counts how often the clock couldn't be read.
 #[derive(Drop)]
@@ -50,61 +46,6 @@ impl Stopwatch {
     }
 }
 
-/// What goes wrong, as it was told once a minute.
-#[derive(Drop)]
-struct Complaints {
-    /// The second of the last look.
-    looked: u64,
-    /// How often each had happened until then.
-    told: [u64; COMPLAINTS],
-    /// How much had not been sent until then.
-    unsent: u64,
-}
-
-impl Complaints {
-    /// Of a service that begins now.
-    fn new() -> Complaints {
-        Complaints {
-            looked: 0,
-            told: [0; COMPLAINTS],
-            unsent: 0,
-        }
-    }
-
-    /// Says on standard error once a minute what happened in it, and how often. Without room it is told a minute later.
-    fn look<R: Eprint>(&mut self, rt: &R, shared: &Shared, now: u64) {
-        if now.saturating_sub(self.looked) < MINUTE {
-            return;
-        }
-        self.looked = now;
-        for (told, (what, count)) in self.told.iter_mut().zip(shared.complaints()) {
-            let more = count.saturating_sub(*told);
-            if more > 0 && has_room() {
-                let _ = eprintln!(rt; "notifyd: {more} {what}");
-                *told = count;
-            }
-        }
-        self.tell_unsent(rt, shared);
-    }
-
-    /// Says how much was not sent since the last look, and the system's words at the last send that failed.
-    fn tell_unsent<R: Eprint>(&mut self, rt: &R, shared: &Shared) {
-        let count = shared.unsent();
-        let more = count.saturating_sub(self.unsent);
-        if more == 0 || !has_room() {
-            return;
-        }
-        self.unsent = count;
-        let what = "datagrams or lines could not be sent";
-        let Some(number) = shared.send_error() else {
-            let _ = eprintln!(rt; "notifyd: {more} {what}");
-            return;
-        };
-        let cause = io::Error::from_raw_os_error(number.cast_signed());
-        let _ = eprintln!(rt; "notifyd: {more} {what}, the last since: {cause}");
-    }
-}
-
 /// Sends a tick each second of the monotonic clock, with the seconds since the service began, and fails the transfers whose START lines
 /// were not written, until the service closes, the clock fails or a worker is gone. Once a minute it says on standard error what was
 /// refused, dropped or not sent in it.
@@ -117,11 +58,10 @@ pub fn tell_time<R: Wait + Clock + Eprint>(
 ) -> FeedEnd
     requires still_open { port.old.is_open ≡ true }
     // Ticks are sent to all workers, each later than the one before, and to its worker that a transfer fails, and nothing else.
-    ensures ticks { (events : List Event) × AreNotices 0 events × AreTold events port.old port.new result }
+    ensures ticks { (events : List Event) × AreNotices 0 events × ArePassedOn events port.old port.new result }
     ensures failures { stopwatch.new.failures ≡ failures_at result stopwatch.old.failures }
     ensures seats { SameSeats port.old port.new }
 {
-    let mut complaints = Complaints::new();
     let mut second = 0;
     for _ in rt.forever() {
         if shared.is_closing() {
@@ -137,7 +77,7 @@ pub fn tell_time<R: Wait + Clock + Eprint>(
         let Some(now) = stopwatch.seconds(rt, shared) else {
             return FeedEnd::Fault;
         };
-        complaints.look(rt, shared, now);
+        shared.complain(rt, now);
         if now <= second {
             continue;
         }

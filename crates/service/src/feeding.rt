@@ -2,13 +2,12 @@
 ghost use Rattle.std.specs.Prelude.{◌≡◌, true, false, IfOk};
 ghost use Rattle.crew.specs.Kept.{SameSeats};
 ghost use Rattle.crew.specs.Ports.{IsLeftByClose};
-ghost use Rattle.feeds.specs.Fed.{is_fault};
 ghost use Rattle.transport.specs.declared.udp.UdpWire.{UdpWire};
 ghost use Rattle.service.specs.declared.clock.Stopwatch.{Stopwatch};
 ghost use Rattle.service.specs.declared.datagrams.SipDesk.{SipDesk};
 ghost use Rattle.service.specs.declared.feeding.Task.TheVariants as tasks;
 ghost use Rattle.service.specs.declared.lines.ControlDesk.{ControlDesk};
-ghost use Rattle.service.specs.Running.{IsLeft, Keeps, SendsFor};
+ghost use Rattle.service.specs.Running.{IsLeftBehind, Keeps, SendsFor};
 
 use crate::clock::{Stopwatch, tell_time};
 use crate::datagrams::SipDesk;
@@ -46,7 +45,7 @@ impl Task {
     ) -> FeedEnd
         requires still_open { port.old.is_open ≡ true }
         ensures sends { SendsFor self.old result port.old port.new }
-        ensures fails { IsLeft self.old result (is_fault result) self.new }
+        ensures fails { IsLeftBehind self.old result false self.new }
         ensures seats { SameSeats port.old port.new }
     {
         match self {
@@ -63,7 +62,7 @@ impl Task {
         alloc: Global,
         shared: &Shared,
     ) -> bool
-        ensures { IsLeft self.old FeedEnd.Done result self.new }
+        ensures { IsLeftBehind self.old FeedEnd.Done result self.new }
     {
         match self {
             Task::Datagrams(desk) => desk.hear_answers(rt, alloc, shared),

@@ -1,7 +1,7 @@
 //! Laws of whom a service hears and what it sends again, over the definitions alone.
 
-ghost use Rattle.service.specs.Admitted.{EachIsVouched, OpenHearsAll};
-ghost use Rattle.service.specs.Sending.{EachRepeatIsOfANotify};
+ghost use Rattle.service.specs.Admitted.{EachIsVouched, EachAnswerIsSentOn, OpenHearsAll};
+ghost use Rattle.service.specs.Sending.{EachRepeatIsOfANotify, WithoutRepeatsLaw};
 ghost use Rattle.service.specs.Taken.{EachForeignIsSilent, EachOwnIsSilent};
 
 /// What is sent again is the datagram of a NOTIFY that was put before, half a second before at least and less than 32 seconds before
@@ -10,10 +10,20 @@ pub fn each_repeat()
     ensures { EachRepeatIsOfANotify }
 {}
 
+/// But for repeats what is sent are just the datagrams of the outs, in order.
+pub fn without_repeats()
+    ensures { WithoutRepeatsLaw }
+{}
+
 /// Where a service has passwords, each SUBSCRIBE and each REFER that its port was sent answered a challenge (RFC 3261 section 22) which the
 /// definition accepts, for its source, at a moment of the service.
 pub fn each_is_vouched()
     ensures { EachIsVouched }
+{}
+
+/// Each answer that was read, and whose source is heard, is sent on: no rate, no password and no want of memory keeps it back.
+pub fn each_answer_is_sent_on()
+    ensures { EachAnswerIsSentOn }
 {}
 
 /// Where it asks nothing, all datagrams that are not too long are sent on, and none is refused.

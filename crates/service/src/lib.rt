@@ -23,6 +23,7 @@
 #![tactic(auto)]
 
 mod clock;
+mod complaints;
 mod datagrams;
 mod drops;
 mod error;

@@ -8,7 +8,7 @@ ghost use Rattle.control_lines.specs.Lines.{answer_text};
 ghost use Rattle.control_lines.specs.declared.question.Question.TheVariants as questions;
 ghost use Rattle.service.specs.declared.lines.Handled.TheVariants as did;
 ghost use Rattle.service.specs.Taken as spec;
-ghost use Rattle.service.specs.Taken.{Line, IsSent, IsChanged, IsDone, IsFound, IsTaken, Offers, IsAnswered, AreFirst, datagrams_of, AreTaken, AreAnswered, AreRefused, operators_in, seen};
+ghost use Rattle.service.specs.Taken.{Line, IsSent, IsChanged, IsDone, IsFound, IsTaken, Offers, IsAnswered, WereTold, datagrams_of, AreTaken, AreAnswered, AreTurnedAway, operators_in, seen};
 ghost use Rattle.feeds.specs.Fed.{is_fault};
 ghost use Rattle.service.specs.Listening.{IsDeafAsTold};
 
@@ -260,7 +260,7 @@ impl<W: Drop> ControlDesk<W> {
         workers: u32,
     ) -> Result<ControlDesk<W>, NoMemory>
         ensures coming { IfOk result (λ d. d.coming ≡ port.coming) }
-        ensures first { IfOk result (λ d. AreFirst port.mailboxes.items port.changes.items d.told) }
+        ensures first { IfOk result (λ d. WereTold port.mailboxes.items port.changes.items d.told) }
         ensures unkept { IfOk result (λ d. d.kept ≡ buffer [] KEPT) }
         ensures workers { IfOk result (λ d. non_zero_u32_get d.workers ≡ max 1 workers) }
         ensures networks { IfOk result (λ d. d.operators.networks ≡ port.networks) }
@@ -448,7 +448,7 @@ impl<W: Ear> ControlDesk<W> {
     /// Answers `closed` to whoever is heard and asks, until all was sent out or the wire is deaf: true then. An empty datagram is not
     /// answered, nor is an answer.
     pub fn refuse_lines<R: Wait + Clock + Eprint>(&mut self, rt: &R, shared: &Shared) -> bool
-        ensures refused { AreRefused (operators_in self.old.operators) (W.given self.old.coming) (W.given self.new.coming)
+        ensures refused { AreTurnedAway (operators_in self.old.operators) (W.given self.old.coming) (W.given self.new.coming)
             (W.taken self.old.going) (W.taken self.new.going)
             (W.failures self.old.going) (W.failures self.new.going) }
         ensures coming { Grows (W.taken self.old.coming) (W.taken self.new.coming) [] }

@@ -249,6 +249,7 @@ fn send_to_end<R: Threads + Wait + Clock + Files + Eprint, W: Wire, F: Write>(
     let sip = sip.join(rt);
     let lines = lines.join(rt);
     let time = time.join(rt);
+    shared.complain_last(rt);
     ports.push_reserved(sip.port);
     ports.push_reserved(lines.port);
     ports.push_reserved(time.port);

@@ -6,7 +6,7 @@ ghost use Rattle.feeds.specs.Emitted.{wire_seen};
 ghost use Rattle.transactions.specs.Machine.{State};
 ghost use Rattle.transactions.specs.Runs.{state_after};
 ghost use Rattle.watchers.specs.Rows.{Row};
-ghost use Rattle.service.specs.Keeping.{act_of, AreKept, Tends};
+ghost use Rattle.service.specs.Keeping.{act_of, AreKept, GoesOnBy};
 ghost use Rattle.service.specs.Sending.{Act, Does, fates, kept_after, sent_again};
 ghost use Rattle.service.specs.Taken.{failures_then};
 ghost use Rattle.service.specs.Noted.{answer_of};
@@ -411,7 +411,7 @@ impl Waiting {
         watch: &mut Watch,
         shared: &Shared,
     ) -> bool
-        ensures does { (more : List Act) × Tends more self.old self.new
+        ensures does { (more : List Act) × GoesOnBy more self.old self.new
             (wire_seen W.taken W.failures wire.old) (wire_seen W.taken W.failures wire.new) }
         ensures given { Grows (W.given wire.old) (W.given wire.new) [] }
     {

@@ -1,6 +1,7 @@
 //! What the threads of a service share: how far it is, what they counted, and the notes of answers to NOTIFYs.
 ghost use Rattle.std.specs.Prelude.{◌<◌, ◌^◌, IfSome};
 
+use crate::complaints::Complaints;
 use crate::drops::kernel_drops;
 use crate::post::{LostStarts, Notes};
 use crate::statuses::Statuses;
@@ -43,6 +44,7 @@ pub struct Shared {
     pub(crate) window: Window,
     /// How many live subscriptions each source has, as the thread that sends told it last.
     sources: Mutex<Counts>,
+    complaints: Mutex<Complaints>,
     live: AtomicU64,
     datagrams: AtomicU64,
     unread: [AtomicU64; 7],
@@ -90,8 +92,8 @@ const CAUSES: [&str; 7] = [
     "no_memory",
 ];
 
-/// Of how many things an operator hears once a minute.
-pub(crate) const COMPLAINTS: usize = 17;
+/// Of how many things an operator hears once a minute and at the end.
+pub(crate) const COMPLAINTS: usize = 18;
 
 /// What is counted, each by one.
 #[derive(Clone, Copy)]
@@ -185,6 +187,7 @@ impl Shared {
         let lost_starts = LostStarts::new(alloc)?;
         let window = Window::new(alloc)?;
         let sources = Mutex::new(Counts::new(alloc));
+        let complaints = Mutex::new(Complaints::new());
         Ok(Shared {
             began,
             alloc,
@@ -197,6 +200,7 @@ impl Shared {
             lost_starts,
             window,
             sources,
+            complaints,
             live: AtomicU64::new(0),
             datagrams: AtomicU64::new(0),
             unread: no_causes(),
@@ -403,7 +407,7 @@ impl Shared {
         }
     }
 
-    /// What an operator hears of once a minute, and how often each has happened. What could not be sent is told apart.
+    /// What an operator hears of once a minute and at the end, and how often each has happened. What could not be sent is told apart.
     pub(crate) fn complaints(&self) -> [(&'static str, u64); COMPLAINTS] {
         let told = |counted: &AtomicU64| counted.load(Ordering::SeqCst);
         [
@@ -418,7 +422,10 @@ impl Shared {
                 told(&self.too_long),
             ),
             ("requests were answered 401", told(&self.challenged)),
-            ("requests were answered 403", told(&self.forbidden)),
+            (
+                "requests were answered 403",
+                told(&self.forbidden).saturating_add(self.statuses.sent("403")),
+            ),
             (
                 "requests were more than --per-source",
                 told(&self.per_source),
@@ -427,6 +434,7 @@ impl Shared {
             ("requests were answered 404", self.statuses.sent("404")),
             ("requests were answered 405", self.statuses.sent("405")),
             ("requests were answered 406", self.statuses.sent("406")),
+            ("requests were answered 416", self.statuses.sent("416")),
             ("requests were answered 420", self.statuses.sent("420")),
             ("requests were answered 423", self.statuses.sent("423")),
             ("requests were answered 481", self.statuses.sent("481")),
@@ -434,6 +442,16 @@ impl Shared {
             ("requests were answered 500", self.statuses.sent("500")),
             ("requests were answered 503", self.statuses.sent("503")),
         ]
+    }
+
+    /// Says on standard error once a minute what went wrong in it.
+    pub(crate) fn complain<R: Wait + Eprint>(&self, rt: &R, now: u64) {
+        self.complaints.lock(rt).look(rt, self, now);
+    }
+
+    /// Says on standard error what went wrong that was not told yet.
+    pub(crate) fn complain_last<R: Wait + Eprint>(&self, rt: &R) {
+        self.complaints.lock(rt).tell(rt, self);
     }
 
     /// Counts the NOTIFYs that nobody had answered when the service ended.

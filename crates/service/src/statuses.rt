@@ -5,11 +5,12 @@ use std::alloc::Global;
 use std::sync::atomic::{AtomicU64, Ordering};
 
 /// How many there are.
-const KINDS: usize = 13;
+const KINDS: usize = 14;
 
 /// The status codes that a notifier answers with.
 const CODES: [&str; KINDS] = [
-    "200", "202", "400", "403", "404", "405", "406", "420", "423", "481", "489", "500", "503",
+    "200", "202", "400", "403", "404", "405", "406", "416", "420", "423", "481", "489", "500",
+    "503",
 ];
 
 /// How many answers were sent with each status code.
@@ -31,6 +32,7 @@ impl Statuses {
     pub(crate) fn new() -> Statuses {
         Statuses {
             counts: [
+                AtomicU64::new(0),
                 AtomicU64::new(0),
                 AtomicU64::new(0),
                 AtomicU64::new(0),

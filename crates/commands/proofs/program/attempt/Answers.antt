@@ -1,9 +1,12 @@
-use Rattle.commands.proofs.Refused.{ended_well, others_are}
+use Rattle.std.proofs.lemmas.Result.{err_from_is_err_and}
+use Rattle.commands.proofs.Refused.{ended_well, other_is}
 use Rattle.commands.proofs.program.attempt.Goals as goal
 
 pub returns-clause-well : goal.returns-clause-well
 returns-clause-well g c =
-    let off = c.close_off.ensures in ended_well _ _ c.close_off.result _ _ _ _ c.in_ok-served.ensures.served off.no_fault off.closed off.told
+    let off = c.in_ok-close_off.ensures in rw off.outcome (ended_well _ _ _ _ _ _ c.in_ok-served.ensures.served off.no_fault off.closed off.told)
 
-pub returns-clause-refused : goal.returns-clause-refused
-returns-clause-refused g c = others_are _ c.close_off.result c.close_off.ensures.refused
+pub returns-in_err-close_off-clause-refused : goal.returns-in_err-close_off-clause-refused
+returns-in_err-close_off-clause-refused g c =
+    let p = err_from_is_err_and c.from_residual-in_err-close_off.result c.from_residual-in_err-close_off.ensures.1 in
+    rw (p.1, p.2) (other_is c.args.words.now _ c.in_err-close_off.ensures.refused)

@@ -1,20 +1,19 @@
 use Rattle.std.proofs.Common.{[], ◌++◌, ◌∷◌, map, refl, ap, sym, inl}
 use Rattle.queues.proofs.Ended.{ended_none}
-use Rattle.feeds.specs.Emitted.{wire_seen, writer_seen, counted}
+use Rattle.feeds.specs.Emitted.{writer_seen, counted}
 use Rattle.feeds.proofs.Emitting.{running_first, running_as, running_end, running_done}
 use Rattle.service.specs.Sending.{Put}
-use Rattle.service.proofs.Acts.{does_none, does_more, does_put, running_on, running_put, without_after, sent_out, flushed_on, flushed_put}
+use Rattle.service.proofs.Acts.{does_none, does_more, does_put, running_on, running_put, sent_out, flushed_on, flushed_put}
 use Rattle.service.specs.Keeping.{act_of}
 use Rattle.service.proofs.Rowing.{rowed_from}
-use Rattle.service.proofs.Keeping.{state_put, settled_rows}
+use Rattle.service.proofs.Keeping.{state_put, settled_rows, does_behind}
 use Rattle.service.proofs.outs.send_outs.Goals as goal
 
 pub loop-init : goal.loop-init
 loop-init g c = record {
   acts = [];
   report = record { sent = 0; starts = 0; failed = 0 };
-  without = wire_seen g.W.Wire.taken g.W.Wire.failures c.args.exit.now.wire;
-  running = running_first c.args.outgoing.now.taker c.args.outgoing.now.workers _ _ _ c.requires.workers (ended_none _ _ c.requires.none);
+  running = running_first c.args.outgoing.now.taker c.args.outgoing.now.workers _ _ c.requires.workers (ended_none _ _ c.requires.none);
   does = does_none c.args.outgoing.now.waiting.transactions _;
   flushed = λ none. inl refl;
   kept = record { kept = []; all = sym (ap (λ l. map act_of l) c.requires.none_put); open_now = refl; rowed = refl };
@@ -39,9 +38,8 @@ loop-preserved-in-Ended g c =
     let was = c.loop.invariant in let at = c.in-Ended.ensures in let tended = c.tend-has_more.ensures in let more = tended.does in record {
       acts = was.acts ++ more.0;
       report = was.report;
-      without = was.without;
       running = running_end (running_on was.acts was.running more.0 _ more.1.no_outs tended.given) c.next_out.new.taker c.next_out.new.left at.0 at.1 at.2;
-      does = does_more was.does (more.1.does _ _ was.acts was.kept);
+      does = does_more was.does (does_behind was.kept more.1.does);
       flushed = flushed_on (λ s. s.is_flushed) _ _ was.acts was.flushed more.0 more.1.no_outs;
       kept = more.1.kept _ _ was.acts was.kept;
     }
@@ -52,12 +50,11 @@ loop-preserved-in-Out g c =
     let put = c.put_out-fate.ensures in let fate = c.put_out-fate.result in let now = c.now-now.result in record {
       acts = (was.acts ++ more.0) ++ Put now at.out fate ∷ [];
       report = counted was.report fate;
-      without = without_after was.without at.out fate;
       running = running_put (was.acts ++ more.0) (running_as (running_on was.acts was.running more.0 _ more.1.no_outs tended.given) c.loop.outgoing.taker c.next_out.new.left refl at.ensures.2) now c.next_out.new.taker at.ensures.0 at.out fate
           (g.W.Wire.given c.put_out-fate.new.wire)
           (writer_seen g.F.Write.contents c.put_out-fate.new.sink)
           at.ensures.1 put.fate put.given put.failures put.writes;
-      does = does_more (does_more was.does (more.1.does _ _ was.acts was.kept))
+      does = does_more (does_more was.does (does_behind was.kept more.1.does))
           (does_put now at.out fate _ _ _ _ put.taken put.wire_failures (state_put (was.acts ++ more.0) now at.out fate _));
       flushed = flushed_put (λ s. s.is_flushed) _ _ (was.acts ++ more.0) (flushed_on (λ s. s.is_flushed) _ _ was.acts was.flushed more.0 more.1.no_outs)
           c.put_out-fate.new.sink now at.out fate put.fate put.flushed put.stays;
@@ -69,9 +66,8 @@ loop-preserved g c =
     let was = c.loop.invariant in let tended = c.tend-has_more.ensures in let more = tended.does in record {
       acts = was.acts ++ more.0;
       report = was.report;
-      without = was.without;
       running = running_on was.acts (running_as was.running c.next_out.new.taker c.next_out.new.left c.in-Nothing.ensures.0 c.in-Nothing.ensures.1) more.0 _ more.1.no_outs tended.given;
-      does = does_more was.does (more.1.does _ _ was.acts was.kept);
+      does = does_more was.does (does_behind was.kept more.1.does);
       flushed = flushed_on (λ s. s.is_flushed) _ _ was.acts was.flushed more.0 more.1.no_outs;
       kept = c.settle_few.ensures.kept _ _ (was.acts ++ more.0) (more.1.kept _ _ was.acts was.kept);
     }

@@ -1,6 +1,6 @@
 use Rattle.std.proofs.Common.{◌≡◌, ◌⊎◌, List, true}
 use Rattle.feeds.specs.declared.sending.EmitReport.{EmitReport}
-use Rattle.feeds.specs.Emitted.{WireSeen, wire_seen, writer_seen, count, fails_to_start}
+use Rattle.feeds.specs.Emitted.{wire_seen, writer_seen, count, fails_to_start}
 use Rattle.feeds.proofs.Emitting.{Running}
 use Rattle.transactions.specs.Runs.{state_after}
 use Rattle.service.specs.Sending.{Act, calls, fates, Does}
@@ -11,9 +11,7 @@ abbrev pub invariant-loop : goal.invariant-loop
 invariant-loop g l = record {
   acts : List Act;
   report : EmitReport;
-  without : WireSeen;
   running : Running (fates acts) l.fn.outgoing.taker l.outgoing.taker l.left (g.W.Wire.given l.fn.exit.wire) (g.W.Wire.given l.exit.wire)
-      (wire_seen g.W.Wire.taken g.W.Wire.failures l.fn.exit.wire) without
       (writer_seen g.F.Write.contents l.fn.exit.sink) (writer_seen g.F.Write.contents l.exit.sink) report;
   does : Does acts l.fn.outgoing.waiting.transactions (state_after (calls acts) l.fn.outgoing.waiting.transactions)
       (wire_seen g.W.Wire.taken g.W.Wire.failures l.fn.exit.wire) (wire_seen g.W.Wire.taken g.W.Wire.failures l.exit.wire);
