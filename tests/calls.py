@@ -140,7 +140,12 @@ FORM = " (one or more characters, none of them a space, `@` or `:`)"
 
 SPAN = " (from a number up to one of as many digits, a million of them at most)"
 
-TIMES = "times that don't go together: --min-time up to --default-time and --refer-time, and these up to --max-time (unless set: 60, 3600, 180 and 3600 seconds)"
+
+def times(fault):
+    """What is said of a time that isn't in the range that others leave."""
+    return f"times that don't go together: {fault} (--min-time is the least, --max-time the greatest)"
+
+
 
 NOWHERE = "0.0.0.0 is no address for phones: --contact <a.b.c.d:port>"
 
@@ -173,7 +178,10 @@ BAD_SERVICES = [
     ([], 1, "no mailbox: name some, or a file of them with --mailboxes <file>"),
     (["--listen", "0.0.0.0:5060", "alice"], 1, NOWHERE),
     (["--contact", "0.0.0.0:5060", "alice"], 1, NOWHERE),
-    (["--max-time", "600", "alice"], 1, TIMES),
+    (["--max-time", "600", "alice"], 1, times("--default-time is 3600, but must be from 60 to 600")),
+    (["--max-time", "100", "--default-time", "100", "alice"], 1, times("--refer-time is 180, but must be from 60 to 100")),
+    (["--min-time", "200", "alice"], 1, times("--refer-time is 180, but must be from 200 to 3600")),
+    (["--max-time", "59", "alice"], 1, times("--max-time is 59, but must be from 60 to 4294967295")),
     (["--mailboxes", "nowhere"], 3, "no such file, or it can't be read as UTF-8 text: nowhere"),
     (["--state=nowhere", "alice"], 3, "no such file, or it can't be read as UTF-8 text: nowhere"),
     (["--listen", "198.51.100.1:5060", "alice"], 3, "an address not of this machine: --listen"),
@@ -197,6 +205,10 @@ MAILBOX_FILES = [
     ("alice\nbob@home\n", None, "line 2: no name of a mailbox: bob@home" + FORM),
     ("sip:alice\n", None, "line 1: no name of a mailbox: sip:alice" + FORM),
     ("alice\n1000-1099\n098-101\n", 105, None),
+    ("alice\nbob\nalice\n100-110\n105-114\n", 17, None),
+    ("\ufeffalice\nbob", 2, None),
+    ("\ufeff# people\nalice\n", 1, None),
+    ("alice\n\ufeffcarol\n", 2, None),
     ("alice\n555-123-4567\n555-\n+555-1234\n", 4, None),
     ("alice\n555-1234\n", None, "line 2: no range of mailboxes: 555-1234" + SPAN),
     ("7-07\n", None, "line 1: no range of mailboxes: 7-07" + SPAN),
@@ -379,7 +391,7 @@ def a_port_in_use(program, _):
 
 def a_service_as_asked(program, _):
     """Options and mailboxes stand in any order, the last of an option counts; times, workers and the end are as asked."""
-    asked = "alice --workers 4 --max-time 600 --default-time 300 bob --workers 2 --keep-subscriptions".split()
+    asked = "alice --workers 4 --max-time 600 --default-time 300 bob --workers 2 --keep-subscriptions alice".split()
     sip, control, words = service_words(asked)
     hello = f"notifyd: listening at 127.0.0.1:{sip}, control at 127.0.0.1:{control}, 2 workers, 2 mailboxes\n"
     with Running(program, words) as service, socket.socket(socket.AF_INET, socket.SOCK_DGRAM) as phone:
@@ -556,6 +568,21 @@ def nobody_listens(program, _):
         ended_with(run(program, words, limit=60), 3, b"", b"notifyd: nobody answered\n")
 
 
+def why_a_line_is_bad(program, _):
+    """Where a MAIL line has its form, but more are urgent than there are, that is said; of any other bad line nothing is."""
+    more = b"notifyd: more are urgent than there are (<new> <old> <urgent new> <urgent old>)\n"
+    lines = [("alice voice 1 2 3 4", more), ("bob fax 1 2 1 3", more), ("alice voice 0 0 1 0", more)]
+    lines += [(line, b"") for line in ("alice voice 1 2 3", "alice video 1 2 3 4", "alice voice 1 2 3 x", "alice voice 1 2 3 04", "a b voice 1 2 3 4")]
+    _, control, words = service_words(["alice"])
+    with Running(program, words) as service:
+        service.lines_until(b"listening")
+        for line, why in lines:
+            ended = run(program, ["tell", "--control", f"127.0.0.1:{control}", "MAIL", *line.split(" ")])
+            same(f"what comes of MAIL {line}", Ended(1, b"bad line\n", why), ended)
+        same("the answer to CLOSE", b"ok", ask(control, b"CLOSE"))
+        same("the status", 0, service.end().status)
+
+
 def tell_checks():
     for words in BAD_TELLS:
         yield f"tell {words} is refused", lambda program, _, words=words: same(
@@ -563,6 +590,7 @@ def tell_checks():
         )
     for answer, status in ANSWERS:
         yield f"tell is answered {answer!r}", answered_at_the_third_try(answer, status)
+    yield "tell says why a line is bad", why_a_line_is_bad
     yield "tell is never answered", never_answered
     yield "tell at a port where nobody is", nobody_listens
 

@@ -129,7 +129,8 @@ MORE = b"repeats 5\ngiven_up 3\nonce 4\nlost 6\ngone_by_481 9\nfailed_receives 7
 COUNTERS = FEWER_COUNTERS.replace(b"unread", MORE + b"unread") + b"""\
 workers 2
 live 1
-answers_200 18
+answers_200 13
+answers_416 5
 answers_503 2
 unread_not_sip 1
 unread_bad_header 2
@@ -137,7 +138,7 @@ unread_bad_header 2
 ALSO = ("repeats", "given_up", "once", "lost", "gone_by_481", "failed_receives", "too_long", "foreign", "limited", "challenged", "wrong", "stale", "forbidden", "control_lines", "workers_ended", "starts_dropped", "kernel_drops", "control_foreign")
 REPEATS = {f"notifyd_{name}_total" for name in ALSO}
 GAUGES = {"notifyd_live": "1", "notifyd_workers": "2"}
-CODES = {f'notifyd_answers_by_code_total{{code="{code}"}}': count for code, count in (("200", "18"), ("503", "2"))}
+CODES = {f'notifyd_answers_by_code_total{{code="{code}"}}': count for code, count in (("200", "13"), ("416", "5"), ("503", "2"))}
 REPEATS |= {*GAUGES, *CODES}
 
 UNREAD = ("not_sip", "bad_header", "header_missing", "header_twice", "short_body", "too_long", "no_memory")

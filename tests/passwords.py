@@ -426,8 +426,8 @@ def bad_files(program, folder):
     )
     path = os.path.join(folder, "passwords")
     for line, why in lines:
-        with open(path, "w") as file:
-            file.write(f"# users\n\nalice:pbx:{own}\n{line}\n")
+        with open(path, "w", encoding="utf-8") as file:
+            file.write(f"\ufeff# users\n\nalice:pbx:{own}\n{line}\n")
         ended = refused(program, folder, "--passwords", path, "alice")
         ended_with(ended, 3, b"", f"notifyd: {path}, line 4: {why}\n".encode())
     with open(path, "w") as file:

@@ -427,6 +427,25 @@ def status_counts(program, folder):
     same("whether two datagrams more came at most", True, 0 <= more <= 2)
 
 
+def each_answer_has_a_counter(program, folder):
+    """Also those to URIs of other schemes (RFC 3261 section 21.4.14). At the end it is told what was refused, and not told before."""
+    with Service(program, "alice") as service, service.operator() as operator:
+        with service.phone("alice") as phone, service.phone("bob") as stranger:
+            phone.subscribe()
+            stranger.ask("SIP/2.0 404 Not Found")
+            for uri in "tel:200", "sips:alice@127.0.0.1":
+                request = phone.request("SUBSCRIBE", uri, 1, "", ("Event: message-summary",))
+                phone.send(request.replace(b" sip:alice@127.0.0.1 ", f" {uri} ".encode(), 1))
+                phone.expect("SIP/2.0 416 Unsupported URI Scheme")
+            stranger.send(b"hello")
+            counters_become(operator, lambda: {"answers": "4", "answers_200": "1", "answers_404": "1", "answers_416": "2", "unread_not_sip": "1"})
+            told = operator.counters()
+            same("the sum of the answers", int(told["answers"]), sum(int(count) for name, count in told.items() if name.startswith("answers_")))
+            lines = service.close(phone.hear_farewell).err.decode().splitlines()
+    wanted = ["1 datagrams were no SIP messages", "1 requests were answered 404", "2 requests were answered 416"]
+    same("the lines before the last", [f"notifyd: {line}" for line in wanted], lines[-4:-1])
+
+
 def close_says_farewell(program, folder):
     with Service(program, *KNOWN, "--workers", "1", "alice", "bob") as service, service.phone("alice") as phone:
         phone.subscribe()
@@ -618,8 +637,8 @@ def a_file_names_ranges(program, folder):
 def the_state_is_told_first(program, folder):
     """What a file says is what the first NOTIFY tells; the rest of the mailbox is as ever."""
     path = os.path.join(folder, "state")
-    with open(path, "w") as file:
-        file.write("# at the last end\nMAIL alice voice 1 0 0 0\nMAIL carol voice 5 5 5 5\n\nMAIL alice voice 2 8 0 2")
+    with open(path, "w", encoding="utf-8") as file:
+        file.write("\ufeff# at the last end\nMAIL alice voice 1 0 0 0\nMAIL carol voice 5 5 5 5\n\nMAIL alice voice 2 8 0 2")
     with Service(program, "--state", path, "alice", "bob") as service, service.operator() as operator:
         with service.phone("alice") as phone:
             dialog = phone.subscribe(HEARD)
@@ -633,11 +652,13 @@ def the_state_is_told_first(program, folder):
 
 def a_state_is_refused(program, folder):
     path = os.path.join(folder, "state")
-    for line in "STATUS", "CLOSE", "MAIL alice voice 1", "MAIL alice voice 1 0 0 0 ", "TICK 1", "PROGRESS w0-1-a 180 Ringing":
+    none, more = "no MAIL line", "more are urgent than there are"
+    lines = [(line, none) for line in ("STATUS", "CLOSE", "MAIL alice voice 1", "MAIL alice voice 1 0 0 0 ", "TICK 1", "PROGRESS w0-1-a 180 Ringing")]
+    for line, fault in [*lines, ("MAIL alice voice 1 2 3 4", more), ("MAIL carol voice 1 2 0 3", more)]:
         with open(path, "w") as file:
             file.write(f"MAIL alice voice 1 0 0 0\n# and\n{line}\n")
         words = ["serve", "--listen", address(free_port()), "--control", address(free_port()), "--state", path, "alice"]
-        why = f"notifyd: {path}, line 3: no MAIL line (MAIL <mailbox> <class> <new> <old> <urgent new> <urgent old>)\n"
+        why = f"notifyd: {path}, line 3: {fault} (MAIL <mailbox> <class> <new> <old> <urgent new> <urgent old>)\n"
         ended_with(run(program, words), 3, b"", why.encode())
 
 
@@ -728,6 +749,7 @@ def checks():
     yield "serve: WATCHERS page by page, and tell follows", watchers_are_told_page_by_page
     yield "serve: the clock alone ends a subscription of a second", the_clock_ends_a_subscription
     yield "serve: STATUS counts what came and went", status_counts
+    yield "serve: each answer has a counter, and what was refused is told at the end", each_answer_has_a_counter
     yield "serve: CLOSE is answered, says farewell and ends it", close_says_farewell
     yield "serve: lines that come while it ends are answered closed", lines_are_refused_at_the_end
     yield "serve: no farewell with --keep-subscriptions", subscriptions_may_be_kept
