@@ -317,6 +317,24 @@ def a_state_that_is_not_saved_is_not_told(program, folder):
         phone.leave(phone.subscribe(NO_MESSAGES), NO_MESSAGES)
 
 
+def a_state_outlives_a_signal_at_once(program, folder):
+    """A TERM while the service begins, or before: what it was to begin with is kept for the next start."""
+    state, kept = os.path.join(folder, "state"), b"MAIL alice voice 9 0 0 0\n"
+    env = {**os.environ, "NOTIFYD": program, "NOTIFYD_STATE": state}
+    for wait in 0, 0.005, 0.01, 0.02, 0.03, 0.05, 0.1:
+        with open(state, "wb") as file:
+            file.write(kept)
+        words = ["--listen", f"127.0.0.1:{free_port()}", "--control", f"127.0.0.1:{free_port()}", "alice"]
+        with Running(os.path.join(TOP, "contrib", "notifyd-run"), words, env=env) as running:
+            time.sleep(wait)
+            running.process.send_signal(signal.SIGTERM)
+            # At once it may not look out for signals yet.
+            same("whether it ended well or by the signal", True, running.end().status in (0, -signal.SIGTERM))
+        with open(state, "rb") as file:
+            same("what is kept", kept, file.read())
+    same("what stands in the folder", ["state"], os.listdir(folder))
+
+
 class Notifier:
     """A notifier that does as its check says, for one lamp. Used in a `with`, at whose end the lamp is killed, if it still runs."""
 
@@ -528,6 +546,7 @@ def checks():
     yield "contrib: notifyd-run hands on the status", the_status_is_handed_on
     yield "contrib: notifyd-run ends where the service is killed", the_end_by_a_signal_is_handed_on
     yield "contrib: a state that isn't saved is not told", a_state_that_is_not_saved_is_not_told
+    yield "contrib: a state outlives a signal at once", a_state_outlives_a_signal_at_once
 
 
 def checks_apart():
