@@ -104,6 +104,12 @@ def all_mailboxes_of_asterisk_are_told(program, folder):
     same("its end", Ended(0, b"", b""), called(folder, "asterisk-tell-all", context))
     with open(os.path.join(folder, "notifyd.told"), "rb") as told:
         same("what is told", b"<tell><STATUS><tell><MAIL 100 voice 3 1 1 0><tell><MAIL 200 voice 0 0 0 0>", told.read())
+    refuses = os.path.join(folder, "refuses")
+    with open(refuses, "w", encoding="ascii") as file:
+        file.write('#!/bin/sh\ncase $1 in "MAIL 100 "*) exit 1 ;; esac\n')
+    os.chmod(refuses, 0o700)
+    ended = called(folder, "asterisk-tell-all", context, NOTIFYD_TELL=refuses)
+    same("its end where one is refused", Ended(1, b"", b"asterisk-tell-all: 100 was not told\n"), ended)
 
 
 def no_context_is_told_as_nothing(program, folder):
