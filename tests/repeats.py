@@ -9,9 +9,10 @@ import struct
 import subprocess
 import time
 from collections import namedtuple
+from contextlib import ExitStack
 
 from phone import OVER, Message, Phone
-from service import HEARD, Service, last_counters
+from service import HEARD, Service, counters_become, last_counters, rows_told
 from suite import same
 
 # Seconds from the first time that a NOTIFY is sent to each, while nobody answers: the intervals double from T1, half a second, up to
@@ -212,6 +213,31 @@ def it_is_given_up(program, folder):
             same("whether the log names the other phone", True, log.encode() in ended.err)
 
 
+def the_last_send_is_answered_too_late(program, folder):
+    """Phones that answer the eleventh send alone, when their worker may have given the NOTIFY up. Each counts as given up, and WATCHERS has
+    just those again whose subscription goes on, as a refresh shows."""
+    with Service(program, "alice") as service, service.operator() as operator, ExitStack() as stack:
+        phones = []
+        for _ in range(6):
+            phone = stack.enter_context(Observer(service.sip, "alice"))
+            phones.append((phone, phone.ask("SIP/2.0 200 OK"), time.monotonic()))
+            time.sleep(0.15)
+        for phone, _, began in phones:
+            came = phone.observe_until(began + MOMENTS[-1] + 0.2)
+            # Where a busy machine was late, the last one isn't sent.
+            if len(came) == len(MOMENTS):
+                phone.reply(came[-1])
+        counters_become(operator, lambda: {"given_up": "6", "live": "0"})
+        going_on = []
+        for phone, dialog, _ in phones:
+            phone.go_on(dialog, 3600)
+            if phone.receive().first == "SIP/2.0 200 OK":
+                phone.accept(2)
+                going_on.append(dialog.tag)
+        same("the rows", sorted(going_on), sorted(row[2] for row in rows_told(operator, "WATCHERS")))
+        service.close()
+
+
 def a_farewell_comes_again(program, folder):
     """The service waits for the answer, and no longer."""
     with Service(program, "--linger", "30", "alice") as service, Observer(service.sip, "alice") as phone:
@@ -287,6 +313,7 @@ def one_is_repeated_at_a_time(program, folder):
 def checks():
     # The longest stands first, so that others are tried beside it.
     yield "repeats: eleven times at most, and one who answers the fifth is told of the next change", it_is_given_up
+    yield "repeats: who answers the eleventh may be given up, and WATCHERS has no such row", the_last_send_is_answered_too_late
     yield "repeats: after 0.5, 1.5, 3.5 and 7.5 seconds, and no more once it is answered", silence_brings_it_again
     yield "repeats: a 100 makes the interval four seconds", a_provisional_answer_slows_it_down
     yield "repeats: a 481 ends all of its dialog, and of no other", a_481_ends_all_of_its_dialog

@@ -13,7 +13,7 @@ use Rattle.notifier_model.specs.declared.event.Out.TheVariants as out
 use Rattle.service.specs.declared.post.Note.{Note}
 use Rattle.service.specs.Noted.{answer_of}
 use Rattle.service.specs.Sending.{Act, Put, Repeated, GaveUp, call_of, calls}
-use Rattle.service.specs.Watched.{IsSeen, AreRowed, given_up, noted_rows}
+use Rattle.service.specs.Watched.{IsSeen, AreRowed, is_doubtful, doubted, given_up, noted_rows}
 use Rattle.service.proofs.Acts.{noted, state_first}
 
 rowed_append : (a b : List Act) (s : State) (rows mid rows' : List Row) → AreRowed s a rows mid → AreRowed (state_after (calls a) s) b mid rows'
@@ -57,8 +57,14 @@ rows_noted_more notes n rows mid rows' was is = is ∙ ap (answered_rows n.tag n
 pub rowed_put : (now : ℕ) (o : Out) (fate : Fate) (rows rows' : List Row) → IsSeen now o rows rows' → AreRowed (empty 0) (Put now o fate ∷ []) rows rows'
 rowed_put now o fate rows rows' seen = (rows', seen, refl)
 
-pub rowed_repeat : (now : ℕ) (sent : Datagram) (fails : Bool) (rows rows' : List Row) → rows' ≡ rows → AreRowed (empty 0) (Repeated now sent fails ∷ []) rows rows'
-rowed_repeat now sent fails rows rows' same = (rows', same, refl)
+-- what was due is sent again: its row stays, or goes where it is doubtful
+pub rowed_repeat : (s : State) (now : ℕ) (t : Open) (sent : Datagram) (fails : Bool) (rows rows' : List Row) → due s now ≡ Some t → is_doubtful now t ≡ false → rows' ≡ rows
+    → AreRowed s (Repeated now sent fails ∷ []) rows rows'
+rowed_repeat s now t sent fails rows rows' is_due sure same = (rows', same ∙ sym (ap (λ o. doubted now o rows) is_due ∙ rw sure refl), refl)
+
+pub rowed_doubt : (s : State) (now : ℕ) (t : Open) (sent : Datagram) (fails : Bool) (rows rows' : List Row) → due s now ≡ Some t → is_doubtful now t ≡ true → rows' ≡ without t.tag rows
+    → AreRowed s (Repeated now sent fails ∷ []) rows rows'
+rowed_doubt s now t sent fails rows rows' is_due doubtful gone = (rows', gone ∙ sym (ap (λ o. doubted now o rows) is_due ∙ rw doubtful refl), refl)
 
 pub rowed_give_up : (s : State) (now : ℕ) (t : Open) (rows rows' : List Row) → due s now ≡ Some t → rows' ≡ without t.tag rows → AreRowed s (GaveUp now ∷ []) rows rows'
 rowed_give_up s now t rows rows' is_due is = (rows', is ∙ sym (ap (λ o. given_up o rows) is_due), refl)
@@ -80,7 +86,7 @@ module _ (now : ℕ) (o : Out) (tag : List ℕ) (number : ℕ) (terminated : Boo
     step true e = gone
     step false e = absurd cc
 
-  seen_on : terminated ≡ false → (rows' ≡ after_notify now tag number to octets rows) ⊎ ((begins tag number rows ≡ true) × (rows' ≡ rows)) → IsSeen now o rows rows'
+  seen_on : terminated ≡ false → (rows' ≡ after_notify now tag number to octets rows) ⊎ ((begins tag rows ≡ true) × (rows' ≡ rows)) → IsSeen now o rows rows'
   seen_on on either = seen_as (step terminated on) where
     step : (b : Bool) → b ≡ false → IsSeen now (out.Notify to number b tag octets) rows rows'
     step false e = either
@@ -89,5 +95,5 @@ module _ (now : ℕ) (o : Out) (tag : List ℕ) (number : ℕ) (terminated : Boo
   pub seen_renewed : terminated ≡ false → rows' ≡ after_notify now tag number to octets rows → IsSeen now o rows rows'
   seen_renewed on renewed = seen_on on (inl renewed)
 
-  pub seen_refused : terminated ≡ false → begins tag number rows ≡ true → rows' ≡ rows → IsSeen now o rows rows'
+  pub seen_refused : terminated ≡ false → begins tag rows ≡ true → rows' ≡ rows → IsSeen now o rows rows'
   seen_refused on begun same = seen_on on (inr (begun, same))

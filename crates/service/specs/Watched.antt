@@ -1,5 +1,5 @@
 -- The rows of the live subscriptions, as the thread that sends keeps them, and a page of some rows.
-use Rattle.std.specs.Prelude.{◌≡◌, ◌⊎◌, ℕ, true, false, List, [], ◌∷◌, Option, Some, None, option_to_list}
+use Rattle.std.specs.Prelude.{◌≡◌, ◌⊎◌, ◌+◌, ℕ, Bool, true, false, nat_le, List, [], ◌∷◌, Option, Some, None, option_to_list, if◌then◌else◌}
 use Rattle.notifier_model.specs.declared.event.Out.{Out}
 use Rattle.notifier_model.specs.declared.event.Out.TheVariants as out
 use Rattle.transactions.specs.declared.open.Open.{Open}
@@ -13,12 +13,13 @@ use Rattle.service.specs.Sending.{Act, Put, Noted, Repeated, GaveUp, call_of}
 
 -- ---- what one act makes of the rows
 
--- An out was put. The row of a subscription goes with its last NOTIFY, and begins with its first one, unless room or memory is wanting
+-- An out was put. The row of a subscription goes with its last NOTIFY, and begins with the first one that finds none, unless room or
+-- memory is wanting
 abbrev pub IsSeen : ℕ → Out → List Row → List Row → Type 0
 IsSeen now (out.Answer to octets) rows rows' = rows' ≡ rows
 IsSeen now (out.Notify to number true tag octets) rows rows' = rows' ≡ without tag rows
 IsSeen now (out.Notify to number false tag octets) rows rows' =
-    (rows' ≡ after_notify now tag number to octets rows) ⊎ ((begins tag number rows ≡ true) × (rows' ≡ rows))
+    (rows' ≡ after_notify now tag number to octets rows) ⊎ ((begins tag rows ≡ true) × (rows' ≡ rows))
 IsSeen now (out.Start tag refer_to) rows rows' = rows' ≡ rows
 
 -- the row of the NOTIFY that was given up goes
@@ -26,11 +27,20 @@ abbrev pub given_up : Option Open → List Row → List Row
 given_up None rows = rows
 given_up (Some t) rows = without t.tag rows
 
+-- From 31 seconds on its worker may have given it up, and tells nobody: it counts in whole seconds, which began up to one before
+abbrev pub is_doubtful : ℕ → Open → Bool
+is_doubtful now t = nat_le (t.first + 31000) now
+
+-- the row of a NOTIFY that is still sent again then goes, too: it comes back with the next one, if its subscription goes on
+abbrev pub doubted : ℕ → Option Open → List Row → List Row
+doubted now None rows = rows
+doubted now (Some t) rows = if is_doubtful now t then without t.tag rows else rows
+
 -- the act makes these rows of those, where these transactions are open
 abbrev pub IsRowed : State → Act → List Row → List Row → Type 0
 IsRowed s (Put now o fate) rows rows' = IsSeen now o rows rows'
 IsRowed s (Noted tag number status) rows rows' = rows' ≡ answered_rows tag number status rows
-IsRowed s (Repeated now sent fails) rows rows' = rows' ≡ rows
+IsRowed s (Repeated now sent fails) rows rows' = rows' ≡ doubted now (due s now) rows
 IsRowed s (GaveUp now) rows rows' = rows' ≡ given_up (due s now) rows
 
 -- ---- what all acts make of them, one after the other

@@ -1,6 +1,8 @@
 //! The NOTIFYs that nobody has answered yet, sent again (RFC 3261 section 17.1.2).
 ghost use Rattle.std.specs.Prelude.{◌≡◌, ◌<◌, ◌^◌, List, [], ◌∷◌, ◌++◌, map, true, IfOk};
 ghost use Rattle.service.specs.Watched.{IsSeen, AreRowed, noted_rows};
+ghost use Rattle.service.specs.Watched.{is_doubtful as doubtful};
+ghost use Rattle.watchers.specs.Rows.{without};
 ghost use Rattle.transport.specs.Wires.{Grows};
 ghost use Rattle.feeds.specs.Emitted.{wire_seen};
 ghost use Rattle.transactions.specs.Machine.{State};
@@ -32,6 +34,10 @@ const NOTES_AT_ONCE: u32 = OUTS_AT_ONCE;
 
 /// The status of an answer that says that the dialog or its usage is gone (RFC 3261 section 12.2.1.2).
 const GONE: u16 = 481;
+
+/// How many milliseconds a NOTIFY waits for an answer until its worker may have given it up. It counts in whole seconds, so for it 32 of
+/// them may be over up to one earlier. It tells nobody.
+const DOUBT: u64 = 31_000;
 
 /// How many NOTIFYs are sent again within a millisecond at most: so the answers to many of them don't overflow the buffer of the
 /// socket by which they come, and what the workers post never waits behind them.
@@ -170,6 +176,41 @@ fn send_again<R: Wait, W: Wire>(rt: &R, wire: &mut W, due: &Open, shared: &Share
     }
 }
 
+/// Whether the worker of a NOTIFY may have given it up.
+fn is_doubtful(now: u64, due: &Open) -> bool
+    ensures { result ≡ doubtful now due.now }
+{
+    now.saturating_sub(due.first) >= DOUBT
+}
+
+/// Whether that was so already when it was sent last.
+fn was_doubtful(due: &Open) -> bool {
+    is_doubtful(due.next.saturating_sub(due.interval), due)
+}
+
+/// Counts and tells a NOTIFY that is given up from this moment on.
+fn count_doubtful<R: Eprint>(
+    rt: &R,
+    given_up: &mut GivenUp,
+    now: u64,
+    due: &Open,
+    shared: &Shared,
+) {
+    if is_doubtful(now, due) && !was_doubtful(due) {
+        shared.count(Counter::GivenUp);
+        given_up.add(rt, now, due);
+    }
+}
+
+/// The row with this tag goes. Whose it was, if it was there.
+fn end_row(watchers: &mut Watchers, tag: &str) -> Option<u32>
+    ensures rows { watchers.new.rows ≡ without tag.now watchers.old.rows }
+{
+    let source = watchers.source(tag);
+    watchers.end(tag);
+    source
+}
+
 /// The NOTIFYs that wait for their answers, and the subscriptions of which they tell.
 #[derive(Drop)]
 pub(crate) struct Waiting {
@@ -213,17 +254,10 @@ impl Waiting {
         self.transactions.len().saturating_add(self.burst.len())
     }
 
-    /// Whose subscription begins or ends with this out, if one does.
-    fn changed_source(&self, out: &Out) -> Option<u32> {
+    /// Whose subscription an out tells, if that has a row and is counted.
+    fn told_source(&self, out: &Out) -> Option<u32> {
         match out {
-            Out::Notify {
-                tag,
-                number,
-                terminated,
-                ..
-            } if self.counts_sources && (*number == 1 || *terminated) => {
-                self.watchers.source(tag.as_str())
-            }
+            Out::Notify { tag, .. } if self.counts_sources => self.watchers.source(tag.as_str()),
             _ => None,
         }
     }
@@ -292,10 +326,13 @@ impl Waiting {
     {
         let Put { now, out, fate } = put;
         tell_fate(rt, shared, &out, fate);
-        let ended = self.changed_source(&out);
+        let before = self.told_source(&out);
         self.watch(now, &out);
-        let begun = self.changed_source(&out);
-        self.tell_source(rt, shared, ended.or(begun));
+        let after = self.told_source(&out);
+        // A row begins, or goes.
+        if before != after {
+            self.tell_source(rt, shared, before.or(after));
+        }
         shared.set_live(self.watchers.len());
         let Some(
             NotifyOut {
@@ -368,7 +405,8 @@ impl Waiting {
         true
     }
 
-    /// Sends the NOTIFY again that is due at this moment, or gives it up. False where none is due.
+    /// Sends the NOTIFY again that is due at this moment, or gives it up. Its row goes too where its worker may have given it up: it comes
+    /// back with the next NOTIFY, if the subscription goes on. False where none is due.
     fn repeat<R: Wait + Eprint, W: Wire>(
         &mut self,
         rt: &R,
@@ -387,18 +425,21 @@ impl Waiting {
         let Some(due) = self.transactions.due(now) else {
             return false;
         };
+        count_doubtful(rt, &mut self.given_up, now, due, shared);
         if due.is_over(now) {
-            shared.count(Counter::GivenUp);
-            self.given_up.add(rt, now, due);
-            let tag = due.tag.as_str();
-            let source = self.watchers.source(tag);
-            self.watchers.end(tag);
+            let source = end_row(&mut self.watchers, due.tag.as_str());
             self.transactions.turn(now);
             self.tell_source(rt, shared, source);
             return true;
         }
         send_again(rt, wire, due, shared);
+        if !is_doubtful(now, due) {
+            self.transactions.turn(now);
+            return true;
+        }
+        let source = end_row(&mut self.watchers, due.tag.as_str());
         self.transactions.turn(now);
+        self.tell_source(rt, shared, source);
         true
     }
 

@@ -81,7 +81,7 @@ until now bytes = now + 1000 * seconds bytes
 abbrev pub source : Addr → ℕ
 source addr = from_be_bytes w32 addr.ip
 
--- the row of a subscription whose first NOTIFY went out at this moment to this address
-abbrev pub first_row : ℕ → Addr → List ℕ → Watcher
-first_row now to bytes =
-    record { watcher = watcher bytes; mailbox = mailbox bytes; source = source to; to = to; sent = 1; answered = 0; since = now; until = until now bytes }
+-- the row that begins with the NOTIFY with this number, which went out at this moment to this address
+abbrev pub first_row : ℕ → ℕ → Addr → List ℕ → Watcher
+first_row now number to bytes =
+    record { watcher = watcher bytes; mailbox = mailbox bytes; source = source to; to = to; sent = number; answered = 0; since = now; until = until now bytes }

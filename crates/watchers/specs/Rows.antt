@@ -40,14 +40,14 @@ changed tag change (row ∷ rows) = if bytes_eq tag row.0 then (row.0, change ro
 abbrev pub renewed : ℕ → Addr → ℕ → Watcher → Watcher
 renewed number to until w = record w { sent = number; to = to; until = until }
 
--- a subscription begins with it: it is the first one, and there is no row yet
-abbrev pub begins : List ℕ → ℕ → List Row → Bool
-begins tag number rows = (number == 1) && not (has tag rows)
+-- a row begins with it: there is none, since it is the first NOTIFY, or since an earlier one was given up and its subscription goes on
+abbrev pub begins : List ℕ → List Row → Bool
+begins tag rows = not (has tag rows)
 
--- the row of one that begins stands behind the others
+-- a row that begins stands behind the others
 abbrev pub after_notify : ℕ → List ℕ → ℕ → Addr → List ℕ → List Row → List Row
 after_notify now tag number to bytes rows =
-    if begins tag number rows then rows ++ (tag, first_row now to bytes) ∷ []
+    if begins tag rows then rows ++ (tag, first_row now number to bytes) ∷ []
     else changed tag (renewed number to (until now bytes)) rows
 
 -- ---- one ended

@@ -158,17 +158,23 @@ pub fn until(now: u64, bytes: &[u8]) -> u64
     now + 1000 * seconds(bytes)
 }
 
-/// The row of a subscription whose first NOTIFY went out at this moment to this address.
-pub fn first_row(alloc: Global, now: u64, to: Addr, bytes: &[u8]) -> Result<Watcher, NoMemory>
+/// The row that begins with the NOTIFY with this number, which went out at this moment to this address.
+pub fn first_row(
+    alloc: Global,
+    now: u64,
+    number: u32,
+    to: Addr,
+    bytes: &[u8],
+) -> Result<Watcher, NoMemory>
     requires in_range { now < 2 ^ 63 }
-    ensures { IfOk result (λ w. w ≡ spec.first_row now to bytes.now) }
+    ensures { IfOk result (λ w. w ≡ spec.first_row now number to bytes.now) }
 {
     Ok(Watcher {
         watcher: Text::of(alloc, watcher(bytes))?,
         mailbox: Text::of(alloc, mailbox(bytes))?,
         source: source(to),
         to,
-        sent: 1,
+        sent: number,
         answered: 0,
         since: now,
         until: until(now, bytes),

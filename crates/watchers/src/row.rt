@@ -7,11 +7,11 @@ use sip_text::{Addr, Text};
 /// A live subscription, as its NOTIFYs tell of it. Moments are milliseconds.
 #[derive(Debug, Drop)]
 pub struct Watcher {
-    /// Who watches: the URI of the first NOTIFY's To.
+    /// Who watches: the URI of the NOTIFY's To with which its row began.
     pub watcher: Text,
-    /// The mailbox: the user of the URI of its From.
+    /// The mailbox: the user of the URI of that NOTIFY's From.
     pub mailbox: Text,
-    /// Who asked for it: the IPv4 address to which its first NOTIFY went, as a number.
+    /// Who asked for it: the IPv4 address to which that NOTIFY went, as a number.
     pub source: u32,
     /// Where the NOTIFYs go.
     pub to: Addr,
@@ -19,7 +19,7 @@ pub struct Watcher {
     pub sent: u32,
     /// The greatest number of a NOTIFY that was answered, 0 where none was.
     pub answered: u32,
-    /// The moment of the first NOTIFY.
+    /// The moment of that NOTIFY.
     pub since: u64,
     /// The moment at which it ends unless it is refreshed.
     pub until: u64,

@@ -200,11 +200,18 @@ impl Watchers {
         row_source(&self.rows, tag)
     }
 
-    /// A subscription with this tag began at this moment by a NOTIFY to this address. Its row comes behind the others.
-    fn begin(&mut self, now: u64, tag: &str, to: Addr, bytes: &[u8]) -> Result<(), Full>
+    /// The row of a subscription with this tag begins at this moment by a NOTIFY to this address. It comes behind the others.
+    fn begin(
+        &mut self,
+        now: u64,
+        tag: &str,
+        number: u32,
+        to: Addr,
+        bytes: &[u8],
+    ) -> Result<(), Full>
         requires in_range { now < 2 ^ 63 }
         requires new { spec.has tag.now self.old.rows ≡ false }
-        ensures begun { OnOk result (self.new.rows ≡ self.old.rows ++ (tag.now, first_row now to bytes.now) ∷ []) }
+        ensures begun { OnOk result (self.new.rows ≡ self.old.rows ++ (tag.now, first_row now number to bytes.now) ∷ []) }
         ensures unchanged { OnErr result (self.new ≡ self.old) }
         ensures limit { self.new.limit ≡ self.old.limit }
         ensures full { nat_lt (length self.old.rows) self.old.limit ≡ false → IsErr result }
@@ -212,7 +219,7 @@ impl Watchers {
         if self.rows.len() >= self.limit {
             return Err(Full);
         }
-        let Ok(watcher) = first_row(self.alloc, now, to, bytes) else {
+        let Ok(watcher) = first_row(self.alloc, now, number, to, bytes) else {
             return Err(Full);
         };
         let Ok(tag) = String::from_str(self.alloc, tag) else {
@@ -222,8 +229,8 @@ impl Watchers {
     }
 
     /// A NOTIFY with this tag and this number, and these bytes, went out to this address at this moment, and its subscription goes on.
-    /// With the first one of a subscription its row begins. An error where there is no room or no memory for that: nothing changes
-    /// then, and it stays without a row.
+    /// Where it has no row one begins with it: at its first NOTIFY, or where an earlier one was given up. An error where there is no room
+    /// or no memory for that: nothing changes then, and it stays without a row.
     pub fn renew(
         &mut self,
         now: u64,
@@ -235,13 +242,13 @@ impl Watchers {
         requires in_range { now < 2 ^ 63 }
         ensures renewed { OnOk result (self.new.rows ≡ spec.after_notify now tag.now number to bytes.now self.old.rows) }
         ensures unchanged { OnErr result (self.new ≡ self.old) }
-        ensures refused { IsErr result → spec.begins tag.now number self.old.rows ≡ true }
-        ensures full { spec.begins tag.now number self.old.rows ≡ true
+        ensures refused { IsErr result → spec.begins tag.now self.old.rows ≡ true }
+        ensures full { spec.begins tag.now self.old.rows ≡ true
             → nat_lt (length self.old.rows) self.old.limit ≡ false → IsErr result }
         ensures limit { self.new.limit ≡ self.old.limit }
     {
-        if number == 1 && !has_row(&self.rows, tag) {
-            return self.begin(now, tag, to, bytes);
+        if !has_row(&self.rows, tag) {
+            return self.begin(now, tag, number, to, bytes);
         }
         renew_row(&mut self.rows, tag, number, to, until(now, bytes));
         Ok(())
