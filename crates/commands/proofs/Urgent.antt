@@ -3,7 +3,7 @@ use Rattle.std.proofs.Common.{◌≡◌, ◌≢◌, ◌<◌, ◌≤◌, ◌^◌,
 use Rattle.std.specs.List.{list_all}
 use Rattle.std.specs.Prelude.{codes}
 use Rattle.std.proofs.lemmas.Bool.{ne_eqb}
-use Rattle.std.proofs.lemmas.Fmt.{decimal_digit}
+use Rattle.std.proofs.lemmas.Fmt.{decimal_digit, decimal_injective}
 use Rattle.std.proofs.lemmas.List.{append_cancel_right}
 use Rattle.std.proofs.lemmas.List.Elements.{All-head, All-tail}
 use Rattle.sip_text.specs.Reading.{is_other, plain_up_to}
@@ -118,12 +118,6 @@ record OneEnding (front other : List ℕ) (new old new' old' : ℕ) : Type 0 whe
   pub new_is : new ≡ new'
   pub old_is : old ≡ old'
 
-same_count : (m n : ℕ) → m < 2 ^ 32 → n < 2 ^ 32 → decimal m ≡ decimal n → m ≡ n
-same_count m n few_m few_n same =
-    let a = up_to_again 4294967295 m (omega (arith, few_m)) (omega arith) in
-    let b = up_to_again 4294967295 n (omega (arith, few_n)) (omega arith) in
-    let both : Some m ≡ Some n = sym a ∙ (ap (plain_up_to 4294967295) same ∙ b) in cc
-
 one_ending : (line front other : List ℕ) (new old new' old' : ℕ) → EndsInCounts line front new old → EndsInCounts line other new' old' → OneEnding front other new old new' old'
 one_ending line front other new old new' old' first second =
     let whole = λ (f : List ℕ) (n o : ℕ) (e : EndsInCounts line f n o). e.text ∙ sym (append_assoc f (32 ∷ decimal n) (32 ∷ decimal o)) in
@@ -131,7 +125,7 @@ one_ending line front other new old new' old' first second =
     let last = one_end (front ++ 32 ∷ decimal new) (decimal old) (other ++ 32 ∷ decimal new') (decimal old') (sym (whole front new old first) ∙ whole other new' old' second)
     (few old (omega (arith, first.few_old))) (few old' (omega (arith, second.few_old))) in
     let before = one_end front (decimal new) other (decimal new') last.0 (few new (omega (arith, first.few_new))) (few new' (omega (arith, second.few_new))) in
-    record { front_is = before.0; new_is = same_count new new' first.few_new second.few_new before.1; old_is = same_count old old' first.few_old second.few_old last.1 }
+    record { front_is = before.0; new_is = decimal_injective new new' (omega (arith, first.few_new)) (omega (arith, second.few_new)) before.1; old_is = decimal_injective old old' (omega (arith, first.few_old)) (omega (arith, second.few_old)) last.1 }
 
 -- ---- the mail
 

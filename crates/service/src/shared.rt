@@ -112,7 +112,7 @@ pub enum Counter {
     Failed,
     /// A NOTIFY was sent again.
     Repeat,
-    /// A NOTIFY was given up: nobody answered it for 32 seconds.
+    /// A NOTIFY was given up: nobody answered it for 31 seconds or more.
     GivenUp,
     /// A NOTIFY is not sent again, since as many others wait for their answers as may.
     Once,
