@@ -188,13 +188,14 @@ def a_stale_number_is_done_with(program, folder):
 
 def it_is_given_up(program, folder):
     """Two phones that are silent for good, beside one that answers at the fifth time, which is told of a change behind the end of the
-    others. The first that is given up is told at once, the other one once a minute is over, or at the end of the service."""
-    with Service(program, "alice") as service, service.operator() as operator:
+    others. The first that is given up is told at once, the other one once a minute is over, or at the end of the service; with
+    --log-requests each has a line of its own."""
+    with Service(program, "--log-requests", "alice") as service, service.operator() as operator:
         observers = [Observer(service.sip, "alice") for _ in range(3)]
         with observers[0] as silent, observers[1] as other, observers[2] as late:
             dialog = silent.ask("SIP/2.0 200 OK")
             end = time.monotonic() + MOMENTS[-1] + QUIET
-            other.ask("SIP/2.0 200 OK")
+            second = other.ask("SIP/2.0 200 OK")
             late.ask("SIP/2.0 200 OK")
             late.reply(late.observe(5)[-1])
             are_sends("a NOTIFY that nobody ever answers", silent.observe_until(end), MOMENTS)
@@ -207,10 +208,14 @@ def it_is_given_up(program, folder):
             silent.go_on(dialog, 3600)
             silent.expect(f"SIP/2.0 {GONE}")
             ended = service.close(lambda: late.accept(3))
-            log = f"notifyd: nobody answered 1 NOTIFYs, the last of them of dialog {dialog.tag} at {silent.me}\n"
-            same("whether the log names the dialog and the phone", True, log.encode() in ended.err)
-            log = f"notifyd: nobody answered 1 more NOTIFYs, the last of them at {other.me}\n"
-            same("whether the log names the other phone", True, log.encode() in ended.err)
+            mailbox = "<sip:alice@127.0.0.1>"
+            log = (
+                f"notifyd: nobody answered 1 NOTIFYs, the last of them from {mailbox};tag={dialog.tag} at {silent.me}\n",
+                f"notifyd: nobody answered 1 more NOTIFYs, the last of them at {other.me}\n",
+                f"notifyd: {silent.me} NOTIFY {mailbox};tag={dialog.tag} unanswered\n",
+                f"notifyd: {other.me} NOTIFY {mailbox};tag={second.tag} unanswered\n",
+            )
+            same("which of these lines the log lacks", [], [line for line in log if line.encode() not in ended.err])
 
 
 def the_last_send_is_answered_too_late(program, folder):

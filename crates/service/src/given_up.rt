@@ -1,6 +1,7 @@
 //! The NOTIFYs that nobody answered, as they are told on standard error.
 
 use crate::logging::has_room;
+use crate::request_log::sender;
 use sip_text::Addr;
 use transactions::Open;
 
@@ -49,9 +50,9 @@ impl GivenUp {
         let count = self.count;
         let [a, b, c, d] = last.to.ip;
         let port = last.to.port;
-        let tag = last.tag.as_str();
+        let sender = sender(last);
         let _ = eprintln!(rt;
-            "notifyd: nobody answered {count} NOTIFYs, the last of them of dialog {tag} at {a}.{b}.{c}.{d}:{port}"
+            "notifyd: nobody answered {count} NOTIFYs, the last of them from {sender} at {a}.{b}.{c}.{d}:{port}"
         );
         self.count = 0;
         self.told = Some(now);

@@ -25,6 +25,11 @@ const PAUSE: u64 = 10;
 /// How many milliseconds pass between two lines on receives that failed.
 const MINUTE: u64 = 60_000;
 
+/// Whether a signal ended the wait, as where a debugger looks or the process was stopped: nothing is wrong with the socket.
+fn is_interrupted(fault: ReceiveFault) -> bool {
+    fault.number == Some(libc::EINTR.cast_unsigned())
+}
+
 /// What came of one look at a wire.
 #[derive(Clone, Copy)]
 pub(crate) enum Came {
@@ -95,8 +100,8 @@ impl Listening {
     }
 
     /// Receives once by a wire, and puts the datagram at the beginning of these octets. Behind a receive that failed it waits a little, so
-    /// that the next one may do better. It ends as done where it listens no further, and with a fault where each receive of ten seconds
-    /// failed, or the descriptor is lost.
+    /// that the next one may do better. One that a signal ended is not counted as failed. It ends as done where it listens no further, and
+    /// with a fault where each receive of ten seconds failed, or the descriptor is lost.
     pub(crate) fn look<R: Wait + Clock + Eprint, W: Ear>(
         &mut self,
         rt: &R,
@@ -117,7 +122,9 @@ impl Listening {
             Ok(None) => return Came::Nothing,
             Err(fault) => fault,
         };
-        self.note(rt, shared, wire.place(), fault);
+        if !is_interrupted(fault) {
+            self.note(rt, shared, wire.place(), fault);
+        }
         if fault.is_lost() || wire.row() >= MOST {
             return Came::End(FeedEnd::Fault);
         }

@@ -1,11 +1,12 @@
-//! A line for each request that is answered, for whoever looks why a phone isn't served.
+//! A line for each request that is answered, and for each NOTIFY that nobody answered, for whoever looks why a phone isn't served.
 
 use crate::logging::{beginning, has_room};
 use sip_text::{Addr, text_of};
+use transactions::Open;
 
-/// The value of the first header line with this name, as answers are written: the name, a colon and a space. Empty where none is.
-fn header<'a>(answer: &'a str, name: &str) -> &'a str {
-    for line in answer.lines() {
+/// The value of the first header line with this name, as messages are written: the name, a colon and a space. Empty where none is.
+fn header<'a>(message: &'a str, name: &str) -> &'a str {
+    for line in message.lines() {
         if let Some((found, value)) = line.split_once(": ") {
             if found == name {
                 return value;
@@ -35,4 +36,23 @@ pub(crate) fn log_answer<R: Eprint>(rt: &R, to: Addr, answer: &[u8]) {
     let mailbox = beginning(header(answer, "To"));
     let code = second_word(answer);
     let _ = eprintln!(rt; "notifyd: {a}.{b}.{c}.{d}:{port} {method} {mailbox} {code}");
+}
+
+/// The From of a NOTIFY that was sent: of which mailbox and which dialog it tells. Empty where it can't be read.
+pub(crate) fn sender(due: &Open) -> &str {
+    match text_of(due.bytes.as_slice()) {
+        Some(message) => beginning(header(message, "From")),
+        None => "",
+    }
+}
+
+/// Says on standard error to whom a NOTIFY was sent that nobody answered, and its From. A line that nobody reads is dropped.
+pub(crate) fn log_unanswered<R: Eprint>(rt: &R, due: &Open) {
+    if !has_room() {
+        return;
+    }
+    let [a, b, c, d] = due.to.ip;
+    let port = due.to.port;
+    let sender = sender(due);
+    let _ = eprintln!(rt; "notifyd: {a}.{b}.{c}.{d}:{port} NOTIFY {sender} unanswered");
 }

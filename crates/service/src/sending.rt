@@ -17,6 +17,7 @@ ghost use Rattle.service.specs.declared.post.Note.{Note};
 use crate::fates::{Put, tell_fate};
 use crate::given_up::GivenUp;
 use crate::post::Note;
+use crate::request_log::log_unanswered;
 use crate::shared::{Counter, LAST_MOMENT, Shared};
 use circular_buffer::HeapCircularBuffer;
 use feeds::Idle;
@@ -199,6 +200,9 @@ fn count_doubtful<R: Eprint>(
     if is_doubtful(now, due) && !was_doubtful(due) {
         shared.count(Counter::GivenUp);
         given_up.add(rt, now, due);
+        if shared.logs_requests() {
+            log_unanswered(rt, due);
+        }
     }
 }
 

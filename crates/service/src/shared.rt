@@ -421,7 +421,10 @@ impl Shared {
                 "datagrams were longer than --max-datagram",
                 told(&self.too_long),
             ),
-            ("requests were answered 401", told(&self.challenged)),
+            (
+                "requests were answered 401",
+                told(&self.challenged).saturating_add(told(&self.stale)),
+            ),
             (
                 "requests were answered 403",
                 told(&self.forbidden).saturating_add(self.statuses.sent("403")),
