@@ -2,6 +2,7 @@ pub mod Named
 pub mod Once
 pub mod FirstOut
 pub mod Urgent
+pub mod LastLine
 pub mod ToldLines
 pub mod Heard
 pub mod Started

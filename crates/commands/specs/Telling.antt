@@ -6,6 +6,8 @@
 --   3        nobody answered, a socket failed, or what came could not be printed
 --   4        memory was wanting
 use Rattle.std.specs.Prelude.{◌≡◌, ◌≢◌, ◌⊎◌, ℕ, Bool, true, false, List, [], ◌∷◌, ◌++◌, length, codes, bytes_eq, if◌then◌else◌}
+use Rattle.std.specs.List.{All}
+use Rattle.std.specs.Str.{byte}
 use Rattle.hex.specs.Hex.{encode_lower}
 use Rattle.control_lines.specs.declared.asking.TellOutcome.{TellOutcome}
 use Rattle.control_lines.specs.Asking.{SpeakerSeen, ComesOf, status_of}
@@ -47,3 +49,17 @@ asks_json (word ∷ words) = bytes_eq word (codes "--json")
 -- should (RFC 8259 section 4)
 abbrev pub AskForNoObject : List (List ℕ) → Type 0
 AskForNoObject words = (asks_json words ≡ true) × ((call : TellCall) → IsTellCall (behind_json words) call → call.line ≢ codes "STATUS")
+
+-- ---- answers of several pages
+
+-- no byte of the text is a line feed
+abbrev pub HasNoLineFeed : List ℕ → Type 0
+HasNoLineFeed text = All (λ octet. octet ≢ byte "\n") text
+
+-- the answer is `ok`, and says on its last line that what follows this place is told, too
+pub record IsFollowed (answer place : List ℕ) : Type 0 where
+  pub lines : List ℕ
+  pub ok : answer ≡ codes "ok\n" ++ lines
+  pub front : List ℕ
+  pub last : answer ≡ front ++ (codes "\nmore " ++ (place ++ codes "\n"))
+  pub one_line : HasNoLineFeed place

@@ -1,6 +1,9 @@
 //! What a service answered, as `notifyd tell` prints it, and where it says that more is told.
+ghost use Rattle.std.specs.Prelude.{◌≡◌, ◌≢◌, ℕ, List, ◌++◌, codes, IfOk, MatchOption, None};
+ghost use Rattle.sip_text.specs.Reading.{text_of};
+ghost use Rattle.commands.specs.Telling.{IsFollowed, HasNoLineFeed};
 
-use sip_text::{NoMemory, Text};
+use sip_text::{NoMemory, Text, text_of};
 use std::alloc::Global;
 use std::io;
 use std::io::Write;
@@ -39,29 +42,51 @@ impl Form {
 }
 
 /// The lines behind the `ok` of an answer, if it has some.
-fn told_lines(answer: &[u8]) -> Option<&str> {
-    let text = std::str::from_utf8(answer).ok()?;
-    text.strip_prefix("ok\n")
+fn told_lines(answer: &[u8]) -> Option<&[u8]>
+    ensures { MatchOption result ((lines : List ℕ) → answer.now ≢ codes "ok\n" ++ lines) (λ lines. answer.now ≡ codes "ok\n" ++ lines.now) }
+{
+    answer.strip_prefix(b"ok\n")
 }
 
-/// The lines before the one that says where more is told, and the word there, if it stands there.
-fn cut_more(lines: &str) -> (&str, Option<&str>) {
-    let whole = lines.trim_end();
-    let (before, last) = match whole.rsplit_once('\n') {
-        Some((before, last)) => (before, last),
-        None => ("", whole),
+/// What stands before the last line feed, and what behind it.
+fn cut_last_line(lines: &[u8]) -> Option<(&[u8], &[u8])>
+    ensures { MatchOption result (HasNoLineFeed lines.now)
+        (λ halves. (lines.now ≡ halves.0.now ++ (codes "\n" ++ halves.1.now)) × HasNoLineFeed halves.1.now) }
+{
+    let place = lines.iter().rposition(|byte| *byte == b'\n')?;
+    Some((&lines[..place], &lines[place + 1..]))
+}
+
+/// The place behind which more is told, where the last line of an answer says so: `more PLACE`.
+fn last_place(answer: &[u8]) -> Option<&[u8]>
+    ensures { MatchOption result ((place : List ℕ) → ¬ (IsFollowed answer.now place)) (λ place. IsFollowed answer.now place.now) }
+{
+    told_lines(answer)?;
+    let whole = answer.strip_suffix(b"\n")?;
+    let (_, last) = cut_last_line(whole)?;
+    last.strip_prefix(b"more ")
+}
+
+/// Where an answer says that more is told.
+pub(crate) fn next_place(alloc: Global, answer: &[u8]) -> Result<Option<Text>, NoMemory>
+    ensures { IfOk result (λ next. MatchOption next
+        ((place : List ℕ) → IsFollowed answer.now place → text_of place ≡ None) (IsFollowed answer.now)) }
+{
+    let Some(place) = last_place(answer) else {
+        return Ok(None);
     };
-    match last.strip_prefix("more ") {
-        Some(place) => (before, Some(place)),
-        None => (whole, None),
-    }
+    let Some(place) = text_of(place) else {
+        return Ok(None);
+    };
+    Ok(Some(Text::of(alloc, place)?))
 }
 
-/// Where an answer says that more is told. None where there is no memory for it.
-pub(crate) fn next_place(alloc: Global, answer: &[u8]) -> Option<Text> {
-    let lines = told_lines(answer)?;
-    let (_, place) = cut_more(lines);
-    Text::of(alloc, place?).ok()
+/// The lines of an answer without the last one, where that says that more is told.
+fn page<'a>(answer: &'a [u8], lines: &'a [u8]) -> &'a [u8] {
+    match last_place(answer) {
+        Some(place) => &lines[..lines.len().saturating_sub(b"more \n".len() + place.len())],
+        None => lines,
+    }
 }
 
 /// The mailbox that a WATCHERS line names, `*` where it names none.
@@ -133,21 +158,12 @@ fn write_object<W: Write>(writer: &mut W, lines: &str) -> io::Result<()> {
     writer.write_all(b"}\n")
 }
 
-/// Writes lines, each on a line of its own.
-fn write_lines<W: Write>(writer: &mut W, lines: &str) -> io::Result<()> {
-    if lines.is_empty() {
-        return Ok(());
-    }
-    writer.write_all(lines.as_bytes())?;
-    writer.write_all(b"\n")
-}
-
 /// Prints an answer in this form. One that has no lines is printed as it came.
 pub(crate) fn print_answer<R: Print>(rt: &R, answer: &[u8], form: Form) -> io::Result<()> {
     let mut writer = io::writer(rt);
     match (form, told_lines(answer)) {
-        (Form::Lines, Some(lines)) => write_lines(&mut writer, cut_more(lines).0)?,
-        (Form::Json, Some(lines)) => write_object(&mut writer, lines)?,
+        (Form::Lines, Some(lines)) => writer.write_all(page(answer, lines))?,
+        (Form::Json, Some(lines)) => write_object(&mut writer, text_of(lines).unwrap_or(""))?,
         _ => {
             writer.write_all(answer)?;
             writer.write_all(b"\n")?;

@@ -52,17 +52,18 @@ pub struct Told {
     pub is_bad: bool,
 }
 
-/// Asks a line by this speaker, and prints what came of it. Answers the exit status: 3 also where that couldn't be printed.
+/// Asks a line by this speaker, and prints what came of it. Answers the exit status: 3 also where that couldn't be printed. Memory is
+/// wanting only where the answer says that more is told, and it is printed before.
 pub fn ask_line<R: Wait + Print + Eprint + AllocGlobal, S: Speaker>(
     rt: &R,
     speaker: &mut S,
     line: &Text,
     form: Form,
-) -> Told
+) -> Result<Told, NoMemory>
     // This line is asked and no other, and the status is that of what came of it.
-    ensures asked { TellsLine line.now
+    ensures asked { IfOk result (λ told. TellsLine line.now
         (record { asked = S.asked speaker.old; turns = S.turns speaker.old })
-        (record { asked = S.asked speaker.new; turns = S.turns speaker.new }) result.status }
+        (record { asked = S.asked speaker.new; turns = S.turns speaker.new }) told.status) }
 {
     let mut room = [0; ROOM];
     let outcome = tell_line(rt, speaker, line.as_str().as_bytes(), &mut room);
@@ -71,9 +72,10 @@ pub fn ask_line<R: Wait + Print + Eprint + AllocGlobal, S: Speaker>(
     let written = match outcome {
         TellOutcome::Done(length) | TellOutcome::Refused(length) => {
             let answer = received(&room, length);
-            more = next_place(rt.alloc(), answer);
+            let printed = print_answer(rt, answer, form);
+            more = next_place(rt.alloc(), answer)?;
             is_bad = answer == ControlAnswer::BadLine.text().as_bytes();
-            print_answer(rt, answer, form)
+            printed
         }
         TellOutcome::Silent => eprintln!(rt; "notifyd: nobody answered"),
         TellOutcome::Fault => eprintln!(rt; "notifyd: device fault"),
@@ -82,11 +84,11 @@ pub fn ask_line<R: Wait + Print + Eprint + AllocGlobal, S: Speaker>(
         Ok(()) => outcome.status(),
         Err(_) => ExitStatus::DeviceFault.code(),
     };
-    Told {
+    Ok(Told {
         status,
         more,
         is_bad,
-    }
+    })
 }
 
 /// The line behind a token of these bytes.
@@ -132,7 +134,7 @@ pub fn ask_page<R: Wait + RandomSource + Print + Eprint + AllocGlobal, S: Speake
         (record { asked = S.asked speaker.new; turns = S.turns speaker.new }) told.status) }
 {
     let asked = with_token(rt, line)?;
-    Ok(ask_line(rt, speaker, &asked, form))
+    ask_line(rt, speaker, &asked, form)
 }
 
 /// The line that asks for the page behind this one, if there is one.
