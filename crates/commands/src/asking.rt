@@ -46,36 +46,34 @@ fn new_speaker<R: Wait + Net>(rt: &R, call: &TellCall) -> Result<UdpSpeaker, Spe
 pub struct Told {
     /// The exit status.
     pub status: u8,
-    /// The word that says where more is told.
-    pub more: Option<Text>,
+    /// The word that says where more is told, if there is memory for it.
+    pub more: Result<Option<Text>, NoMemory>,
     /// Whether the answer was `bad line`.
     pub is_bad: bool,
 }
 
-/// Asks a line by this speaker, and prints what came of it. Answers the exit status: 3 also where that couldn't be printed. Memory is
-/// wanting only where the answer says that more is told, and it is printed before.
+/// Asks a line by this speaker, and prints what came of it. Answers the exit status: 3 also where that couldn't be printed.
 pub fn ask_line<R: Wait + Print + Eprint + AllocGlobal, S: Speaker>(
     rt: &R,
     speaker: &mut S,
     line: &Text,
     form: Form,
-) -> Result<Told, NoMemory>
+) -> Told
     // This line is asked and no other, and the status is that of what came of it.
-    ensures asked { IfOk result (λ told. TellsLine line.now
+    ensures asked { TellsLine line.now
         (record { asked = S.asked speaker.old; turns = S.turns speaker.old })
-        (record { asked = S.asked speaker.new; turns = S.turns speaker.new }) told.status) }
+        (record { asked = S.asked speaker.new; turns = S.turns speaker.new }) result.status }
 {
     let mut room = [0; ROOM];
     let outcome = tell_line(rt, speaker, line.as_str().as_bytes(), &mut room);
-    let mut more = None;
+    let mut more = Ok(None);
     let mut is_bad = false;
     let written = match outcome {
         TellOutcome::Done(length) | TellOutcome::Refused(length) => {
             let answer = received(&room, length);
-            let printed = print_answer(rt, answer, form);
-            more = next_place(rt.alloc(), answer)?;
+            more = next_place(rt.alloc(), answer);
             is_bad = answer == ControlAnswer::BadLine.text().as_bytes();
-            printed
+            print_answer(rt, answer, form)
         }
         TellOutcome::Silent => eprintln!(rt; "notifyd: nobody answered"),
         TellOutcome::Fault => eprintln!(rt; "notifyd: device fault"),
@@ -84,11 +82,11 @@ pub fn ask_line<R: Wait + Print + Eprint + AllocGlobal, S: Speaker>(
         Ok(()) => outcome.status(),
         Err(_) => ExitStatus::DeviceFault.code(),
     };
-    Ok(Told {
+    Told {
         status,
         more,
         is_bad,
-    })
+    }
 }
 
 /// The line behind a token of these bytes.
@@ -134,12 +132,16 @@ pub fn ask_page<R: Wait + RandomSource + Print + Eprint + AllocGlobal, S: Speake
         (record { asked = S.asked speaker.new; turns = S.turns speaker.new }) told.status) }
 {
     let asked = with_token(rt, line)?;
-    ask_line(rt, speaker, &asked, form)
+    Ok(ask_line(rt, speaker, &asked, form))
 }
 
 /// The line that asks for the page behind this one, if there is one.
-fn following(alloc: Global, line: &Text, more: Option<Text>) -> Result<Option<Text>, NoMemory> {
-    match more {
+fn following(
+    alloc: Global,
+    line: &Text,
+    more: Result<Option<Text>, NoMemory>,
+) -> Result<Option<Text>, NoMemory> {
+    match more? {
         Some(place) => next_line(alloc, line, &place),
         None => Ok(None),
     }
@@ -168,7 +170,7 @@ fn ask_anew<R: Wait + Net + RandomSource + Print + Eprint + AllocGlobal>(
         let _ = eprintln!(rt; "notifyd: device fault");
         return Ok(Told {
             status: ExitStatus::DeviceFault.code(),
-            more: None,
+            more: Ok(None),
             is_bad: false,
         });
     };
