@@ -113,6 +113,13 @@ impl EventValue {
         Ok(EventValue { package, id })
     }
 
+    /// Tells a proof that both are tokens. It does nothing.
+    pub fn are_tokens(&self)
+        ensures { IsEventValue self.now }
+    {
+        let _ = &self.package;
+    }
+
     /// The event package.
     pub fn package(&self) -> &str
         ensures { result.now ≡ self.now.package }

@@ -1,7 +1,7 @@
 -- Texts that are put on a page.
-use Rattle.std.proofs.Common.{◌≡◌, ℕ, List, [], ◌∷◌, ◌++◌, refl, sym, ap, subst, ◌∙◌, codes, Bool, false, cond, ◌+◌, ◌<◌, length, map, get_or, take, drop, ◌-◌, ◌≤◌, arith, append_assoc, append-nil}
-use Rattle.std.proofs.lemmas.List.{take_at, take_more}
-use Rattle.std.specs.Prelude.{Result, Ok, Err, is_ok, OnOk, OnErr}
+use Rattle.std.proofs.Common.{◌≡◌, ℕ, List, [], ◌∷◌, ◌++◌, refl, sym, ap, subst, ◌∙◌, codes, Bool, true, false, cond, ◌+◌, ◌<◌, length, map, get_or, take, drop, ◌-◌, ◌≤◌, arith, append_assoc, append-nil}
+use Rattle.std.proofs.lemmas.List.{take_more}
+use Rattle.std.specs.Prelude.{Result, Ok, Err, IfOk}
 use Rattle.sip_text.specs.declared.error.NoMemory.{NoMemory}
 use Rattle.event_headers.specs.Written.{comma_joined}
 use Rattle.std.proofs.Math.Seq.{take-length}
@@ -12,14 +12,13 @@ use Rattle.sip_write.proofs.Joins.{joined-append}
 
 -- nothing
 pub nothing : {a : Page} → Puts a [] a
-nothing {a} = record { put = []; behind = sym (append-nil a.bytes.items); start = refl; whole = λ w. (w, refl) }
+nothing {a} = record { put = []; behind = sym (append-nil a.bytes.items); whole = λ w. (w, refl) }
 
 -- a text, and then another
 pub and_then : {a b c : Page} {s t : List ℕ} → Puts a s b → Puts b t c → Puts a (s ++ t) c
 and_then {a} {b} {c} {s} {t} h k = record {
   put = h.put ++ k.put;
   behind = k.behind ∙ ap (λ (x : List ℕ). x ++ k.put) h.behind ∙ append_assoc a.bytes.items h.put k.put;
-  start = k.start ∙ h.start;
   whole = λ w. (let e = k.whole w in let d = h.whole e.0 in (d.0, ap (λ (x : List ℕ). x ++ k.put) d.1 ∙ ap (λ (x : List ℕ). s ++ x) e.1));
 }
 
@@ -48,19 +47,11 @@ pub no_line : {a : Page} → Puts a (joined []) a
 unfolding joined
 no_line = nothing
 
--- all of it stands there where the page is whole
-pub all_put : (r : Result (Unit {0}) NoMemory) (a b : Page) (s before after : List ℕ) → Puts a s b → a.bytes.items ≡ before → is_ok r ≡ b.is_whole
-    → OnOk r (after ≡ b.bytes.items) → OnOk r (after ≡ before ++ s)
-all_put (Ok done) a b s before after h is whole e =
-    e ∙ h.behind ∙ ap (λ (x : List ℕ). x ++ h.put) is ∙ ap (λ (x : List ℕ). before ++ x) (h.whole (sym whole)).1
-all_put (Err refusal) a b s before after h is whole e = tt
-
--- else what stood there before
-pub none_put : (r : Result (Unit {0}) NoMemory) (a b : Page) (s before after : List ℕ) → Puts a s b → a.bytes.items ≡ before → a.start ≡ length before
-    → OnErr r (after ≡ take b.start b.bytes.items) → OnErr r (after ≡ before)
-none_put (Ok done) a b s before after h is start e = tt
-none_put (Err refusal) a b s before after h is start e =
-    e ∙ ap (take b.start) (h.behind ∙ ap (λ (x : List ℕ). x ++ h.put) is) ∙ take_at before h.put b.start (sym (h.start ∙ start))
+-- the bytes of a page that began empty and is whole
+pub all_put : (r : Result (List ℕ) NoMemory) (a b : Page) (s : List ℕ) → a.bytes.items ≡ [] → Puts a s b
+    → IfOk r (λ bytes. (b.is_whole ≡ true) × (bytes ≡ b.bytes.items)) → IfOk r (λ bytes. bytes ≡ s)
+all_put (Ok bytes) a b s none h is = is.1 ∙ h.behind ∙ ap (λ (x : List ℕ). x ++ h.put) none ∙ (h.whole is.0).1
+all_put (Err refusal) a b s none h is = tt
 
 -- a refused growth puts nothing
 pub refused : (ok : Bool) (a b x : List ℕ) → b ≡ cond ok (a ++ x) a → ok ≡ false → b ≡ a ++ []

@@ -27,6 +27,23 @@ pub record AnswerText : Type 0 where
   -- whether a REFER was granted without a subscription
   pub without_subscription : Bool
 
+-- one without any of the optional lines. A To without a tag gets this one
+abbrev pub bare : Head → Addr → Option (List ℕ) → Status → AnswerText
+bare head source tag status = record {
+  head = head;
+  source = source;
+  status = status;
+  tag = tag;
+  record_routes = [];
+  contact = None;
+  expires = None;
+  min_expires = None;
+  allow = None;
+  allow_events = None;
+  unsupported = None;
+  without_subscription = false;
+}
+
 -- a status line (RFC 3261 section 7.2)
 abbrev pub status_line : Status → List ℕ
 status_line s = codes "SIP/2.0 " ++ (decimal (code s) ++ (codes " " ++ phrase s))

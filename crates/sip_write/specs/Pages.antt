@@ -6,7 +6,6 @@ use Rattle.sip_write.specs.declared.page.Page.{Page}
 pub record Puts (before : Page) (text : List ℕ) (after : Page) : Type 0 where
   pub put : List ℕ
   pub behind : after.bytes.items ≡ before.bytes.items ++ put
-  pub start : after.start ≡ before.start
   pub whole : after.is_whole ≡ true → (before.is_whole ≡ true) × (put ≡ text)
 
 -- texts, each behind a comma and SP

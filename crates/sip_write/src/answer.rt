@@ -1,8 +1,8 @@
 //! Answers.
-ghost use Rattle.std.specs.Prelude.{◌≡◌, ◌++◌, ◌∷◌, [], OnOk, OnErr, codes, decimal, option_map, map};
+ghost use Rattle.std.specs.Prelude.{◌≡◌, ◌++◌, ◌∷◌, [], IfOk, OnOk, OnErr, codes, decimal, option_map, map};
 ghost use Rattle.event_headers.specs.Written.{comma_joined};
 ghost use Rattle.sip_write.specs.Lines.{joined, header, header_of, contact_text};
-ghost use Rattle.sip_write.specs.Answer.{answer_text, status_line, via_lines, dialog_lines, added_tag, option_lines, refer_sub_text};
+ghost use Rattle.sip_write.specs.Answer.{answer_text, bare, status_line, via_lines, dialog_lines, added_tag, option_lines, refer_sub_text};
 ghost use Rattle.sip_write.specs.Pages.{Puts};
 ghost use Rattle.sip_write.specs.Views.{answer_view};
 
@@ -11,7 +11,7 @@ use crate::page::Page;
 use crate::status::Status;
 use crate::via::put_top_via;
 use sip_read::{Addr, Head, Party};
-use sip_text::{NoMemory, Text};
+use sip_text::{NoMemory, Octets, Text};
 use std::alloc::Global;
 
 /// Room for what stands around the values of an answer: names of headers, addresses and numbers.
@@ -44,6 +44,28 @@ pub struct Answer<'a> {
     pub unsupported: Option<&'a [&'a str]>,
     /// Whether a REFER was granted without a subscription (RFC 4488 section 4).
     pub without_subscription: bool,
+}
+
+impl<'a> Answer<'a> {
+    /// One without any of the optional lines. A To without a tag gets this one.
+    pub fn bare(head: &'a Head, source: Addr, tag: Option<&'a str>, status: Status) -> Answer<'a>
+        ensures { answer_view result ≡ bare head.now source (option_map (λ t. t.now) tag.entry) status }
+    {
+        Answer {
+            head,
+            source,
+            status,
+            tag,
+            record_routes: &[],
+            contact: None,
+            expires: None,
+            min_expires: None,
+            allow: None,
+            allow_events: None,
+            unsupported: None,
+            without_subscription: false,
+        }
+    }
 }
 
 /// Puts the first line.
@@ -166,12 +188,21 @@ fn room_of(a: &Answer<'_>) -> usize {
         .saturating_add(head.cseq_method.as_str().len())
 }
 
-/// Appends an answer (RFC 3261 section 8.2.6). After [`NoMemory`] `out` has the items that it had.
+/// An answer (RFC 3261 section 8.2.6), in bytes.
+pub fn response(alloc: Global, a: &Answer<'_>) -> Result<Octets, NoMemory>
+    ensures { IfOk result (λ octets. octets ≡ answer_text (answer_view a.now)) }
+{
+    let mut page = Page::new(alloc, room_of(a));
+    put_answer(&mut page, a);
+    page.octets()
+}
+
+/// Appends an answer. After [`NoMemory`] `out` has the items that it had.
 pub fn write_response(alloc: Global, a: &Answer<'_>, out: &mut Vec<u8>) -> Result<(), NoMemory>
     ensures ok { OnOk result (out.new.items ≡ out.old.items ++ answer_text (answer_view a.now)) }
     ensures err { OnErr result (out.new.items ≡ out.old.items) }
 {
-    let mut page = Page::begin(alloc, out, room_of(a));
-    put_answer(&mut page, a);
-    page.end(out)
+    let octets = response(alloc, a)?;
+    out.extend_from_slice(octets.as_slice())?;
+    Ok(())
 }

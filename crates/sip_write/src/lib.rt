@@ -2,7 +2,7 @@
 //!
 //! There is one layout: each line stands in one place, as far as it applies, and each value is written in one way. The layout is a
 //! definition, a join of lines: `answer_text` in `specs/Answer.antt` and `notify_text` in `specs/Notify.antt`, with the rewriting of
-//! the top Via in `specs/Via.antt`. [`write_response`] and [`write_notify`] append exactly that text, and after
+//! the top Via in `specs/Via.antt`. [`response`] and [`notice`] answer exactly that text, [`write_response`] and [`write_notify`] append it, and after
 //! [`NoMemory`](sip_text::NoMemory) the bytes are as they were.
 //!
 //! Begin with [`Answer`] and [`NotifyText`], which borrow what is written; contracts see them as the plain records `AnswerText` and
@@ -20,7 +20,7 @@ pub mod quoting;
 pub mod status;
 mod via;
 
-pub use answer::{Answer, write_response};
-pub use notify::{NotifyText, write_notify};
+pub use answer::{Answer, response, write_response};
+pub use notify::{NotifyText, notice, write_notify};
 pub use sip_text::NoMemory;
 pub use status::Status;

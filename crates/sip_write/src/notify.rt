@@ -1,5 +1,5 @@
 //! NOTIFYs.
-ghost use Rattle.std.specs.Prelude.{◌≡◌, ◌++◌, ◌∷◌, [], codes, OnOk, OnErr};
+ghost use Rattle.std.specs.Prelude.{◌≡◌, ◌++◌, ◌∷◌, [], codes, IfOk, OnOk, OnErr};
 ghost use Rattle.event_headers.specs.Written.{event_text, state_text};
 ghost use Rattle.sip_write.specs.Lines.{joined, header};
 ghost use Rattle.sip_write.specs.Notify.{notify_text, request_line, via_text, opening_lines, dialog_lines, event_lines, body_lines};
@@ -10,7 +10,7 @@ use crate::line::texts_room;
 use crate::page::Page;
 use event_headers::{EventValue, StateValue};
 use sip_read::Addr;
-use sip_text::{NoMemory, Text};
+use sip_text::{NoMemory, Octets, Text};
 use std::alloc::Global;
 
 /// Room for what stands around the values of a NOTIFY: names of headers, addresses and numbers.
@@ -157,12 +157,21 @@ fn room_of(n: &NotifyText<'_>) -> usize {
     room.saturating_add(texts_room(n.routes))
 }
 
-/// Appends a NOTIFY (RFC 6665 section 4.2.2). After [`NoMemory`] `out` has the items that it had.
+/// A NOTIFY (RFC 6665 section 4.2.2), in bytes.
+pub fn notice(alloc: Global, n: &NotifyText<'_>) -> Result<Octets, NoMemory>
+    ensures { IfOk result (λ octets. octets ≡ notify_text (notify_view n.now)) }
+{
+    let mut page = Page::new(alloc, room_of(n));
+    put_notify(&mut page, n);
+    page.octets()
+}
+
+/// Appends a NOTIFY. After [`NoMemory`] `out` has the items that it had.
 pub fn write_notify(alloc: Global, n: &NotifyText<'_>, out: &mut Vec<u8>) -> Result<(), NoMemory>
     ensures ok { OnOk result (out.new.items ≡ out.old.items ++ notify_text (notify_view n.now)) }
     ensures err { OnErr result (out.new.items ≡ out.old.items) }
 {
-    let mut page = Page::begin(alloc, out, room_of(n));
-    put_notify(&mut page, n);
-    page.end(out)
+    let octets = notice(alloc, n)?;
+    out.extend_from_slice(octets.as_slice())?;
+    Ok(())
 }

@@ -1,56 +1,36 @@
 //! A page: the bytes of a Vec, while texts are put behind them.
-ghost use Rattle.std.specs.Prelude.{◌≡◌, true, length, take, is_ok, decimal, OnOk, OnErr};
+ghost use Rattle.std.specs.Prelude.{◌≡◌, true, [], decimal, IfOk};
 ghost use Rattle.sip_write.specs.Pages.{Puts};
 
 use itoa::Buffer;
-use sip_text::NoMemory;
+use sip_text::{NoMemory, Octets};
 use std::alloc::Global;
-use std::mem::replace;
 
-/// The bytes of a Vec, while texts are put behind them. A page is whole as long as no growth was refused; of one that
-/// isn't, [`Page::end`] takes back all that was put.
+/// The bytes of a Vec, while texts are put behind them. A page is whole as long as no growth was refused.
 #[derive(Drop)]
 pub struct Page {
     pub bytes: Vec<u8>,
-    /// How many bytes stood there at first.
-    pub start: usize,
     pub is_whole: bool,
 }
 
 impl Page {
-    /// Takes the bytes of the Vec, with room for this many more.
-    pub fn begin(alloc: Global, out: &mut Vec<u8>, room: usize) -> Page
-        ensures bytes { result.bytes.items ≡ out.old.items }
-        ensures start { result.start ≡ length out.old.items }
+    /// An empty one, with room for this many bytes.
+    pub fn new(alloc: Global, room: usize) -> Page
+        ensures { result.bytes.items ≡ [] }
     {
-        let start = out.as_slice().len();
-        let mut bytes = replace(out, Vec::new(alloc));
+        let mut bytes = Vec::new(alloc);
         let is_whole = bytes.reserve(room).is_ok();
-        Page {
-            bytes,
-            start,
-            is_whole,
-        }
+        Page { bytes, is_whole }
     }
 
-    /// Gives the bytes back to the Vec: with all that was put, or with none of it.
-    pub fn end(self, out: &mut Vec<u8>) -> Result<(), NoMemory>
-        ensures whole { is_ok result ≡ self.is_whole }
-        ensures ok { OnOk result (out.new.items ≡ self.bytes.items) }
-        ensures err { OnErr result (out.new.items ≡ take self.start self.bytes.items) }
+    /// What was put.
+    pub fn octets(self) -> Result<Octets, NoMemory>
+        ensures { IfOk result (λ octets. (self.is_whole ≡ true) × (octets ≡ self.bytes.items)) }
     {
-        let Page {
-            mut bytes,
-            start,
-            is_whole,
-        } = self;
-        if is_whole {
-            *out = bytes;
-            return Ok(());
+        if !self.is_whole {
+            return Err(NoMemory);
         }
-        bytes.truncate(start);
-        *out = bytes;
-        Err(NoMemory)
+        Ok(Octets::new(self.bytes))
     }
 
     /// Puts bytes.

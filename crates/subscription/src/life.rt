@@ -1,7 +1,7 @@
 //! A live subscription, and what each cause makes of it.
 #![tactic(auto, unfolding(crate::specs::Table::told, crate::specs::Table::accept, crate::specs::Table::fetch, crate::specs::Table::refresh, crate::specs::Table::changed, crate::specs::Table::end, crate::specs::Table::is_answer_to, crate::specs::Table::is_refusal_of, crate::specs::Table::refused_by, crate::specs::Table::lost))]
 
-ghost use Rattle.std.specs.Prelude.{◌≡◌, ◌+◌, ◌<◌, ◌≤◌, ◌^◌};
+ghost use Rattle.std.specs.Prelude.{◌≡◌, ◌+◌, ◌<◌, ◌≤◌, ◌^◌, SomeIff};
 ghost use Rattle.subscription.specs.Table as table;
 
 use crate::notify::{Notice, Reason};
@@ -126,6 +126,22 @@ impl Sub {
         told(usage, want, self.count + 1, due, granted)
     }
 
+    /// A subscription that was saved goes on where it was. None where it was never told of, or has no number left.
+    pub fn resumed(usage: Usage, want: Want, count: u32, due: u64) -> Option<Sub>
+        ensures { SomeIff result ((1 ≤ count) × (count < want.max_cseq))
+            (record { usage = usage; want = want; count = count; due = due }) }
+    {
+        if count < 1 || want.max_cseq <= count {
+            return None;
+        }
+        Some(Sub {
+            usage,
+            want,
+            count,
+            due,
+        })
+    }
+
     /// What it watches has changed (RFC 6665 section 4.2.2). Where that is `over` for good, so is the
     /// subscription. Its time may not be up yet.
     pub fn changed(self, now: u64, over: bool) -> Step
@@ -187,6 +203,14 @@ impl Sub {
     {
         let Sub { usage, want, .. } = self;
         (usage, want)
+    }
+
+    /// How many NOTIFYs it had.
+    pub fn count(&self) -> u32
+        ensures value { result ≡ self.now.count }
+        ensures left { (1 ≤ result) × (result < self.now.want.max_cseq) }
+    {
+        self.count
     }
 
     /// The second in which its time is up.

@@ -1,4 +1,4 @@
-use Rattle.std.proofs.Common.{[], refl, sym, ◌∙◌}
+use Rattle.std.proofs.Common.{[], sym, ◌∙◌}
 use Rattle.sip_write.proofs.Pages.{refused}
 use Rattle.sip_write.proofs.page.Page.put_bytes.Goals as goal
 
@@ -6,6 +6,5 @@ pub returns : goal.returns
 returns c = record {
   put = [];
   behind = refused _ _ _ _ c.extend_from_slice.ensures.items (sym c.is_ok.ensures.value ∙ c.if-is_ok.false);
-  start = refl;
   whole = λ w. absurd cc;
 }
