@@ -13,7 +13,7 @@ module _ (a : Admission) (is : IsOpen a) where
   open_hears ip = let none : has_none a.networks.items ≡ true = rw is.anywhere refl in ap (λ b. b || is_one_of a.networks.items ip) none
 
   pub open_counts : (x : Arrival) → counting a x ≡ None
-  open_counts x = let either : (b : Bool) → (if b then a.rates else None) ≡ None = elim [ true ↦ is.any_rate | false ↦ refl ] in either (is_counted x.reading)
+  open_counts x = let either : (b : Bool) → (if b then a.rates else None) ≡ None = elim [ true ↦ is.any_rate | false ↦ refl ] in either (is_counted x.reading x.octets.now)
 
   pub open_lets : (x : Arrival) → lets a x ≡ true
   open_lets x = ap (λ (o : Option Rates). lets_one o x) (open_counts x)

@@ -1,6 +1,6 @@
 -- What comes of a datagram.
-use Rattle.std.specs.Prelude.{◌≡◌, ℕ, ◌/◌, Bool, true, false, ◌||◌, ◌&&◌, ◌==◌, nat_le, length, is_none, if◌then◌else◌, List, [], Option, Some, None, bytes_eq, codes}
-use Rattle.std.specs.List.{list_any}
+use Rattle.std.specs.Prelude.{◌≡◌, ℕ, ◌/◌, Bool, true, false, not, ◌||◌, ◌&&◌, ◌==◌, nat_le, length, is_none, if◌then◌else◌, List, [], Option, Some, None, bytes_eq, codes}
+use Rattle.std.specs.List.{list_any, list_all}
 use Rattle.sip_read.specs.declared.message.Request.{Request}
 use Rattle.admission.specs.declared.table.Rates.{Rates}
 use Rattle.admission.specs.Table as rates
@@ -40,15 +40,19 @@ hears a ip = has_none a.networks.items || is_one_of a.networks.items ip
 
 -- ---- how much comes from there
 
--- requests outside a dialog are counted, and what can't be read
-abbrev pub is_counted : Reading → Bool
-is_counted (reading.Request r) = is_none r.now.head.to.tag
-is_counted reading.Response = false
-is_counted reading.Unread = true
+-- nothing but ends of lines (RFC 3261 section 7.5, RFC 5626 section 3.5.1)
+abbrev pub is_keep_alive : List ℕ → Bool
+is_keep_alive octets = list_all (λ octet. (octet == 13) || (octet == 10)) octets
+
+-- each request is counted, in a dialog too, and what can't be read but keep-alives
+abbrev pub is_counted : Reading → List ℕ → Bool
+is_counted (reading.Request r) octets = true
+is_counted reading.Response octets = false
+is_counted reading.Unread octets = not (is_keep_alive octets)
 
 -- the buckets that it is counted in
 abbrev pub counting : Admission → Arrival → Option Rates
-counting a x = if is_counted x.reading then a.rates else None
+counting a x = if is_counted x.reading x.octets.now then a.rates else None
 
 abbrev pub lets_one : Option Rates → Arrival → Bool
 lets_one None x = true

@@ -5,7 +5,7 @@ ghost use Rattle.admission.specs.Challenge.{forbidden_text, challenge_text, unav
 
 use sip_read::Request;
 use sip_text::{Addr, NoMemory, Octets, Text};
-use sip_write::{Answer, Status, write_response};
+use sip_write::{Answer, Status, response};
 use std::alloc::Global;
 
 /// How long the first line of a 403 is, with its end.
@@ -30,23 +30,13 @@ impl Reply<'_> {
     pub fn forbidden(&self, alloc: Global) -> Result<Octets, NoMemory>
         ensures { IfOk result (λ o. o ≡ forbidden_text self.now.source self.now.request.now self.now.tag.now) }
     {
-        let answer = Answer {
-            head: &self.request.head,
-            source: self.source,
-            status: Status::Forbidden,
-            tag: Some(self.tag),
-            record_routes: &[],
-            contact: None,
-            expires: None,
-            min_expires: None,
-            allow: None,
-            allow_events: None,
-            unsupported: None,
-            without_subscription: false,
-        };
-        let mut octets = Vec::new(alloc);
-        write_response(alloc, &answer, &mut octets)?;
-        Ok(Octets::new(octets))
+        let answer = Answer::bare(
+            &self.request.head,
+            self.source,
+            Some(self.tag),
+            Status::Forbidden,
+        );
+        response(alloc, &answer)
     }
 
     /// The 401 with these challenges, each the value of a WWW-Authenticate line. All other lines but the first are those of the 403.

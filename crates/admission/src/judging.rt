@@ -78,14 +78,24 @@ fn any_contains(networks: &[Network], ip: [u8; 4]) -> bool
     networks.iter().any(|network| network.contains(ip))
 }
 
-/// Whether a datagram takes a token of its source: a request outside a dialog does, and what can't be read.
-fn is_counted(reading: Reading<'_>) -> bool
-    ensures { result ≡ spec.is_counted reading.entry }
+/// Whether it is a keep-alive: nothing but ends of lines (RFC 3261 section 7.5, RFC 5626 section 3.5.1). Nothing answers one.
+fn is_keep_alive(octets: &[u8]) -> bool
+    ensures { result ≡ spec.is_keep_alive octets.now }
+{
+    octets
+        .iter()
+        .all(|octet| *octet == b'\r' || *octet == b'\n')
+}
+
+/// Whether a datagram takes a token of its source: any request does, in a dialog too, and what can't be read but keep-alives. A To tag
+/// is easily made up, so it excuses nobody.
+fn is_counted(reading: Reading<'_>, octets: &[u8]) -> bool
+    ensures { result ≡ spec.is_counted reading.entry octets.now }
 {
     match reading {
-        Reading::Request(request) => request.head.to.tag.is_none(),
+        Reading::Request(_) => true,
         Reading::Response => false,
-        Reading::Unread => true,
+        Reading::Unread => !is_keep_alive(octets),
     }
 }
 
@@ -147,10 +157,10 @@ impl Admission {
         ensures behind { OnOk result (self.new ≡ behind self.old arrival.entry) }
         ensures err { OnErr result (self.new ≡ self.old) }
         ensures wanting { OnErr result (self.old.rates ≡ None → ⊥) }
-        ensures counted { OnErr result (spec.is_counted arrival.entry.reading ≡ true) }
+        ensures counted { OnErr result (spec.is_counted arrival.entry.reading arrival.entry.octets.now ≡ true) }
     {
         match &mut self.rates {
-            Some(rates) if is_counted(arrival.reading) => {
+            Some(rates) if is_counted(arrival.reading, arrival.octets) => {
                 rates.hear(number(arrival.source.ip), arrival.moment)
             }
             _ => Ok(true),

@@ -4,7 +4,8 @@
 //! [`Admission::judge`] asks four things in this order, each only where the service was told to:
 //!
 //! 1. Is the source's address within one of the [`Network`]s? Else [`Verdict::Foreign`].
-//! 2. Has the source a token left ([`Rates`])? Else [`Verdict::Limited`]. Requests outside a dialog take one, and what can't be read.
+//! 2. Has the source a token left ([`Rates`])? Else [`Verdict::Limited`]. Each request takes one, in a dialog too, and what can't be read;
+//!    answers and keep-alives take none.
 //! 3. Does a SUBSCRIBE or a REFER, in a dialog too, answer a challenge (RFC 3261 section 22, [`digest`])? Else [`Verdict::Challenge`], with the
 //!    bytes of a 401. May the user have the mailbox that it names? Else [`Verdict::Forbidden`], with those of a 403.
 //! 4. Does a SUBSCRIBE or a REFER outside a dialog ask for one more subscription of a source that has as many as it may? Then

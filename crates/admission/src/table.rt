@@ -8,22 +8,29 @@ use crate::bucket::{Bucket, Rate, is_enough, left};
 use lru::LruCache;
 use sip_text::NoMemory;
 use std::alloc::Global;
+use std::collections::hash_map::RandomState;
 use std::num::NonZeroUsize;
 
 /// The buckets of the sources that were heard lately, all of one rate. A source is an IPv4 address, as a number.
 #[derive(Drop)]
 pub struct Rates {
     pub rate: Rate,
-    /// By source, the one heard last first.
-    pub buckets: LruCache<u32, Bucket>,
+    /// By source, the one heard last first. Strangers choose their addresses, so these are hashed by keys that nobody can guess.
+    pub buckets: LruCache<u32, Bucket, RandomState>,
 }
 
 impl Rates {
-    /// Of a service that has heard no source yet. So many may have a bucket at once. Its only error is out of memory.
-    pub fn new(alloc: Global, rate: Rate, size: NonZeroUsize) -> Result<Rates, NoMemory>
+    /// Of a service that has heard no source yet. So many may have a bucket at once, and are hashed by these keys. Its only error is out of
+    /// memory.
+    pub fn new(
+        alloc: Global,
+        rate: Rate,
+        size: NonZeroUsize,
+        keys: RandomState,
+    ) -> Result<Rates, NoMemory>
         ensures { IfOk result (λ r. r ≡ empty rate (non_zero_usize_get size)) }
     {
-        let buckets = LruCache::new(alloc, size)?;
+        let buckets = LruCache::with_hasher(alloc, size, keys)?;
         Ok(Rates { rate, buckets })
     }
 
