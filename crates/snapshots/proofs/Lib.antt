@@ -1,0 +1,13 @@
+pub mod Appends
+pub mod Each
+pub mod Times
+pub mod Forms
+pub mod Choices
+pub mod EventValues
+pub mod Fields
+pub mod Rows
+pub mod Books
+pub mod Messages
+pub mod Changes
+pub mod Events
+pub mod Torn
