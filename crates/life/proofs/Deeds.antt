@@ -1,6 +1,6 @@
 -- What an event is to a living subscription, kind by kind.
-use Rattle.std.proofs.Common.{◌≡◌, ℕ, List, ◌∷◌, Option, Some, None, Bool, true, false, ◌&&◌, ◌+◌, refl, ap}
-use Rattle.std.specs.Prelude.{if◌then◌else◌, option_map, bytes_eq}
+use Rattle.std.proofs.Common.{◌≡◌, ℕ, List, ◌∷◌, Option, Some, None, Bool, true, false, ◌&&◌, ◌+◌, refl, ap, ◌∙◌}
+use Rattle.std.specs.Prelude.{if◌then◌else◌, option_map, unwrap_or, is_some, bytes_eq}
 use Rattle.sip_text.specs.declared.address.Addr.{Addr}
 use Rattle.sip_read.specs.declared.message.Request.{Request}
 use Rattle.sip_read.specs.declared.message.Response.{Response}
@@ -9,10 +9,11 @@ use Rattle.package.specs.Values.{MailChange, Progress}
 use Rattle.notifier_model.specs.Start.{Start, tag_of}
 use Rattle.notifier_model.specs.declared.event.Event.{Event}
 use Rattle.notifier_model.specs.declared.event.Event.TheVariants.{Request as Comes, Reply as Replies, Mail as Mails, Progress as Progresses, Tick as Ticks, Shut as Shuts}
+use Rattle.notifier_model.specs.Fields.{value_of, or_empty}
 use Rattle.notifier_model.specs.Limits.{Limits}
 use Rattle.notifier_model.specs.Requests.{is_refer, event_of, user_part, granted}
 use Rattle.life.specs.Past.{now, is_fresh}
-use Rattle.life.specs.Life.{Deed, Life, Then, Heard, MailChanged, Progressed, Stopped, hearing, last_heard, birth, accepts, grants, last_accepted, last_grant, address, end_of, end_of_grant}
+use Rattle.life.specs.Life.{Deed, Life, Then, Heard, MailChanged, Progressed, Stopped, hearing, last_heard, birth, accepts, grants, retargets, target, last_accepted, last_grant, address, end_of, end_of_grant}
 use Rattle.life.specs.Lives.{when, is_in_dialog, is_answer_in_dialog, concerns, may_hear, is_to_notify, answer_deed, tick_deed, is_changed, deed_at, lived}
 use Rattle.life.proofs.Rows.{accepted_cseq}
 
@@ -90,3 +91,19 @@ end-granted limits t source r l e = ap (λ (d : Bool). end_of limits (if d then 
 pub end-not_granted : (limits : Limits) (t : ℕ) (source : Addr) (r : Request) (l : Life) → grants limits l r ≡ false → end_of_grant limits (Then t (Heard source r) l) ≡ end_of_grant limits l
 unfolding end_of_grant last_heard birth
 end-not_granted limits t source r l e = ap (λ (d : Bool). end_of limits (if d then hearing t source r else last_grant limits l)) e
+
+pub target-granted : (limits : Limits) (t : ℕ) (source : Addr) (r : Request) (l : Life) → grants limits l r ≡ true → target limits (Then t (Heard source r) l) ≡ unwrap_or (value_of r.contact) (target limits l)
+unfolding target last_heard birth
+target-granted limits t source r l e =
+    ap (λ (d : Bool). or_empty (value_of (if d && is_some (value_of r.contact) then hearing t source r else last_heard (retargets limits l) l).request.contact)) e
+    ∙ by_contact (value_of r.contact) refl
+  where
+    by_contact : (o : Option (List ℕ)) → value_of r.contact ≡ o
+        → or_empty (value_of (if is_some (value_of r.contact) then hearing t source r else last_heard (retargets limits l) l).request.contact) ≡ unwrap_or (value_of r.contact) (target limits l)
+    by_contact None same = rw same refl
+    by_contact (Some contact) same = rw same (ap or_empty same)
+
+pub target-not_granted : (limits : Limits) (t : ℕ) (source : Addr) (r : Request) (l : Life) → grants limits l r ≡ false → target limits (Then t (Heard source r) l) ≡ target limits l
+unfolding target last_heard birth
+target-not_granted limits t source r l e =
+    ap (λ (d : Bool). or_empty (value_of (if d && is_some (value_of r.contact) then hearing t source r else last_heard (retargets limits l) l).request.contact)) e

@@ -3,7 +3,7 @@ use Rattle.std.proofs.Common.{◌≡◌, ℕ, ◌+◌, ◌-◌, List, [], ◌∷
 use Rattle.std.specs.Prelude.{if◌then◌else◌, ◌==◌, find, nat_lt, is_none, unwrap_or}
 use Rattle.std.proofs.lemmas.Bool.Decides.{nat_tests}
 use Rattle.std.proofs.lemmas.List.{append-nil}
-use Rattle.life.proofs.Texts.{Bytes, not_true, and-false, if_is}
+use Rattle.life.proofs.Texts.{Bytes, not_true, and-false, and-right, if_is}
 use Rattle.sip_text.specs.declared.address.Addr.{Addr}
 use Rattle.sip_read.specs.declared.message.Request.{Request}
 use Rattle.notifier_model.specs.Fields.{value_of, same_event}
@@ -27,14 +27,14 @@ use Rattle.notifier_model.specs.Rows.{renewed_sub, stays, opened, with_sub, turn
 use Rattle.notifier_model.specs.Answers.{refusal_answer, renewal_answer}
 use Rattle.notifier_model.specs.Out.{Answers, notifications}
 use Rattle.life.specs.Past.{now, is_fresh}
-use Rattle.life.specs.Life.{Life, Then, Heard, birth, last_heard, accepts, is_above, end_of_grant, address, status, is_touched, number, just_made, unanswered, ended, terminated, is_removed, is_gone}
+use Rattle.life.specs.Life.{Life, Then, Heard, birth, last_heard, accepts, is_above, end_of_grant, address, status, is_touched, number, just_made, unanswered, ended, terminated, is_removed, is_gone, target}
 use Rattle.life.specs.Lives.{births, life, birth_at}
 use Rattle.life.specs.Notices.{notices_at, body}
-use Rattle.life.proofs.Rows.{last_cseq, target_of, usage_of, want_of, sub_of, row_of, live_row, rows_to}
-use Rattle.life.proofs.Deeds.{address-accepted, address-refused, cseq-accepted, cseq-refused, end-granted, end-not_granted}
+use Rattle.life.proofs.Rows.{last_cseq, usage_of, want_of, sub_of, row_of, live_row, rows_to}
+use Rattle.life.proofs.Deeds.{address-accepted, address-refused, cseq-accepted, cseq-refused, end-granted, end-not_granted, target-granted, target-not_granted}
 use Rattle.life.proofs.NextLives.{Ranges}
 use Rattle.life.proofs.SoundLives.{sound_of}
-use Rattle.life.proofs.Turns.{Follows, over_follows, told_follows}
+use Rattle.life.proofs.Turns.{Follows, Knows, knows_on, over_follows, told_follows}
 use Rattle.life.proofs.Invariant.{Holdings, Holds, Goes, life_small}
 use Rattle.life.proofs.RepliesAndTicks.{by_all_rows, holdings_quiet, body-is}
 use Rattle.life.proofs.RefusedRequests.{Nobody_hears, ring_goes, refused_goes, Somebody, Nobody, look_up, others_not, no_birth, heard-is, range_of, dialog_rules}
@@ -43,12 +43,13 @@ use Rattle.life.proofs.RefusedRequests.{Nobody_hears, ring_goes, refused_goes, S
 
 -- a refused request that was heard moves the CSeq alone
 counted_follows : (start : Start) (past : List Event) (source : Addr) (r : Request) (s : ℕ) (l : Life) → is_gone start.place.limits l ≡ false → accepts start.place.limits l r ≡ false → Follows start s (Comes source r ∷ past) (counted r (row_of start s l)) (Then (now past) (Heard source r) l)
-unfolding counted stays notices_at notifications live_row is_gone terminated is_touched is_removed row_of sub_of usage_of want_of target_of number birth last_cseq unanswered just_made
+unfolding counted stays notices_at notifications live_row is_gone terminated is_touched is_removed row_of sub_of usage_of want_of number birth last_cseq unanswered just_made
 counted_follows start past source r s l alive refused_one = record {
   row = rw (
     address-refused start.place.limits (now past) source r l refused_one,
     cseq-refused start.place.limits (now past) source r l refused_one,
     end-not_granted start.place.limits (now past) source r l (ap (λ (d : Bool). d && nat_lt 0 (asked start.place.limits r)) refused_one),
+    target-not_granted start.place.limits (now past) source r l (ap (λ (d : Bool). d && nat_lt 0 (asked start.place.limits r)) refused_one),
     refused_one,
     zero_more (number start.place.limits l),
     append-nil (unanswered start.place.limits l),
@@ -88,6 +89,13 @@ asks-more limits r plain h = positive (asked limits r) (subst (λ (d : Bool). (n
     positive : (n : ℕ) → (n == 0) ≡ false → nat_lt 0 n ≡ true
     positive n e = grind (arith, nat_tests)
 
+asks-none : (limits : Limits) (r : Request) → asks_nothing limits r ≡ true → nat_lt 0 (asked limits r) ≡ false
+unfolding asks_nothing
+asks-none limits r h = none (asked limits r) (and-right (not (is_refer r)) (asked limits r == 0) h)
+  where
+    none : (n : ℕ) → (n == 0) ≡ true → nat_lt 0 n ≡ false
+    none n e = grind (arith, nat_tests)
+
 -- asked 0: it ends
 renewed_over : (start : Start) (past : List Event) (b : Book) (source : Addr) (r : Request) (s : ℕ) (l : Life) → accepts start.place.limits l r ≡ true → asks_nothing start.place.limits r ≡ true
     → body_of_held (content_in b.boxes (want_of start s l).event.package (want_of start s l).resource) ≡ body start (Comes source r ∷ past) (Then (now past) (Heard source r) l)
@@ -95,7 +103,13 @@ renewed_over : (start : Start) (past : List Event) (b : Book) (source : Addr) (r
 unfolding end row_of sub_of usage_of
 renewed_over start past b source r s l accepted zero_asked same_body =
     over_follows start b.boxes b.clock source (with_sub (record (row_of start s l) { last_cseq = r.head.cseq })) (usage_of start s l) (want_of start s l) (number start.place.limits l + 1) Timeout s (Comes source r ∷ past) (Then (now past) (Heard source r) l)
-    refl (unfold number is_touched in (rw accepted refl)) (sym (address-accepted start.place.limits (now past) source r l accepted)) same_body (unfold is_touched in accepted) (unfold terminated is_touched ended in (rw (accepted, zero_asked) refl))
+    refl (unfold number is_touched in (rw accepted refl)) (sym (address-accepted start.place.limits (now past) source r l accepted)) same_body knows (unfold is_touched in accepted) (unfold terminated is_touched ended in (rw (accepted, zero_asked) refl))
+  where
+    -- it grants no time
+    knows : Knows start (usage_of start s l) (want_of start s l) (Then (now past) (Heard source r) l)
+    knows =
+        knows_on start s l (Then (now past) (Heard source r) l) (unfold birth in refl)
+        (sym (target-not_granted start.place.limits (now past) source r l (rw accepted (asks-none start.place.limits r zero_asked))))
 
 -- or goes on
 renewed_on : (start : Start) (past : List Event) (b : Book) (source : Addr) (r : Request) (s : ℕ) (l : Life) → b.clock ≡ now past → accepts start.place.limits l r ≡ true → asks_nothing start.place.limits r ≡ false
@@ -127,7 +141,7 @@ renewed_on start past b source r s l clock accepted some_asked same_body =
       count = (sub_of start s l).count + 1;
       due = b.clock + granted start.place.limits r;
     }) ≡ sub_of start s (Then (now past) (Heard source r) l)
-    next_sub = unfold sub_of usage_of want_of target_of number is_touched birth in rw (address-accepted start.place.limits (now past) source r l accepted, cseq-accepted start.place.limits (now past) source r l accepted, accepted, due_is, clock) refl
+    next_sub = unfold sub_of usage_of want_of number is_touched birth in rw (address-accepted start.place.limits (now past) source r l accepted, cseq-accepted start.place.limits (now past) source r l accepted, target-granted start.place.limits (now past) source r l (rw (accepted, asks) refl), accepted, due_is, clock) refl
 
 -- ---- the step
 

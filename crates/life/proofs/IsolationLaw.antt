@@ -15,7 +15,7 @@ use Rattle.notifier_model.specs.Out.{Notification}
 use Rattle.notifier_model.specs.Start.{Start, tag_of}
 use Rattle.notifier_model.specs.Requests.{event_of}
 use Rattle.life.specs.Past.{now}
-use Rattle.life.specs.Life.{Life, Born, birth, is_gone, is_touched, number, terminated, one_if, end_of_grant, address}
+use Rattle.life.specs.Life.{Life, Born, birth, is_gone, is_touched, number, terminated, one_if, end_of_grant, address, target}
 use Rattle.life.specs.Lives.{is_in_dialog, concerns, lived, begun, lives, births, life, birth_at, befell, is_born_at}
 use Rattle.life.specs.Sentences.{or_before}
 use Rattle.life.specs.Notices.{phase, body, notice_of, notices_at, notices}
@@ -26,7 +26,7 @@ use Rattle.life.specs.Own.{is_own, born_of}
 use Rattle.life.specs.Renaming.{other_tag, renamed_tag, renamed_request, renamed_event}
 use Rattle.life.specs.Apart.{has_new_key, is_open_to, matters, own_requests_are_new}
 use Rattle.life.specs.IsolationLaws.{IsLike, AloneLaw, SameLaw}
-use Rattle.life.proofs.Renamed.{renamed_life, birth-renamed, grant-renamed, address-renamed, status-renamed, touched-renamed, number-renamed, terminated-renamed, gone-renamed}
+use Rattle.life.proofs.Renamed.{renamed_life, birth-renamed, grant-renamed, address-renamed, status-renamed, touched-renamed, number-renamed, terminated-renamed, gone-renamed, target-renamed, mailbox-renamed}
 use Rattle.life.proofs.Mine.{its_event, mine, mine-none, mine-own, mine-other, now-mine, content-mine}
 use Rattle.life.proofs.Others.{IsBornOf, not_own-befell}
 use Rattle.life.proofs.Befalls.{its_life, own-lived}
@@ -233,7 +233,8 @@ module _ (start other : Start) (serial : ℕ) (x : Request) (like : IsLike start
       let number_is : number other.place.limits (renamed_life old new m) ≡ number start.place.limits m = number-renamed old new other.place.limits m ∙ by_limits (λ limits. number limits m) in
       let end_is : terminated other.place.limits (renamed_life old new m) ≡ terminated start.place.limits m = terminated-renamed old new other.place.limits m ∙ by_limits (λ limits. terminated limits m) in
       let to_is : address other.place.limits (renamed_life old new m) ≡ address start.place.limits m = address-renamed old new other.place.limits m ∙ by_limits (λ limits. address limits m) in
-      rw (number_is, now-mine start other serial x es, end_is, phase-same (now es) m (terminated start.place.limits m), body-same es m b, to_is) refl
+      let target_is : target other.place.limits (renamed_life old new m) ≡ target start.place.limits m = target-renamed old new other.place.limits m ∙ by_limits (λ limits. target limits m) in
+      rw (number_is, now-mine start other serial x es, end_is, phase-same (now es) m (terminated start.place.limits m), body-same es m b, to_is, birth-renamed old new m, mailbox-renamed old new m, target_is) refl
 
   told-same : (es : List Event) (o : Option Life) → ((m : Life) → o ≡ Some m → birth m ≡ x) → notices_at other (past_of es) (its_life old new o) ≡ notices_at start es o
   unfolding notices_at

@@ -26,11 +26,11 @@ use Rattle.notifier_model.specs.Book.{Book, nothing, content_changed, step}
 use Rattle.notifier_model.specs.Rows.{stays, wherever, opened, with_sub, tells, tells_change, tells_watcher}
 use Rattle.notifier_model.specs.Out.{notifications}
 use Rattle.life.specs.Past.{now, same_class, last_counts, mail_content, content, keys}
-use Rattle.life.specs.Life.{Life, Then, MailChanged, birth, last_heard, address, number, end_of_grant, status, is_touched, just_made, unanswered, ended, is_removed, is_gone}
+use Rattle.life.specs.Life.{Life, Then, MailChanged, birth, last_heard, address, number, end_of_grant, status, is_touched, just_made, unanswered, ended, is_removed, is_gone, target}
 use Rattle.life.specs.Lives.{same_content, is_changed, when, life, birth_at, begun}
 use Rattle.life.specs.Notices.{body}
 use Rattle.life.proofs.Boxes.{mailed, mail_outcome, mail-after, mail-outcome, types-stay, content-other, same_counts-own}
-use Rattle.life.proofs.Rows.{row_of, sub_of, want_of, usage_of, target_of, accepted_cseq, last_cseq}
+use Rattle.life.proofs.Rows.{row_of, sub_of, want_of, usage_of, accepted_cseq, last_cseq}
 use Rattle.life.proofs.Deeds.{lived-mails}
 use Rattle.life.proofs.NextLives.{Ranges, births-of_none}
 use Rattle.life.proofs.SoundLives.{sound_of}
@@ -149,7 +149,7 @@ mail_nothing start past m boxes hold e s l is alive =
 
 changed_follows : (start : Start) (past : List Event) (m : MailChange) (b : Book) (s : ℕ) (l : Life) → Ranges start.place.limits → b.clock ≡ now past → Holdings start past b.boxes → life start past s ≡ Some l → is_gone start.place.limits l ≡ false
     → Follows start s (Mails m ∷ past) (tells (told_from start.place (change_first b.boxes (Mail m)).1 b.clock) (row_of start s l) (changed (row_of start s l).sub b.clock false)) (Then (now past) MailChanged l)
-unfolding tells changed opened unanswered just_made row_of sub_of usage_of want_of target_of accepted_cseq number address end_of_grant last_heard birth last_cseq now is_touched ended is_removed
+unfolding tells changed opened unanswered just_made row_of sub_of usage_of want_of target accepted_cseq number address end_of_grant last_heard birth last_cseq now is_touched ended is_removed
 changed_follows start past m b s l ok clock hold is alive =
     told_follows start (change_first b.boxes (Mail m)).1 b.clock (address start.place.limits l) (with_sub (row_of start s l)) (sub_of start s (Then (now past) MailChanged l)) (end_of_grant start.place.limits l - b.clock) s (Mails m ∷ past) (Then (now past) MailChanged l)
     refl refl same_body (rw clock refl) (ap (λ (n : ℕ). end_of_grant start.place.limits l - n) clock) refl refl refl

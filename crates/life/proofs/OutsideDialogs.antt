@@ -30,16 +30,16 @@ use Rattle.notifier_model.specs.Rows.{Turned, opened, forgetting, turned}
 use Rattle.notifier_model.specs.Out.{Notification, Send, Starts, notifications}
 use Rattle.notifier_model.specs.Answers.{birth_answer}
 use Rattle.life.specs.Past.{now, content, mail_content, is_fresh, is_placed, fits}
-use Rattle.life.specs.Life.{Life, Born, birth, last_heard, end_of_grant, address, status, is_touched, number, just_made, unanswered, ended, terminated, is_removed, is_gone}
+use Rattle.life.specs.Life.{Life, Born, birth, last_heard, end_of_grant, address, status, is_touched, number, just_made, unanswered, ended, terminated, is_removed, is_gone, mailbox, target}
 use Rattle.life.specs.Lives.{when, is_in_dialog, may_hear, is_birth, births, life, birth_at, befell, begun}
 use Rattle.life.specs.Sentences.{or_before}
 use Rattle.life.specs.Notices.{notices_at, body}
 use Rattle.life.proofs.Boxes.{boxes_without, types-stay, content-other, begin-own, begin-elsewhere}
-use Rattle.life.proofs.Rows.{last_cseq, target_of, accepted_cseq, usage_of, want_of, sub_of, row_of, live_row, rows_to, rows_to-same, length-rows_to, notifications-append}
+use Rattle.life.proofs.Rows.{last_cseq, accepted_cseq, usage_of, want_of, sub_of, row_of, live_row, rows_to, rows_to-same, length-rows_to, notifications-append}
 use Rattle.life.proofs.Deeds.{hears, lived-comes}
 use Rattle.life.proofs.NextLives.{births-of_birth, by_fate, life-next, Ranges}
 use Rattle.life.proofs.SoundLives.{fits-plain, gone-removed}
-use Rattle.life.proofs.Turns.{told_from, Follows, over_follows, told_follows}
+use Rattle.life.proofs.Turns.{told_from, Follows, watched-is, over_follows, told_follows}
 use Rattle.life.proofs.AllRows.{apart, born_small}
 use Rattle.life.proofs.Invariant.{type_in, Transfers, Holdings, Holds, Goes, forget-elsewhere, life_small}
 use Rattle.life.proofs.RepliesAndTicks.{content-same, body-is, quiet-counts, goes_follows}
@@ -276,7 +276,7 @@ unfolding accept
 on_follows start past b source r kind begins transfer asks watched =
     told_follows start (first_boxes b.boxes (tag_of start.place b.next) kind) b.clock source (new_row b.next r)
     (record { usage = new_usage (tag_of start.place b.next) r; want = new_want start.place (tag_of start.place b.next) source r; count = 1; due = b.clock + granted start.place.limits r }) (granted start.place.limits r) b.next (Comes source r ∷ past) (Born (now past) source r)
-    (unfold new_usage new_want sub_of usage_of want_of target_of accepted_cseq number is_touched address end_of_grant last_heard birth in (rw (begins.holds.clock_is, watched) refl)) (unfold address last_heard in refl) (unfold new_want want_of birth in born_body start past b source r kind begins transfer)
+    (unfold new_usage new_want sub_of usage_of want_of target accepted_cseq number is_touched address end_of_grant last_heard birth in (rw (begins.holds.clock_is, watched) refl)) (unfold address last_heard in refl) (unfold new_want want_of birth in born_body start past b source r kind begins transfer)
     (unfold opened new_row row_of last_cseq unanswered just_made is_touched in (rw (begins.holds.clock_is, watched) refl)) time (unfold is_touched in (ap not watched)) (unfold ended in (rw asks refl)) (unfold is_removed in watched)
   where
     time : granted start.place.limits r ≡ end_of_grant start.place.limits (Born (now past) source r) - now (Comes source r ∷ past)
@@ -290,6 +290,7 @@ unfolding fetch new_usage
 fetch_follows start past b source r begins plain asks =
     over_follows start (first_boxes b.boxes (tag_of start.place b.next) Fetch) b.clock source (new_row b.next r) (new_usage (tag_of start.place b.next) r) (new_want start.place (tag_of start.place b.next) source r) 1 Timeout b.next (Comes source r ∷ past) (Born (now past) source r)
     (unfold new_usage in refl) (unfold number is_touched in (rw (plain-watched r plain) refl)) (unfold address last_heard in refl) (born_body start past b source r Fetch begins (λ refers. absurd (never_both (is_refer r) refers plain)))
+    (unfold new_usage new_want birth mailbox target last_heard in (record { watcher = refl; watched = watched-is r (tag_of start.place b.next); target = refl }))
     (unfold is_touched in (ap not (plain-watched r plain))) (unfold terminated is_touched ended in (rw (plain-watched r plain, asks) refl))
 
 -- the turn of a birth

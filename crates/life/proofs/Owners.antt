@@ -50,13 +50,13 @@ abbrev AllTags : (Bytes → Type 0) → List Send → Type 0
 AllTags P [] = Unit {0}
 AllTags P (Answers to bytes ∷ more) = AllTags P more
 AllTags P (Starts tag refer_to ∷ more) = AllTags P more
-AllTags P (Notifies to n ∷ more) = P n.local_tag × AllTags P more
+AllTags P (Notifies to mailbox n ∷ more) = P n.local_tag × AllTags P more
 
 tags-append : (P : Bytes → Type 0) (xs ys : List Send) → AllTags P xs → AllTags P ys → AllTags P (xs ++ ys)
 tags-append P [] ys p q = q
 tags-append P (Answers to bytes ∷ xs) ys p q = tags-append P xs ys p q
 tags-append P (Starts tag refer_to ∷ xs) ys p q = tags-append P xs ys p q
-tags-append P (Notifies to n ∷ xs) ys p q = (p.0, tags-append P xs ys p.1 q)
+tags-append P (Notifies to mailbox n ∷ xs) ys p q = (p.0, tags-append P xs ys p.1 q)
 
 -- ---- what is told of a row has its tag
 
@@ -230,30 +230,30 @@ made-tags start past (e ∷ es) b ok h =
 first-of : {A : Type 0} (x : A) (xs : List A) → Contains (x ∷ xs) x
 first-of x xs = (0, omega arith, refl)
 
-noticed : (tag : Bytes) (before more : List Send) (to : Addr) (n : NotifyText) → n.local_tag ≡ tag → Contains (notifications tag (before ++ Notifies to n ∷ more)) (notification to n)
+noticed : (tag : Bytes) (before more : List Send) (to : Addr) (mailbox : Option Bytes) (n : NotifyText) → n.local_tag ≡ tag → Contains (notifications tag (before ++ Notifies to mailbox n ∷ more)) (notification to mailbox n)
 unfolding notifications
-noticed tag before more to n same =
-    rw (notifications-append tag before (Notifies to n ∷ more)) (Contains-append_right (notifications tag before) (notifications tag (Notifies to n ∷ more)) (notification to n) here)
+noticed tag before more to mailbox n same =
+    rw (notifications-append tag before (Notifies to mailbox n ∷ more)) (Contains-append_right (notifications tag before) (notifications tag (Notifies to mailbox n ∷ more)) (notification to mailbox n) here)
   where
     own : bytes_eq n.local_tag tag ≡ true
     own = subst (λ (x : Bytes). bytes_eq n.local_tag x ≡ true) same (bytes_own n.local_tag)
 
-    here : Contains (notifications tag (Notifies to n ∷ more)) (notification to n)
-    here = subst (λ (d : Bool). Contains (if d then notification to n ∷ notifications tag more else notifications tag more) (notification to n)) (sym own) (first-of (notification to n) (notifications tag more))
+    here : Contains (notifications tag (Notifies to mailbox n ∷ more)) (notification to mailbox n)
+    here = subst (λ (d : Bool). Contains (if d then notification to mailbox n ∷ notifications tag more else notifications tag more) (notification to mailbox n)) (sym own) (first-of (notification to mailbox n) (notifications tag more))
 
 of_lives : (start : Start) (es : List Event) → IsStart start → (before sends : List Send) → before ++ sends ≡ made start es → AllTags (IsTag start) sends → AreOfLives start es (map out_of sends)
 unfolding out_of
 of_lives start es ok before [] e p = tt
 of_lives start es ok before (Answers to bytes ∷ more) e p = of_lives start es ok (before ++ Answers to bytes ∷ []) more (append_assoc before (Answers to bytes ∷ []) more ∙ e) p
 of_lives start es ok before (Starts tag refer_to ∷ more) e p = of_lives start es ok (before ++ Starts tag refer_to ∷ []) more (append_assoc before (Starts tag refer_to ∷ []) more ∙ e) p
-of_lives start es ok before (Notifies to n ∷ more) e p = (here, of_lives start es ok (before ++ Notifies to n ∷ []) more (append_assoc before (Notifies to n ∷ []) more ∙ e) p.1)
+of_lives start es ok before (Notifies to mailbox n ∷ more) e p = (here, of_lives start es ok (before ++ Notifies to mailbox n ∷ []) more (append_assoc before (Notifies to mailbox n ∷ []) more ∙ e) p.1)
   where
-    here : IsOfALife start es (out_of (Notifies to n))
+    here : IsOfALife start es (out_of (Notifies to mailbox n))
     here = record {
       serial = p.0.0;
-      notice = notification to n;
-      among = subst (λ ns. Contains ns (notification to n)) (notices_law start p.0.0 es ok p.0.1) (subst (λ sends. Contains (notifications (tag_of start.place p.0.0) sends) (notification to n)) e (noticed (tag_of start.place p.0.0) before more to n p.0.2));
-      notify = of_record (tag_of start.place p.0.0) to n p.0.2;
+      notice = notification to mailbox n;
+      among = subst (λ ns. Contains ns (notification to mailbox n)) (notices_law start p.0.0 es ok p.0.1) (subst (λ sends. Contains (notifications (tag_of start.place p.0.0) sends) (notification to mailbox n)) e (noticed (tag_of start.place p.0.0) before more to mailbox n p.0.2));
+      notify = of_record (tag_of start.place p.0.0) to mailbox n p.0.2;
     }
 
 pub no_other_law : NoOtherLaw

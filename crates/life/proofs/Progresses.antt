@@ -21,16 +21,16 @@ use Rattle.notifier_model.specs.Book.{Book, nothing, content_changed, step}
 use Rattle.notifier_model.specs.Rows.{stays, wherever, opened, with_sub, tells, tells_change, tells_watcher}
 use Rattle.notifier_model.specs.Out.{notifications}
 use Rattle.life.specs.Past.{now, content, last_counts, keys}
-use Rattle.life.specs.Life.{Life, Then, Progressed, birth, last_heard, address, number, end_of_grant, status, is_news, is_touched, just_made, unanswered, ended, terminated, is_removed, is_gone}
+use Rattle.life.specs.Life.{Life, Then, Progressed, birth, last_heard, address, number, end_of_grant, status, is_news, is_touched, just_made, unanswered, ended, terminated, is_removed, is_gone, target}
 use Rattle.life.specs.Lives.{when, lived, life, birth_at, begun}
 use Rattle.life.specs.Sentences.{or_before}
 use Rattle.life.specs.Notices.{notices_at, body}
 use Rattle.life.proofs.Boxes.{stepped, step_outcome, step-after, step-outcome, types-stay, content-other}
-use Rattle.life.proofs.Rows.{row_of, sub_of, want_of, usage_of, target_of, accepted_cseq, last_cseq, live_row}
+use Rattle.life.proofs.Rows.{row_of, sub_of, want_of, usage_of, accepted_cseq, last_cseq, live_row}
 use Rattle.life.proofs.Deeds.{lived-progresses}
 use Rattle.life.proofs.NextLives.{Ranges, births-of_none}
 use Rattle.life.proofs.SoundLives.{sound_of, came, lived-birth, next-birth}
-use Rattle.life.proofs.Turns.{told_from, Follows, told_follows}
+use Rattle.life.proofs.Turns.{told_from, Follows, knows_on, told_follows}
 use Rattle.life.proofs.AllRows.{TurnsInto, Rules}
 use Rattle.life.proofs.Invariant.{Holdings, Holds, Goes, Transfers}
 use Rattle.life.proofs.RepliesAndTicks.{by_all_rows, by_nothing, content-same, body-is, ended_follows}
@@ -120,7 +120,7 @@ outcome-is start past p boxes s l ok hold is alive refers e =
     ∙ open-outcome p (status l) ((sound_of start past s l ok is).unfinished alive))
 
 untouched_follows : (start : Start) (past : List Event) (p : Progress) (s : ℕ) (l : Life) → is_gone start.place.limits l ≡ false → is_news p (status l) ≡ false → Follows start s (Progresses p ∷ past) (stays (row_of start s l)) (Then (now past) (Progressed p) l)
-unfolding stays notices_at notifications live_row is_gone terminated is_touched is_removed row_of sub_of usage_of want_of target_of accepted_cseq number address end_of_grant last_heard birth last_cseq unanswered just_made
+unfolding stays notices_at notifications live_row is_gone terminated is_touched is_removed row_of sub_of usage_of want_of target accepted_cseq number address end_of_grant last_heard birth last_cseq unanswered just_made
 untouched_follows start past p s l alive same = record {
   row = rw (same, zero_more (number start.place.limits l), append-nil (unanswered start.place.limits l)) refl;
   own = rw same refl;
@@ -154,12 +154,12 @@ progressed_follows start past p b s l ok clock hold is alive refers e differs = 
     same_body = progress_body start past p b.boxes s l ok hold is alive refers e
 
     told_on : is_final p.code ≡ false → Follows start s (Progresses p ∷ past) (tells (told_from start.place (change_first b.boxes (Step p)).1 b.clock) (row_of start s l) (told (record (row_of start s l).sub { count = (row_of start s l).sub.count + 1 }) ((row_of start s l).sub.due - b.clock))) (Then (now past) (Progressed p) l)
-    told_on f = unfold tells opened unanswered just_made row_of sub_of usage_of want_of target_of accepted_cseq number is_touched address end_of_grant last_heard birth last_cseq now in
+    told_on f = unfold tells opened unanswered just_made row_of sub_of usage_of want_of target accepted_cseq number is_touched address end_of_grant last_heard birth last_cseq now in
         told_follows start (change_first b.boxes (Step p)).1 b.clock (address start.place.limits l) (with_sub (row_of start s l)) (record (sub_of start s l) { count = number start.place.limits l + 1 }) (end_of_grant start.place.limits l - b.clock) s (Progresses p ∷ past) (Then (now past) (Progressed p) l)
         (rw differs refl) refl same_body (rw (differs, clock) refl) (ap (λ (n : ℕ). end_of_grant start.place.limits l - n) clock) (unfold is_touched in differs) (unfold ended in (rw f refl)) (unfold is_removed in refl)
 
     by_final : (d : Bool) → is_final p.code ≡ d → Follows start s (Progresses p ∷ past) (tells (told_from start.place (change_first b.boxes (Step p)).1 b.clock) (row_of start s l) (changed (row_of start s l).sub b.clock d)) (Then (now past) (Progressed p) l)
-    by_final true f = unfold changed in ended_follows start (Progresses p ∷ past) (change_first b.boxes (Step p)).1 b.clock s l (Then (now past) (Progressed p) l) Noresource (unfold number is_touched in (rw differs refl)) (unfold address last_heard birth in refl) same_body (unfold is_touched in differs) (unfold terminated is_touched ended in (rw (differs, f) refl))
+    by_final true f = unfold changed in ended_follows start (Progresses p ∷ past) (change_first b.boxes (Step p)).1 b.clock s l (Then (now past) (Progressed p) l) Noresource (unfold number is_touched in (rw differs refl)) (unfold address last_heard birth in refl) same_body (knows_on start s l _ (unfold birth in refl) (unfold target last_heard birth in refl)) (unfold is_touched in differs) (unfold terminated is_touched ended in (rw (differs, f) refl))
     by_final false f = unfold changed in told_on f
 
 progress_turns : (start : Start) (past : List Event) (p : Progress) (b : Book) → Ranges start.place.limits → b.clock ≡ now past → Holdings start past b.boxes → is_change (change_first b.boxes (Step p)).0 ≡ true → Rules start past (Progresses p) (tells_watcher (told_from start.place (change_first b.boxes (Step p)).1 b.clock) refer_package p.tag (is_final p.code))

@@ -4,9 +4,10 @@ use Rattle.std.specs.Prelude.{if◌then◌else◌, nat_lt, is_none, filter, ◌=
 use Rattle.std.specs.List.{list_all}
 use Rattle.sip_read.specs.declared.message.Request.{Request}
 use Rattle.notifier_model.specs.Limits.{Limits}
+use Rattle.notifier_model.specs.Fields.{value_of, or_empty}
 use Rattle.notifier_model.specs.Requests.{event_of, asked, granted, asks_nothing, denial, is_unwatched, birth_of as kind_of, is_malformed, misfit, key_of_request}
 use Rattle.notifier_model.specs.declared.row.Unanswered.{Unanswered}
-use Rattle.life.specs.Life.{Deed, Life, Hearing, Born, Then, Heard, MailChanged, Progressed, Due, Answered, Disowned, Lost, Stopped, hearing, birth, last_heard, cseqs, accepts, grants, last_grant, is_above, end_of, end_of_grant, address, status, is_touched, one_if, number, just_made, unanswered, is_overdue, ended, terminated, is_removed, is_gone}
+use Rattle.life.specs.Life.{Deed, Life, Hearing, Born, Then, Heard, MailChanged, Progressed, Due, Answered, Disowned, Lost, Stopped, hearing, birth, last_heard, cseqs, accepts, grants, last_grant, is_above, end_of, end_of_grant, address, status, is_touched, one_if, number, just_made, unanswered, is_overdue, ended, terminated, is_removed, is_gone, retargets, target, mailbox}
 use Rattle.life.specs.Renaming.{renamed_request, renamed_tag, other_tag}
 
 module _ (old new : List ℕ) where
@@ -123,6 +124,18 @@ module _ (old new : List ℕ) where
   grant-renamed limits l =
       ap (end_of limits) (last-renamed (λ r. grants limits l r) (λ r. grants limits (renamed_life l) r) (heard-granted limits l) l)
       ∙ end-renamed limits (last_grant limits l)
+
+  heard-retargeted : (limits : Limits) (l : Life) → AreAlike (λ r. retargets limits l r) (λ r. retargets limits (renamed_life l) r)
+  heard-retargeted limits l r = rw (heard-granted limits l r) refl
+
+  pub target-renamed : (limits : Limits) (l : Life) → target limits (renamed_life l) ≡ target limits l
+  unfolding target
+  target-renamed limits l =
+      ap (λ (h : Hearing). or_empty (value_of h.request.contact)) (last-renamed (λ r. retargets limits l r) (λ r. retargets limits (renamed_life l) r) (heard-retargeted limits l) l)
+
+  pub mailbox-renamed : (l : Life) → mailbox (renamed_life l) ≡ mailbox l
+  unfolding mailbox event_of
+  mailbox-renamed l = rw (birth-renamed l) refl
 
   pub status-renamed : (l : Life) → status (renamed_life l) ≡ status l
   unfolding status renamed_life

@@ -24,14 +24,14 @@ use Rattle.notifier_model.specs.Book.{Book, nothing, all_rows, telling, replied,
 use Rattle.notifier_model.specs.Rows.{Turned, stays, goes, wherever, with_sub, tells, ends, sweep, closed, takes_answer, answered, is_overdue as is_overdue_row, times_out, stops}
 use Rattle.notifier_model.specs.Out.{Send, notifications}
 use Rattle.life.specs.Past.{now, content, mail_content, last_counts, keys}
-use Rattle.life.specs.Life.{Deed, Life, Then, Due, Answered, Disowned, Lost, Stopped, birth, last_heard, address, number, end_of_grant, status, is_touched, unanswered, is_overdue, ended, terminated, is_removed, is_gone}
+use Rattle.life.specs.Life.{Deed, Life, Then, Due, Answered, Disowned, Lost, Stopped, birth, last_heard, address, number, end_of_grant, status, is_touched, unanswered, is_overdue, ended, terminated, is_removed, is_gone, target}
 use Rattle.life.specs.Lives.{is_answer_in_dialog, is_to_notify, answer_deed, tick_deed, is_due, when, lived, births, life, birth_at, begun}
 use Rattle.life.specs.Notices.{notices_at, body}
-use Rattle.life.proofs.Rows.{row_of, sub_of, want_of, usage_of, target_of, accepted_cseq, last_cseq, live_row, rows_to, left, said}
+use Rattle.life.proofs.Rows.{row_of, sub_of, want_of, usage_of, accepted_cseq, last_cseq, live_row, rows_to, left, said}
 use Rattle.life.proofs.Deeds.{lived-replies, lived-ticks, lived-shuts}
 use Rattle.life.proofs.NextLives.{births-of_none, Ranges}
 use Rattle.life.proofs.SoundLives.{sound_of, came, lived-birth, lived-status, next-birth, next-status, is_progress}
-use Rattle.life.proofs.Turns.{told_from, Follows, over_follows}
+use Rattle.life.proofs.Turns.{told_from, Follows, Knows, knows_on, over_follows}
 use Rattle.life.proofs.AllRows.{TurnsInto, Rules, by_rule}
 use Rattle.life.proofs.Invariant.{forgot, forgot-is, keys_of, Transfers, Holdings, Holds, Goes, forget_holdings}
 
@@ -153,7 +153,7 @@ goes_follows start s es m untouched removed = record { row = rw (untouched, remo
 
 -- an answer closes its NOTIFY
 answered_follows : (start : Start) (s : ℕ) (es : List Event) (moment n : ℕ) (l : Life) → is_gone start.place.limits l ≡ false → Follows start s es (stays (closed n (row_of start s l))) (Then moment (Answered n) l)
-unfolding stays closed notices_at notifications live_row is_gone terminated is_touched is_removed row_of sub_of usage_of want_of target_of accepted_cseq number address end_of_grant last_heard birth last_cseq unanswered
+unfolding stays closed notices_at notifications live_row is_gone terminated is_touched is_removed row_of sub_of usage_of want_of target accepted_cseq number address end_of_grant last_heard birth last_cseq unanswered
 answered_follows start s es moment n l alive = record { row = rw (zero_more (number start.place.limits l)) refl; own = refl; others = λ tag f. refl }
   where
     zero_more : (n : ℕ) → n + 0 ≡ n
@@ -191,11 +191,11 @@ reply_goes start past r b ok h =
 -- ---- a last NOTIFY
 
 -- it ends with a last NOTIFY
-pub ended_follows : (start : Start) (es : List Event) (boxes : List Seen) (clock s : ℕ) (l m : Life) (reason : Reason) → number start.place.limits l + 1 ≡ number start.place.limits m → address start.place.limits l ≡ address start.place.limits m → body_of_held (content_in boxes (want_of start s l).event.package (want_of start s l).resource) ≡ body start es m
+pub ended_follows : (start : Start) (es : List Event) (boxes : List Seen) (clock s : ℕ) (l m : Life) (reason : Reason) → number start.place.limits l + 1 ≡ number start.place.limits m → address start.place.limits l ≡ address start.place.limits m → body_of_held (content_in boxes (want_of start s l).event.package (want_of start s l).resource) ≡ body start es m → Knows start (usage_of start s l) (want_of start s l) m
     → is_touched start.place.limits m ≡ true → terminated start.place.limits m ≡ Some reason → Follows start s es (tells (told_from start.place boxes clock) (row_of start s l) (over (end (row_of start s l).sub reason))) m
 unfolding tells end row_of sub_of usage_of want_of
-ended_follows start es boxes clock s l m reason num at b touched out =
-    over_follows start boxes clock (address start.place.limits l) (with_sub (row_of start s l)) (usage_of start s l) (want_of start s l) (number start.place.limits l + 1) reason s es m refl num at b touched out
+ended_follows start es boxes clock s l m reason num at b knows touched out =
+    over_follows start boxes clock (address start.place.limits l) (with_sub (row_of start s l)) (usage_of start s l) (want_of start s l) (number start.place.limits l + 1) reason s es m refl num at b knows touched out
 
 -- the body after an event that changes no content, without a birth
 quiet_body : (start : Start) (past : List Event) (e : Event) (boxes : List Seen) (s : ℕ) (l : Life) (moment : ℕ) (deed : Deed) → Ranges start.place.limits → birth_at start past e ≡ None → is_quiet e ≡ true → Holdings start past boxes → life start past s ≡ Some l → is_gone start.place.limits l ≡ false → status (Then moment deed l) ≡ status l
@@ -210,7 +210,7 @@ shut_turns : (start : Start) (past : List Event) (b : Book) → Ranges start.pla
 unfolding stops ends
 shut_turns start past b ok hold s l is alive = rw (lived-shuts start s past l)
     (ended_follows start (Shuts ∷ past) b.boxes b.clock s l (Then (now past) Stopped l) Deactivated (unfold number is_touched in refl) (unfold address last_heard birth in refl)
-    (quiet_body start past Shuts b.boxes s l (now past) Stopped ok (unfold birth_at begun in refl) refl hold is alive (unfold status in refl)) (unfold is_touched in refl) (unfold terminated is_touched ended in refl))
+    (quiet_body start past Shuts b.boxes s l (now past) Stopped ok (unfold birth_at begun in refl) refl hold is alive (unfold status in refl)) (knows_on start s l _ (unfold birth in refl) (unfold target last_heard birth in refl)) (unfold is_touched in refl) (unfold terminated is_touched ended in refl))
 
 pub shut_goes : (start : Start) (past : List Event) (b : Book) → Ranges start.place.limits → Holds start past b → Goes start past Shuts (step start.place b Shuts)
 unfolding step shut now keys birth_at begun
@@ -237,7 +237,7 @@ tick_turns start past t b ok clock hold s l is alive = unfold row_of sub_of in r
   where
     follows : Follows start s (Ticks t ∷ past) (tells (told_from start.place b.boxes (now (Ticks t ∷ past))) (row_of start s l) (over (end (row_of start s l).sub Timeout))) (Then (now (Ticks t ∷ past)) Due l)
     follows = ended_follows start (Ticks t ∷ past) b.boxes (now (Ticks t ∷ past)) s l (Then (now (Ticks t ∷ past)) Due l) Timeout (unfold number is_touched in refl) (unfold address last_heard birth in refl)
-        (quiet_body start past (Ticks t) b.boxes s l (now (Ticks t ∷ past)) Due ok (unfold birth_at begun in refl) refl hold is alive (unfold status in refl)) (unfold is_touched in refl) (unfold terminated is_touched ended in refl)
+        (quiet_body start past (Ticks t) b.boxes s l (now (Ticks t ∷ past)) Due ok (unfold birth_at begun in refl) refl hold is alive (unfold status in refl)) (knows_on start s l _ (unfold birth in refl) (unfold target last_heard birth in refl)) (unfold is_touched in refl) (unfold terminated is_touched ended in refl)
 
     by_tests : (a d : Bool) → TurnsInto start s (Ticks t ∷ past) (if a then goes else if d then tells (told_from start.place b.boxes (now (Ticks t ∷ past))) (row_of start s l) (over (end (row_of start s l).sub Timeout)) else stays (row_of start s l)) l (option_map (λ x. Then (now (Ticks t ∷ past)) x l) (if a then Some Lost else when d Due))
     by_tests true d = goes_follows start s (Ticks t ∷ past) (Then (now (Ticks t ∷ past)) Lost l) (unfold is_touched in refl) (unfold is_removed in refl)

@@ -1,14 +1,14 @@
 -- The rows of the book, as the living subscriptions by rising serial.
 use Rattle.std.proofs.Common.{◌≡◌, ℕ, ◌<◌, ◌≤◌, List, [], ◌∷◌, ◌++◌, ◌+◌, length, take, get_or, Option, Some, None, Bool, true, false, not, ◌&&◌, refl, sym, ◌∙◌, ap, subst, ◌⊎◌, inl, inr, arith, append_assoc, length-append}
 use Prim.Native.Nat.{zero, suc}
-use Rattle.std.specs.Prelude.{if◌then◌else◌, ◌==◌, nat_lt, nat_le, count_by, slice_get, option_to_list, bytes_eq, unwrap_or}
+use Rattle.std.specs.Prelude.{if◌then◌else◌, ◌==◌, nat_lt, nat_le, count_by, slice_get, option_to_list, bytes_eq}
 use Rattle.std.proofs.lemmas.List.{append-nil}
 use Rattle.std.proofs.lemmas.List.Sums.{count_by_more_yes, count_by_more_no}
 use Rattle.std.proofs.lemmas.Option.{slice_get_cases, slice_get_within, get_or_from_slice_get}
 use Rattle.std.proofs.Math.Seq.{take-length}
 use Rattle.std.proofs.lemmas.Bool.Decides.{nat_tests}
 use Rattle.life.proofs.Texts.{Bytes}
-use Rattle.notifier_model.specs.Fields.{value_of, or_empty}
+use Rattle.notifier_model.specs.Fields.{or_empty}
 use Rattle.subscription.specs.declared.terms.Usage.{Usage}
 use Rattle.subscription.specs.declared.terms.Want.{Want}
 use Rattle.subscription.specs.State.{State}
@@ -19,7 +19,7 @@ use Rattle.notifier_model.specs.Requests.{is_refer, user_part, event_of}
 use Rattle.notifier_model.specs.declared.row.Row.{Row}
 use Rattle.notifier_model.specs.Rows.{Turned, sweep}
 use Rattle.notifier_model.specs.Out.{Send, Answers, Notifies, Starts, Notification, notification, notifications}
-use Rattle.life.specs.Life.{Life, Born, Then, Heard, birth, address, number, end_of_grant, accepts, is_gone, last_accepted, one_if, unanswered}
+use Rattle.life.specs.Life.{Life, Born, Then, Heard, birth, address, number, end_of_grant, is_gone, last_accepted, one_if, target, unanswered}
 use Rattle.life.specs.Lives.{count_alive, lives, births, life}
 
 -- the CSeq that was heard last
@@ -28,12 +28,7 @@ last_cseq (Born t source r) = r.head.cseq
 last_cseq (Then t (Heard source r) l) = r.head.cseq
 last_cseq (Then t deed l) = last_cseq l
 
--- the target and the CSeq of the last accepted request, the birth included
-unfoldable pub target_of : Limits → Life → Bytes
-target_of limits (Born t source r) = or_empty (value_of r.contact)
-target_of limits (Then t (Heard source r) l) = if accepts limits l r then unwrap_or (value_of r.contact) (target_of limits l) else target_of limits l
-target_of limits (Then t deed l) = target_of limits l
-
+-- the CSeq of the last accepted request, the birth included
 unfoldable pub accepted_cseq : Limits → Life → ℕ
 accepted_cseq limits l = (last_accepted limits l).request.head.cseq
 
@@ -44,7 +39,7 @@ usage_of start serial l = record {
   remote_tag = or_empty (birth l).head.from.tag;
   local = (birth l).head.to.text;
   remote = (birth l).head.from.text;
-  target = target_of start.place.limits l;
+  target = target start.place.limits l;
   routes = (birth l).record_routes;
   remote_cseq = accepted_cseq start.place.limits l;
 }
@@ -178,9 +173,9 @@ unfolding notifications
 notifications-append tag [] ys = refl
 notifications-append tag (Answers to bytes ∷ xs) ys = notifications-append tag xs ys
 notifications-append tag (Starts t refer_to ∷ xs) ys = notifications-append tag xs ys
-notifications-append tag (Notifies to n ∷ xs) ys = by_tag (notifications-append tag xs ys) (bytes_eq n.local_tag tag)
+notifications-append tag (Notifies to mailbox n ∷ xs) ys = by_tag (notifications-append tag xs ys) (bytes_eq n.local_tag tag)
   where
-    by_tag : notifications tag (xs ++ ys) ≡ notifications tag xs ++ notifications tag ys → (d : Bool) → (if d then notification to n ∷ notifications tag (xs ++ ys) else notifications tag (xs ++ ys)) ≡ (if d then notification to n ∷ notifications tag xs else notifications tag xs) ++ notifications tag ys
+    by_tag : notifications tag (xs ++ ys) ≡ notifications tag xs ++ notifications tag ys → (d : Bool) → (if d then notification to mailbox n ∷ notifications tag (xs ++ ys) else notifications tag (xs ++ ys)) ≡ (if d then notification to mailbox n ∷ notifications tag xs else notifications tag xs) ++ notifications tag ys
     by_tag ih true = rw ih refl
     by_tag ih false = ih
 

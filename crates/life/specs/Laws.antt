@@ -6,7 +6,7 @@ use Rattle.package.specs.Boxes.{content_in}
 use Rattle.notifier_model.specs.declared.event.Event.{Event}
 use Rattle.notifier_model.specs.Limits.{AreLimits}
 use Rattle.notifier_model.specs.Start.{Start, tag_of}
-use Rattle.notifier_model.specs.Out.{is_last, Notification, notifications, out_of}
+use Rattle.notifier_model.specs.Out.{note_of, is_last, Notification, notifications, out_of}
 use Rattle.notifier_model.specs.Run.{made}
 use Rattle.sip_write.specs.Notify.{NotifyText, notify_text}
 use Rattle.notifier_model.specs.declared.event.Out.{Out}
@@ -31,18 +31,21 @@ unfoldable pub notifies_with : List ℕ → List Out → List Out
 notifies_with tag [] = []
 notifies_with tag (Answer to bytes ∷ more) = notifies_with tag more
 notifies_with tag (Begins other refer_to ∷ more) = notifies_with tag more
-notifies_with tag (Notify to number terminated other bytes ∷ more) =
-    if bytes_eq other tag then Notify to number terminated other bytes ∷ notifies_with tag more else notifies_with tag more
+notifies_with tag (Notify to number terminated other note bytes ∷ more) =
+    if bytes_eq other tag then Notify to number terminated other note bytes ∷ notifies_with tag more else notifies_with tag more
 
 -- This out is the NOTIFY of this notice: it goes to the notice's address, and its bytes are the text of a NOTIFY with this
--- local tag and the notice's number, state and body.
+-- local tag and the notice's number, state and body, to the notice's watcher at its remote target. With it goes what is known of
+-- the subscription: who watches, which mailbox or transfer, and how long still.
 pub record IsNotify (tag : List ℕ) (notice : Notification) (out : Out) : Type 0 where
   pub text : NotifyText
   pub local_tag : text.local_tag ≡ tag
   pub number : text.number ≡ notice.number
   pub state : text.state ≡ notice.state
   pub body : text.body ≡ notice.body
-  pub out_is : out ≡ Notify notice.to notice.number (is_last notice.state) tag (notify_text text)
+  pub watcher : text.remote ≡ notice.watcher
+  pub target : text.target ≡ notice.target
+  pub out_is : out ≡ Notify notice.to notice.number (is_last notice.state) tag (note_of tag notice) (notify_text text)
 
 -- one for one, in order
 abbrev pub AreNotifies : List ℕ → List Notification → List Out → Type 0
@@ -77,8 +80,8 @@ abbrev pub AreOfLives : Start → List Event → List Out → Type 0
 AreOfLives start es [] = Unit {0}
 AreOfLives start es (Answer to bytes ∷ more) = AreOfLives start es more
 AreOfLives start es (Begins tag refer_to ∷ more) = AreOfLives start es more
-AreOfLives start es (Notify to number terminated tag bytes ∷ more) =
-    IsOfALife start es (Notify to number terminated tag bytes) × AreOfLives start es more
+AreOfLives start es (Notify to number terminated tag note bytes ∷ more) =
+    IsOfALife start es (Notify to number terminated tag note bytes) × AreOfLives start es more
 
 -- no NOTIFY goes out that no life asks for
 abbrev pub NoOtherLaw : Type 0

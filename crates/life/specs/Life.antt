@@ -12,7 +12,8 @@ use Rattle.subscription.specs.declared.notify.Reason.TheVariants.{Timeout, Nores
 use Rattle.notifier_model.specs.Limits.{Limits}
 use Rattle.notifier_model.specs.Start.{patience}
 use Rattle.notifier_model.specs.declared.row.Unanswered.{Unanswered}
-use Rattle.notifier_model.specs.Requests.{event_of, asked, granted, asks_nothing, is_unwatched, denial}
+use Rattle.notifier_model.specs.Fields.{value_of, or_empty}
+use Rattle.notifier_model.specs.Requests.{event_of, user_part, is_of_refer, asked, granted, asks_nothing, is_unwatched, denial}
 
 -- What may befall it once it is born: it hears a request in its dialog; what its mailbox holds changes; there is word of its
 -- transfer; its time is up; the NOTIFY with this number is answered; a 481 to a NOTIFY disowns it; a NOTIFY stays unanswered
@@ -42,6 +43,10 @@ birth (Then t deed l) = birth l
 -- its package and `id`
 abbrev pub event_of_life : Life → EventValue
 event_of_life l = event_of (birth l)
+
+-- the mailbox that it watches, which its Request-URI names; one of `refer` watches none, but its own transfer
+unfoldable pub mailbox : Life → Option (List ℕ)
+mailbox l = if is_of_refer (event_of_life l) then None else Some (user_part (birth l).uri)
 
 -- ---- what it heard (RFC 6665 section 4.2.1.4)
 
@@ -89,6 +94,14 @@ last_grant limits l = last_heard (grants limits l) l
 -- where its NOTIFYs go: the source of the last request that it accepted
 unfoldable pub address : Limits → Life → Addr
 address limits l = (last_accepted limits l).source
+
+-- does this request give it a new remote target: it grants it time, and has a Contact (RFC 3261 section 12.2.2)?
+abbrev pub retargets : Limits → Life → Request → Bool
+retargets limits l r = grants limits l r && is_some (value_of r.contact)
+
+-- the remote target of its dialog: the Contact of the last such request, the birth included
+unfoldable pub target : Limits → Life → List ℕ
+target limits l = or_empty (value_of (last_heard (retargets limits l) l).request.contact)
 
 -- the moment of a grant plus the time granted then
 abbrev pub end_of : Limits → Hearing → ℕ

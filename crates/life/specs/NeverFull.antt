@@ -13,7 +13,7 @@ use Rattle.notifier_model.specs.Requests.{key_of_request}
 -- is it an answer 503 (RFC 3261 section 21.5.4)?
 abbrev pub is_503 : Send → Bool
 is_503 (Answers to bytes) = starts_with nat_eq bytes (codes "SIP/2.0 503 ")
-is_503 (Notifies to text) = false
+is_503 (Notifies to mailbox text) = false
 is_503 (Starts tag refer_to) = false
 
 -- A request with a To tag, which no kept answer answers, isn't answered 503, whatever the book holds.

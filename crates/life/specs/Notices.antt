@@ -11,7 +11,7 @@ use Rattle.notifier_model.specs.Limits.{Limits}
 use Rattle.notifier_model.specs.Start.{StartBy}
 use Rattle.notifier_model.specs.Requests.{is_refer, user_part}
 use Rattle.notifier_model.specs.Out.{Notification}
-use Rattle.life.specs.Life.{Life, address, birth, end_of_grant, event_of_life, is_touched, number, status, terminated}
+use Rattle.life.specs.Life.{Life, address, birth, end_of_grant, event_of_life, is_touched, number, status, terminated, mailbox, target}
 use Rattle.life.specs.Lives.{befell}
 use Rattle.life.specs.Past.{content, now}
 
@@ -27,13 +27,16 @@ module _ {maps : Maps} where
       if is_refer (birth l) then status_body (status l).0 (status l).1
       else body_of_held (content start past (event_of_life l).package (user_part (birth l).uri))
 
-  -- number, state, body, and where it goes
+  -- number, state, body, and where it goes; who watches what, and the remote target
   unfoldable pub notice_of : StartBy maps → List Event → Life → Notification
   notice_of start past l = record {
     number = number start.place.limits l;
     state = state_of (phase start.place.limits (now past) l (terminated start.place.limits l));
     body = body start past l;
     to = address start.place.limits l;
+    watcher = (birth l).head.from.text;
+    mailbox = mailbox l;
+    target = target start.place.limits l;
   }
 
   -- the NOTIFY at an event, by what befell the subscription there

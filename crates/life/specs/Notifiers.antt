@@ -31,7 +31,7 @@ unfoldable pub numbered_from : ℕ → List Send → List Send
 numbered_from n [] = []
 numbered_from n (Answers to bytes ∷ outs) = Answers to bytes ∷ numbered_from n outs
 numbered_from n (Starts tag refer_to ∷ outs) = Starts tag refer_to ∷ numbered_from n outs
-numbered_from n (Notifies to text ∷ outs) = Notifies to (record text { number = n }) ∷ numbered_from (n + 1) outs
+numbered_from n (Notifies to mailbox text ∷ outs) = Notifies to mailbox (record text { number = n }) ∷ numbered_from (n + 1) outs
 
 -- a notifier that has one counter, where RFC 3261 section 12.2.1.1 asks for one in each dialog
 abbrev pub counting : Notifier

@@ -1,5 +1,5 @@
--- The first step of a subscription, as the new row and its first NOTIFY.
-use Rattle.std.proofs.Common.{◌≡◌, List, map, Option, Some, option_to_list, ap, sym, ◌∙◌}
+-- What is told first of a subscription that a request makes, by its step.
+use Rattle.std.proofs.Common.{◌≡◌, ℕ, Bool, true, false, List, [], ◌∷◌, Some, None, refl, ap, sym, ◌∙◌}
 use Rattle.sip_text.specs.declared.address.Addr.{Addr}
 use Rattle.sip_read.specs.declared.message.Request.{Request}
 use Rattle.subscription.specs.declared.life.Step.{Step}
@@ -8,37 +8,61 @@ use Rattle.subscription.specs.declared.notify.Notice.{Notice}
 use Rattle.subscription.specs.declared.terms.Usage.{Usage}
 use Rattle.subscription.specs.declared.terms.Want.{Want}
 use Rattle.subscription.specs.State.{State}
+use Rattle.subscription.specs.Table.{accept, fetch, over}
 use Rattle.package.specs.Content.{Maps}
+use Rattle.notifier_model.specs.declared.birth.Birth.{Birth}
+use Rattle.notifier_model.specs.declared.birth.Birth.TheVariants.{Watch, Fetch, Transfer, Unwatched}
 use Rattle.notifier_model.specs.declared.birth.Newborn.{Newborn}
 use Rattle.notifier_model.specs.declared.row.Row.{Row}
-use Rattle.notifier_model.specs.Out.{Notifies, out_of}
+use Rattle.notifier_model.specs.Out.{Notifies}
 use Rattle.notifier_model.specs.Requests.{granted}
-use Rattle.notifier_model.specs.Rows.{Telling, Turned, turned, notify}
+use Rattle.notifier_model.specs.Rows.{Telling, Turned, mailbox_of, opened, turned, goes, notify}
 use Rattle.notifier_model.specs.Book.{new_usage, new_want, new_row, first_step, first_turned, first_told}
-use Rattle.notifier.specs.declared.sweep.row.After.{After}
-use Rattle.notifier.specs.declared.sweep.row.After.TheVariants.{Stays, Goes}
-use Rattle.notifier.specs.Told.{out_after, gone_from}
+use Rattle.notifier.specs.Told.{lasts}
 
--- what is told first, by its step
-pub first_is : {maps : Maps} (t : Telling maps) (source : Addr) (r : Request) (n : Newborn) (begun : Option Step) (next : Step)
-    → begun ≡ first_step n.kind (new_usage n.tag r) (new_want t.place n.tag source r) t.clock (granted t.place.limits r) → begun ≡ Some next
-    → turned t source (new_row n.serial r) next ≡ first_told t source r n
+lasting : (kind : Birth) (usage : Usage) (want : Want) (clock time : ℕ) → lasts kind ≡ true → first_step kind usage want clock time ≡ Some (accept usage want clock time)
+unfolding first_step
+lasting Watch usage want clock time e = refl
+lasting Fetch usage want clock time e = absurd cc
+lasting Transfer usage want clock time e = refl
+lasting Unwatched usage want clock time e = absurd cc
+
+-- a subscription that lasts, by its first step
+told_by : {maps : Maps} (t : Telling maps) (source : Addr) (r : Request) (n : Newborn) → lasts n.kind ≡ true
+    → turned t source (new_row n.serial r) (accept (new_usage n.tag r) (new_want t.place n.tag source r) t.clock (granted t.place.limits r)) ≡ first_told t source r n
 unfolding first_told first_turned
-first_is t source r n begun next e is = ap (first_turned t source r n) (sym is ∙ e)
+told_by t source r n l =
+    ap (first_turned t source r n) (sym (lasting n.kind (new_usage n.tag r) (new_want t.place n.tag source r) t.clock (granted t.place.limits r) l))
 
--- the NOTIFY of a row that goes on, and of one that ends
-pub first_live : {maps : Maps} (t : Telling maps) (source : Addr) (row_of : State → Row) (sub : State) (notice : Notice) (row : Row) (after : After) (told : Turned)
-    → after ≡ Stays row (Some (out_of (Notifies source (notify t sub.usage sub.want notice))))
-    → turned t source row_of (Live sub notice) ≡ told
-    → option_to_list (out_after after) ≡ map out_of told.notifies
-unfolding turned
-first_live t source row_of sub notice row after told a e =
-    ap (λ (x : After). option_to_list (out_after x)) a ∙ ap (λ (x : Turned). map out_of x.notifies) e
+module _ {maps : Maps} (t : Telling maps) (source : Addr) (r : Request) (n : Newborn) (l : lasts n.kind ≡ true) (step : Step)
+    (is : step ≡ accept (new_usage n.tag r) (new_want t.place n.tag source r) t.clock (granted t.place.limits r)) where
+  -- it goes on
+  pub told_live : (sub : State) (notice : Notice) → step ≡ Live sub notice → first_told t source r n ≡ record {
+    row = Some (opened t.clock notice (new_row n.serial r sub));
+    notifies = Notifies source (mailbox_of sub.want) (notify t sub.usage sub.want notice) ∷ [];
+  }
+  unfolding turned
+  told_live sub notice e = sym (told_by t source r n l) ∙ ap (turned t source (new_row n.serial r)) (sym is ∙ e)
 
-pub first_over : {maps : Maps} (t : Telling maps) (source : Addr) (row_of : State → Row) (usage : Usage) (want : Want) (notice : Notice) (after : After) (told : Turned)
-    → after ≡ Goes (gone_from usage want) (Some (out_of (Notifies source (notify t usage want notice))))
-    → turned t source row_of (Over usage want notice) ≡ told
-    → option_to_list (out_after after) ≡ map out_of told.notifies
-unfolding turned
-first_over t source row_of usage want notice after told a e =
-    ap (λ (x : After). option_to_list (out_after x)) a ∙ ap (λ (x : Turned). map out_of x.notifies) e
+  -- it is over at once
+  pub told_over : (usage : Usage) (want : Want) (notice : Notice) → step ≡ Over usage want notice → first_told t source r n ≡ record {
+    row = None;
+    notifies = Notifies source (mailbox_of want) (notify t usage want notice) ∷ [];
+  }
+  unfolding turned
+  told_over usage want notice e = sym (told_by t source r n l) ∙ ap (turned t source (new_row n.serial r)) (sym is ∙ e)
+
+-- what is fetched
+pub told_once : {maps : Maps} (t : Telling maps) (source : Addr) (r : Request) (n : Newborn) → n.kind ≡ Fetch → first_told t source r n ≡ record {
+  row = None;
+  notifies = (let f = fetch (new_usage n.tag r) (new_want t.place n.tag source r) in Notifies source (mailbox_of f.1) (notify t f.0 f.1 f.2)) ∷ [];
+}
+unfolding first_told first_turned first_step turned
+told_once t source r n k =
+    ap (λ kind. first_turned t source r n (first_step kind (new_usage n.tag r) (new_want t.place n.tag source r) t.clock (granted t.place.limits r))) k
+
+-- what nobody watches
+pub told_never : {maps : Maps} (t : Telling maps) (source : Addr) (r : Request) (n : Newborn) → n.kind ≡ Unwatched → first_told t source r n ≡ record { row = None; notifies = [] }
+unfolding first_told first_turned first_step goes
+told_never t source r n k =
+    ap (λ kind. first_turned t source r n (first_step kind (new_usage n.tag r) (new_want t.place n.tag source r) t.clock (granted t.place.limits r))) k

@@ -24,3 +24,6 @@ pub mod Dialogs
 pub mod Soundness
 pub mod Steps
 pub mod Slots
+pub mod Resumed
+pub mod Written
+pub mod Joined

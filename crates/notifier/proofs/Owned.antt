@@ -42,7 +42,7 @@ some_weaker P Q (Some a) h f = f a h
 
 -- ---- all rows
 
-own_later : (place : Place) (next : ℕ) (rows : List Row) → All (IsOwn place next) rows → All (IsOwn place (next + 1)) rows
+pub own_later : (place : Place) (next : ℕ) (rows : List Row) → All (IsOwn place next) rows → All (IsOwn place (next + 1)) rows
 own_later place next [] own = All-nil (IsOwn place (next + 1))
 own_later place next (row ∷ rows) own =
     let h = All-head (IsOwn place next) row rows own in

@@ -17,7 +17,7 @@ use Rattle.notifier_model.specs.declared.row.Row.{Row}
 use Rattle.notifier.specs.declared.sweep.row.After.TheVariants.{Stays, Goes}
 use Rattle.notifier_model.specs.Requests.{asks_nothing, is_of_refer}
 use Rattle.notifier_model.specs.Out.{out_of, Notifies}
-use Rattle.notifier_model.specs.Rows.{Telling, Turned, notify, opened, with_sub, turned, tells, ends, usage_after, renewed, renewed_sub, tells_change, gone_at}
+use Rattle.notifier_model.specs.Rows.{Telling, Turned, notify, opened, with_sub, turned, tells, ends, usage_after, renewed, renewed_sub, tells_change, gone_at, mailbox_of}
 use Rattle.notifier.specs.Told.{FollowsRule, gone_from, want_after}
 
 -- ---- what a step leaves of a subscription
@@ -65,7 +65,7 @@ one_goes false false tag own o e t n = refl
 module _ {maps : Maps} (t : Telling maps) (to : Addr) (rule : Row → Turned) (row : Row) (mk : State → Row) where
   -- it goes on
   pub stays_told : (s : State) (notice : Notice) → rule row ≡ turned t to mk (Live s notice)
-      → FollowsRule rule row (Stays (opened t.clock notice (mk s)) (Some (out_of (Notifies to (notify t s.usage s.want notice)))))
+      → FollowsRule rule row (Stays (opened t.clock notice (mk s)) (Some (out_of (Notifies to (mailbox_of s.want) (notify t s.usage s.want notice)))))
   unfolding turned gone_at
   stays_told s notice r = record {
     stays = sym (ap (λ told. told.row) r);
@@ -76,7 +76,7 @@ module _ {maps : Maps} (t : Telling maps) (to : Addr) (rule : Row → Turned) (r
 
   -- it is over
   pub goes_told : (usage : Usage) (want : Want) (notice : Notice) → rule row ≡ turned t to mk (Over usage want notice) → IsOf row.sub (Over usage want notice)
-      → FollowsRule rule row (Goes (gone_from usage want) (Some (out_of (Notifies to (notify t usage want notice)))))
+      → FollowsRule rule row (Goes (gone_from usage want) (Some (out_of (Notifies to (mailbox_of want) (notify t usage want notice)))))
   unfolding turned gone_at
   goes_told usage want notice r is = record {
     stays = sym (ap (λ told. told.row) r);
@@ -90,7 +90,7 @@ module _ {maps : Maps} (t : Telling maps) (to : Addr) (rule : Row → Turned) (r
 module _ {maps : Maps} (t : Telling maps) (row : Row) where
   -- a change, after which it goes on
   pub change_stays : (is_over : Bool) (to : Addr) (next : Step) (s : State) (notice : Notice) → to ≡ row.sub.want.to → next ≡ changed row.sub t.clock is_over → next ≡ Live s notice
-      → FollowsRule (tells_change t is_over) row (Stays (opened t.clock notice (with_sub row s)) (Some (out_of (Notifies to (notify t s.usage s.want notice)))))
+      → FollowsRule (tells_change t is_over) row (Stays (opened t.clock notice (with_sub row s)) (Some (out_of (Notifies to (mailbox_of s.want) (notify t s.usage s.want notice)))))
   unfolding tells_change tells
   change_stays is_over to next s notice at e n =
       stays_told t to (tells_change t is_over) row (with_sub row) s notice
@@ -98,7 +98,7 @@ module _ {maps : Maps} (t : Telling maps) (row : Row) where
 
   -- or is over
   pub change_goes : (is_over : Bool) (to : Addr) (next : Step) (usage : Usage) (want : Want) (notice : Notice) → to ≡ row.sub.want.to → next ≡ changed row.sub t.clock is_over → next ≡ Over usage want notice
-      → FollowsRule (tells_change t is_over) row (Goes (gone_from usage want) (Some (out_of (Notifies to (notify t usage want notice)))))
+      → FollowsRule (tells_change t is_over) row (Goes (gone_from usage want) (Some (out_of (Notifies to (mailbox_of want) (notify t usage want notice)))))
   unfolding tells_change tells
   change_goes is_over to next usage want notice at e n =
       goes_told t to (tells_change t is_over) row (with_sub row) usage want notice
@@ -107,7 +107,7 @@ module _ {maps : Maps} (t : Telling maps) (row : Row) where
 
   -- a renewal, after which it goes on
   pub renewal_stays : (source : Addr) (r : Request) (next : Step) (s : State) (notice : Notice) → next ≡ renewed_sub t.place t.clock source r row.sub → next ≡ Live s notice
-      → FollowsRule (renewed t source r) row (Stays (opened t.clock notice (with_sub (record row { last_cseq = r.head.cseq }) s)) (Some (out_of (Notifies source (notify t s.usage s.want notice)))))
+      → FollowsRule (renewed t source r) row (Stays (opened t.clock notice (with_sub (record row { last_cseq = r.head.cseq }) s)) (Some (out_of (Notifies source (mailbox_of s.want) (notify t s.usage s.want notice)))))
   unfolding renewed
   renewal_stays source r next s notice e n =
       stays_told t source (renewed t source r) row (with_sub (record row { last_cseq = r.head.cseq })) s notice
@@ -115,7 +115,7 @@ module _ {maps : Maps} (t : Telling maps) (row : Row) where
 
   -- or is over
   pub renewal_goes : (source : Addr) (r : Request) (next : Step) (usage : Usage) (want : Want) (notice : Notice) → next ≡ renewed_sub t.place t.clock source r row.sub → next ≡ Over usage want notice
-      → FollowsRule (renewed t source r) row (Goes (gone_from usage want) (Some (out_of (Notifies source (notify t usage want notice)))))
+      → FollowsRule (renewed t source r) row (Goes (gone_from usage want) (Some (out_of (Notifies source (mailbox_of want) (notify t usage want notice)))))
   unfolding renewed
   renewal_goes source r next usage want notice e n =
       goes_told t source (renewed t source r) row (with_sub (record row { last_cseq = r.head.cseq })) usage want notice
@@ -124,10 +124,10 @@ module _ {maps : Maps} (t : Telling maps) (row : Row) where
 
   -- the end
   pub end_goes : (reason : Reason) (ended : Usage × Want × Notice) → ended ≡ end row.sub reason
-      → FollowsRule (ends t reason) row (Goes (gone_from ended.0 ended.1) (Some (out_of (Notifies ended.1.to (notify t ended.0 ended.1 ended.2)))))
+      → FollowsRule (ends t reason) row (Goes (gone_from ended.0 ended.1) (Some (out_of (Notifies ended.1.to (mailbox_of ended.1) (notify t ended.0 ended.1 ended.2)))))
   unfolding ends tells end
   end_goes reason ended e =
-      subst (λ (x : Usage × Want × Notice). FollowsRule (ends t reason) row (Goes (gone_from x.0 x.1) (Some (out_of (Notifies x.1.to (notify t x.0 x.1 x.2)))))) (sym e)
+      subst (λ (x : Usage × Want × Notice). FollowsRule (ends t reason) row (Goes (gone_from x.0 x.1) (Some (out_of (Notifies x.1.to (mailbox_of x.1) (notify t x.0 x.1 x.2)))))) (sym e)
       (goes_told t row.sub.want.to (ends t reason) row (with_sub row) row.sub.usage row.sub.want _ refl (refl, refl, refl))
 
 -- a result that is this

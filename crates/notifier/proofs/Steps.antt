@@ -62,3 +62,24 @@ born_step place b source r n clock next rows boxes ring outs t s c m l x k o =
 pub no_word : (tag : List ℕ) (r : Request) → is_refer r ≡ false → first_word tag r ≡ []
 unfolding first_word
 no_word tag r e = ap (λ (b : Bool). if b then Starts tag (or_empty (value_of r.refer_to)) ∷ [] else []) e
+
+-- the same of one that begins no transfer which is watched
+pub plain_step : (place : Place) (b : Book) (source : Addr) (r : Request) (n : Newborn) (clock next : ℕ) (rows : List Row) (boxes : List Seen) (ring : List Kept) (outs : List Out)
+    → first_boxes b.boxes n.tag n.kind ≡ b.boxes → ((ends : Bool) → first_gone n.tag n.kind ends ≡ [])
+    → n.tag ≡ tag_of place b.next → n.serial ≡ b.next
+    → clock ≡ b.clock → next ≡ b.next + 1
+    → rows ≡ b.rows ++ option_to_list (first_told (telling place b) source r n).row
+    → boxes ≡ b.boxes
+    → ring ≡ ring_with place.limits b.ring (key_of_request r) (answer_text (birth_answer place source r n.tag))
+    → outs ≡ (Answer source (answer_text (birth_answer place source r n.tag)) ∷ map out_of (first_told (telling place b) source r n).notifies) ++ map out_of (first_word n.tag r)
+    → IsStep (served place b source r (Born n.kind)) (record { clock = clock; next = next; rows = rows; boxes = boxes; ring = ring }) outs
+unfolding forgetting
+plain_step place b source r n clock next rows boxes ring outs quiet gone t s c m l x k o =
+    born_step place b source r n clock next rows boxes ring outs t s c m
+    (l ∙ ap (λ (w : Turned). b.rows ++ option_to_list w.row) same)
+    (x ∙ sym (ap (λ (tags : List (List ℕ)). forgetting tags (first_boxes b.boxes n.tag n.kind)) (gone (is_none (first_told (begun_from place b n) source r n).row)) ∙ quiet))
+    k
+    (o ∙ ap (λ (w : Turned). (Answer source (answer_text (birth_answer place source r n.tag)) ∷ map out_of w.notifies) ++ map out_of (first_word n.tag r)) same)
+  where
+    same : first_told (telling place b) source r n ≡ first_told (begun_from place b n) source r n
+    same = ap (λ (boxes : List Seen). first_told (telling place (record b { boxes = boxes })) source r n) (sym quiet)

@@ -14,7 +14,7 @@ use Rattle.notifier.specs.declared.store.rows.Rows.{Rows}
 use Rattle.notifier.specs.Stored.{rows_of, row_at, with_serial, by_time, alarm_of, is_timed_at, is_of, IsIndexed, Turns}
 use Rattle.std.specs.declared.result.Result.{Result}
 use Rattle.std.specs.declared.result.Result.TheVariants.{Ok, Err}
-use Rattle.std.specs.Result.{OnOk, IfOk}
+use Rattle.std.specs.Result.{OnOk, IfOk, is_ok}
 use Rattle.notifier.proofs.Times.{number_cond, unwatched}
 use Rattle.notifier.specs.Watchers.{is_watched, NoSetIsEmpty, topic, is_topic, is_about}
 use Rattle.notifier.proofs.Rising.{Rises, Leads, led, rises_led, with_serial-led, leads_from, rising_same, neq-eqb, with_serial-same, with_serial-other}
@@ -249,3 +249,8 @@ rows_length r i = led_length 0 r.order.entries (leads r i)
 pub on_ok_all : {T E P : Type 0} (r : Result T E) → P → OnOk r P
 on_ok_all (Ok x) h = h
 on_ok_all (Err e) h = tt
+
+-- nothing is said of an error
+pub not_ok : {A E : Type 0} (P : Type 0) (r : Result A E) → is_ok r ≡ false → OnOk r P
+not_ok P (Ok a) e = absurd cc
+not_ok P (Err x) e = tt

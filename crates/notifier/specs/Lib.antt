@@ -14,3 +14,5 @@ pub mod Verdicts
 pub mod Standing
 pub mod Held
 pub mod Errors
+pub mod Resumed
+pub mod Written

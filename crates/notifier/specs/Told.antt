@@ -1,5 +1,7 @@
 -- What the code tells of a row is what the rule says.
-use Rattle.std.specs.Prelude.{◌≡◌, ℕ, List, map, Option, Some, None, option_to_list, if◌then◌else◌}
+use Rattle.std.specs.Prelude.{◌≡◌, ℕ, Bool, true, false, List, map, Option, Some, None, option_to_list, if◌then◌else◌}
+use Rattle.notifier_model.specs.declared.birth.Birth.{Birth}
+use Rattle.notifier_model.specs.declared.birth.Birth.TheVariants.{Watch, Fetch, Transfer, Unwatched}
 use Rattle.notifier_model.specs.declared.event.Out.{Out}
 use Rattle.notifier_model.specs.declared.row.Row.{Row}
 use Rattle.notifier.specs.declared.sweep.row.After.{After}
@@ -39,14 +41,12 @@ abbrev pub transfer_after : After → Option (List ℕ)
 transfer_after (Stays row out) = None
 transfer_after (Goes gone out) = gone.transfer
 
--- the row and the NOTIFY of what is told first, if anything is
-abbrev pub first_row : Option After → Option Row
-first_row None = None
-first_row (Some after) = row_after after
-
-abbrev pub first_out : Option After → Option Out
-first_out None = None
-first_out (Some after) = out_after after
+-- what is told as long as it lasts, and not once or never
+abbrev pub lasts : Birth → Bool
+lasts Watch = true
+lasts Fetch = false
+lasts Transfer = true
+lasts Unwatched = false
 
 -- a row that goes says what it watched
 abbrev pub Names : List ℕ × List ℕ → After → Type 0

@@ -19,36 +19,15 @@ use notifier_model::refusal::Refusal;
 use package::Package;
 use sip_read::Addr;
 use sip_text::{NoMemory, Octets, Text};
-use sip_write::{Answer, Status, write_response};
+use sip_write::{Answer, Status, response};
 use std::alloc::Global;
-
-fn answer_bytes(alloc: Global, answer: &Answer<'_>) -> Result<Octets, NoMemory>
-    ensures { IfOk result (λ bytes. bytes ≡ answer_text (answer_view answer.now)) }
-{
-    let mut bytes = Vec::new(alloc);
-    write_response(alloc, answer, &mut bytes)?;
-    Ok(Octets::new(bytes))
-}
 
 /// An answer without any of the optional lines. A To without a tag gets this one.
 fn bare_answer<'a>(incoming: &Incoming<'a>, status: Status, tag: Option<&'a str>) -> Answer<'a>
     ensures { answer_view result ≡ spec.bare_answer incoming.now.source incoming.now.request.now
         (option_map (λ t. t.now) tag.entry) status }
 {
-    Answer {
-        head: &incoming.request.head,
-        source: incoming.source,
-        status,
-        tag,
-        record_routes: &[],
-        contact: None,
-        expires: None,
-        min_expires: None,
-        allow: None,
-        allow_events: None,
-        unsupported: None,
-        without_subscription: false,
-    }
+    Answer::bare(&incoming.request.head, incoming.source, tag, status)
 }
 
 /// The 200 to a SUBSCRIBE in a dialog.
@@ -61,7 +40,7 @@ pub fn renewal_answer(alloc: Global, incoming: &Incoming<'_>) -> Result<Octets, 
         expires: Some(incoming.granted()),
         ..bare_answer(incoming, Status::Ok, None)
     };
-    answer_bytes(alloc, &answer)
+    response(alloc, &answer)
 }
 
 /// The 200 or 202 that makes a dialog with this local tag.
@@ -85,7 +64,7 @@ pub fn birth_answer(alloc: Global, incoming: &Incoming<'_>, tag: &Text) -> Resul
         without_subscription: incoming.is_unwatched(),
         ..bare_answer(incoming, status, Some(tag.as_str()))
     };
-    answer_bytes(alloc, &answer)
+    response(alloc, &answer)
 }
 
 /// Puts a word behind those that are there, if it isn't understood.
@@ -186,7 +165,7 @@ fn refusal_bytes(
         unsupported: unsupported(words.strange, refused),
         ..bare_answer(incoming, refused.status(), Some(words.tag))
     };
-    answer_bytes(alloc, &answer)
+    response(alloc, &answer)
 }
 
 /// The answer to a refused request, with what its status asks for (RFC 3261 sections 20.5, 20.23 and 20.40, RFC 6665

@@ -1,51 +1,32 @@
-//! A request that makes a dialog, as a step of a ledger: [`birth`] makes its row and tells of it first.
-#![tactic(auto, unfolding(notifier_model::specs::Book::keeping, notifier_model::specs::Book::born, notifier_model::specs::Book::served, notifier_model::specs::Book::first_gone, notifier_model::specs::Book::first_word, notifier_model::specs::Rows::forgetting, notifier_model::specs::Out::out_of))]
+//! A request that makes a dialog, as a step of a ledger: its answer goes out, then its first NOTIFY, then the word that its transfer may start.
+#![tactic(auto, unfolding(notifier_model::specs::Book::keeping, notifier_model::specs::Book::born, notifier_model::specs::Book::served, notifier_model::specs::Book::first_boxes, notifier_model::specs::Book::first_gone, notifier_model::specs::Book::first_word, notifier_model::specs::Rows::forgetting, notifier_model::specs::Out::out_of))]
 
-ghost use Rattle.std.specs.Prelude.{◌≡◌, ◌≤◌, ◌<◌, ◌+◌, ◌++◌, true, map, All, IfOk, IfSome, OnOk, None, is_none, option_to_list};
+ghost use Rattle.std.specs.Prelude.{◌≡◌, ◌≤◌, ◌<◌, ◌+◌, ◌^◌, ◌++◌, true, not, map, IfOk, OnOk, None, is_none, option_to_list};
 ghost use Rattle.notifier_model.specs.Book as spec;
-ghost use Rattle.notifier.specs.Incoming.{Serves, begun};
+ghost use Rattle.notifier.specs.Incoming.{Serves};
 ghost use Rattle.notifier.specs.Ledger.{book_of, IsSound};
 ghost use Rattle.notifier_model.specs.Out.{out_of};
 ghost use Rattle.notifier_model.specs.Requests as requests;
-ghost use Rattle.notifier_model.specs.Rows as rows;
 ghost use Rattle.notifier_model.specs.Start.{tag_of};
-ghost use Rattle.notifier.specs.Stored.{rows_of, IsIndexed};
-ghost use Rattle.notifier.specs.Told.{first_row, first_out};
+ghost use Rattle.notifier.specs.Stored.{rows_of};
+ghost use Rattle.notifier.specs.Told.{lasts};
 
 pub mod birth;
 
 use crate::answer::{birth_answer, respond};
 use crate::boxes::tell_first;
-use crate::create::birth::{begin, value_or_empty};
+use crate::create::birth::{new_usage, new_want, value_or_empty};
 use crate::incoming::{Incoming, Pending};
 use crate::notice::Teller;
 use crate::store::Ledger;
-use crate::sweep::cause::push_some;
-use crate::sweep::row::After;
 use crate::tag::local_tag;
 use notifier_model::birth::{Birth, Newborn};
 use notifier_model::event::Out;
+use notifier_model::row::{Row, Unanswered};
 use package::{Change, Package};
-use sip_text::{NoMemory, Text};
+use sip_text::{NoMemory, Text, Values};
 use std::alloc::Global;
-
-/// A transfer whose subscription has ended already is forgotten.
-fn forget_ended<P: Package>(
-    alloc: Global,
-    boxes: &mut Vec<P>,
-    tag: &Text,
-    kind: Birth,
-) -> Result<(), NoMemory>
-    ensures { OnOk result (map P.seen boxes.new.items
-        ≡ rows.forgetting (spec.first_gone tag.now kind true) (map P.seen boxes.old.items)) }
-{
-    match kind {
-        Birth::Transfer => tell_first(alloc, boxes, Change::Forget(tag.copy(alloc)?)),
-        Birth::Watch => Ok(()),
-        Birth::Fetch => Ok(()),
-        Birth::Unwatched => Ok(()),
-    }
-}
+use subscription::{Step, Sub};
 
 /// The transfer of a REFER may start.
 fn start(
@@ -64,77 +45,101 @@ fn start(
 }
 
 impl<P: Package> Ledger<P> {
-    /// The row of a new subscription goes to the others, if it stays, and its first NOTIFY behind the outs that are there.
-    fn take_in(
+    /// A subscription begins: its first NOTIFY goes behind the outs that are there, and its row behind the others, if it stays. Does it?
+    fn begin(
         &mut self,
         alloc: Global,
+        incoming: &Incoming<'_>,
         newborn: &Newborn,
-        first: Option<After>,
         outs: &mut Vec<Out>,
-    ) -> Result<(), NoMemory>
-        requires indexed { IsIndexed self.old.rows }
-        requires last { IfSome (first_row first) (λ row. All (λ r. r.serial < row.serial) (rows_of self.old.rows)) }
-        ensures rows { OnOk result (rows_of self.new.rows ≡ rows_of self.old.rows ++ option_to_list (first_row first)) }
-        ensures indexed { OnOk result (IsIndexed self.new.rows) }
-        ensures boxes { OnOk result (map P.seen self.new.boxes.items ≡ rows.forgetting
-            (spec.first_gone newborn.now.tag newborn.now.kind (is_none (first_row first)))
-            (map P.seen self.old.boxes.items)) }
-        ensures outs { OnOk result (outs.new.items ≡ outs.old.items ++ option_to_list (first_out first)) }
-        ensures same { OnOk result ((self.new.clock ≡ self.old.clock) × (self.new.next ≡ self.old.next)
-            × (self.new.ring ≡ self.old.ring)) }
+    ) -> Result<bool, NoMemory>
+        requires fits { requests.misfit incoming.now.request.now ≡ None }
+        requires kind { newborn.now.kind ≡ requests.birth_of incoming.now.place.now.limits incoming.now.request.now }
+        requires lasts { lasts newborn.now.kind ≡ true }
+        requires sound { IsSound incoming.now.place.now self.old }
+        requires serial { newborn.now.serial ≡ self.old.next }
+        requires tag { newborn.now.tag ≡ tag_of incoming.now.place.now self.old.next }
+        requires room { self.old.next ≤ incoming.now.place.now.limits.serials }
+        ensures rows { OnOk result (rows_of self.new.rows ≡ rows_of self.old.rows ++ option_to_list
+            (spec.first_told (spec.telling incoming.now.place.now (book_of P.seen self.old))
+            incoming.now.source incoming.now.request.now newborn.now).row) }
+        ensures stays { IfOk result (λ stays. is_none
+            (spec.first_told (spec.telling incoming.now.place.now (book_of P.seen self.old))
+            incoming.now.source incoming.now.request.now newborn.now).row ≡ not stays) }
+        ensures outs { OnOk result (outs.new.items ≡ outs.old.items ++ map out_of
+            (spec.first_told (spec.telling incoming.now.place.now (book_of P.seen self.old))
+            incoming.now.source incoming.now.request.now newborn.now).notifies) }
+        ensures same { OnOk result ((self.new.clock ≡ self.old.clock) × (self.new.next ≡ self.old.next + 1)
+            × (self.new.ring ≡ self.old.ring) × (self.new.boxes ≡ self.old.boxes)) }
+        ensures sound { OnOk result (IsSound incoming.now.place.now self.new) }
     {
-        match first {
-            None => forget_ended(alloc, &mut self.boxes, &newborn.tag, newborn.kind),
-            Some(After::Stays(row, out)) => {
-                push_some(outs, out)?;
-                self.rows.push(alloc, row)
+        incoming.place.limits.are_in_range();
+        let want = new_want(alloc, &newborn.tag, incoming)?;
+        let usage = new_usage(alloc, &newborn.tag, incoming.request)?;
+        let step = Sub::accept(usage, want, self.clock, incoming.granted());
+        let teller = Teller {
+            place: incoming.place,
+            boxes: &self.boxes,
+            clock: self.clock,
+        };
+        match step {
+            Step::Live(sub, notice) => {
+                let out = teller.notice_out(
+                    alloc,
+                    incoming.source,
+                    sub.usage(),
+                    sub.want(),
+                    notice,
+                )?;
+                outs.push(out)?;
+                let mut unanswered = Vec::new(alloc);
+                unanswered.push(Unanswered {
+                    number: notice.number,
+                    moment: self.clock,
+                })?;
+                let row = Row {
+                    serial: newborn.serial,
+                    sub,
+                    last_cseq: incoming.request.head.cseq,
+                    unanswered: Values::new(unanswered),
+                };
+                self.rows.push(alloc, row)?;
+                self.next += 1;
+                Ok(true)
             }
-            Some(After::Goes(_, out)) => {
-                push_some(outs, out)?;
-                forget_ended(alloc, &mut self.boxes, &newborn.tag, newborn.kind)
+            Step::Over(usage, want, notice) => {
+                let out = teller.notice_out(alloc, incoming.source, &usage, &want, notice)?;
+                outs.push(out)?;
+                self.next += 1;
+                Ok(false)
             }
         }
     }
 
-    /// A transfer that is watched begins. The new subscription is told first, and its row, if one stays, goes to the others.
-    fn establish(
-        &mut self,
+    /// What is fetched is told once, behind the outs that are there.
+    fn fetch(
+        &self,
         alloc: Global,
         incoming: &Incoming<'_>,
         newborn: &Newborn,
         outs: &mut Vec<Out>,
     ) -> Result<(), NoMemory>
         requires fits { requests.misfit incoming.now.request.now ≡ None }
-        requires kind { newborn.now.kind ≡ requests.birth_of incoming.now.place.now.limits incoming.now.request.now }
-        requires sound { IsSound incoming.now.place.now self.old }
-        requires serial { newborn.now.serial ≡ self.old.next }
-        requires tag { newborn.now.tag ≡ tag_of incoming.now.place.now self.old.next }
-        requires room { self.old.next ≤ incoming.now.place.now.limits.serials }
-        ensures rows { OnOk result (rows_of self.new.rows ≡ rows_of self.old.rows ++ option_to_list
-            (spec.first_told (begun P.seen incoming.now.place.now self.old newborn.now)
-            incoming.now.source incoming.now.request.now newborn.now).row) }
-        ensures boxes { OnOk result (map P.seen self.new.boxes.items ≡ rows.forgetting
-            (spec.first_gone newborn.now.tag newborn.now.kind (is_none
-            (spec.first_told (begun P.seen incoming.now.place.now self.old newborn.now)
-            incoming.now.source incoming.now.request.now newborn.now).row))
-            (begun P.seen incoming.now.place.now self.old newborn.now).boxes) }
+        requires kind { newborn.now.kind ≡ Birth.Fetch }
         ensures outs { OnOk result (outs.new.items ≡ outs.old.items ++ map out_of
-            (spec.first_told (begun P.seen incoming.now.place.now self.old newborn.now)
+            (spec.first_told (spec.telling incoming.now.place.now (book_of P.seen self.now))
             incoming.now.source incoming.now.request.now newborn.now).notifies) }
-        ensures same { OnOk result ((self.new.clock ≡ self.old.clock) × (self.new.next ≡ self.old.next + 1)
-            × (self.new.ring ≡ self.old.ring)) }
-        ensures sound { OnOk result (IsSound incoming.now.place.now self.new) }
     {
-        incoming.place.limits.are_in_range();
-        begin(alloc, &mut self.boxes, &newborn.tag, newborn.kind)?;
-        let teller = Teller {
+        let want = new_want(alloc, &newborn.tag, incoming)?;
+        let usage = new_usage(alloc, &newborn.tag, incoming.request)?;
+        let (usage, want, notice) = Sub::fetch(usage, want);
+        let once = Teller {
             place: incoming.place,
             boxes: &self.boxes,
             clock: self.clock,
         };
-        let first = teller.first_told(alloc, incoming, newborn)?;
-        self.take_in(alloc, newborn, first, outs)?;
-        self.next += 1;
+        let out = once.notice_out(alloc, incoming.source, &usage, &want, notice)?;
+        outs.push(out)?;
         Ok(())
     }
 
@@ -160,11 +165,35 @@ impl<P: Package> Ledger<P> {
         let bytes = birth_answer(alloc, incoming, &tag)?;
         let mut outs = respond(alloc, &mut self.ring, pending, bytes)?;
         let newborn = Newborn { kind, serial, tag };
-        self.establish(alloc, incoming, &newborn, &mut outs)?;
-        if !incoming.refers {
-            return Ok(outs);
+        match kind {
+            Birth::Watch => {
+                self.begin(alloc, incoming, &newborn, &mut outs)?;
+                Ok(outs)
+            }
+            Birth::Fetch => {
+                self.fetch(alloc, incoming, &newborn, &mut outs)?;
+                self.next += 1;
+                Ok(outs)
+            }
+            Birth::Transfer => {
+                tell_first(
+                    alloc,
+                    &mut self.boxes,
+                    Change::Begin(newborn.tag.copy(alloc)?),
+                )?;
+                let stays = self.begin(alloc, incoming, &newborn, &mut outs)?;
+                start(alloc, newborn.tag.copy(alloc)?, incoming, &mut outs)?;
+                if stays {
+                    return Ok(outs);
+                }
+                tell_first(alloc, &mut self.boxes, Change::Forget(newborn.tag))?;
+                Ok(outs)
+            }
+            Birth::Unwatched => {
+                self.next += 1;
+                start(alloc, newborn.tag, incoming, &mut outs)?;
+                Ok(outs)
+            }
         }
-        start(alloc, newborn.tag, incoming, &mut outs)?;
-        Ok(outs)
     }
 }

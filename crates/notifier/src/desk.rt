@@ -1,19 +1,24 @@
 //! The desk.
 #![tactic(auto, unfolding(notifier_model::specs::Run::empty))]
 
-ghost use Rattle.std.specs.Prelude.{◌≡◌, ◌↔◌, map, is_none, IfOk, OnOk, OnErr, Some, None};
+ghost use Rattle.std.specs.Prelude.{◌≡◌, ◌++◌, ◌↔◌, map, is_none, IfOk, OnOk, OnErr, Some, None};
 ghost use Rattle.notifier.specs.Standing.{Standing, first_standing, IsHandled};
 ghost use Rattle.notifier.specs.Held.{seen_by};
 ghost use Rattle.notifier.specs.Errors.{number_of};
 ghost use Rattle.notifier_model.specs.Book.{step};
 ghost use Rattle.notifier_model.specs.Start.{place_of};
+ghost use Rattle.notifier_model.specs.Saved.{book_with};
+ghost use Rattle.notifier.specs.Written.{rows_text};
+ghost use Rattle.notifier.specs.Resumed.{MayGoOn, IsRightly};
 ghost use Rattle.notifier.specs.Ledger.{book_of, IsStep, IsSound};
 
+use crate::resume::{ResumeError, keep_all};
 use crate::store::Ledger;
 use crate::store::kept::KeptAnswers;
 use crate::store::rows::Rows;
 use notifier_model::event::{Event, Out};
 use notifier_model::place::{Place, Setup};
+use notifier_model::saved::Saved;
 use package::Package;
 use sip_text::NoMemory;
 use std::alloc::Global;
@@ -106,6 +111,84 @@ impl<P: Package> Desk<P> {
             place,
             ledger,
         })
+    }
+
+    /// The desk of this worker, which goes on from a saved book with these boxes. The limits may be others than they were:
+    /// of rows that are more than the table holds all go on.
+    pub fn resume(
+        alloc: Global,
+        setup: &Setup,
+        worker: u32,
+        boxes: Vec<P>,
+        saved: Saved,
+    ) -> Result<Desk<P>, ResumeError>
+        ensures stands { IfOk result (λ desk. seen_by P.seen desk ≡ Some (record {
+          place = place_of setup.now worker;
+          book = book_with saved (map P.seen boxes.items);
+        })) }
+        ensures may { OnOk result (MayGoOn (place_of setup.now worker) saved) }
+        ensures rightly { IsRightly result (MayGoOn (place_of setup.now worker) saved) }
+    {
+        setup.limits.are_in_range();
+        let Saved {
+            clock,
+            next,
+            rows,
+            ring,
+        } = saved;
+        let answers = ring.into_vec();
+        if clock >= 1 << 63
+            || next < 1
+            || next > 1 << 32
+            || answers.len() > setup.limits.kept() as usize
+        {
+            return Err(ResumeError::Numbers);
+        }
+        let ring = keep_all(alloc, &setup.limits, answers)?;
+        let place = Place {
+            limits: setup.limits,
+            seed: setup.seed,
+            me: setup.me,
+            stop: setup.stop,
+            worker,
+        };
+        let mut ledger = Ledger {
+            clock,
+            next,
+            rows: Rows::new(alloc),
+            boxes,
+            ring,
+        };
+        if let Err(error) = ledger.put_all(alloc, &place, rows.into_vec()) {
+            return Err(error);
+        }
+        Ok(Desk {
+            spent: false,
+            place,
+            ledger,
+        })
+    }
+
+    /// Appends the moment, the next serial and the live subscriptions. After an error a part of it may stand there.
+    pub fn save(&self, alloc: Global, out: &mut Vec<u8>) -> Result<(), DeskError>
+        ensures saved { OnOk result ((s : Standing) → seen_by P.seen self.now ≡ Some s
+            → out.new.items ≡ out.old.items ++ rows_text s.book) }
+        ensures spent { result ≡ Err DeskError.Spent ↔ seen_by P.seen self.now ≡ None }
+    {
+        if self.spent {
+            return Err(DeskError::Spent);
+        }
+        match self.ledger.write(alloc, out) {
+            Ok(()) => Ok(()),
+            Err(_) => Err(DeskError::NoMemory),
+        }
+    }
+
+    /// What the desk was made for: its setup, and the number of its worker. Of a spent desk no contract tells it.
+    pub fn place(&self) -> Place
+        ensures { (s : Standing) → seen_by P.seen self.now ≡ Some s → result ≡ s.place }
+    {
+        self.place
     }
 
     /// Whether a growth was refused at an earlier event.

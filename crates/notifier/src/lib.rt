@@ -16,6 +16,8 @@ mod in_dialog;
 mod incoming;
 pub mod laws;
 mod notice;
+mod resume;
+mod save;
 mod store;
 mod sweep;
 mod tag;
@@ -23,6 +25,7 @@ mod verdict;
 pub mod whole_run;
 
 pub use desk::{Desk, DeskError};
-pub use notifier_model::{Event, Limits, Out, Place, Refusal, Setup, user_part};
+pub use notifier_model::{Event, Limits, Out, Place, Refusal, Saved, Setup, user_part};
+pub use resume::ResumeError;
 pub use sip_text::NoMemory;
-pub use whole_run::play;
+pub use whole_run::{play, play_on};

@@ -1,7 +1,7 @@
 //! Local tags.
 #![tactic(auto, unfolding(notifier_model::specs::Tag::local_tag, notifier_model::specs::Tag::refusal_tag))]
 
-ghost use Rattle.std.specs.Prelude.{◌≡◌, ◌≤◌, IfOk};
+ghost use Rattle.std.specs.Prelude.{◌≡◌, IfOk};
 ghost use Rattle.hex.specs.Hex.{encode_lower};
 ghost use Rattle.notifier_model.specs.Start.{tag_of};
 ghost use Rattle.notifier_model.specs.Tag.{tag_bytes, refusal_tag as refusal_tag_of};
@@ -18,12 +18,11 @@ const LONGEST_TAG: usize = 39;
 
 /// The bytes whose digits stand in the tag.
 fn tag_bytes(place: &Place, serial: u32) -> [u8; 8]
-    requires { 1 ≤ serial }
     ensures { result ≡ tag_bytes place.now.seed place.now.worker serial }
 {
     let mut words = ChaCha20Rng::from_seed(place.seed);
     words.set_stream(u64::from(place.worker));
-    words.set_word_pos(2 * (u128::from(serial) - 1));
+    words.set_word_pos(2 * u128::from(serial.saturating_sub(1)));
     let [a, b, c, d] = words.next_word().to_le_bytes();
     let [e, f, g, h] = words.next_word().to_le_bytes();
     [a, b, c, d, e, f, g, h]
@@ -31,7 +30,6 @@ fn tag_bytes(place: &Place, serial: u32) -> [u8; 8]
 
 /// The digits of the tag.
 fn tag_digits(place: &Place, serial: u32) -> [u8; 16]
-    requires { 1 ≤ serial }
     ensures { result ≡ encode_lower (tag_bytes place.now.seed place.now.worker serial) }
 {
     let mut digits = [0; 16];
@@ -42,7 +40,6 @@ fn tag_digits(place: &Place, serial: u32) -> [u8; 16]
 
 /// The local tag of the subscription with this serial.
 pub fn local_tag(alloc: Global, place: &Place, serial: u32) -> Result<Text, NoMemory>
-    requires { 1 ≤ serial }
     ensures { IfOk result (λ tag. tag ≡ tag_of place.now serial) }
 {
     let digits = tag_digits(place, serial);

@@ -6,11 +6,14 @@ ghost use Rattle.notifier_model.specs.Out.{out_of};
 ghost use Rattle.notifier_model.specs.Run.{made, made_from};
 ghost use Rattle.notifier.specs.Held.{seen_by};
 ghost use Rattle.notifier.specs.Standing.{Standing};
+ghost use Rattle.notifier_model.specs.Saved.{book_with};
 ghost use Rattle.notifier_model.specs.Start.{place_of};
 
 use crate::desk::Desk;
+use crate::resume::ResumeError;
 use notifier_model::event::{Event, Out};
 use notifier_model::place::Setup;
+use notifier_model::saved::Saved;
 use package::Package;
 use sip_text::NoMemory;
 use std::alloc::Global;
@@ -47,4 +50,27 @@ pub fn play<P: Package>(
 {
     let mut desk = Desk::new(alloc, setup, worker, boxes)?;
     handle_all(alloc, &mut desk, events)
+}
+
+/// All that a desk sends for these events which goes on from a saved book: what the desk would have sent that was saved, had it
+/// gone on (`run_grows` says that a run over two lists of events is one over the first, and then this one).
+pub fn play_on<P: Package>(
+    alloc: Global,
+    setup: &Setup,
+    worker: u32,
+    boxes: Vec<P>,
+    saved: Saved,
+    events: &[Event],
+) -> Result<Vec<Out>, ResumeError>
+    ensures { IfOk result (λ outs. outs.items
+        ≡ map out_of (made_from (place_of setup.now worker) (book_with saved (map P.seen boxes.items)) events.now)) }
+{
+    let mut desk = match Desk::resume(alloc, setup, worker, boxes, saved) {
+        Ok(desk) => desk,
+        Err(error) => return Err(error),
+    };
+    match handle_all(alloc, &mut desk, events) {
+        Ok(outs) => Ok(outs),
+        Err(_) => Err(ResumeError::NoMemory),
+    }
 }

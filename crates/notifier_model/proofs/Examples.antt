@@ -250,12 +250,12 @@ is_telling line =
 
 abbrev pub brief : Send → Brief
 brief (Answers to bytes) = Answered (filter is_telling (lines_of bytes))
-brief (Notifies to n) = Noticed n.number (state_text n.state) n.body
+brief (Notifies to mailbox n) = Noticed n.number (state_text n.state) n.body
 brief (Starts tag refer_to) = Started tag refer_to
 
 abbrev pub bytes_of_out : Out → Bytes
 bytes_of_out (Answer to bytes) = bytes
-bytes_of_out (Notify to number terminated tag bytes) = bytes
+bytes_of_out (Notify to number terminated tag note bytes) = bytes
 bytes_of_out (Begins tag refer_to) = []
 
 -- what the book makes of these events, in brief and in bytes

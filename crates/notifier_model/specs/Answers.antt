@@ -4,7 +4,7 @@ use Rattle.sip_text.specs.declared.address.Addr.{Addr}
 use Rattle.sip_read.specs.declared.message.Request.{Request}
 use Rattle.sip_write.specs.declared.status.Status.{Status}
 use Rattle.sip_write.specs.declared.status.Status.TheVariants as status
-use Rattle.sip_write.specs.Answer.{AnswerText}
+use Rattle.sip_write.specs.Answer.{AnswerText, bare}
 use Rattle.package.specs.Content.{Maps, SeenBy}
 use Rattle.notifier_model.specs.declared.place.Place.{Place}
 use Rattle.notifier_model.specs.declared.refusal.Refusal.{Refusal}
@@ -18,20 +18,7 @@ use Rattle.notifier_model.specs.Tag.{refusal_tag}
 
 -- an answer without any of the optional lines. A To without a tag gets this one
 abbrev pub bare_answer : Addr → Request → Option (List ℕ) → Status → AnswerText
-bare_answer source r tag status = record {
-  head = r.head;
-  source = source;
-  status = status;
-  tag = tag;
-  record_routes = [];
-  contact = None;
-  expires = None;
-  min_expires = None;
-  allow = None;
-  allow_events = None;
-  unsupported = None;
-  without_subscription = false;
-}
+bare_answer source r tag status = bare r.head source tag status
 
 abbrev pub min_expires_of : Limits → Refusal → Option ℕ
 min_expires_of limits refusal.TooBrief = Some limits.min_time

@@ -15,3 +15,4 @@ pub mod HomeLaws
 pub mod Book
 pub mod Cases
 pub mod Run
+pub mod Saved

@@ -52,6 +52,10 @@ module _ {maps : Maps} where
     body = body_of_held (content_in t.boxes want.event.package want.resource);
   }
 
+-- The mailbox that is watched. A subscription of `refer` watches none, but the transfer of its tag (RFC 3515 section 2.4.4).
+abbrev pub mailbox_of : Want → Option (List ℕ)
+mailbox_of want = if is_of_refer want.event then None else Some want.resource
+
 -- ---- one row: the row that stays, if any, and its NOTIFYs
 
 pub record Turned : Type 0 where
@@ -82,11 +86,11 @@ module _ {maps : Maps} where
   unfoldable pub turned : Telling maps → Addr → (State → Row) → Step → Turned
   turned t to row_of (Live sub notice) = record {
     row = Some (opened t.clock notice (row_of sub));
-    notifies = Notifies to (notify t sub.usage sub.want notice) ∷ [];
+    notifies = Notifies to (mailbox_of sub.want) (notify t sub.usage sub.want notice) ∷ [];
   }
   turned t to row_of (Over usage want notice) = record {
     row = None;
-    notifies = Notifies to (notify t usage want notice) ∷ [];
+    notifies = Notifies to (mailbox_of want) (notify t usage want notice) ∷ [];
   }
 
   -- a step that no request made: the NOTIFY goes where the last one went

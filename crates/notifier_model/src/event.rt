@@ -54,6 +54,19 @@ impl Drop for Event {
     }
 }
 
+/// What is known of a subscription with a NOTIFY of it, so that nobody reads it back out of the bytes.
+#[derive(Debug, Drop)]
+pub struct Note {
+    /// Who watches: the subscriber's address with its parameters, as its From has it, without the tag.
+    pub watcher: Text,
+    /// What is watched: the mailbox that the Request-URI of its SUBSCRIBE names, or the tag of its transfer.
+    pub resource: Text,
+    /// The remote target of its dialog, the subscriber's Contact (RFC 3261 section 12.1.1).
+    pub target: Text,
+    /// How many seconds are left of it, unless it is refreshed: none where it is over.
+    pub left: Option<u32>,
+}
+
 /// What a desk sends. It is small, as an event is: what is short in a NOTIFY stands first, and shares 16 bytes with the mark of the variant.
 #[derive(Debug)]
 pub enum Out {
@@ -62,12 +75,13 @@ pub enum Out {
         to: Addr,
         bytes: Octets,
     },
-    /// A NOTIFY of the subscription with this local tag.
+    /// A NOTIFY of the subscription with this local tag, with what is known of that.
     Notify {
         to: Addr,
         number: u32,
         terminated: bool,
         tag: Text,
+        note: Boxed<Note>,
         bytes: Octets,
     },
     /// The transfer with this tag may start, to this URI.
@@ -77,12 +91,15 @@ pub enum Out {
     },
 }
 
-/// How many bytes an event and an out have at most.
-const SMALL: usize = 64;
+/// How many bytes an event has at most.
+const EVENT_BYTES: usize = 64;
 
-const _: () = prove!(size_of::<Event>() <= SMALL);
+/// How many bytes an out has at most.
+const OUT_BYTES: usize = 72;
 
-const _: () = prove!(size_of::<Out>() <= SMALL);
+const _: () = prove!(size_of::<Event>() <= EVENT_BYTES);
+
+const _: () = prove!(size_of::<Out>() <= OUT_BYTES);
 
 /// By hand, as an [`Event`]'s.
 impl Drop for Out {
@@ -94,10 +111,11 @@ impl Drop for Out {
                 refer_to: _,
             } => {}
             Out::Notify {
-                tag: _,
+                to: _,
                 number: _,
                 terminated: _,
-                to: _,
+                tag: _,
+                note: _,
                 bytes: _,
             } => {}
         }
@@ -122,10 +140,11 @@ impl Out {
     {
         match self {
             Out::Notify {
-                tag,
+                to,
                 number,
                 terminated: _,
-                to,
+                tag,
+                note: _,
                 bytes,
             } => Some(NotifyOut {
                 tag,

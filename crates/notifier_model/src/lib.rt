@@ -17,11 +17,13 @@ pub mod limits;
 pub mod place;
 pub mod refusal;
 pub mod row;
+pub mod saved;
 pub mod uri;
 
 pub use birth::{Birth, Newborn};
-pub use event::{Event, NotifyOut, Out};
+pub use event::{Event, Note, NotifyOut, Out};
 pub use limits::Limits;
 pub use place::{Place, Setup};
 pub use refusal::Refusal;
+pub use saved::Saved;
 pub use uri::user_part;

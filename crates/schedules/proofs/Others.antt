@@ -34,7 +34,7 @@ not_true false h = refl
 -- the tag of a NOTIFY
 abbrev tag_in : Out → List ℕ
 tag_in (Answer to bytes) = []
-tag_in (Notify to number terminated tag bytes) = tag
+tag_in (Notify to number terminated tag note bytes) = tag
 tag_in (Begins tag refer_to) = []
 
 none_of : (start : Start) (es : List Event) (tag : List ℕ) (made : List Out) → IsStrange start.place tag → AreOfLives start es made → notifies_with tag made ≡ []
@@ -42,8 +42,8 @@ unfolding notifies_with
 none_of start es tag [] strange h = refl
 none_of start es tag (Answer to bytes ∷ more) strange h = none_of start es tag more strange h
 none_of start es tag (Begins other refer_to ∷ more) strange h = none_of start es tag more strange h
-none_of start es tag (Notify to number terminated other bytes ∷ more) strange h =
-    let of_life : IsOfALife start es (Notify to number terminated other bytes) = h.0 in
+none_of start es tag (Notify to number terminated other note bytes ∷ more) strange h =
+    let of_life : IsOfALife start es (Notify to number terminated other note bytes) = h.0 in
     let own : other ≡ tag_of start.place of_life.serial = ap tag_in of_life.notify.out_is in
     let differs : bytes_eq other tag ≡ false = not_true (bytes_eq other tag) (λ e. strange of_life.serial (sym own ∙ (bytes_eq-Decides other tag).0 e)) in
     rw differs (none_of start es tag more strange h.1)
@@ -66,12 +66,12 @@ unfolding notifies_with
 notifies-append tag [] ys = refl
 notifies-append tag (Answer to bytes ∷ xs) ys = notifies-append tag xs ys
 notifies-append tag (Begins other refer_to ∷ xs) ys = notifies-append tag xs ys
-notifies-append tag (Notify to number terminated other bytes ∷ xs) ys = by_tag (notifies-append tag xs ys) (bytes_eq other tag)
+notifies-append tag (Notify to number terminated other note bytes ∷ xs) ys = by_tag (notifies-append tag xs ys) (bytes_eq other tag)
   where
     by_tag : notifies_with tag (xs ++ ys) ≡ notifies_with tag xs ++ notifies_with tag ys → (d : Bool) →
-        (if d then Notify to number terminated other bytes ∷ notifies_with tag (xs ++ ys) else notifies_with tag (xs ++ ys))
-        ≡ (if d then Notify to number terminated other bytes ∷ notifies_with tag xs else notifies_with tag xs) ++ notifies_with tag ys
-    by_tag more true = ap (λ l. Notify to number terminated other bytes ∷ l) more
+        (if d then Notify to number terminated other note bytes ∷ notifies_with tag (xs ++ ys) else notifies_with tag (xs ++ ys))
+        ≡ (if d then Notify to number terminated other note bytes ∷ notifies_with tag xs else notifies_with tag xs) ++ notifies_with tag ys
+    by_tag more true = ap (λ l. Notify to number terminated other note bytes ∷ l) more
     by_tag more false = more
 
 -- those with this tag among the items

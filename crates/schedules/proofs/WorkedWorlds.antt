@@ -37,7 +37,7 @@ data Shown : Type 0 where
 
 abbrev out_shown : ℕ → Out → Shown
 out_shown w (Answer to bytes) = AnswerOf w
-out_shown w (Notify to number terminated tag bytes) = NotifyOf w number terminated
+out_shown w (Notify to number terminated tag note bytes) = NotifyOf w number terminated
 out_shown w (Begins tag refer_to) = StartOf w
 
 abbrev shown : ℕ → Entry Out → Shown

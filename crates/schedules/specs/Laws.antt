@@ -66,12 +66,12 @@ WorldLaw = (crew : Crew) (steps : List Step) (w serial : ℕ) → AreStarts crew
 
 abbrev pub number_of : Out → ℕ
 number_of (Answer to bytes) = 0
-number_of (Notify to number terminated tag bytes) = number
+number_of (Notify to number terminated tag note bytes) = number
 number_of (Begins tag refer_to) = 0
 
 abbrev pub is_terminated : Out → Bool
 is_terminated (Answer to bytes) = false
-is_terminated (Notify to number terminated tag bytes) = terminated
+is_terminated (Notify to number terminated tag note bytes) = terminated
 is_terminated (Begins tag refer_to) = false
 
 -- only the last may be terminated

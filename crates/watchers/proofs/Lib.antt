@@ -1,5 +1,4 @@
 mod Bounded
-mod Found
 mod Rows
 mod Same
 mod Tallies

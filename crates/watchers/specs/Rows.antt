@@ -5,7 +5,7 @@ use Rattle.indexmap.specs.IndexMap.{swap_remove_by}
 use Rattle.std.specs.Option.{option_map_or}
 use Rattle.std.specs.declared.alloc.Global.{Global}
 use Rattle.sip_text.specs.declared.address.Addr.{Addr}
-use Rattle.watchers.specs.Notifies.{until, first_row}
+use Rattle.watchers.specs.Notifies.{Known, until, first_row}
 use Rattle.watchers.specs.declared.row.Watcher.{Watcher}
 use Rattle.watchers.specs.declared.watchers.TheConstants.{GONE, FINAL}
 
@@ -45,10 +45,10 @@ abbrev pub begins : List ℕ → List Row → Bool
 begins tag rows = not (has tag rows)
 
 -- a row that begins stands behind the others
-abbrev pub after_notify : ℕ → List ℕ → ℕ → Addr → List ℕ → List Row → List Row
-after_notify now tag number to bytes rows =
-    if begins tag rows then rows ++ (tag, first_row now number to bytes) ∷ []
-    else changed tag (renewed number to (until now bytes)) rows
+abbrev pub after_notify : ℕ → List ℕ → ℕ → Addr → Known → List Row → List Row
+after_notify now tag number to known rows =
+    if begins tag rows then rows ++ (tag, first_row now number to known) ∷ []
+    else changed tag (renewed number to (until now known.seconds)) rows
 
 -- ---- one ended
 

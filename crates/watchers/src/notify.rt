@@ -1,40 +1,15 @@
-//! What a NOTIFY tells of its subscription.
-ghost use Rattle.std.specs.Prelude.{◌≡◌, ◌≤◌, ◌<◌, ◌^◌, IfOk};
+//! What is known of a subscription with a NOTIFY of it.
+ghost use Rattle.std.specs.Prelude.{◌≡◌, ◌<◌, ◌^◌, IfOk};
 ghost use Rattle.sip_text.specs.Bytes.{Finds};
 ghost use Rattle.watchers.specs.Notifies as spec;
 
 use crate::counts::source;
 use crate::row::Watcher;
-use memchr::memmem;
-use sip_text::{
-    Addr, Class, NoMemory, Text, capped_number, cut_at, quoted_at, split_front, word_of,
-};
+use sip_text::{Addr, Class, NoMemory, Text, cut_at, quoted_at, split_front, word_of};
 use std::alloc::Global;
 
 /// How many bytes of a URI or a mailbox are told at most: so each row has its bound. `-` is told of a longer one.
 pub const LONGEST: usize = 256;
-
-/// What stands behind these bytes, where they stand first.
-#[tactic(auto, using(crate::proofs::Found::none_behind))]
-fn behind<'a>(needle: &[u8], bytes: &'a [u8]) -> Option<&'a [u8]>
-    ensures { Finds (λ x. x.now) result (spec.behind needle.now bytes.now) }
-{
-    let Some(place) = memmem::find(bytes, needle) else {
-        return None;
-    };
-    let (_, found) = bytes.split_at(place);
-    let (_, rest) = found.split_at(needle.len());
-    Some(rest)
-}
-
-/// The value of the header that this begins: the rest of its line.
-#[tactic(auto, unfolding(crate::specs::Notifies::value))]
-fn value<'a>(opening: &[u8], bytes: &'a [u8]) -> Option<&'a [u8]>
-    ensures { Finds (λ x. x.now) result (spec.value opening.now bytes.now) }
-{
-    let (value, _) = cut_at(b'\r', behind(opening, bytes)?)?;
-    Some(value)
-}
 
 /// What stands behind the display name at the front, if that is quoted.
 #[tactic(auto, unfolding(crate::specs::Notifies::unquoted))]
@@ -60,26 +35,6 @@ fn uri(party: &[u8]) -> Option<&[u8]>
     Some(uri)
 }
 
-/// What stands before a password.
-fn before_colon(user: &[u8]) -> &[u8]
-    ensures { result.now ≡ spec.before_colon user.now }
-{
-    match cut_at(b':', user) {
-        Some((name, _)) => name,
-        None => user,
-    }
-}
-
-/// The user of a URI.
-#[tactic(auto, unfolding(crate::specs::Notifies::user))]
-fn user(uri: &[u8]) -> Option<&[u8]>
-    ensures { Finds (λ x. x.now) result (spec.user uri.now) }
-{
-    let (_, rest) = cut_at(b':', uri)?;
-    let (user, _) = cut_at(b'@', rest)?;
-    Some(before_colon(user))
-}
-
 /// The bytes as a word of a row.
 fn word(bytes: &[u8]) -> &str
     ensures { result.now ≡ spec.word bytes.now }
@@ -93,69 +48,33 @@ fn word(bytes: &[u8]) -> &str
     }
 }
 
-/// The URI of the header that this begins.
-#[tactic(auto, unfolding(crate::specs::Notifies::uri_behind))]
-fn uri_behind<'a>(opening: &[u8], bytes: &'a [u8]) -> Option<&'a [u8]>
-    ensures { Finds (λ x. x.now) result (spec.uri_behind opening.now bytes.now) }
-{
-    uri(value(opening, bytes)?)
+/// What is known of a subscription with a NOTIFY of it.
+#[derive(Clone, Copy)]
+pub struct Known<'a> {
+    /// Who watches: the subscriber's address, as its From has it (RFC 3261 section 20.20).
+    pub watcher: &'a str,
+    /// What is watched: a mailbox, or the tag of a transfer.
+    pub resource: &'a str,
+    /// How many seconds are left of it, unless it is refreshed.
+    pub seconds: u32,
 }
 
-/// Who watches: the URI of the To.
-fn watcher(bytes: &[u8]) -> &str
-    ensures { result.now ≡ spec.watcher bytes.now }
+/// Who watches: the URI of its address.
+fn watcher(party: &[u8]) -> &str
+    ensures { result.now ≡ spec.watcher party.now }
 {
-    match uri_behind(b"\r\nTo: ".as_slice(), bytes) {
+    match uri(party) {
         Some(uri) => word(uri),
         None => "-",
     }
 }
 
-/// The user of the From.
-#[tactic(auto, unfolding(crate::specs::Notifies::from_user))]
-fn from_user(bytes: &[u8]) -> Option<&[u8]>
-    ensures { Finds (λ x. x.now) result (spec.from_user bytes.now) }
-{
-    user(uri_behind(b"\r\nFrom: ".as_slice(), bytes)?)
-}
-
-/// The mailbox.
-fn mailbox(bytes: &[u8]) -> &str
-    ensures { result.now ≡ spec.mailbox bytes.now }
-{
-    match from_user(bytes) {
-        Some(user) => word(user),
-        None => "-",
-    }
-}
-
-/// The digits of the seconds that are left.
-#[tactic(auto, unfolding(crate::specs::Notifies::digits))]
-fn digits(bytes: &[u8]) -> Option<&[u8]>
-    ensures { Finds (λ x. x.now) result (spec.digits bytes.now) }
-{
-    let state = value(b"\r\nSubscription-State: ".as_slice(), bytes)?;
-    let rest = behind(b";expires=".as_slice(), state)?;
-    Some(split_front(Class::Digit, rest).0)
-}
-
-/// For how many seconds the subscription lasts, unless it is refreshed.
-fn seconds(bytes: &[u8]) -> u64
-    ensures value { result ≡ spec.seconds bytes.now }
-    ensures within { result ≤ 2 ^ 32 }
-{
-    match digits(bytes) {
-        Some(digits) => capped_number(digits),
-        None => 0,
-    }
-}
-
 /// The moment at which the subscription ends unless it is refreshed, where its NOTIFY went out at this one.
-pub fn until(now: u64, bytes: &[u8]) -> u64
+pub fn until(now: u64, seconds: u32) -> u64
     requires in_range { now < 2 ^ 63 }
-    ensures { result ≡ spec.until now bytes.now }
+    ensures { result ≡ spec.until now seconds }
 {
-    now + 1000 * seconds(bytes)
+    now + 1000 * u64::from(seconds)
 }
 
 /// The row that begins with the NOTIFY with this number, which went out at this moment to this address.
@@ -164,19 +83,20 @@ pub fn first_row(
     now: u64,
     number: u32,
     to: Addr,
-    bytes: &[u8],
+    known: Known<'_>,
 ) -> Result<Watcher, NoMemory>
     requires in_range { now < 2 ^ 63 }
-    ensures { IfOk result (λ w. w ≡ spec.first_row now number to bytes.now) }
+    ensures { IfOk result (λ w. w ≡ spec.first_row now number to
+        (record { watcher = known.entry.watcher.now; resource = known.entry.resource.now; seconds = known.entry.seconds })) }
 {
     Ok(Watcher {
-        watcher: Text::of(alloc, watcher(bytes))?,
-        mailbox: Text::of(alloc, mailbox(bytes))?,
+        watcher: Text::of(alloc, watcher(known.watcher.as_bytes()))?,
+        mailbox: Text::of(alloc, word(known.resource.as_bytes()))?,
         source: source(to),
         to,
         sent: number,
         answered: 0,
         since: now,
-        until: until(now, bytes),
+        until: until(now, known.seconds),
     })
 }

@@ -4,12 +4,12 @@ ghost use Rattle.watchers.specs.Rows as spec;
 
 use sip_text::{Addr, Text};
 
-/// A live subscription, as its NOTIFYs tell of it. Moments are milliseconds.
+/// A live subscription, as it is known with its NOTIFYs. Moments are milliseconds.
 #[derive(Debug, Drop)]
 pub struct Watcher {
-    /// Who watches: the URI of the NOTIFY's To with which its row began.
+    /// Who watches: the URI of the subscriber's address, as it was known with the NOTIFY with which its row began.
     pub watcher: Text,
-    /// The mailbox: the user of the URI of that NOTIFY's From.
+    /// What it watches: the mailbox, or the tag of its transfer.
     pub mailbox: Text,
     /// Who asked for it: the IPv4 address to which that NOTIFY went, as a number.
     pub source: u32,

@@ -6,7 +6,7 @@ ghost use Rattle.watchers.specs.Rows.{rows_in};
 ghost use Rattle.watchers.specs.Tallies.{AreCounted, rows_from};
 
 use crate::counts::Counts;
-use crate::notify::{first_row, until};
+use crate::notify::{Known, first_row, until};
 use crate::row::Watcher;
 use indexmap::IndexMap;
 use sip_text::Addr;
@@ -42,6 +42,14 @@ fn was_sent(rows: &IndexMap<String, Watcher>, tag: &str, number: u32) -> bool
         Some(watcher) => number <= watcher.sent,
         None => false,
     }
+}
+
+/// The row with this tag, if there is one.
+#[tactic(auto, using(crate::proofs::Rows::found_lookup))]
+fn find_row<'a>(rows: &'a IndexMap<String, Watcher>, tag: &str) -> Option<&'a Watcher>
+    ensures { option_map (λ w. w.now) result ≡ spec.found tag.now (rows_in rows.now.entries) }
+{
+    rows.get(tag)
 }
 
 /// Whose the row with this tag is, if there is one.
@@ -193,6 +201,13 @@ impl Watchers {
         self.counts.get(source)
     }
 
+    /// What is known of the subscription with this tag, if it has a row.
+    pub fn find(&self, tag: &str) -> Option<&Watcher>
+        ensures { option_map (λ w. w.now) result ≡ spec.found tag.now self.now.rows }
+    {
+        find_row(&self.rows, tag)
+    }
+
     /// Whose the row with this tag is, if there is one.
     pub fn source(&self, tag: &str) -> Option<u32>
         ensures { result ≡ option_map (λ w. w.source) (spec.found tag.now self.now.rows) }
@@ -207,11 +222,15 @@ impl Watchers {
         tag: &str,
         number: u32,
         to: Addr,
-        bytes: &[u8],
+        known: Known<'_>,
     ) -> Result<(), Full>
         requires in_range { now < 2 ^ 63 }
         requires new { spec.has tag.now self.old.rows ≡ false }
-        ensures begun { OnOk result (self.new.rows ≡ self.old.rows ++ (tag.now, first_row now number to bytes.now) ∷ []) }
+        ensures begun { OnOk result (self.new.rows ≡ self.old.rows ++ (
+          tag.now,
+          first_row now number to
+              (record { watcher = known.entry.watcher.now; resource = known.entry.resource.now; seconds = known.entry.seconds }),
+        ) ∷ []) }
         ensures unchanged { OnErr result (self.new ≡ self.old) }
         ensures limit { self.new.limit ≡ self.old.limit }
         ensures full { nat_lt (length self.old.rows) self.old.limit ≡ false → IsErr result }
@@ -219,7 +238,7 @@ impl Watchers {
         if self.rows.len() >= self.limit {
             return Err(Full);
         }
-        let Ok(watcher) = first_row(self.alloc, now, number, to, bytes) else {
+        let Ok(watcher) = first_row(self.alloc, now, number, to, known) else {
             return Err(Full);
         };
         let Ok(tag) = String::from_str(self.alloc, tag) else {
@@ -228,7 +247,7 @@ impl Watchers {
         add_row(&mut self.rows, &mut self.counts, tag, watcher)
     }
 
-    /// A NOTIFY with this tag and this number, and these bytes, went out to this address at this moment, and its subscription goes on.
+    /// A NOTIFY with this tag and this number, with which this is known, went out to this address at this moment, and its subscription goes on.
     /// Where it has no row one begins with it: at its first NOTIFY, or where an earlier one was given up. An error where there is no room
     /// or no memory for that: nothing changes then, and it stays without a row.
     pub fn renew(
@@ -237,10 +256,11 @@ impl Watchers {
         tag: &str,
         number: u32,
         to: Addr,
-        bytes: &[u8],
+        known: Known<'_>,
     ) -> Result<(), Full>
         requires in_range { now < 2 ^ 63 }
-        ensures renewed { OnOk result (self.new.rows ≡ spec.after_notify now tag.now number to bytes.now self.old.rows) }
+        ensures renewed { OnOk result (self.new.rows ≡ spec.after_notify now tag.now number to
+            (record { watcher = known.entry.watcher.now; resource = known.entry.resource.now; seconds = known.entry.seconds }) self.old.rows) }
         ensures unchanged { OnErr result (self.new ≡ self.old) }
         ensures refused { IsErr result → spec.begins tag.now self.old.rows ≡ true }
         ensures full { spec.begins tag.now self.old.rows ≡ true
@@ -248,9 +268,9 @@ impl Watchers {
         ensures limit { self.new.limit ≡ self.old.limit }
     {
         if !has_row(&self.rows, tag) {
-            return self.begin(now, tag, number, to, bytes);
+            return self.begin(now, tag, number, to, known);
         }
-        renew_row(&mut self.rows, tag, number, to, until(now, bytes));
+        renew_row(&mut self.rows, tag, number, to, until(now, known.seconds));
         Ok(())
     }
 

@@ -5,6 +5,7 @@ ghost use Rattle.std.specs.Prelude.{◌≡◌, ◌+◌, ◌≤◌, length, strin
 ghost use Rattle.notifier_model.specs.Requests.{key_of_request};
 ghost use Rattle.notifier.specs.Keys.{parted};
 
+use notifier_model::row::Key;
 use sip_read::Request;
 use sip_text::NoMemory;
 use std::alloc::Global;
@@ -33,9 +34,25 @@ impl Transaction {
         if !branch.as_str().as_bytes().starts_with(b"z9hG4bK") {
             return Ok(None);
         }
-        let branch = branch.as_str();
-        let sent_by = top.sent_by.as_str();
-        let method = request.method.as_str();
+        let transaction = Transaction::joined(
+            alloc,
+            branch.as_str(),
+            top.sent_by.as_str(),
+            request.method.as_str(),
+        )?;
+        Ok(Some(transaction))
+    }
+
+    /// The texts of a key in one.
+    fn joined(
+        alloc: Global,
+        branch: &str,
+        sent_by: &str,
+        method: &str,
+    ) -> Result<Transaction, NoMemory>
+        ensures { IfOk result (λ t. parted t.branch t.sent_by (string_bytes t.texts)
+            ≡ record { branch = branch.now; sent_by = sent_by.now; method = method.now }) }
+    {
         let room = branch
             .len()
             .saturating_add(sent_by.len())
@@ -44,11 +61,23 @@ impl Transaction {
         texts.push_str(branch)?;
         texts.push_str(sent_by)?;
         texts.push_str(method)?;
-        Ok(Some(Transaction {
+        Ok(Transaction {
             texts,
             branch: branch.len(),
             sent_by: sent_by.len(),
-        }))
+        })
+    }
+
+    /// What has this key.
+    pub fn named(alloc: Global, key: &Key) -> Result<Transaction, NoMemory>
+        ensures { IfOk result (λ t. parted t.branch t.sent_by (string_bytes t.texts) ≡ key.now) }
+    {
+        Transaction::joined(
+            alloc,
+            key.branch.as_str(),
+            key.sent_by.as_str(),
+            key.method.as_str(),
+        )
     }
 
     /// Another with the same texts.

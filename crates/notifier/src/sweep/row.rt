@@ -2,7 +2,6 @@
 #![tactic(auto, unfolding(notifier_model::specs::Rows::stays, notifier_model::specs::Rows::goes, notifier_model::specs::Rows::gone_at, notifier_model::specs::Rows::wherever, notifier_model::specs::Rows::opened, notifier_model::specs::Rows::closed, notifier_model::specs::Rows::only, notifier_model::specs::Rows::takes_answer, notifier_model::specs::Rows::answered, notifier_model::specs::Rows::is_overdue, notifier_model::specs::Rows::counted, notifier_model::specs::Rows::turned, notifier_model::specs::Rows::tells, notifier_model::specs::Rows::ends, notifier_model::specs::Rows::times_out, notifier_model::specs::Rows::stops, notifier_model::specs::Rows::tells_change, notifier_model::specs::Rows::tells_watcher, notifier_model::specs::Rows::renewed, notifier_model::specs::Rows::renewed_sub, subscription::specs::Table::told, subscription::specs::Table::end, subscription::specs::Table::changed, subscription::specs::Table::refresh, subscription::specs::Table::is_refusal_of, subscription::specs::Table::refused_by, subscription::specs::Table::lost))]
 
 ghost use Rattle.std.specs.Prelude.{◌≡◌, ◌<◌, ◌^◌, filter, not, IfOk, Some, None};
-ghost use Rattle.notifier_model.specs.Requests.{is_of_refer as is_of_refer_event};
 ghost use Rattle.notifier_model.specs.Rows as spec;
 ghost use Rattle.notifier_model.specs.Fields.{value_of};
 ghost use Rattle.notifier_model.specs.Out.{Notifies, out_of};
@@ -11,7 +10,7 @@ ghost use Rattle.notifier.specs.Tellers.{telling};
 ghost use Rattle.notifier.specs.Told.{FollowsRule, gone_from};
 
 use crate::incoming::Incoming;
-use crate::notice::Teller;
+use crate::notice::{Teller, is_of_refer};
 use notifier_model::event::Out;
 use notifier_model::row::{Row, Unanswered};
 use package::Package;
@@ -36,13 +35,6 @@ pub struct Gone {
     pub want: Want,
     /// The tag of its transfer, where it has one.
     pub transfer: Option<Text>,
-}
-
-/// Whether this is the want of a transfer.
-fn is_of_refer(want: &Want) -> bool
-    ensures { result ≡ is_of_refer_event want.now.event }
-{
-    want.event.package() == "refer"
 }
 
 impl Gone {
@@ -180,7 +172,7 @@ impl<P: Package> Teller<'_, P> {
         row: Row,
         notice: Notice,
     ) -> Result<After, NoMemory>
-        ensures { IfOk result (λ after. after ≡ After.Stays (spec.opened self.now.clock notice row) (Some (out_of (Notifies to
+        ensures { IfOk result (λ after. after ≡ After.Stays (spec.opened self.now.clock notice row) (Some (out_of (Notifies to (spec.mailbox_of row.sub.want)
             (spec.notify (telling P.seen self.now) row.sub.usage row.sub.want notice))))) }
     {
         let out = self.notice_out(alloc, to, row.sub.usage(), row.sub.want(), notice)?;
@@ -197,7 +189,7 @@ impl<P: Package> Teller<'_, P> {
         want: Want,
         notice: Notice,
     ) -> Result<After, NoMemory>
-        ensures { IfOk result (λ after. after ≡ After.Goes (gone_from usage want) (Some (out_of (Notifies to
+        ensures { IfOk result (λ after. after ≡ After.Goes (gone_from usage want) (Some (out_of (Notifies to (spec.mailbox_of want)
             (spec.notify (telling P.seen self.now) usage want notice))))) }
     {
         let out = self.notice_out(alloc, to, &usage, &want, notice)?;
