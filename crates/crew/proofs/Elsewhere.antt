@@ -92,7 +92,7 @@ seats_map p [] = refl
 seats_map p (h ∷ crew) = ap (λ l. new_seat h.reads.inbox p ∷ l) (seats_map p crew)
 
 pub every_port : EveryPortLaw
-every_port start n crew dealt ports taker is all =
+every_port stands n crew dealt ports taker is all =
     let sizes : length ports ≡ n = all.len ∙ is.dealt.len in
     let len : All (λ (q : PortSeats). length q.seats ≡ length crew) ports = λ p q low. (let port = started_port is ports all p q low in zip_len IsSeatOf crew (get_or ports p q).seats port.seats) in record {
       len = len;
@@ -135,7 +135,7 @@ all_come crew ports got reports w h r joined seats home here there =
     let home_here : AreAtHome n q.seats = All-contains (λ (x : PortSeats). AreAtHome n x.seats) ports q home at.2 in
     subst (λ (j : ℕ). All P (values (items_of j r.receiver.taken))) at.4
     (all_that_came P seat.sent (items_of seat.number r.receiver.taken) heard.came.0 (home_here w seat at.3)) in
-    all_events n w h.reads.ports h.start.place.stop r.receiver.taken
+    all_events n w h.reads.ports h.stands.place.stop r.receiver.taken
     (all_of_each P h.reads.ports r.receiver.taken told.among came)
 
 pub nowhere_else_joined : NowhereElseLaw

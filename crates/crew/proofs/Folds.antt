@@ -5,10 +5,10 @@ use Rattle.std.proofs.lemmas.List.Elements.{filter_map-append}
 use Rattle.std.proofs.lemmas.Grind.{common_steps}
 use Rattle.queues.specs.declared.items.Item.{Item}
 use Rattle.notifier_model.specs.declared.event.Event.{Event}
-use Rattle.notifier_model.specs.Book.{step}
+use Rattle.notifier_model.specs.Book.{Book, step}
 use Rattle.notifier_model.specs.Out.{Send, out_of}
-use Rattle.notifier_model.specs.Run.{run, made, empty}
-use Rattle.notifier_model.specs.Start.{Start}
+use Rattle.notifier_model.specs.Run.{run_from, made_from}
+use Rattle.notifier.specs.Standing.{Standing}
 use Rattle.notifier_model.proofs.Runs.{run_from-push, made_from-push}
 use Rattle.queues.specs.Values.{values, values_by, value_in, value_item, end_item}
 use Rattle.crew.specs.Worked.{outs_for}
@@ -26,16 +26,17 @@ module _ {T : Type 0} where
   pub values_by-append : (p : ℕ) (xs ys : List T) → values_by p (xs ++ ys) ≡ values_by p xs ++ values_by p ys
   values_by-append p xs ys = map-append (λ x. value_item p x) xs ys
 
-pub run_push : (start : Start) (es : List Event) (e : Event) → run start (es ++ e ∷ []) ≡ (step start.place (run start es) e).book
-unfolding run
-run_push start es e = run_from-push start.place (empty start) es e
+-- the book after these events
+abbrev pub book_after : Standing → List Event → Book
+book_after stands es = run_from stands.place stands.book es
 
-made_push : (start : Start) (es : List Event) (e : Event) → made start (es ++ e ∷ []) ≡ made start es ++ (step start.place (run start es) e).outs
-unfolding run made
-made_push start es e = made_from-push start.place (empty start) es e
+pub run_push : (stands : Standing) (es : List Event) (e : Event) → book_after stands (es ++ e ∷ []) ≡ (step stands.place (book_after stands es) e).book
+run_push stands es e = run_from-push stands.place stands.book es e
 
-pub outs_push : (start : Start) (es : List Event) (e : Event) → outs_for start (es ++ e ∷ []) ≡ outs_for start es ++ map out_of (step start.place (run start es) e).outs
-outs_push start es e = ap (λ (l : List Send). map out_of l) (made_push start es e) ∙ map-append out_of (made start es) (step start.place (run start es) e).outs
+pub outs_push : (stands : Standing) (es : List Event) (e : Event) → outs_for stands (es ++ e ∷ []) ≡ outs_for stands es ++ map out_of (step stands.place (book_after stands es) e).outs
+outs_push stands es e =
+    ap (λ (l : List Send). map out_of l) (made_from-push stands.place stands.book es e)
+    ∙ map-append out_of (made_from stands.place stands.book es) (step stands.place (book_after stands es) e).outs
 
 pub take_front : {A : Type 0} (n : ℕ) (xs ys : List A) → n ≡ length xs → take n (xs ++ ys) ≡ xs
 take_front n xs ys e = grind (arith, common_steps)

@@ -7,7 +7,7 @@ use Rattle.queues.specs.declared.items.Item.{Item}
 use Rattle.queues.specs.Items.{items_of, has_end}
 use Rattle.queues.specs.Ended.{count_ended, AllEnded}
 use Rattle.queues.proofs.Ended.{ended_value, ended_more, ended_none, all_ended}
-use Rattle.notifier_model.specs.Start.{Start}
+use Rattle.notifier.specs.Standing.{Standing}
 use Rattle.notifier_model.specs.declared.event.Event.{Event}
 use Rattle.notifier_model.specs.declared.event.Out.{Out}
 use Rattle.queues.specs.Values.{end_item, value_item}
@@ -22,7 +22,7 @@ use Rattle.crew.specs.declared.errors.SendError.{SendError}
 use Rattle.crew.specs.declared.errors.TickError.{TickError}
 use Rattle.crew.specs.declared.errors.TickError.TheVariants as tick
 use Rattle.crew.specs.Kept.{emptied, SameSeats, AllClosed}
-use Rattle.crew.specs.Started.{Hired, IsStarted}
+use Rattle.crew.specs.Started.{Hired, HaveBegun}
 use Rattle.crew.specs.Joined.{HasEndOf, IsSeatOf, IsPortOf}
 use Rattle.crew.proofs.Zipped.{zipped}
 
@@ -99,8 +99,8 @@ took_as t u x y is took = let P : Posted → Type 0 = λ z. Took t z u in subst 
 -- ---- what was dealt
 
 -- the ports of a crew that was just started are open
-pub started_open : {start : ℕ → Start} {workers n : ℕ} {crew : List Hired} {ports : List PortSeats} {taker : TakerSeat}
-    → IsStarted start workers n crew ports taker → 0 < workers → (k : ℕ) (p : PortSeats) → k < n → (get_or ports k p).is_open ≡ true
+pub started_open : {stands : ℕ → Standing} {workers n : ℕ} {crew : List Hired} {ports : List PortSeats} {taker : TakerSeat}
+    → HaveBegun stands workers n crew ports taker → 0 < workers → (k : ℕ) (p : PortSeats) → k < n → (get_or ports k p).is_open ≡ true
 started_open {crew = crew} is some k p low =
     let size = length-map crew (λ (h : Hired). h.reads.inbox) in
     let len = is.len in
@@ -113,7 +113,7 @@ seats_map : (p : ℕ) (crew : List Hired) → map emptied (map (λ i. new_seat i
 seats_map p [] = refl
 seats_map p (h ∷ crew) = ap (λ l. new_seat h.reads.inbox p ∷ l) (seats_map p crew)
 
-module _ {start : ℕ → Start} {workers n : ℕ} {crew : List Hired} {ports : List PortSeats} {taker : TakerSeat} (is : IsStarted start workers n crew ports taker) where
+module _ {stands : ℕ → Standing} {workers n : ℕ} {crew : List Hired} {ports : List PortSeats} {taker : TakerSeat} (is : HaveBegun stands workers n crew ports taker) where
   pub started_port : (new : List PortSeats) → AllClosed ports new → (p : ℕ) (q : PortSeats) → p < length new → IsPortOf crew (get_or new p q)
   started_port new all p q low =
       let low_old : p < length ports = let l = all.len in omega arith in

@@ -8,6 +8,7 @@ pub mod Reporting
 pub mod Keeping
 pub mod OnePort
 pub mod AtHome
+pub mod GoingOn
 pub mod Joined
 pub mod Elsewhere
 pub mod Others

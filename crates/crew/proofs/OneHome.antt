@@ -1,20 +1,22 @@
 -- A subscription was born of a request that its worker took, which has its home there.
-use Rattle.std.proofs.Common.{◌≡◌, ◌<◌, ◌≤◌, ◌^◌, ℕ, true, List, [], ◌∷◌, Option, Some, None, length, get_or, refl, ap, sym, subst, ◌∙◌, arith}
+use Rattle.std.proofs.Common.{◌≡◌, ◌<◌, ◌≤◌, ◌^◌, ℕ, true, List, [], ◌∷◌, ◌++◌, Option, Some, None, length, get_or, refl, ap, sym, subst, ◌∙◌, arith}
 use Rattle.std.specs.Prelude.{option_map, slice_get}
 use Rattle.std.specs.List.{All}
 use Rattle.std.proofs.lemmas.Bool.Decides.{nat_tests}
 use Rattle.std.proofs.lemmas.Option.{get_or_from_slice_get, slice_get_within}
-use Rattle.std.proofs.lemmas.List.Elements.{All-nil, All-cons, All-head, All-tail}
+use Rattle.std.proofs.lemmas.List.Elements.{All-nil, All-cons, All-head, All-tail, All-append}
 use Rattle.sip_text.specs.declared.address.Addr.{Addr}
 use Rattle.sip_read.specs.declared.message.Request.{Request}
 use Rattle.notifier_model.specs.declared.event.Event.{Event}
 use Rattle.notifier_model.specs.declared.event.Event.TheVariants.{Request as Comes}
-use Rattle.notifier_model.specs.Home.{comes_to, home}
-use Rattle.notifier_model.specs.Start.{Start}
+use Rattle.notifier_model.specs.Home.{comes_to, home, is_for_all}
+use Rattle.notifier_model.specs.declared.place.Place.{Place}
+use Rattle.notifier_model.specs.Start.{Start, tag_of}
+use Rattle.notifier.specs.Standing.{Standing, first_standing}
 use Rattle.queues.specs.declared.items.Item.{Item}
 use Rattle.notifier_model.specs.declared.event.Out.{Out}
 use Rattle.life.specs.Life.{Life, birth}
-use Rattle.life.specs.Lives.{life, birth_at, lived}
+use Rattle.life.specs.Lives.{concerns, life, birth_at, lived}
 use Rattle.life.specs.Notices.{newest_first, onto}
 use Rattle.life.specs.Own.{born_of}
 use Rattle.life.proofs.Deeds.{lived_is}
@@ -22,9 +24,10 @@ use Rattle.life.proofs.Homes.{nowhere_else_law}
 use Rattle.life.proofs.NextLives.{After, birth_of_some, each_life}
 use Rattle.crew.specs.Elsewhere.{HaveAllSeats, AllAtHome, events_taken}
 use Rattle.crew.specs.Laws.{its_tag}
+use Rattle.crew.specs.GoesOn.{standing_after, OneHomeGoesOnLaw}
 use Rattle.crew.specs.OneHome.{OneHomeLaw}
 use Rattle.crew.specs.Started.{Hired}
-use Rattle.crew.specs.Whole.{IsCrewRun}
+use Rattle.crew.specs.Whole.{IsCrewRunFrom}
 use Rattle.crew.specs.declared.report.WorkerReport.{WorkerReport}
 use Rattle.crew.proofs.Elsewhere.{all_come}
 
@@ -72,19 +75,36 @@ module _ (P : Event → Type 0) where
 at_home : (n w : ℕ) (source : Addr) (x : Request) → comes_to n w (Comes source x) ≡ true → home (Comes source x) n ≡ w
 at_home n w source x h = grind (arith, nat_tests)
 
-pub one_home_law : OneHomeLaw
-one_home_law start crew got reports w v serial x h g r s run seats home elsewhere here there here' there' born =
+-- of workers whose places are those of these starts, whatever their books
+one_home_from : (start : ℕ → Start) (stands : ℕ → Standing) (before : List Event) (crew : List Hired) (got : List (Item Out)) (reports : List WorkerReport)
+    (w v serial : ℕ) (x : Request) (h g : Hired) (r s : WorkerReport) (run : IsCrewRunFrom start stands crew got reports) →
+    (stands w).place ≡ (start w).place → HaveAllSeats crew run.ports → AllAtHome crew run.ports → All (λ e. comes_to (length crew) w e ≡ true) before → (v ≡ w → ⊥) →
+    slice_get crew w ≡ Some h → slice_get reports w ≡ Some r → slice_get crew v ≡ Some g → slice_get reports v ≡ Some s →
+    born_of (start w) serial (newest_first (before ++ events_taken h r)) ≡ Some x →
+    All (λ e. concerns (its_tag h serial) x e ≡ true → is_for_all e ≡ true) (events_taken g s)
+one_home_from start stands before crew got reports w v serial x h g r s run place seats home first elsewhere here there here' there' born =
     let n : ℕ = length crew in
     let P : Event → Type 0 = λ e. comes_to n w e ≡ true in
     let inside : w < n = slice_get_within crew w h here in
     let hired : get_or crew w h ≡ h = get_or_from_slice_get crew w h h here in
-    let past : List Event = newest_first (events_taken h r) in
-    let all : All P past = all_onto P [] (events_taken h r) (All-nil P) (all_come crew run.ports got reports w h r run.joined seats home here there) in
-    let came_from = born_came P h.start serial past x all born in
-    let begins : h.start ≡ start w = ap (λ (y : Hired). y.start) (sym hired) ∙ (let is = run.started.each w h inside in is.begins) in
-    let number : h.start.place.worker ≡ w = ap (λ (y : Start). y.place.worker) begins ∙ run.starts.numbers w inside in
+    let taken : List Event = events_taken h r in
+    let past : List Event = newest_first (before ++ taken) in
+    let all : All P past = all_onto P [] (before ++ taken) (All-nil P) (All-append P before taken first (all_come crew run.ports got reports w h r run.joined seats home here there)) in
+    let came_from = born_came P (start w) serial past x all born in
+    let begins : h.stands ≡ stands w = ap (λ (y : Hired). y.stands) (sym hired) ∙ (let is = run.started.each w h inside in is.begins) in
+    let number : (start w).place.worker ≡ w = run.starts.numbers w inside in
     let few : n ≤ 2 ^ 64 = (let l = run.starts.few in omega arith) in
-    nowhere_else_law n serial v h.start came_from.0 x past (events_taken g s)
+    let same_place : (start w).place ≡ h.stands.place = sym (ap (λ (y : Standing). y.place) begins ∙ place) in
+    subst (λ (p : Place). All (λ e. concerns (tag_of p serial) x e ≡ true → is_for_all e ≡ true) (events_taken g s)) same_place
+    (nowhere_else_law n serial v (start w) came_from.0 x past (events_taken g s)
     (record { below = (let is = number in omega arith); few = few; born = born; home = at_home n w came_from.0 x came_from.1 ∙ sym number })
     (λ same. elsewhere (same ∙ number))
-    (all_come crew run.ports got reports v g s run.joined seats home here' there')
+    (all_come crew run.ports got reports v g s run.joined seats home here' there'))
+
+pub one_home_goes_on_law : OneHomeGoesOnLaw
+one_home_goes_on_law start before crew got reports w v serial x h g r s run seats home first elsewhere here there here' there' born =
+    one_home_from start (λ k. standing_after (start k) (before k)) (before w) crew got reports w v serial x h g r s run refl seats home first elsewhere here there here' there' born
+
+pub one_home_law : OneHomeLaw
+one_home_law start crew got reports w v serial x h g r s run seats home elsewhere here there here' there' born =
+    one_home_from start (λ k. first_standing (start k)) [] crew got reports w v serial x h g r s run refl seats home (All-nil (λ e. comes_to (length crew) w e ≡ true)) elsewhere here there here' there' born

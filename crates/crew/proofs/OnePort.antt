@@ -30,7 +30,7 @@ all_of_one (x ∷ xs) all =
 -- a worker that came to the port's end took what the port sent, and the taker got the outs of all its events
 pub told_of_one : (h : Hired) (got : List (Item Out)) (report : WorkerReport) (seat : SenderSeat) → Reported h got report → IsHeard report seat → TellsAll h got report seat
 told_of_one h got report seat told here one zero_is closed =
-    let stop : Bool = h.start.place.stop in
+    let stop : Bool = h.stands.place.stop in
     let taken : List (Item Event) = report.receiver.taken in
     let A : End → Type 0 = λ e. Arrived e seat.sent (items_of seat.number taken) in
     let E : End → Type 0 = λ e. Ends stop h.reads.ports taken report.handled e in
@@ -41,5 +41,5 @@ told_of_one h got report seat told here one zero_is closed =
     let events : events_of stop h.reads.ports taken ≡ all_events h seat = events_ended stop h.reads.ports taken ends.0 ∙ ap (λ (l : List (Item Event)). values l ++ at_the_stop stop) same in (
       same,
       ends.1 ∙ ap length events,
-      told.outs ∙ ap (outs_for h.start) (take_whole report.handled (events_of stop h.reads.ports taken) ends.1) ∙ ap (outs_for h.start) events,
+      told.outs ∙ ap (outs_for h.stands) (take_whole report.handled (events_of stop h.reads.ports taken) ends.1) ∙ ap (outs_for h.stands) events,
     )

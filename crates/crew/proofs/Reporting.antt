@@ -34,7 +34,7 @@ values_got w got posted xs all is = ap values (all ∙ is) ∙ values_end (value
 abbrev pub row_of : Done → WorkerReport
 row_of d = record { receiver = d.receiver; handled = d.handled; made = d.made; end = d.end }
 
-pub reported : (h : Hired) (taker : TakerSeat) (d : Done) → HasEndOf taker h → IsWorked h.start h.reads h.posts d → TookInOrder d.poster.number taker.got d.poster.posted → Reported h taker.got (row_of d)
+pub reported : (h : Hired) (taker : TakerSeat) (d : Done) → HasEndOf taker h → IsWorked h.stands h.reads h.posts d → TookInOrder d.poster.number taker.got d.poster.posted → Reported h taker.got (row_of d)
 reported h taker d ended k came =
     let P : ℕ → Type 0 = λ n. has_end (items_of n taker.got) ≡ true → items_of n taker.got ≡ d.poster.posted in
     let whole : P h.posts.number = subst P k.same.number came.1 in record {
@@ -103,7 +103,7 @@ arrived stop n handled (end.Abandoned full) taken sent came all some k = some
 pub heard : (h : Hired) (got : List (Item Out)) (report : WorkerReport) (seat : SenderSeat) → Reported h got report → seat.number < h.reads.ports → TookInOrder seat.number report.receiver.taken seat.sent → IsHeard report seat
 heard h got report seat told low came =
     let all : AllEnded h.reads.ports report.receiver.taken → items_of seat.number report.receiver.taken ≡ seat.sent = λ ended. came.1 (ended seat.number low) in
-    record { arrived = arrived h.start.place.stop h.reads.ports report.handled report.end report.receiver.taken seat.sent (items_of seat.number report.receiver.taken) all came.0 told.ends; came = came }
+    record { arrived = arrived h.stands.place.stop h.reads.ports report.handled report.end report.receiver.taken seat.sent (items_of seat.number report.receiver.taken) all came.0 told.ends; came = came }
 
 -- an element of a list, and its image among the images
 pub image_at : {A B : Type 0} (f : A → B) (xs : List A) (ys : List B) (k : ℕ) (x : A) (y : B) → map f xs ≡ ys → k < length xs → f (get_or xs k x) ≡ get_or ys k y

@@ -1,10 +1,10 @@
 -- How seats are made for all workers.
-use Rattle.std.proofs.Common.{◌≡◌, ℕ, zero, suc, ◌+◌, ◌<◌, true, nat_lt, List, [], ◌∷◌, ◌++◌, length, get_or, refl, ap, sym, ◌∙◌, subst, arith, below_more, length-append}
-use Rattle.std.proofs.lemmas.Bool.{lt-ltb}
-use Rattle.std.proofs.lemmas.List.{get_or_append_left, map-append}
+use Rattle.std.proofs.Common.{◌≡◌, ℕ, zero, suc, ◌+◌, ◌<◌, false, true, nat_lt, List, [], ◌∷◌, ◌++◌, length, map, get_or, refl, ap, sym, ◌∙◌, subst, arith, below_more, length-append}
+use Rattle.std.proofs.lemmas.Bool.{lt-ltb, ltb-false}
+use Rattle.std.proofs.lemmas.List.{get_or_append_left, length-map, map-append}
 use Rattle.std.proofs.Math.Seq.{get_or-append_seam}
 use Rattle.queues.specs.InboxSeats.{Inbox, SenderSeat, new_senders}
-use Rattle.crew.specs.Ports.{PortSeats, seated, new_seat, port_of, AreDealt, TakeSeats}
+use Rattle.crew.specs.Ports.{PortSeats, seated, new_seat, port_of, AreDealt, NoneWasClosed, HaveRoom, TakeSeats}
 
 pub new_senders-length : (inbox : Inbox) (n : ℕ) → length (new_senders inbox n) ≡ n
 new_senders-length inbox zero = refl
@@ -49,3 +49,21 @@ dealt_more old new inboxes inbox n size was taken = record {
         seats = sym (map-append (λ b. new_seat b s) inboxes (inbox ∷ [])) i;
       });
 }
+
+none_open : (inboxes : List Inbox) (number : ℕ) → nat_lt 0 (length inboxes) ≡ false → map (λ i. new_seat i number) inboxes ≡ []
+none_open [] number e = refl
+none_open (i ∷ inboxes) number e = absurd (let f = ltb-false 0 (length (i ∷ inboxes)) e in omega arith)
+
+-- ports with these seats were not closed, and have room while there are few inboxes
+pub dealt_unclosed : (ports : List PortSeats) (inboxes : List Inbox) (n : ℕ) → AreDealt ports inboxes n → NoneWasClosed ports
+dealt_unclosed ports inboxes n dealt k d low =
+    let P : PortSeats → Type 0 = λ p. p.is_open ≡ false → p.seats ≡ [] in
+    let within : k < n = let e = dealt.len in omega arith in
+    subst P (sym (dealt.each k d within)) (none_open inboxes k)
+
+pub dealt_room : (ports : List PortSeats) (inboxes : List Inbox) (n : ℕ) → length inboxes < 256 → AreDealt ports inboxes n → HaveRoom ports
+dealt_room ports inboxes n few dealt k d low =
+    let P : PortSeats → Type 0 = λ p. length p.seats < 256 in
+    let within : k < n = let e = dealt.len in omega arith in
+    let size = length-map inboxes (λ i. new_seat i k) in
+    subst P (sym (dealt.each k d within)) (let e = size in omega arith)

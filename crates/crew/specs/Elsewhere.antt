@@ -15,7 +15,8 @@ use Rattle.crew.specs.AtHome.{AreAtHome}
 use Rattle.crew.specs.Joined.{IsJoined}
 use Rattle.crew.specs.Kept.{AllClosed}
 use Rattle.crew.specs.Ports.{PortSeats}
-use Rattle.crew.specs.Started.{Hired, IsStarted}
+use Rattle.notifier.specs.Standing.{Standing}
+use Rattle.crew.specs.Started.{Hired, HaveBegun}
 use Rattle.crew.specs.declared.report.WorkerReport.{WorkerReport}
 use Rattle.life.specs.Lives.{concerns}
 use Rattle.life.specs.Together.{IsBornAtHome}
@@ -32,12 +33,12 @@ AllAtHome crew ports = All (λ (q : PortSeats). AreAtHome (length crew) q.seats)
 
 -- all events that the worker took from its inbox, and the planned stop where there is one
 abbrev pub events_taken : Hired → WorkerReport → List Event
-events_taken h report = events_of h.start.place.stop h.reads.ports report.receiver.taken
+events_taken h report = events_of h.stands.place.stop h.reads.ports report.receiver.taken
 
 -- the ports of a new crew, closed, have all seats
 abbrev pub EveryPortLaw : Type 0
-EveryPortLaw = (start : ℕ → Start) (n : ℕ) (crew : List Hired) (dealt ports : List PortSeats) (taker : TakerSeat) →
-    IsStarted start (length crew) n crew dealt taker → AllClosed dealt ports → HaveAllSeats crew ports
+EveryPortLaw = (stands : ℕ → Standing) (n : ℕ) (crew : List Hired) (dealt ports : List PortSeats) (taker : TakerSeat) →
+    HaveBegun stands (length crew) n crew dealt taker → AllClosed dealt ports → HaveAllSeats crew ports
 
 -- Where the ports that were handed to `join` have all seats and sent events to their homes, a worker other than the one that a
 -- subscription has its home at took nothing that concerns it, but what goes to all.

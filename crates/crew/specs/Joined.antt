@@ -36,11 +36,11 @@ pub record Reported (h : Hired) (got : List (Item Out)) (report : WorkerReport) 
   pub inbox : report.receiver.inbox ≡ h.reads.inbox
   pub ports : report.receiver.ports ≡ h.reads.ports
   pub among : AllFrom h.reads.ports report.receiver.taken
-  pub ends : Ends h.start.place.stop h.reads.ports report.receiver.taken report.handled report.end
+  pub ends : Ends h.stands.place.stop h.reads.ports report.receiver.taken report.handled report.end
   pub outs : values (items_of h.posts.number got)
-      ≡ outs_for h.start (handled_of h.start h.reads.ports report.receiver.taken report.handled)
+      ≡ outs_for h.stands (handled_of h.stands h.reads.ports report.receiver.taken report.handled)
   pub total : report.made
-      ≡ length (outs_for h.start (handled_of h.start h.reads.ports report.receiver.taken report.handled))
+      ≡ length (outs_for h.stands (handled_of h.stands h.reads.ports report.receiver.taken report.handled))
 
 -- what came of what a port sent: all, but of a worker that was abandoned the beginning
 abbrev pub Arrived : End → List (Item Event) → List (Item Event) → Type 0

@@ -1,6 +1,8 @@
 pub mod Numbers
 pub mod Ports
 pub mod PortErrors
+pub mod Calls
+pub mod Desks
 pub mod Ready
 pub mod Started
 pub mod Joined
@@ -16,3 +18,4 @@ pub mod Worked
 pub mod Loop
 pub mod OneSender
 pub mod OneHome
+pub mod GoesOn

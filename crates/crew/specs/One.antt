@@ -15,14 +15,14 @@ use Rattle.crew.specs.declared.report.WorkerReport.{WorkerReport}
 
 -- the events of a worker to which one port sent this, and which came to its end
 abbrev pub all_events : Hired → SenderSeat → List Event
-all_events h seat = values seat.sent ++ at_the_stop h.start.place.stop
+all_events h seat = values seat.sent ++ at_the_stop h.stands.place.stop
 
 -- of one port, a worker that came to its end took what the port sent, and the taker got the outs of all its events
 abbrev pub TellsAll : Hired → List (Item Out) → WorkerReport → SenderSeat → Type 0
 TellsAll h got report seat = h.reads.ports ≡ 1 → seat.number ≡ 0 → report.end ≡ end.Closed
     → (report.receiver.taken ≡ seat.sent)
     × (report.handled ≡ length (all_events h seat))
-    × (values (items_of h.posts.number got) ≡ outs_for h.start (all_events h seat))
+    × (values (items_of h.posts.number got) ≡ outs_for h.stands (all_events h seat))
 
 abbrev pub OnePortLaw : Type 0
 OnePortLaw = (h : Hired) (got : List (Item Out)) (report : WorkerReport) (seat : SenderSeat)

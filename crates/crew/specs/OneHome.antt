@@ -23,5 +23,5 @@ OneHomeLaw = (start : ℕ → Start) (crew : List Hired) (got : List (Item Out))
     HaveAllSeats crew run.ports → AllAtHome crew run.ports → (v ≡ w → ⊥) →
     slice_get crew w ≡ Some h → slice_get reports w ≡ Some r →
     slice_get crew v ≡ Some g → slice_get reports v ≡ Some s →
-    born_of h.start serial (newest_first (events_taken h r)) ≡ Some x →
+    born_of (start w) serial (newest_first (events_taken h r)) ≡ Some x →
     All (λ e. concerns (its_tag h serial) x e ≡ true → is_for_all e ≡ true) (events_taken g s)

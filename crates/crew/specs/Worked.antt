@@ -7,8 +7,8 @@ use Rattle.queues.specs.Values.{values_by, end_item}
 use Rattle.notifier_model.specs.declared.event.Event.{Event}
 use Rattle.notifier_model.specs.declared.event.Out.{Out}
 use Rattle.notifier_model.specs.Out.{out_of}
-use Rattle.notifier_model.specs.Run.{made}
-use Rattle.notifier_model.specs.Start.{Start}
+use Rattle.notifier_model.specs.Run.{made_from}
+use Rattle.notifier.specs.Standing.{Standing}
 use Rattle.queues.specs.InboxSeats.{ReceiverSeat}
 use Rattle.queues.specs.InboxEvents.{events_of}
 use Rattle.queues.specs.OutboxSeats.{PosterSeat}
@@ -16,9 +16,9 @@ use Rattle.crew.specs.declared.end.End.{End}
 use Rattle.crew.specs.declared.end.End.TheVariants.{Closed, NoMemory, Abandoned}
 use Rattle.crew.specs.declared.end.Done.{Done}
 
--- the outs of the one-thread notifier with this start, for these events
-abbrev pub outs_for : Start → List Event → List Out
-outs_for start events = map out_of (made start events)
+-- the outs of the one-thread notifier that stands so, for these events
+abbrev pub outs_for : Standing → List Event → List Out
+outs_for stands events = map out_of (made_from stands.place stands.book events)
 
 -- each item is of one of the first n ports
 abbrev pub AllFrom : ℕ → List (Item Event) → Type 0
@@ -42,16 +42,16 @@ pub record KeepsQueues (reads reads' : ReceiverSeat) (posts posts' : PosterSeat)
   pub outbox : posts'.outbox ≡ posts.outbox
   pub number : posts'.number ≡ posts.number
 
--- the first of the events that a worker with this start took, as many as it handled
-abbrev pub handled_of : Start → ℕ → List (Item Event) → ℕ → List Event
-handled_of start ports taken handled = take handled (events_of start.place.stop ports taken)
+-- the first of the events that a worker took that began so, as many as it handled
+abbrev pub handled_of : Standing → ℕ → List (Item Event) → ℕ → List Event
+handled_of stands ports taken handled = take handled (events_of stands.place.stop ports taken)
 
--- what a worker leaves that began with this start and these ends of the queues: it posted the outs of the events that it
+-- what a worker leaves that began with a desk that stood so and these ends of the queues: it posted the outs of the events that it
 -- handled, then its end mark, and nothing else
-pub record IsWorked (start : Start) (reads : ReceiverSeat) (posts : PosterSeat) (done : Done) : Type 0 where
+pub record IsWorked (stands : Standing) (reads : ReceiverSeat) (posts : PosterSeat) (done : Done) : Type 0 where
   pub same : KeepsQueues reads done.receiver posts done.poster
   pub among : AllFrom reads.ports done.receiver.taken
   pub posted : done.poster.posted
-      ≡ values_by posts.number (outs_for start (handled_of start reads.ports done.receiver.taken done.handled)) ++ end_item posts.number ∷ []
-  pub total : done.made ≡ length (outs_for start (handled_of start reads.ports done.receiver.taken done.handled))
-  pub ends : Ends start.place.stop reads.ports done.receiver.taken done.handled done.end
+      ≡ values_by posts.number (outs_for stands (handled_of stands reads.ports done.receiver.taken done.handled)) ++ end_item posts.number ∷ []
+  pub total : done.made ≡ length (outs_for stands (handled_of stands reads.ports done.receiver.taken done.handled))
+  pub ends : Ends stands.place.stop reads.ports done.receiver.taken done.handled done.end

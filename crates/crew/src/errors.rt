@@ -36,6 +36,28 @@ impl StartError {
     }
 }
 
+/// Why a crew doesn't go on. What was started has ended then, and the desks are dropped.
+#[derive(Clone, Copy, Debug, PartialEq, Eq, Error)]
+pub enum GoOnError {
+    /// The number of the first desk that no worker can begin with: it is spent, or it is another worker's, or its limits give the outbox
+    /// other room than those of the first desk. Desks are looked at before any memory is asked for.
+    #[error("worker {0} can't go on")]
+    BadDesk(u32),
+    /// The crew isn't started.
+    #[error("{0}")]
+    Start(StartError),
+}
+
+impl From<StartError> for GoOnError {
+    ghost use Rattle.crew.specs.declared.errors.GoOnError.TheVariants as cause;
+
+    ghost from_gives = { λ error e. e ≡ cause.Start error };
+
+    fn from(error: StartError) -> GoOnError {
+        GoOnError::Start(error)
+    }
+}
+
 /// Why a port sends no event. It comes back, and the port is as it was.
 #[derive(Debug, Drop, Error)]
 pub enum SendError {
@@ -59,7 +81,7 @@ impl SendError {
     }
 }
 
-/// Why a port doesn't tell the time to all workers.
+/// Why a port doesn't tell all workers the time, or the planned stop.
 #[derive(Clone, Copy, Debug, PartialEq, Eq, Error)]
 pub enum TickError {
     /// The port was closed, and is as it was.

@@ -1,14 +1,44 @@
-//! What a worker passes before each event.
+//! What a worker passes before each event, and what it tells of what it did.
 
-/// Is passed before each event that a worker handles, and told of what was posted and of a worker that handles no more. It may wait; what
-/// it does is no part of any contract.
+use notifier_model::{Event, Out};
+use std::sync::Wait;
+
+/// Is passed before each event that a worker handles, and told of what was handled and posted, and of a worker that handles no more. It
+/// may wait; what it does is no part of any contract.
+///
+/// Who keeps a journal of the events has each in hand before an out of it can be sent, and asks now and then for the book that they
+/// made: from that a desk goes on (`notifier::Desk::resume`).
 pub trait Gate: Send + Sync {
     /// `worker` is the worker's number, and `index` counts its events from 0.
     fn pass(&self, worker: u32, index: u64);
 
+    /// The worker with this number handled this event at its desk, which made these outs; none of them is posted yet. An event at which
+    /// memory ran out isn't told.
+    fn handled<R: Wait>(&self, rt: &R, worker: u32, event: &Event, outs: &[Out]) {
+        let _ = rt;
+        let _ = worker;
+        let _ = event;
+        let _ = outs;
+    }
+
     /// The worker with this number posted an out, or put its end mark: who takes them may be asleep.
     fn posted(&self, worker: u32) {
         let _ = worker;
+    }
+
+    /// Whether the worker with this number is to write its book. It is asked behind the outs of each event, and once more, before the
+    /// end mark, where the worker ends and its memory didn't run out.
+    fn wants_book(&self, worker: u32) -> bool {
+        let _ = worker;
+        false
+    }
+
+    /// The book of the worker with this number after all events that were handled so far, as `notifier::Desk::save` writes it. Where
+    /// memory runs out no book comes.
+    fn book<R: Wait>(&self, rt: &R, worker: u32, written: Vec<u8>) {
+        let _ = rt;
+        let _ = worker;
+        drop(written);
     }
 
     /// The worker with this number ran out of memory: from now on it drops what is sent to it, until each port has ended.

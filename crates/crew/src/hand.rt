@@ -38,7 +38,8 @@ pub(crate) struct Hand<P: Package> {
 }
 
 impl<P: Package> Hand<P> {
-    /// Passes the gate, handles one event, posts its outs, and counts it and them.
+    /// Passes the gate, handles one event and tells the gate of it, posts its outs, counts it and them, and writes the book where the
+    /// gate wants it.
     pub(crate) fn handle<R: Wait, G: Gate>(
         &mut self,
         rt: &R,
@@ -57,11 +58,26 @@ impl<P: Package> Hand<P> {
     {
         gate.pass(self.worker, self.handled);
         let told = self.desk.handle(alloc, &event);
+        if let Ok(outs) = &told {
+            gate.handled(rt, self.worker, &event, outs.as_slice());
+        }
         drop(event);
         let outs = told?;
         self.made = count_up(rt, self.made, outs.len() as u64);
         self.handled = count_up(rt, self.handled, 1);
         post_all(rt, gate, self.worker, &mut self.poster, outs);
+        self.write_book(rt, alloc, gate);
         Ok(())
+    }
+
+    /// Hands the book over where the gate wants it. A spent desk has none, and where memory runs out none is handed over.
+    pub(crate) fn write_book<R: Wait, G: Gate>(&self, rt: &R, alloc: Global, gate: &G) {
+        if self.desk.is_spent() || !gate.wants_book(self.worker) {
+            return;
+        }
+        let mut written = Vec::new(alloc);
+        if self.desk.save(alloc, &mut written).is_ok() {
+            gate.book(rt, self.worker, written);
+        }
     }
 }

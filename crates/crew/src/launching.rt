@@ -1,14 +1,13 @@
 //! How one worker is started.
 ghost use Rattle.std.specs.Prelude.{◌≡◌, [], Some, IfOk};
 ghost use Rattle.notifier.specs.Held.{seen_by};
-ghost use Rattle.notifier.specs.Standing.{first_standing};
-ghost use Rattle.notifier_model.specs.Start.{Start};
+ghost use Rattle.notifier.specs.Standing.{Standing};
 ghost use Rattle.crew.specs.Worked.{IsWorked};
 
 use crate::end::Done;
 use crate::gate::Gate;
 use crate::hand::Hand;
-use crate::token::StartToken;
+use crate::token::StandingToken;
 use crate::working::work;
 use notifier::Desk;
 use package::Package;
@@ -21,10 +20,10 @@ use std::thread;
 use std::thread::{Promise, PromisedHandle, Threads};
 
 /// What a worker began with, which contracts alone see. It is the promise under which its thread runs: what the worker
-/// leaves is what a worker with this start and these ends of the queues leaves.
+/// leaves is what a worker leaves whose desk stood so and that had these ends of the queues.
 #[derive(Drop)]
 pub struct Began {
-    pub token: StartToken,
+    pub token: StandingToken,
     pub inbox: Snapshot<Receiver>,
     pub outbox: Snapshot<Poster>,
 }
@@ -32,14 +31,14 @@ pub struct Began {
 impl Promise<Done> for Began {
     ghost use Rattle.crew.specs.Worked.{IsWorked};
 
-    ghost kept_by = { λ p done. IsWorked p.token.start p.inbox.value p.outbox.value done };
+    ghost kept_by = { λ p done. IsWorked p.token.stands p.inbox.value p.outbox.value done };
 }
 
 /// What one worker is given.
 #[derive(Drop)]
 pub struct NewWorker<P: Package> {
-    /// The start of the desk.
-    pub token: StartToken,
+    /// How the desk stands.
+    pub token: StandingToken,
     /// The worker's number.
     pub worker: u32,
     /// Whether a stop is planned.
@@ -62,9 +61,9 @@ where
     G: Gate + Drop + 'static,
     requires taken { new_worker.receiver.taken ≡ [] }
     requires posted { new_worker.poster.posted ≡ [] }
-    requires desk { seen_by P.seen new_worker.desk ≡ Some (first_standing new_worker.token.start) }
-    requires stop { new_worker.stop ≡ new_worker.token.start.place.stop }
-    ensures start { IfOk result (λ h. h.promise.token.start ≡ new_worker.token.start) }
+    requires desk { seen_by P.seen new_worker.desk ≡ Some new_worker.token.stands }
+    requires stop { new_worker.stop ≡ new_worker.token.stands.place.stop }
+    ensures stands { IfOk result (λ h. h.promise.token.stands ≡ new_worker.token.stands) }
     ensures inbox { IfOk result (λ h. h.promise.inbox.value ≡ new_worker.receiver) }
     ensures outbox { IfOk result (λ h. h.promise.outbox.value ≡ new_worker.poster) }
 {
@@ -86,8 +85,8 @@ where
         began,
         move || -> Done
             requires { (receiver.taken ≡ []) × (poster.posted ≡ []) }
-            ensures { (start : Start) → seen_by P.seen desk ≡ Some (first_standing start) → stop ≡ start.place.stop
-                → IsWorked start receiver poster result }
+            ensures { (stands : Standing) → seen_by P.seen desk ≡ Some stands → stop ≡ stands.place.stop
+                → IsWorked stands receiver poster result }
         {
             let hand = Hand {
                 worker,

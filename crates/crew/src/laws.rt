@@ -6,12 +6,17 @@
 //! worker took anything that concerns it but ticks and the planned stop. What the taker may rely on at any moment before,
 //! [`world`] says. No function here does anything: each is a theorem over definitions.
 //!
-//! Begin with `specs/Laws`, then `specs/Whole` and `specs/Elsewhere`.
+//! A crew may go on from saved books ([`crate::Crew::go_on`]). Then [`goes_on`] says that what went out before, and what the taker got
+//! since, is what one notifier sends for all events, as if its process had only been slow. A law with the clauses `anew` and `on` says
+//! its sentence of new desks, and of desks that went on, over what came before and since.
+//!
+//! Begin with `specs/Laws`, then `specs/Whole`, `specs/Elsewhere` and `specs/GoesOn`.
 ghost use Rattle.crew.specs.AtHome.{NewLaw, SendLaw, TickLaw, CloseLaw};
 ghost use Rattle.crew.specs.One.{OnePortLaw};
 ghost use Rattle.crew.specs.OneHome.{OneHomeLaw};
 ghost use Rattle.crew.specs.OneSender.{OneSenderLaw};
 ghost use Rattle.crew.specs.Elsewhere.{EveryPortLaw, NowhereElseLaw};
+ghost use Rattle.crew.specs.GoesOn.{AloneGoesOnLaw, GoesOnLaw, LifeGoesOnLaw, OneHomeGoesOnLaw, RisingGoesOnLaw, WholeGoesOnLaw};
 ghost use Rattle.crew.specs.Laws.{AllLaw, AloneLaw, LifeLaw};
 ghost use Rattle.crew.specs.Whole.{RisingLaw, TookLaw, WholeLaw};
 
@@ -37,10 +42,17 @@ pub fn all()
     ensures { AllLaw }
 {}
 
+/// What went out of a worker's start before the crew went on, and what the taker got of it since, is what one notifier sends for all the
+/// events, as if its process had only been slow: so the laws of `notifier::laws` hold over both lists.
+pub fn goes_on()
+    ensures { GoesOnLaw }
+{}
+
 /// The NOTIFYs of a subscription that the taker of a joined crew got are those of its life over the events that its worker
 /// handled, one for one and in order.
 pub fn life()
-    ensures { LifeLaw }
+    ensures anew { LifeLaw }
+    ensures on { LifeGoesOnLaw }
 {}
 
 /// What a taker got since it was made is of its own workers.
@@ -51,18 +63,21 @@ pub fn took()
 /// The NOTIFYs with a subscription's tag among all that the taker got since the crew's start, from whichever worker, are those
 /// of its life: no other worker's NOTIFYs have that tag.
 pub fn whole()
-    ensures { WholeLaw }
+    ensures anew { WholeLaw }
+    ensures on { WholeGoesOnLaw }
 {}
 
 /// Those NOTIFYs are numbered 1, 2, 3 and so on, and none follows a terminated one.
 pub fn rising()
-    ensures { RisingLaw }
+    ensures anew { RisingLaw }
+    ensures on { RisingGoesOnLaw }
 {}
 
 /// What the taker got of a subscription is what it would be told of its own events alone, by one worker, as its first:
 /// where its requests aren't taken for somebody else's (`life/specs/Apart`).
 pub fn alone()
-    ensures { AloneLaw }
+    ensures anew { AloneLaw }
+    ensures on { AloneGoesOnLaw }
 {}
 
 /// No other worker took anything that concerns a subscription but ticks and the planned stop, where it was born at the home of its
@@ -80,7 +95,8 @@ pub fn every_port()
 /// The same of each subscription that was born of what a worker took, by the run of the crew alone: that the request it was born of
 /// has its home there follows.
 pub fn one_home()
-    ensures { OneHomeLaw }
+    ensures anew { OneHomeLaw }
+    ensures on { OneHomeGoesOnLaw }
 {}
 
 /// Where one port sent all of a subscription's own events, its worker took them in that port's order, whatever other ports there

@@ -38,7 +38,7 @@ mod working;
 
 pub use counting::count_up;
 pub use end::{Done, End};
-pub use errors::{SendError, StartError, TickError};
+pub use errors::{GoOnError, SendError, StartError, TickError};
 pub use gate::{Gate, Open};
 pub use launching::{Began, NewWorker, launch};
 pub use notifier_model::homes::{home, key_hash};
@@ -47,4 +47,4 @@ pub use replay::Replay;
 pub use report::{Report, WorkerReport};
 pub use shared::SharedDesk;
 pub use start::Crew;
-pub use token::{HasStart, Opening, StartToken};
+pub use token::{HasStanding, StandingToken};

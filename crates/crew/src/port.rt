@@ -4,6 +4,7 @@ ghost use Rattle.notifier_model.specs.declared.event.Event.TheVariants as event;
 ghost use Rattle.notifier_model.specs.Home as spec;
 ghost use Rattle.crew.specs.Ports.{no_seats, seated, NoneWasClosed, HaveRoom, TakeSeats, Closes, ClosesSome, OneStays, SendsTo, SendsAt, sent_first, sends_first};
 ghost use Rattle.crew.specs.PortErrors.{GivesBack, TicksFirst};
+ghost use Rattle.crew.specs.Calls.{call_event};
 
 use crate::errors::{SendError, TickError};
 use notifier_model::Event;
@@ -117,15 +118,35 @@ fn send_to<R: Wait>(rt: &R, senders: &mut [Sender], at: usize, event: Event) -> 
     }
 }
 
-/// Sends the time by each seat in order. Where a worker is gone it answers how many inboxes took it, and the rest get none.
-fn tick_all<R: Wait>(rt: &R, senders: &mut [Sender], now: u64) -> Result<(), u32>
+/// What goes to all workers.
+#[derive(Clone, Copy)]
+enum Call {
+    /// It is this second.
+    Tick(u64),
+    /// The planned stop.
+    Shut,
+}
+
+impl Call {
+    fn event(self) -> Event
+        ensures { result ≡ call_event self }
+    {
+        match self {
+            Call::Tick(now) => Event::Tick(now),
+            Call::Shut => Event::Shut,
+        }
+    }
+}
+
+/// Sends this by each seat in order. Where a worker is gone it answers how many inboxes took it, and the rest get none.
+fn call_all<R: Wait>(rt: &R, senders: &mut [Sender], call: Call) -> Result<(), u32>
     requires { length senders.old ≤ 256 }
     ensures { MatchResult result
-        (λ _. senders.new ≡ sent_first (length senders.old) (event.Tick now) senders.old)
-        (λ i. (i < length senders.old) × (senders.new ≡ sent_first i (event.Tick now) senders.old)) }
+        (λ _. senders.new ≡ sent_first (length senders.old) (call_event call) senders.old)
+        (λ i. (i < length senders.old) × (senders.new ≡ sent_first i (call_event call) senders.old)) }
 {
     for at in 0..senders.len() {
-        if let Err(back) = send_to(rt, senders, at, Event::Tick(now)) {
+        if let Err(back) = send_to(rt, senders, at, call.event()) {
             drop(back);
             return Err(at as u32);
         }
@@ -135,7 +156,7 @@ fn tick_all<R: Wait>(rt: &R, senders: &mut [Sender], now: u64) -> Result<(), u32
 
 impl Port {
     /// Sends an event to its home, and waits while that inbox is full. Where the port is closed or the worker gone the event
-    /// comes back. A tick has no home, and goes by [`Port::tick`].
+    /// comes back. A tick has no home, and goes by [`Port::tick`]; nor has the planned stop, which goes by [`Port::shut`].
     pub fn send<R: Wait>(&mut self, rt: &R, event: Event) -> Result<(), SendError>
         requires told { spec.is_for_all event ≡ false }
         ensures { MatchResult result
@@ -159,10 +180,29 @@ impl Port {
             (λ _. (self.old.is_open ≡ true) × (self.new ≡ sends_first (length self.old.seats) (event.Tick now) self.old))
             (λ error. TicksFirst self.old (event.Tick now) self.new error) }
     {
+        self.call(rt, Call::Tick(now))
+    }
+
+    /// Tells each worker in order to end its subscriptions, as the planned stop of a setup does, and waits while an inbox is full. So who
+    /// decides only then whether watchers hear a farewell starts without a planned stop, and sends it before the port is closed.
+    pub fn shut<R: Wait>(&mut self, rt: &R) -> Result<(), TickError>
+        ensures { MatchResult result
+            (λ _. (self.old.is_open ≡ true) × (self.new ≡ sends_first (length self.old.seats) event.Shut self.old))
+            (λ error. TicksFirst self.old event.Shut self.new error) }
+    {
+        self.call(rt, Call::Shut)
+    }
+
+    /// Sends this to each worker in order.
+    fn call<R: Wait>(&mut self, rt: &R, call: Call) -> Result<(), TickError>
+        ensures { MatchResult result
+            (λ _. (self.old.is_open ≡ true) × (self.new ≡ sends_first (length self.old.seats) (call_event call) self.old))
+            (λ error. TicksFirst self.old (call_event call) self.new error) }
+    {
         if self.is_closed() {
             return Err(TickError::Closed);
         }
-        match tick_all(rt, self.senders.as_mut_slice(), now) {
+        match call_all(rt, self.senders.as_mut_slice(), call) {
             Ok(()) => Ok(()),
             Err(count) => Err(TickError::Gone(count)),
         }

@@ -2,8 +2,7 @@
 ghost use Rattle.std.specs.Prelude.{◌≡◌, ◌+◌, [], Some};
 ghost use Rattle.queues.specs.Ended.{count_ended};
 ghost use Rattle.notifier.specs.Held.{seen_by};
-ghost use Rattle.notifier.specs.Standing.{first_standing};
-ghost use Rattle.notifier_model.specs.Start.{Start};
+ghost use Rattle.notifier.specs.Standing.{Standing};
 ghost use Rattle.crew.specs.Worked.{AllFrom, KeepsQueues};
 ghost use Rattle.crew.specs.Loop.{Halted};
 
@@ -48,8 +47,8 @@ pub(crate) fn handle_all<R: Wait, P: Package, G: Gate>(
     ensures among { AllFrom receiver.old.ports receiver.new.taken }
     ensures left { result.left + count_ended receiver.old.ports receiver.new.taken ≡ receiver.old.ports }
     ensures stop { hand.new.stop ≡ hand.old.stop }
-    ensures halted { (start : Start) → seen_by P.seen hand.old.desk ≡ Some (first_standing start)
-        → Halted hand.old.poster.number receiver.old.ports start receiver.new.taken
+    ensures halted { (stands : Standing) → seen_by P.seen hand.old.desk ≡ Some stands
+        → Halted hand.old.poster.number receiver.old.ports stands receiver.new.taken
         (seen_by P.seen hand.new.desk) hand.new.poster.posted hand.new.handled hand.new.made result.stop }
 {
     let mut left = receiver.ports();

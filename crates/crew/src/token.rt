@@ -1,47 +1,40 @@
-//! What a worker starts from, as contracts see it.
-ghost use Rattle.std.specs.Prelude.{◌≡◌, map};
+//! What a worker begins with, as contracts see it.
+ghost use Rattle.std.specs.Prelude.{◌≡◌};
 ghost use Rattle.std.specs.Borrow.{ftrue};
 ghost use Rattle.std.specs.Coded.{codes};
 ghost use Rattle.package.specs.Code.{coded_contents};
-ghost use Rattle.notifier_model.specs.Start.{Start, place_of};
+ghost use Rattle.notifier.specs.Standing.{Standing};
 
-use notifier_model::Setup;
+use notifier::Desk;
 use package::Package;
 use std::marker::Model;
 
-/// A start that only contracts see. It has no bytes, so it crosses threads and outlives the desk that began so.
+/// How a desk stood, which only contracts see. It has no bytes, so it crosses threads and outlives the desk.
 #[derive(Drop)]
-pub struct StartToken {
-    pub ghost start: { Start } by { Prim.hlevel (codes, coded_contents) },
+pub struct StandingToken {
+    pub ghost stands: { Standing } by { Prim.hlevel (codes, coded_contents) },
 }
 
-impl Model for StartToken {
+impl Model for StandingToken {
     ghost also_owns = { λ _. ftrue };
 }
 
-/// What shows a start.
-pub trait HasStart {
-    ghost start: { Self → Start };
+/// What shows how a desk stands.
+pub trait HasStanding {
+    ghost stands: { Self → Standing };
 }
 
-impl StartToken {
-    /// The token of this start.
-    pub fn of<M: HasStart>(opening: &M) -> StartToken
-        ensures { result.start ≡ M.start opening.now }
+impl StandingToken {
+    /// The token of how this desk stands.
+    pub fn of<M: HasStanding>(desk: &M) -> StandingToken
+        ensures { result.stands ≡ M.stands desk.now }
     {
-        StartToken {}
+        StandingToken {}
     }
 }
 
-/// What a desk is made of.
-#[derive(Drop)]
-pub struct Opening<P: Package> {
-    pub setup: Setup,
-    /// The number of the worker.
-    pub worker: u32,
-    pub boxes: Vec<P>,
-}
+impl<P: Package> HasStanding for Desk<P> {
+    ghost use Rattle.crew.specs.Desks.{standing_of};
 
-impl<P: Package> HasStart for Opening<P> {
-    ghost start = { λ o. record { place = place_of o.setup o.worker; boxes = map P.seen o.boxes.items } };
+    ghost stands = { λ d. standing_of P.seen d };
 }

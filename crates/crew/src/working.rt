@@ -4,8 +4,7 @@ ghost use Rattle.queues.specs.declared.items.Item.{Item};
 ghost use Rattle.queues.specs.Ended.{count_ended, AllEnded};
 ghost use Rattle.notifier_model.specs.declared.event.Event.{Event};
 ghost use Rattle.notifier.specs.Held.{seen_by};
-ghost use Rattle.notifier.specs.Standing.{first_standing};
-ghost use Rattle.notifier_model.specs.Start.{Start};
+ghost use Rattle.notifier.specs.Standing.{Standing};
 ghost use Rattle.crew.specs.Worked.{AllFrom, IsWorked};
 ghost use Rattle.crew.specs.Loop.{Halted, Halts};
 ghost use Rattle.crew.specs.declared.serving.Stop.TheVariants.{Finished};
@@ -50,10 +49,10 @@ fn drain<R: Wait>(rt: &R, receiver: &mut Receiver, mut left: u32) -> bool
 fn shut<R: Wait, P: Package, G: Gate>(rt: &R, alloc: Global, gate: &G, hand: &mut Hand<P>) -> End
     ensures same { (hand.new.poster.outbox ≡ hand.old.poster.outbox)
         × (hand.new.poster.number ≡ hand.old.poster.number) }
-    ensures ends { (n : ℕ) (start : Start) (taken : List (Item Event)) → hand.old.stop ≡ start.place.stop
-        → Halted hand.old.poster.number n start taken
+    ensures ends { (n : ℕ) (stands : Standing) (taken : List (Item Event)) → hand.old.stop ≡ stands.place.stop
+        → Halted hand.old.poster.number n stands taken
         (seen_by P.seen hand.old.desk) hand.old.poster.posted hand.old.handled hand.old.made Finished
-        → Halts hand.old.poster.number n start taken
+        → Halts hand.old.poster.number n stands taken
         hand.new.poster.posted hand.new.handled hand.new.made result }
 {
     if !hand.stop {
@@ -80,10 +79,10 @@ fn ending<R: Wait, P: Package, G: Gate>(
     ensures among { AllFrom receiver.old.ports receiver.old.taken → AllFrom receiver.old.ports receiver.new.taken }
     ensures same { (hand.new.poster.outbox ≡ hand.old.poster.outbox)
         × (hand.new.poster.number ≡ hand.old.poster.number) }
-    ensures ends { (start : Start) → hand.old.stop ≡ start.place.stop
-        → Halted hand.old.poster.number receiver.old.ports start receiver.old.taken
+    ensures ends { (stands : Standing) → hand.old.stop ≡ stands.place.stop
+        → Halted hand.old.poster.number receiver.old.ports stands receiver.old.taken
         (seen_by P.seen hand.old.desk) hand.old.poster.posted hand.old.handled hand.old.made halt.stop
-        → Halts hand.old.poster.number receiver.old.ports start receiver.new.taken
+        → Halts hand.old.poster.number receiver.old.ports stands receiver.new.taken
         hand.new.poster.posted hand.new.handled hand.new.made result }
 {
     match halt.stop {
@@ -111,11 +110,12 @@ pub(crate) fn work<R: Wait, P: Package, G: Gate>(
     requires taken { receiver.taken ≡ [] }
     requires posted { hand.poster.posted ≡ [] }
     requires counts { (hand.handled ≡ 0) × (hand.made ≡ 0) }
-    ensures { (start : Start) → seen_by P.seen hand.desk ≡ Some (first_standing start) → hand.stop ≡ start.place.stop
-        → IsWorked start receiver hand.poster result }
+    ensures { (stands : Standing) → seen_by P.seen hand.desk ≡ Some stands → hand.stop ≡ stands.place.stop
+        → IsWorked stands receiver hand.poster result }
 {
     let halt = handle_all(rt, alloc, gate, &mut hand, &mut receiver);
     let end = ending(rt, alloc, gate, &mut hand, &mut receiver, halt);
+    hand.write_book(rt, alloc, gate);
     let Hand {
         worker,
         poster,

@@ -87,7 +87,7 @@ same_text old new same = let P : Option (List ℕ) → Type 0 = λ k. Appends ol
 -- where no transfer failed to be written, the line of this out was
 wrote : (old new : Option (List ℕ)) (o : Out) (f : Fate) → Writes old new o f → count fails_to_start (one o f) ≡ 0 → Appends old new (line_of o)
 wrote old new (out.Answer to octets) f w none = same_text old new w
-wrote old new (out.Notify to number terminated tag octets) f w none = same_text old new w
+wrote old new (out.Notify to number terminated tag note octets) f w none = same_text old new w
 wrote old new (out.Start tag refer_to) Sent w none = absurd w
 wrote old new (out.Start tag refer_to) Started w none = w
 wrote old new (out.Start tag refer_to) Failed w none = absurd (omega arith)
@@ -118,15 +118,15 @@ module _ {S : Type 0} (flushed : S → Bool) where
   flushed_more first old new o Started log may was written stays none = inr (written refl)
   flushed_more first old new (out.Answer to octets) Failed log may was written stays none =
       kept first old new (stays refl) (was (none_before log (out.Answer to octets) Failed none))
-  flushed_more first old new (out.Notify to number terminated tag octets) Failed log may was written stays none =
-      kept first old new (stays refl) (was (none_before log (out.Notify to number terminated tag octets) Failed none))
+  flushed_more first old new (out.Notify to number terminated tag note octets) Failed log may was written stays none =
+      kept first old new (stays refl) (was (none_before log (out.Notify to number terminated tag note octets) Failed none))
   flushed_more first old new (out.Start tag refer_to) Failed log may was written stays none =
       let e : count fails_to_start (log ++ one (out.Start tag refer_to) Failed) ≡ count fails_to_start log + 1 =
       count_more fails_to_start log (one (out.Start tag refer_to) Failed) in absurd (omega arith)
   flushed_more first old new (out.Answer to octets) Sent log may was written stays none =
       kept first old new (stays refl) (was (none_before log (out.Answer to octets) Sent none))
-  flushed_more first old new (out.Notify to number terminated tag octets) Sent log may was written stays none =
-      kept first old new (stays refl) (was (none_before log (out.Notify to number terminated tag octets) Sent none))
+  flushed_more first old new (out.Notify to number terminated tag note octets) Sent log may was written stays none =
+      kept first old new (stays refl) (was (none_before log (out.Notify to number terminated tag note octets) Sent none))
   flushed_more first old new (out.Start tag refer_to) Sent log may was written stays none = absurd may
 
 -- ---- the loop

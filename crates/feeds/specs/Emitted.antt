@@ -22,9 +22,9 @@ abbrev pub MayMeet : Out → Fate → Type 0
 MayMeet (out.Answer to octets) Sent = Unit {0}
 MayMeet (out.Answer to octets) Started = ⊥
 MayMeet (out.Answer to octets) Failed = Unit {0}
-MayMeet (out.Notify to number terminated tag octets) Sent = Unit {0}
-MayMeet (out.Notify to number terminated tag octets) Started = ⊥
-MayMeet (out.Notify to number terminated tag octets) Failed = Unit {0}
+MayMeet (out.Notify to number terminated tag note octets) Sent = Unit {0}
+MayMeet (out.Notify to number terminated tag note octets) Started = ⊥
+MayMeet (out.Notify to number terminated tag note octets) Failed = Unit {0}
 MayMeet (out.Start tag refer_to) Sent = ⊥
 MayMeet (out.Start tag refer_to) Started = Unit {0}
 MayMeet (out.Start tag refer_to) Failed = Unit {0}
@@ -32,24 +32,24 @@ MayMeet (out.Start tag refer_to) Failed = Unit {0}
 -- the datagram that is sent
 abbrev pub datagram_of : Out → Option Datagram
 datagram_of (out.Answer to octets) = Some (datagram to octets)
-datagram_of (out.Notify to number terminated tag octets) = Some (datagram to octets)
+datagram_of (out.Notify to number terminated tag note octets) = Some (datagram to octets)
 datagram_of (out.Start tag refer_to) = None
 
 -- the line that is written
 abbrev pub line_of : Out → List ℕ
 line_of (out.Answer to octets) = []
-line_of (out.Notify to number terminated tag octets) = []
+line_of (out.Notify to number terminated tag note octets) = []
 line_of (out.Start tag refer_to) = start_text tag refer_to
 
 abbrev pub is_start : Out → Bool
 is_start (out.Answer to octets) = false
-is_start (out.Notify to number terminated tag octets) = false
+is_start (out.Notify to number terminated tag note octets) = false
 is_start (out.Start tag refer_to) = true
 
 -- what the writer took: nothing of an answer or a NOTIFY, the line of a transfer, or a front of that where it failed
 abbrev pub Writes : Option (List ℕ) → Option (List ℕ) → Out → Fate → Type 0
 Writes old new (out.Answer to octets) fate = new ≡ old
-Writes old new (out.Notify to number terminated tag octets) fate = new ≡ old
+Writes old new (out.Notify to number terminated tag note octets) fate = new ≡ old
 Writes old new (out.Start tag refer_to) Sent = ⊥
 Writes old new (out.Start tag refer_to) Started = Appends old new (start_text tag refer_to)
 Writes old new (out.Start tag refer_to) Failed = AppendsFront old new (start_text tag refer_to)

@@ -1,6 +1,7 @@
 -- What was sent out of a subscription, from whichever worker of a joined crew.
-use Rattle.std.specs.Prelude.{ℕ, ◌≡◌, ◌<◌, ◌^◌, List, [], length, map, slice_get, Some}
+use Rattle.std.specs.Prelude.{ℕ, ◌≡◌, ◌<◌, ◌^◌, ◌++◌, List, [], length, map, slice_get, Some}
 use Rattle.queues.specs.declared.items.Item.{Item}
+use Rattle.notifier_model.specs.declared.event.Event.{Event}
 use Rattle.notifier_model.specs.declared.event.Out.{Out}
 use Rattle.notifier_model.specs.Start.{Start}
 use Rattle.feeds.specs.declared.sending.EmitReport.{EmitReport}
@@ -8,8 +9,9 @@ use Rattle.feeds.specs.declared.sending.Fate.{Fate}
 use Rattle.feeds.specs.Emitted.{Fates, IsEmitted, WireSeen, WriterSeen}
 use Rattle.crew.specs.Started.{Hired}
 use Rattle.crew.specs.declared.report.WorkerReport.{WorkerReport}
-use Rattle.life.specs.Laws.{AreNotifies, notifies_with}
+use Rattle.life.specs.Laws.{AreNotifies, notifies_with, outs}
 use Rattle.schedules.specs.Laws.{Rise}
+use Rattle.crew.specs.GoesOn.{notices_in_all, WentOn}
 use Rattle.crew.specs.Laws.{its_notices, its_tag}
 use Rattle.crew.specs.Whole.{IsCrewRun}
 
@@ -25,5 +27,15 @@ EmittedLaw = (start : ℕ → Start) (crew : List Hired) (got : List (Item Out))
     (fates : Fates) (wire wire' : WireSeen) (writer writer' : WriterSeen) (report : EmitReport) →
     IsCrewRun start crew got reports → IsEmitted (length crew) fates [] got wire wire' writer writer' report →
     slice_get crew w ≡ Some h → slice_get reports w ≡ Some r → serial < 2 ^ 64 →
-    AreNotifies (its_tag h serial) (its_notices h r serial) (notifies_with (its_tag h serial) (outs_of fates))
+    AreNotifies (its_tag h serial) (its_notices (start w) h r serial) (notifies_with (its_tag h serial) (outs_of fates))
     × Rise (notifies_with (its_tag h serial) (outs_of fates))
+
+-- The same where the crew went on from saved books: behind what went out before, as if its process had only been slow.
+abbrev pub EmittedGoesOnLaw : Type 0
+EmittedGoesOnLaw = (start : ℕ → Start) (before : ℕ → List Event) (crew : List Hired) (got : List (Item Out)) (reports : List WorkerReport)
+    (w serial : ℕ) (h : Hired) (r : WorkerReport)
+    (fates : Fates) (wire wire' : WireSeen) (writer writer' : WriterSeen) (report : EmitReport) →
+    WentOn start before crew got reports → IsEmitted (length crew) fates [] got wire wire' writer writer' report →
+    slice_get crew w ≡ Some h → slice_get reports w ≡ Some r → serial < 2 ^ 64 →
+    AreNotifies (its_tag h serial) (notices_in_all (start w) (before w) h r serial) (notifies_with (its_tag h serial) (outs (start w) (before w) ++ outs_of fates))
+    × Rise (notifies_with (its_tag h serial) (outs (start w) (before w) ++ outs_of fates))

@@ -10,8 +10,9 @@ use Rattle.notifier_model.specs.declared.event.Event.{Event}
 use Rattle.notifier_model.specs.declared.event.Out.{Out}
 use Rattle.notifier_model.specs.Home.{at_the_stop, events_for}
 use Rattle.notifier_model.specs.Start.{Start}
+use Rattle.notifier.specs.Standing.{Standing, first_standing}
 use Rattle.queues.specs.InboxSeats.{Inbox, SenderSeat, ReceiverSeat}
-use Rattle.queues.specs.OutboxSeats.{TakerSeat, PosterSeat, new_taker}
+use Rattle.queues.specs.OutboxSeats.{TakerSeat, PosterSeat}
 use Rattle.crew.specs.Worked.{outs_for}
 use Rattle.crew.specs.Kept.{SameSeats}
 use Rattle.crew.specs.Ports.{PortSeats, port_of, Closes}
@@ -20,7 +21,8 @@ use Rattle.crew.specs.Started.{Hired, IsStarted}
 use Rattle.crew.specs.Joined.{IsSeatOf, IsPortOf, Reported, IsHeard}
 use Rattle.crew.specs.One.{all_events}
 use Rattle.crew.specs.declared.report.WorkerReport.{WorkerReport}
-use Rattle.crew.proofs.Starting.{element}
+use Rattle.crew.proofs.GoingOn.{outs_anew}
+use Rattle.crew.proofs.Starting.{element, started_as}
 use Rattle.crew.proofs.Keeping.{started_open, started_port}
 use Rattle.crew.proofs.OnePort.{told_of_one}
 use Rattle.crew.proofs.Zipped.{zip_len, zip_at}
@@ -51,20 +53,8 @@ running {P = P} seen setup boxes held crew ports taker n is started =
     let len : length starts ≡ n = starts_of-len seen setup boxes ∙ sym is in record {
       numbered = starts_of-numbered seen setup boxes held;
       any = any;
-      started = record {
-        takes = started.takes ∙ ap (λ (m : ℕ). new_taker taker.outbox m) (sym len);
-        len = started.len ∙ sym len;
-        each = λ w h low.
-            let is_hired = started.each w h (omega arith) in
-            let same = sym (starts_of-at seen setup boxes w any held (omega arith)) in record {
-              begins = is_hired.begins ∙ same;
-              hears = is_hired.hears;
-              tells = is_hired.tells;
-              inbox_holds = is_hired.inbox_holds ∙ ap (λ (s : Start). s.place.limits.inbox) same;
-              outbox_holds = is_hired.outbox_holds ∙ ap (λ (s : Start). s.place.limits.outbox) same;
-            };
-        dealt = started.dealt;
-      };
+      started = started_as (λ w. start_of seen setup w (get_or boxes w held).items) (λ w. get_or starts w any) n (length starts) 1 crew ports taker (sym len)
+          (λ w low. sym (starts_of-at seen setup boxes w any held (omega arith))) started;
     }
 
 only_closed : (ports : List PortSeats) (port' : PortSeats) → length ports ≡ 1 → port'.is_open ≡ false
@@ -112,8 +102,8 @@ module _ {starts : List Start} {crew : List Hired} {ports : List PortSeats} {tak
   -- ---- once it has ended
 
   -- the start of the k-th worker
-  hired_at : (k : ℕ) (h : Hired) (start : Start) → k < length starts → (get_or crew k h).start ≡ get_or starts k start
-  hired_at k h start low = (is.started.each k h low).begins ∙ get_or_default starts k is.any start low
+  hired_at : (k : ℕ) (h : Hired) (start : Start) → k < length starts → (get_or crew k h).stands ≡ first_standing (get_or starts k start)
+  hired_at k h start low = (is.started.each k h low).begins ∙ ap first_standing (get_or_default starts k is.any start low)
 
   pub works_are : (port' : PortSeats) (gathered : GatheredOuts) (is_sent : Bool) (es : List Event) (works : List Work)
       → ((p : ℕ) (q : PortSeats) → p < 1 → IsPortOf crew (get_or (port' ∷ []) p q))
@@ -141,20 +131,21 @@ module _ {starts : List Start} {crew : List Hired} {ports : List PortSeats} {tak
             let one : hired.reads.ports ≡ 1 = ap (λ (x : ReceiverSeat). x.ports) made.hears in
             let first : seat.number ≡ 0 = let b = (zip_at IsSeatOf crew port'.seats mine k h s in_crew).number in omega arith in
             let tells = told_of_one hired gathered.taker.got report seat (zip_at (λ (x : Hired) (y : WorkerReport). Reported x gathered.taker.got y) crew done.reports done.joined.reported k h r in_crew) (zip_at IsHeard done.reports port'.seats (done.joined.heard 0 port' (omega arith)) k r s in_reports) one first counted.closed in
-            let starts_so : hired.start ≡ its = hired_at k h start low in
+            let starts_so : hired.stands ≡ first_standing its = hired_at k h start low in
             let number : its.place.worker ≡ k = is.numbered k start low in
             let size : length port'.seats ≡ n = zip_len IsSeatOf crew port'.seats mine ∙ workers_len in
             let events : all_events hired seat ≡ events_at n es its =
-            ap (λ (l : List Event). l ++ at_the_stop hired.start.place.stop)
+            ap (λ (l : List Event). l ++ at_the_stop hired.stands.place.stop)
             ((sent done.sent).each k s in_seats ∙ ap (λ (m : ℕ). events_for m k es) size ∙ ap (λ (w : ℕ). events_for n w es) (sym number))
-            ∙ ap (λ (x : Start). events_for n its.place.worker es ++ at_the_stop x.place.stop) starts_so in record {
+            ∙ ap (λ (x : Standing). events_for n its.place.worker es ++ at_the_stop x.place.stop) starts_so in record {
               number = counted.number ∙ was.0 ∙ sym number;
               handled = counted.handled ∙ tells.1 ∙ ap length events;
               outs = ap (λ (v : Vec Out Global). v.items) counted.outs
                   ∙ was.1
                   ∙ ap (λ (w : ℕ). values (items_of w gathered.taker.got)) (sym (ap (λ (x : PosterSeat). x.number) made.tells))
                   ∙ tells.2
-                  ∙ ap (λ (x : Start). outs_for x (all_events hired seat)) starts_so
-                  ∙ ap (outs_for its) events;
+                  ∙ ap (λ (x : Standing). outs_for x (all_events hired seat)) starts_so
+                  ∙ ap (outs_for (first_standing its)) events
+                  ∙ outs_anew its (events_at n es its);
             };
       }

@@ -75,7 +75,7 @@ module _ (readings : Readings) where
 
 abbrev pub out_text : Out → List ℕ
 out_text (out.Answer to octets) = answer_text to octets
-out_text (out.Notify to number terminated tag octets) = notify_text tag number to octets
+out_text (out.Notify to number terminated tag note octets) = notify_text tag number to octets
 out_text (out.Start tag refer_to) = start_text tag refer_to
 
 -- how many events it handled and how many outs it made, and then the outs

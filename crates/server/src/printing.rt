@@ -21,6 +21,7 @@ fn print(alloc: Global, page: &mut Page, out: &Out) -> Result<(), NoMemory>
             number,
             terminated: _,
             to,
+            note: _,
             bytes,
         } => page.notify(alloc, tag.as_str(), *number, *to, bytes.as_slice()),
         Out::Start { tag, refer_to } => page.start(alloc, tag.as_str(), refer_to.as_str()),

@@ -5,7 +5,7 @@ ghost use Rattle.arguments.specs.Wanted.{Gives};
 ghost use Rattle.server.specs.Runs.{WritesPage, ReadsNoScript, IsHindered, Runs};
 ghost use Rattle.server.specs.Call.{starts_for, AsksFor, AsksForNone};
 
-use crate::script::{play_many, play_one};
+use crate::script::{script_many, script_one};
 use arguments::{
     Arguments, ArgumentsError, ExitStatus, Wanted, dealt_boxes, dealt_names, loopback_setup,
     made_boxes, parse_arguments,
@@ -37,7 +37,7 @@ where
 {
     let names = dealt_names(alloc, call.mailboxes.as_slice(), 1, 0)?;
     let boxes = made_boxes(alloc, names, make)?;
-    play_one(
+    script_one(
         alloc,
         source,
         sink,
@@ -65,7 +65,7 @@ where
     ensures { Runs R.remaining W.contents (Unit {0}) (starts_for call.now) result source.old source.new sink.old sink.new }
 {
     let boxes = dealt_boxes(rt.alloc(), call.mailboxes.as_slice(), call.workers, make)?;
-    play_many(
+    script_many(
         rt,
         rt.alloc(),
         source,

@@ -88,8 +88,14 @@ where
     Ok(page)
 }
 
-/// What [`script_one`] does over boxes, over packages of any one type.
-pub(crate) fn play_one<R: Read, W: Write, P: Package>(
+/// Reads a whole script, has one worker with these packages handle its events, and writes the page of what it sent: first
+/// the datagrams that can't be read, then the worker's line and its outs (see `specs/Page`). The worker's number is 0. All of
+/// it is done on the caller's thread. Packages are of one type: where they differ each stands in a `Box<dyn Package>`.
+///
+/// Nothing is written before the whole script is read and handled. Errors are looked for in this order: Device on reading,
+/// BadScript, Device on writing; NoMemory may come at any point until writing begins. After a failed write a front of the
+/// page is out.
+pub fn script_one<R: Read, W: Write, P: Package>(
     alloc: Global,
     source: &mut Source<R>,
     sink: &mut Sink<W>,
@@ -104,8 +110,13 @@ pub(crate) fn play_one<R: Read, W: Write, P: Package>(
     write_page(sink, page.as_slice())
 }
 
-/// What [`script_many`] does over boxes, over packages of any one type.
-pub(crate) fn play_many<H, R: Read, W: Write, P>(
+/// The same by several workers, one for each list of packages, each on a thread of its own. The first worker's number is 0.
+/// Each event of the script goes to its home among them, and a tick to all. The caller's thread sends the events, and a further
+/// thread takes what the workers send; all threads have ended when it returns.
+///
+/// Errors are looked for in this order: Device on reading, BadScript, Device where a thread could not be started, Device on
+/// writing; NoMemory may come at any point until writing begins. A worker that didn't come to the end of its events is NoMemory.
+pub fn script_many<H, R: Read, W: Write, P>(
     rt: H,
     alloc: Global,
     source: &mut Source<R>,
@@ -124,48 +135,4 @@ where
     let bytes = read_script(alloc, source)?;
     let page = page_by_crew(rt, alloc, bytes.as_slice(), setup, boxes)?;
     write_page(sink, page.as_slice())
-}
-
-/// Reads a whole script, has one worker with these packages handle its events, and writes the page of what it sent: first
-/// the datagrams that can't be read, then the worker's line and its outs (see `specs/Page`). The worker's number is 0. All of
-/// it is done on the caller's thread.
-///
-/// Nothing is written before the whole script is read and handled. Errors are looked for in this order: Device on reading,
-/// BadScript, Device on writing; NoMemory may come at any point until writing begins. After a failed write a front of the
-/// page is out.
-pub fn script_one<R: Read, W: Write>(
-    alloc: Global,
-    source: &mut Source<R>,
-    sink: &mut Sink<W>,
-    setup: &Setup,
-    boxes: Vec<Box<dyn Package>>,
-) -> Result<(), ScriptError>
-    // It starts no thread.
-    ensures { Runs R.remaining W.contents ⊥ (start_of (λ b. seen b) setup.now 0 boxes.items ∷ []) result source.old source.new sink.old sink.new }
-{
-    play_one(alloc, source, sink, setup, boxes)
-}
-
-/// The same by several workers, one for each list of packages, each on a thread of its own. The first worker's number is 0.
-/// Each event of the script goes to its home among them, and a tick to all. The caller's thread sends the events, and a further
-/// thread takes what the workers send; all threads have ended when it returns.
-///
-/// Errors are looked for in this order: Device on reading, BadScript, Device where a thread could not be started, Device on
-/// writing; NoMemory may come at any point until writing begins. A worker that didn't come to the end of its events is NoMemory.
-pub fn script_many<H, R: Read, W: Write>(
-    rt: H,
-    alloc: Global,
-    source: &mut Source<R>,
-    sink: &mut Sink<W>,
-    setup: &Setup,
-    boxes: Vec<Vec<Box<dyn Package>>>,
-) -> Result<(), ScriptError>
-where
-    H: Threads + Wait + Copy + Send + 'static,
-    requires some { 0 < vec_len boxes }
-    requires few { vec_len boxes ≤ 256 }
-    // It starts threads.
-    ensures { Runs R.remaining W.contents (Unit {0}) (starts_of (λ b. seen b) setup.now boxes.items) result source.old source.new sink.old sink.new }
-{
-    play_many(rt, alloc, source, sink, setup, boxes)
 }

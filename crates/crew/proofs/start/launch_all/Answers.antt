@@ -17,13 +17,13 @@ loop-new_worker-preserved g c =
     let done : ℕ = vec_len c.loop-new_worker.workers in let one = c.in-Ok.ensures in
     let S : Type 0 = NewWorker g.row.P.Denot in
     let R : ℕ → Handle → Type 0 = λ k h. (s : S) → hired h.promise ≡ record {
-      start = (get_or c.args.new_workers.items k s).token.start;
+      stands = (get_or c.args.new_workers.items k s).token.stands;
       reads = (get_or c.args.new_workers.items k s).receiver;
       posts = (get_or c.args.new_workers.items k s).poster;
     } in
     let here : (s : S) → c.in-Some.new_worker ≡ get_or c.args.new_workers.items done s = head_is _ _ _ _ _ _ _ was.left step.0 step.1 in
-    let report : R done c.in-Ok.worker = λ s. (λ j. record { start = one.start j; reads = one.inbox j; posts = one.outbox j })
-    ∙ ap (λ (q : S). let h : Hired = record { start = q.token.start; reads = q.receiver; posts = q.poster } in h) (here s) in
+    let report : R done c.in-Ok.worker = λ s. (λ j. record { stands = one.stands j; reads = one.inbox j; posts = one.outbox j })
+    ∙ ap (λ (q : S). let h : Hired = record { stands = q.token.stands; reads = q.receiver; posts = q.poster } in h) (here s) in
     let Q : ℕ → Type 0 = λ n. vec_len c.args.new_workers ≤ n in
     record {
       count = (let s = step.1 in let w = was.count in let p = push.len in omega arith);

@@ -10,7 +10,7 @@ invariant-loop-new_worker g l = let done = vec_len l.workers in let rest = l.new
   room : vec_len l.fn.new_workers ≤ vec_capacity l.workers;
   left : (k : ℕ) (s : _) → k < into_iter_len rest → get_or (into_iter_items rest) k s ≡ get_or l.fn.new_workers.items (done + k) s;
   launched : (k : ℕ) (h : _) (s : _) → k < done → hired (get_or (vec_items l.workers) k h).promise ≡ record {
-    start = (get_or l.fn.new_workers.items k s).token.start;
+    stands = (get_or l.fn.new_workers.items k s).token.stands;
     reads = (get_or l.fn.new_workers.items k s).receiver;
     posts = (get_or l.fn.new_workers.items k s).poster;
   };

@@ -1,47 +1,36 @@
-use Rattle.std.proofs.Common.{◌≡◌, ◌<◌, List, length, map, get_or, vec_len, arith, refl, ap, sym, ◌∙◌, subst}
-use Rattle.std.proofs.lemmas.List.{get_or-map, length-map}
-use Rattle.std.specs.declared.thread.PromisedHandle.{PromisedHandle}
-use Rattle.queues.specs.InboxSeats.{Inbox}
-use Rattle.crew.specs.declared.end.Done.{Done}
-use Rattle.crew.specs.declared.launching.Began.{Began}
-use Rattle.crew.specs.declared.launching.NewWorker.{NewWorker}
-use Rattle.crew.specs.Ports.{AreDealt}
-use Rattle.crew.specs.Started.{Hired, hired}
-use Rattle.crew.proofs.Starting.{element, ready_fit, hired_is, same_maps}
+use Rattle.std.proofs.Common.{◌≡◌, ◌<◌, ℕ, Option, None, Vec, Global, get_or, vec_len, arith}
+use Rattle.notifier.specs.Held.{Held, seen_by}
+use Rattle.notifier.specs.Standing.{Standing, first_standing}
+use Rattle.queues.specs.declared.outbox.Taker.{Taker}
+use Rattle.crew.specs.Desks.{standing_of}
+use Rattle.crew.specs.Ready.{start_of}
+use Rattle.crew.specs.Started.{HaveBegun, IsStarted}
+use Rattle.crew.specs.declared.port.Port.{Port}
+use Rattle.crew.specs.declared.start.Crew.{Crew}
+use Rattle.crew.proofs.Counted.{if_ok}
+use Rattle.crew.proofs.Starting.{element, begun_as, new_may_begin, unwrapped}
 use Rattle.crew.proofs.start.Crew.start_any.Goals as goal
 
-abbrev Handle : Type 0
-Handle = PromisedHandle Done Began
+abbrev Manned : Type 0
+Manned = Crew × Vec Port Global × Taker
 
-pub launch_all-workers-requires-clause-ready : goal.launch_all-workers-requires-clause-ready
-launch_all-workers-requires-clause-ready g c κs within k s low =
-    let low' : k < vec_len c.args.boxes = let e = c.in-Ok.ensures.len.0 in omega arith in
+pub man-requires-clause-fit : goal.man-requires-clause-fit
+man-requires-clause-fit g c κs within k d low =
+    let all : k < vec_len c.args.boxes = let e = c.in-Ok.desks.ok.0 in let e' = c.in-Ok.ensures.len in omega arith in
     let b = element c.args.boxes.items k (let e = c.args.boxes.ok.0 in omega arith) in
-    ready_fit _ _ _ _ refl (c.in-Ok.ensures.ready k s b low')
+    new_may_begin g.P.Package.seen c.args.setup.now k _ _ _ _ (c.in-Ok.ensures.new 0 d b (omega arith)) (c.in-Ok.ensures.new k d b all)
 
 pub returns-clause-started : goal.returns-clause-started
-returns-clause-started g c b =
-    let fit = c.in-Ok.ensures in let fitted = c.in-Ok.fitted in let ws = c.launch_all-workers.result.0 in let launched = c.launch_all-workers.ensures in
-    let S : Type 0 = NewWorker g.row.P.Denot in
-    let all : vec_len ws ≡ vec_len fitted.new_workers = launched.all c.if-not-is_whole.false in
-    let f : Handle → Hired = λ h. hired h.promise in
-    let size : length ws.items ≡ vec_len c.args.boxes = sym ws.ok.0 ∙ all ∙ fit.len.0 in
-    let inboxes : map (λ (h : Hired). h.reads.inbox) (map f ws.items) ≡ map (λ (s : S). s.receiver.inbox) fitted.new_workers.items =
-    same_maps (λ (h : Hired). h.reads.inbox) (λ (s : S). s.receiver.inbox) (map f ws.items) fitted.new_workers.items (length-map ws.items f ∙ sym ws.ok.0 ∙ all ∙ fitted.new_workers.ok.0)
-    (λ k x y low.
-    let low' : k < length ws.items = let e = length-map ws.items f in omega arith in
-    let h = element ws.items k low' in
-    ap (λ (z : Hired). z.reads.inbox) (get_or-map f ws.items k h x low' ∙ launched.launched k h y (let e = ws.ok.0 in omega arith))) in
-    let D : List Inbox → Type 0 = λ l. AreDealt fitted.ports.items l c.args.ports in
-    record {
-      takes = fit.taker;
-      len = length-map ws.items f ∙ size;
-      each = λ w h low.
-          let fits : w < length ws.items = omega arith in
-          let at = element ws.items w fits in
-          let s = element fitted.new_workers.items w (let e = fitted.new_workers.ok.0 in let e' = fit.len.0 in omega arith) in
-          hired_is _ _ w fitted.taker _ (get_or (map f ws.items) w h)
-          (get_or-map f ws.items w at h fits ∙ launched.launched w at s (let e = ws.ok.0 in omega arith))
-          fit.holds (fit.ready w s b low);
-      dealt = subst D (sym inboxes) fit.dealt;
-    }
+returns-clause-started g c =
+    let seen = g.P.Package.seen in
+    let desks = c.in-Ok.desks in
+    let D : Type 0 = Option (Held g.row.P.Denot) in
+    let B : Type 0 = Vec g.row.P.Denot Global in
+    let stands : D → ℕ → Standing = λ d k. standing_of seen (get_or desks.items k d) in
+    let P : Manned → Type 0 = λ r. (d : D) → HaveBegun (stands d) (vec_len desks) c.args.ports r.0 r.1.items r.2 in
+    let Q : Manned → Type 0 = λ r. (b : B) → IsStarted (λ w. start_of seen c.args.setup.now w (get_or c.args.boxes.items w b).items) (vec_len c.args.boxes) c.args.ports r.0 r.1.items r.2 in
+    let told : (r : Manned) → P r → Q r = λ r begun b.
+    begun_as (stands None) (λ w. first_standing (start_of seen c.args.setup.now w (get_or c.args.boxes.items w b).items)) _ _ _ r.0 r.1.items r.2 c.in-Ok.ensures.len
+    (λ w low. unwrapped _ _ (c.in-Ok.ensures.new w None b (let e = c.in-Ok.ensures.len in omega arith)))
+    (begun None) in
+    if_ok {P = P} {Q = Q} c.man.result told c.man.ensures.begun

@@ -1,6 +1,6 @@
 use Rattle.std.proofs.Common.{rules}
 use Rattle.server.proofs.Runs.{on_ok, on_errs, written}
-use Rattle.server.proofs.script.play_one.Goals as goal
+use Rattle.server.proofs.script.script_many.Goals as goal
 
 pub returns : goal.returns
 returns g c =

@@ -32,11 +32,11 @@ use denote.Triple.Entry.{on_entry, alive}
 use denote.Triple.Spec.{Meets, triple_of}
 use denote.Triple.Table.{entered}
 use denote.Triple.Walked.{says, Stays, stay_dropped, walk_of, ends_at, Goes-dropped, walk_Meets}
-use Rattle.crew.specs.declared.token.HasStart.{Ghosts}
-use Rattle.crew.specs.contracts.token.StartToken.of as f
-use Rattle.crew.specs.contracts.token.StartToken.of.Key.{name as #self}
-use Rattle.crew.proofs.token.StartToken.of.Statement as stated
-use Rattle.crew.proofs.token.StartToken.of.Code as code
+use Rattle.crew.specs.declared.token.HasStanding.{Ghosts}
+use Rattle.crew.specs.contracts.token.StandingToken.of as f
+use Rattle.crew.specs.contracts.token.StandingToken.of.Key.{name as #self}
+use Rattle.crew.proofs.token.StandingToken.of.Statement as stated
+use Rattle.crew.proofs.token.StandingToken.of.Code as code
 
 module _ (Y : RattleType) (G : Ghosts Y.Denot) (D : Dict) where
   abbrev R : RattleType
@@ -81,7 +81,7 @@ module _ (Y : RattleType) (G : Ghosts Y.Denot) (D : Dict) where
 
       walks : Goes (vptr b o ∷ [])
       walks =
-          let v : Val = vstruct vnil in let r : denote.Triple.Entry.Res (f.ended Y G D).signature z.0.0 = record { start = G.start z.0.3.0.now } in
+          let v : Val = vstruct vnil in let r : denote.Triple.Entry.Res (f.ended Y G D).signature z.0.0 = record { stands = G.stands z.0.3.0.now } in
           let O : Fml = (type_at (f.ended Y G D).signature.result z.0.0).own_val r (v ∷ []) in
           qed 𝓛 ((raw toks ⊛ ‵ passed) ∷ raw ((held z.0.0 z.0.3).requires z.1) ∷ []) ∵ split ! $ keep ! (0 ∷ []) $
           enter ! C Λ function (vptr b o ∷ []) _ $ alloc_all ! (λ l. pass_all ! refl ((tt, tt), tt) $
