@@ -10,3 +10,4 @@ pub mod Numerals
 pub mod Ranges
 pub mod LineNames
 pub mod ToldBoxes
+pub mod LinesWords

@@ -7,6 +7,8 @@ pub mod Reading
 pub mod Settings
 pub mod Tell
 pub mod TellReading
+pub mod LinesCall
+pub mod LinesReading
 pub mod Arguments
 pub mod ArgumentsReading
 pub mod UdpArguments

@@ -3,7 +3,7 @@
 //! [`parse_arguments`] reads the words that ask for a script, [`parse_udp_arguments`] those behind `udp`, and
 //! [`parse_settings`] what stands behind `serve`: a list of [`Setting`]s, or the first thing that is wrong, with
 //! the right form of an option that has a value. [`Choices::of`] tells what the settings ask for, [`line_mailboxes`] which mailboxes a line of
-//! a file names, and [`parse_tell`] reads what stands behind `tell`. [`loopback_setup`] and [`dealt_boxes`] make what workers start
+//! a file names, and [`parse_tell`] and [`parse_lines_call`] read what stands behind `tell`. [`loopback_setup`] and [`dealt_boxes`] make what workers start
 //! from; the packages are those that the caller makes for each [`Wanted`]. An [`ExitStatus`] is how a run ends. It starts nothing
 //! and opens no file.
 //!
@@ -17,6 +17,7 @@ pub mod error;
 pub mod exit_status;
 pub mod flag;
 pub mod heard;
+pub mod lines_call;
 pub mod mailbox_file;
 mod number_range;
 pub mod setting;
@@ -34,6 +35,7 @@ pub use error::OptionsError;
 pub use exit_status::ExitStatus;
 pub use flag::{AddressFlag, Bound, Flag};
 pub use heard::{allowed_networks, control_networks, further_mailboxes, password_file};
+pub use lines_call::{LinesCall, parse_lines_call};
 pub use mailbox_file::{is_blank, line_mailboxes};
 pub use setting::{Setting, parse_settings};
 pub use setup::{dealt_names, loopback_setup};

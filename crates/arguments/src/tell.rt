@@ -22,7 +22,7 @@ pub struct TellCall {
 #[derive(Clone, Copy, Debug, PartialEq, Eq, Error)]
 pub enum TellError {
     /// They are no call of it.
-    #[error("usage: notifyd tell [--control <a.b.c.d:port>] <line>; notifyd tell --json [--control <a.b.c.d:port>] STATUS")]
+    #[error("usage: notifyd tell [--control <a.b.c.d:port>] <line>; notifyd tell [--control <a.b.c.d:port>] - [--progress] [--progress-bar]; notifyd tell --json [--control <a.b.c.d:port>] STATUS")]
     Bad,
     /// An allocation failed: out of memory.
     #[error("out of memory")]

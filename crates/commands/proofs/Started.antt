@@ -37,13 +37,13 @@ if_both (Err e) p q f = p
 runs_as : {start start' : ℕ → Start} {workers workers' repeats : ℕ} {opened : Opening} {admission : Admission} {flow : Outflow} {o : ServiceEnd}
     → workers ≡ workers' → ((w : ℕ) → w < workers' → start w ≡ start' w) → Runs start workers repeats opened admission flow o
     → Runs start' workers' repeats opened admission flow o
-runs_as {start' = start'} {workers' = workers'} same each r = record {
+runs_as {start = start} {start' = start'} {workers' = workers'} same each r = record {
   crew = r.crew;
   sip = r.sip;
   lines = r.lines;
   time = r.time;
   taker = r.taker;
-  started = started_as r.started start' workers' same (λ w low. each w (rw (← same) low));
+  started = started_as start r.started start' workers' same (λ w low. each w (rw (← same) low));
   sip_closed = r.sip_closed;
   lines_closed = r.lines_closed;
   time_closed = r.time_closed;

@@ -24,10 +24,10 @@ two_closed : (a b a' b' : PortSeats) → a'.is_open ≡ false → b'.is_open ≡
 two_closed a b a' b' shut shut' same same' = record { len = refl; closed = both_shut a' b' shut shut'; seats = both_same a b a' b' same same' }
 
 -- what `join` asks of them
-pub ports_closed : {start : ℕ → Start} {workers : ℕ} {crew : List Hired} {a b : PortSeats} {taker : TakerSeat} (is : IsStarted start workers 2 crew (a ∷ b ∷ []) taker)
+pub ports_closed : (start : ℕ → Start) {workers : ℕ} {crew : List Hired} {a b : PortSeats} {taker : TakerSeat} (is : IsStarted start workers 2 crew (a ∷ b ∷ []) taker)
     (a' b' : PortSeats) (ports : List PortSeats) → ports ≡ a' ∷ b' ∷ [] → a'.is_open ≡ false → b'.is_open ≡ false → SameSeats a a' → SameSeats b b'
     → (p : ℕ) (q : PortSeats) → p < length ports → IsPortOf crew (get_or ports p q)
-ports_closed {crew = crew} {a = a} {b = b} is a' b' ports are shut shut' same same' p q low =
+ports_closed start {crew = crew} {a = a} {b = b} is a' b' ports are shut shut' same same' p q low =
     let P : List PortSeats → Type 0 = λ l. p < length l → IsPortOf crew (get_or l p q) in
     subst P (sym are) (started_port is (a' ∷ b' ∷ []) (two_closed a b a' b' shut shut' same same') p q) low
 

@@ -1,5 +1,5 @@
 -- A crew that served its two ports to its end.
-use Rattle.std.proofs.Common.{◌≡◌, ℕ, List, [], ◌∷◌, Option, subst}
+use Rattle.std.proofs.Common.{◌≡◌, ℕ, List, [], ◌∷◌, Option, ap, subst}
 use Rattle.queues.specs.declared.items.Item.{Item}
 use Rattle.transport.specs.Devices.{SinkSeen}
 use Rattle.notifier_model.specs.declared.event.Out.{Out}
@@ -13,23 +13,22 @@ use Rattle.feeds.specs.declared.feeding.FeedReport.{FeedReport}
 use Rattle.feeds.specs.declared.hearing.Language.{Language}
 use Rattle.feeds.specs.declared.hearing.Language.TheVariants.{Sip, Control}
 use Rattle.commands.specs.declared.udp_listening.Errand.{Errand}
-use Rattle.commands.specs.UdpHearing.{HearsOutSocket}
-use Rattle.commands.specs.UdpServing.{UdpOutcome, Serves, most_lines}
+use Rattle.commands.specs.declared.udp_listening.Intake.{Intake}
+use Rattle.commands.specs.UdpHearing.{most_lines, language_of, count_of, HearsOutSocket}
+use Rattle.commands.specs.UdpServing.{UdpOutcome, Serves}
 use Rattle.commands.specs.UdpRunning.{AreErrands}
 use Rattle.commands.proofs.UdpStarted.{taker_new, taker_workers}
 
 -- what each thread heard, once its errand is known
 pub heard_sip : {sip control : Errand} (are : AreErrands sip control) (old new : PortSeats) (report : FeedReport)
-    → HearsOutSocket sip.hearing.language sip.hearing.count old new report → HearsOutSocket Sip sip.hearing.count old new report
+    → HearsOutSocket (language_of sip.hearing) (count_of sip.hearing) old new report → HearsOutSocket Sip (count_of sip.hearing) old new report
 heard_sip {sip = sip} are old new report hears =
-    let P : Language → Type 0 = λ l. HearsOutSocket l sip.hearing.count old new report in subst P are.says_sip hears
+    let P : Language → Type 0 = λ l. HearsOutSocket l (count_of sip.hearing) old new report in subst P (ap language_of are.hears_sip) hears
 
 pub heard_control : {sip control : Errand} (are : AreErrands sip control) (old new : PortSeats) (report : FeedReport)
-    → HearsOutSocket control.hearing.language control.hearing.count old new report → HearsOutSocket Control most_lines old new report
-heard_control {control = control} are old new report hears =
-    let P : Language → Type 0 = λ l. HearsOutSocket l control.hearing.count old new report in
-    let Q : ℕ → Type 0 = λ n. HearsOutSocket Control n old new report in
-    subst Q are.most (subst P are.says_control hears)
+    → HearsOutSocket (language_of control.hearing) (count_of control.hearing) old new report → HearsOutSocket Control most_lines old new report
+heard_control are old new report hears =
+    let P : Intake → Type 0 = λ i. HearsOutSocket (language_of i) (count_of i) old new report in subst P are.hears_control hears
 
 pub serves_are : {W : Type 0} (contents : W → Option (List ℕ)) {start : ℕ → Start} {workers : ℕ} {crew : List Hired} {sip control : PortSeats} {taker : TakerSeat}
     (is : IsStarted start workers 2 crew (sip ∷ control ∷ []) taker)
@@ -38,7 +37,7 @@ pub serves_are : {W : Type 0} (contents : W → Option (List ℕ)) {start : ℕ 
     → ports ≡ sip' ∷ control' ∷ [] → IsJoined crew ports got o.workers
     → IsEmitted taker.workers fates taker.got got wire wire' (writer_seen contents before) (writer_seen contents after) o.emitted
     → Serves contents start workers count before after o
-serves_are contents {crew = crew} {sip = sip} {control = control} {taker = taker} is count before after o sip' control' ports got fates wire wire' hears_sip hears_control are joined emitted =
+serves_are contents {start = start} {crew = crew} {sip = sip} {control = control} {taker = taker} is count before after o sip' control' ports got fates wire wire' hears_sip hears_control are joined emitted =
     let P : List PortSeats → Type 0 = λ l. IsJoined crew l got o.workers in
     let Q : List (Item Out) → Type 0 = λ l. IsEmitted taker.workers fates l got wire wire' (writer_seen contents before) (writer_seen contents after) o.emitted in
     let N : ℕ → Type 0 = λ n. IsEmitted n fates [] got wire wire' (writer_seen contents before) (writer_seen contents after) o.emitted in record {
@@ -56,5 +55,5 @@ serves_are contents {crew = crew} {sip = sip} {control = control} {taker = taker
       fates = fates;
       wire = wire;
       wire' = wire';
-      emitted = subst N (taker_workers is) (subst Q (taker_new is) emitted);
+      emitted = subst N (taker_workers start is) (subst Q (taker_new start is) emitted);
     }

@@ -7,17 +7,18 @@ use Rattle.arguments.specs.declared.udp_arguments.UdpArguments.{UdpArguments}
 use Rattle.package.specs.Content.{Seen}
 use Rattle.notifier_model.specs.declared.place.Setup.{Setup}
 use Rattle.notifier_model.specs.Start.{Start, place_of}
-use Rattle.queues.specs.OutboxSeats.{TakerSeat, new_taker}
+use Rattle.queues.specs.OutboxSeats.{TakerSeat}
 use Rattle.crew.specs.Ports.{PortSeats}
 use Rattle.crew.specs.Ready.{start_of}
 use Rattle.crew.specs.Started.{Hired, IsStarted}
 use Rattle.crew.proofs.Keeping.{started_open}
 use Rattle.crew.proofs.Starting.{element}
+use Rattle.crew.proofs.Starting.{started_as as started_again}
 use Rattle.arguments.specs.Setup.{loopback_setup, made_boxes, dealt_boxes, dealt_names}
 use Rattle.arguments.proofs.Dealt.{boxes-len}
 use Rattle.commands.specs.UdpCall.{start_at}
 
-module _ {start : ℕ → Start} {workers n : ℕ} {crew : List Hired} {ports : List PortSeats} {taker : TakerSeat} (is : IsStarted start workers n crew ports taker) where
+module _ (start : ℕ → Start) {workers n : ℕ} {crew : List Hired} {ports : List PortSeats} {taker : TakerSeat} (is : IsStarted start workers n crew ports taker) where
   pub ports_len : length ports ≡ n
   ports_len = is.dealt.len
 
@@ -33,20 +34,7 @@ module _ {start : ℕ → Start} {workers n : ℕ} {crew : List Hired} {ports : 
 
   -- the same under other names of the starts and their number
   pub started_as : (start' : ℕ → Start) (workers' : ℕ) → workers ≡ workers' → ((w : ℕ) → w < workers → start w ≡ start' w) → IsStarted start' workers' n crew ports taker
-  started_as start' workers' same each = record {
-    takes = is.takes ∙ ap (λ (m : ℕ). new_taker taker.outbox m) same;
-    len = is.len ∙ same;
-    each = λ w h low.
-        let there : w < workers = omega (arith, same, low) in
-        let hired = is.each w h there in record {
-          begins = hired.begins ∙ each w there;
-          hears = hired.hears;
-          tells = hired.tells;
-          inbox_holds = hired.inbox_holds ∙ ap (λ (s : Start). s.place.limits.inbox) (each w there);
-          outbox_holds = hired.outbox_holds ∙ ap (λ (s : Start). s.place.limits.outbox) (each w there);
-        };
-    dealt = is.dealt;
-  }
+  started_as start' workers' same each = started_again start start' workers workers' n crew ports taker same each is
 
 module _ {P : Type 0} (seen : P → Seen) (setup : Setup) (boxes : List (Vec P Global)) (call : UdpArguments) (is_setup : setup ≡ loopback_setup call.port call.seed call.stop)
     (are_boxes : map (λ (held : Vec P Global). map seen held.items) boxes ≡ dealt_boxes call.workers call.mailboxes) where
@@ -73,4 +61,4 @@ module _ {P : Type 0} (seen : P → Seen) (setup : Setup) (boxes : List (Vec P G
   crew_is n size some started =
       let len = workers_are in
       let held : Vec P Global = element boxes 0 (omega (arith, len, some)) in
-      started_as (started held) (start_at call) call.workers (size ∙ len) (λ w low. starts_are held w (omega (arith, size, low)))
+      started_as (λ w. start_of seen setup w (get_or boxes w held).items) (started held) (start_at call) call.workers (size ∙ len) (λ w low. starts_are held w (omega (arith, size, low)))

@@ -7,6 +7,23 @@ use Rattle.crew.specs.Ports.{PortSeats, IsLeftByClose}
 use Rattle.feeds.specs.Fed.{Log, datagrams, IsFed}
 use Rattle.feeds.specs.declared.feeding.FeedReport.{FeedReport}
 use Rattle.feeds.specs.declared.hearing.Language.{Language}
+use Rattle.feeds.specs.declared.hearing.Language.TheVariants as language
+use Rattle.commands.specs.declared.udp_listening.Intake.{Intake}
+use Rattle.commands.specs.declared.udp_listening.Intake.TheVariants as intake
+
+-- the most control lines that are heard
+abbrev pub most_lines : ℕ
+most_lines = 1048576
+
+-- what is spoken where a thread hears
+abbrev pub language_of : Intake → Language
+language_of (intake.Sip count) = language.Sip
+language_of intake.Control = language.Control
+
+-- how many datagrams it takes at most
+abbrev pub count_of : Intake → ℕ
+count_of (intake.Sip count) = count
+count_of intake.Control = most_lines
 
 -- an open port was fed with what the datagrams say that a wire gave, and then closed: each worker has its end mark then, or
 -- only some have it, and one at least has not, where a worker is gone

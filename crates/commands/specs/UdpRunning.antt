@@ -6,14 +6,15 @@ use Rattle.crew.specs.declared.errors.StartError.TheVariants as start
 use Rattle.crew.specs.Ports.{PortSeats}
 use Rattle.crew.specs.Started.{IsStarted}
 use Rattle.transport.specs.Sockets.{loopback}
-use Rattle.feeds.specs.declared.hearing.Language.TheVariants.{Sip, Control}
 use Rattle.arguments.specs.declared.exit_status.ExitStatus.{ExitStatus}
 use Rattle.arguments.specs.declared.exit_status.ExitStatus.TheVariants as status
 use Rattle.commands.specs.declared.udp_listening.Errand.{Errand}
+use Rattle.commands.specs.declared.udp_listening.Intake.TheVariants as intake
+use Rattle.commands.specs.UdpHearing.{count_of}
 use Rattle.commands.specs.declared.udp.UdpSockets.{UdpSockets}
 use Rattle.commands.specs.declared.udp_serving.Running.{Running}
 use Rattle.commands.specs.declared.udp_serving.UdpServed.{UdpServed}
-use Rattle.commands.specs.UdpServing.{UdpOutcome, most_lines}
+use Rattle.commands.specs.UdpServing.{UdpOutcome}
 
 -- the status where no crew is started for this cause. Only a refused thread is a fault of the device
 abbrev pub status_of : StartError → ExitStatus
@@ -34,9 +35,8 @@ IsNew start ports running = IsStarted start running.workers 2 running.crew ports
 
 -- what the two threads are to hear
 pub record AreErrands (sip control : Errand) : Type 0 where
-  pub says_sip : sip.hearing.language ≡ Sip
-  pub says_control : control.hearing.language ≡ Control
-  pub most : control.hearing.count ≡ most_lines
+  pub hears_sip : sip.hearing ≡ intake.Sip (count_of sip.hearing)
+  pub hears_control : control.hearing ≡ intake.Control
 
 abbrev pub outcome_of : UdpServed → UdpOutcome
 outcome_of s = record { feed = s.feed; control = s.control; emitted = s.emitted; workers = s.report.workers.items }

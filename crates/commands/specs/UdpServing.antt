@@ -17,7 +17,7 @@ use Rattle.feeds.specs.declared.sending.EmitReport.{EmitReport}
 use Rattle.feeds.specs.Emitted.{Fates, WireSeen, writer_seen, IsEmitted}
 use Rattle.feeds.specs.declared.feeding.FeedReport.{FeedReport}
 use Rattle.feeds.specs.declared.hearing.Language.TheVariants.{Sip, Control}
-use Rattle.commands.specs.UdpHearing.{HearsOutSocket}
+use Rattle.commands.specs.UdpHearing.{most_lines, HearsOutSocket}
 
 -- what came of it: of the datagrams of SIP, of the control lines, of the outs, and of each worker
 pub record UdpOutcome : Type 0 where
@@ -25,10 +25,6 @@ pub record UdpOutcome : Type 0 where
   pub control : FeedReport
   pub emitted : EmitReport
   pub workers : List WorkerReport
-
--- the most control lines that are heard
-abbrev pub most_lines : ℕ
-most_lines = 1048576
 
 -- workers with these starts handled what the two ports sent until both were closed, as far as their reports say, and each of
 -- their outs was sent, written or counted as failed

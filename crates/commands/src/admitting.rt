@@ -1,5 +1,5 @@
 //! Who is heard by a service, as its settings and its file of passwords say.
-ghost use Rattle.std.specs.Prelude.{◌≡◌, true, All, IfOk, IfErr, OnOk};
+ghost use Rattle.std.specs.Prelude.{◌≡◌, ◌⊎◌, true, All, IfOk, IfErr, OnOk};
 ghost use Rattle.notifier_model.specs.Tag.{refusal_tag};
 ghost use Rattle.arguments.specs.Choices.{choices_of, password_file as path_of, further_mailboxes as pairs_of};
 ghost use Rattle.commands.specs.declared.error.ServeError.TheVariants as error;
@@ -14,6 +14,7 @@ use arguments::{Choices, Setting, allowed_networks, further_mailboxes, password_
 use digest::{Algorithm, Guard, Nonces, Passwords};
 use sip_text::{NoMemory, Text};
 use std::alloc::Global;
+use std::collections::hash_map::RandomState;
 use std::num::NonZeroUsize;
 use std::random::RandomSource;
 use std::rt::Files;
@@ -38,17 +39,31 @@ pub(crate) fn secret<R: RandomSource>(rt: &R) -> Result<[u8; 32], ServeError>
     }
 }
 
+/// Random keys to hash by what strangers choose.
+fn hash_keys<R: RandomSource>(rt: &R) -> Result<RandomState, ServeError>
+    ensures refused { IfErr result (λ e. e ≡ error.System) }
+{
+    match RandomState::new(rt) {
+        Ok(keys) => Ok(keys),
+        Err(_) => Err(ServeError::System),
+    }
+}
+
 /// The buckets of a service that hears so much of each source.
-fn source_rates(alloc: Global, asked: Option<Rate>) -> Result<Option<Rates>, NoMemory>
-    ensures { IfOk result (λ rates. rates ≡ spec.rates_of asked) }
+fn source_rates<R>(rt: &R, asked: Option<Rate>) -> Result<Option<Rates>, ServeError>
+where
+    R: RandomSource + AllocGlobal,
+    ensures rates { IfOk result (λ rates. rates ≡ spec.rates_of asked) }
+    ensures refused { IfErr result (λ e. (e ≡ error.System) ⊎ (e ≡ error.NoMemory)) }
 {
     let Some(size) = NonZeroUsize::new(SOURCES) else {
         unreachable!();
     };
-    match asked {
-        Some(rate) => Ok(Some(Rates::new(alloc, rate, size)?)),
-        None => Ok(None),
-    }
+    let Some(rate) = asked else {
+        return Ok(None);
+    };
+    let keys = hash_keys(rt)?;
+    Ok(Some(Rates::new(rt.alloc(), rate, size, keys)?))
 }
 
 /// The tag of refusals: as that of a worker, but with a number that none has.
@@ -147,7 +162,7 @@ where
     let alloc = rt.alloc();
     let choices = Choices::of(settings);
     let networks = allowed_networks(alloc, settings)?;
-    let rates = source_rates(alloc, choices.rate)?;
+    let rates = source_rates(rt, choices.rate)?;
     let authentication = new_authentication(rt, settings)?;
     Ok(Admission {
         networks,

@@ -1,6 +1,8 @@
 //! `notifyd tell`.
-ghost use Rattle.std.specs.Prelude.{◌≡◌, ◌⊎◌, IfOk, codes, true};
+ghost use Rattle.std.specs.Prelude.{◌≡◌, ◌≢◌, ◌⊎◌, IfOk, codes, true};
 ghost use Rattle.arguments.specs.declared.tell.TellCall.{TellCall};
+ghost use Rattle.arguments.specs.declared.lines_call.LinesCall.{LinesCall};
+ghost use Rattle.arguments.specs.LinesCall.{IsLinesCall};
 ghost use Rattle.arguments.specs.Choices.{loopback};
 ghost use Rattle.arguments.specs.Tell.{IsTellCall};
 ghost use Rattle.commands.specs.Plans.{reached};
@@ -8,17 +10,20 @@ ghost use Rattle.commands.specs.Telling.{TellsLine, TellsPage, IsAskedAs, AskFor
 ghost use Rattle.commands.specs.Telling as spec;
 
 use crate::answers::{Form, next_line, next_place, print_answer};
+use crate::input_telling::tell_input;
 use crate::urgency::is_too_urgent;
-use arguments::{ExitStatus, TellCall, TellError, parse_tell};
+use arguments::{ExitStatus, TellCall, TellError, parse_lines_call, parse_tell};
 use control_lines::{ControlAnswer, Speaker, SpeakerFault, TellOutcome, UdpSpeaker, tell_line};
 use sip_text::{Addr, NoMemory, Text};
 use std::alloc::Global;
+use std::io::Input;
 use std::net::Net;
 use std::random::RandomSource;
+use std::rt::Clock;
 use std::sync::Wait;
 
 /// Where a service is told, unless it is said: 127.0.0.1:5061.
-const CONTROL: Addr = Addr {
+pub(crate) const CONTROL: Addr = Addr {
     ip: [127, 0, 0, 1],
     port: 5061,
 };
@@ -245,18 +250,17 @@ fn asked_call(alloc: Global, words: &[Text], is_json: bool) -> Result<TellCall, 
     Ok(call)
 }
 
-/// `notifyd tell` with these words behind it. Answers the exit status: 0 where the answer is `ok`, 1 where it is another one or
-/// the words are no call, 3 where nobody answered, a socket failed or what came couldn't be printed, 4 where memory ran out.
-/// Behind `--json` the lines of the answer to STATUS are printed as one JSON object; another line is no call there.
-pub fn tell<R: Wait + Net + RandomSource + Print + Eprint + AllocGlobal>(
+/// Sends the line that the words ask for, and prints the answer.
+fn tell_line_of<R: Wait + Net + RandomSource + Print + Eprint + AllocGlobal>(
     rt: &R,
     words: &[Text],
+    is_json: bool,
 ) -> u8
     ensures status { (result ≡ 0) ⊎ (result ≡ 1) ⊎ (result ≡ 3) ⊎ (result ≡ 4) }
-    ensures no_call { ((call : TellCall) → ¬ IsTellCall (behind_json words.now) call) → (result ≡ 1) ⊎ (result ≡ 4) }
-    ensures no_object { AskForNoObject words.now → (result ≡ 1) ⊎ (result ≡ 4) }
+    ensures no_call { ((call : TellCall) → ¬ IsTellCall words.now call) → (result ≡ 1) ⊎ (result ≡ 4) }
+    ensures no_object { is_json ≡ true → ((call : TellCall) → IsTellCall words.now call → call.line ≢ codes "STATUS")
+        → (result ≡ 1) ⊎ (result ≡ 4) }
 {
-    let (is_json, words) = cut_json(words);
     match asked_call(rt.alloc(), words, is_json) {
         Ok(call) => ask(rt, &call, is_json),
         Err(error) => {
@@ -267,4 +271,25 @@ pub fn tell<R: Wait + Net + RandomSource + Print + Eprint + AllocGlobal>(
             }
         }
     }
+}
+
+/// `notifyd tell` with these words behind it. Answers the exit status: 0 where the answer is `ok`, 1 where it is another one or
+/// the words are no call, 3 where nobody answered, a socket failed or what came couldn't be printed, 4 where memory ran out.
+/// Behind `--json` the lines of the answer to STATUS are printed as one JSON object; another line is no call there. Where the words
+/// ask for `-`, the lines of standard input are told: [`telling::Telling::tell_lines`] says which, and how that ends.
+pub fn tell<R>(rt: &R, words: &[Text]) -> u8
+where
+    R: Wait + Net + Clock + Input + RandomSource + Print + Eprint + AllocGlobal,
+    ensures status { (result ≡ 0) ⊎ (result ≡ 1) ⊎ (result ≡ 3) ⊎ (result ≡ 4) }
+    ensures no_call { ((call : TellCall) → ¬ IsTellCall (behind_json words.now) call)
+        → ((call : LinesCall) → ¬ IsLinesCall words.now call) → (result ≡ 1) ⊎ (result ≡ 4) }
+    ensures no_object { AskForNoObject words.now → (result ≡ 1) ⊎ (result ≡ 4) }
+{
+    let (is_json, line) = cut_json(words);
+    if !is_json {
+        if let Some(call) = parse_lines_call(words) {
+            return tell_input(rt, call);
+        }
+    }
+    tell_line_of(rt, line, is_json)
 }

@@ -10,6 +10,7 @@ const VERSION: &str = "notifyd 1.0";
 pub(crate) const HELP: &str = "\
 usage: notifyd serve [options] [<mailbox>...]      (also --option=value)
        notifyd tell [--control <a.b.c.d:port>] <line>
+       notifyd tell [--control <a.b.c.d:port>] - [--progress] [--progress-bar]
        notifyd tell --json [--control <a.b.c.d:port>] STATUS
 
   --listen <a.b.c.d:port>    where SIP datagrams come in (127.0.0.1:5060)
@@ -48,7 +49,8 @@ usage: notifyd serve [options] [<mailbox>...]      (also --option=value)
   --max-datagram <octets>    the longest SIP datagram that is read (8192)
   --receive-buffer <octets>  room asked for datagrams that wait (4194304)
 
-Lines for tell: MAIL, PROGRESS, STATUS, SHOW, DUMP, WATCHERS, CLOSE; see
+Lines for tell: MAIL, PROGRESS, STATUS, SHOW, DUMP, WATCHERS, CLOSE. With - the
+MAIL lines of standard input are told (and PROGRESS lines with --progress); see
 notifyd(8).";
 
 /// The text that a word asks for.

@@ -3,7 +3,7 @@
 //! [`serve`] reads the words behind it and the files that they name, binds the sockets, runs the crate `service` until a CLOSE, a
 //! fault of a socket or of the clock, or a worker that is gone, writes what its workers did, and answers the exit status of the
 //! program. [`serve_words`] is all of it up to that end, over any writer. [`tell`] sends a control line to a service that runs, and
-//! prints the answer. [`udp`] is the program for so many datagrams, at 127.0.0.1.
+//! prints the answer, or the lines of standard input, one behind the other (the crate `telling`). [`udp`] is the program for so many datagrams, at 127.0.0.1.
 //!
 //! What it isn't: what the threads of a service do is `service`'s, what the words mean `arguments`'s, and what a control line
 //! says `control_lines`'s. Of what is said on standard error, and of the answer that [`tell`] prints, no contract tells. Begin with
@@ -17,6 +17,7 @@ mod asking;
 mod error;
 mod help;
 mod input;
+mod input_telling;
 mod line_file;
 mod logging;
 mod mailboxes;
@@ -27,6 +28,7 @@ mod prompt;
 mod ranged;
 mod sockets;
 mod state;
+mod terminal;
 pub mod udp;
 mod udp_listening;
 mod udp_printing;
@@ -40,3 +42,4 @@ pub use plan::Plan;
 pub use program::{Served, print_help, serve, serve_words};
 pub use ranged::Ranged;
 pub use sip_text::NoMemory;
+pub use terminal::say_what_is_read;

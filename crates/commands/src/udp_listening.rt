@@ -2,13 +2,12 @@
 ghost use Rattle.std.specs.Prelude.{◌≡◌, true, false, IfOk};
 ghost use Rattle.crew.specs.Kept.{SameSeats};
 ghost use Rattle.crew.specs.Ports.{IsLeftByClose};
-ghost use Rattle.feeds.specs.Fed.{failures_at};
-ghost use Rattle.feeds.specs.declared.hearing.Language.TheVariants as language;
-ghost use Rattle.commands.specs.UdpHearing.{HearsOut, HearsOutSocket};
-ghost use Rattle.commands.specs.UdpServing.{most_lines};
+ghost use Rattle.transport.specs.Wires.{Grows};
+ghost use Rattle.feeds.specs.Fed.{Log, datagrams, IsFed, failures_at};
+ghost use Rattle.commands.specs.UdpHearing.{language_of, count_of, HearsOut, HearsOutSocket};
 
 use crew::Port;
-use feeds::{FeedReport, Language, MOST_CONTROL_LINES, listen};
+use feeds::{FeedReport, control, feed};
 use std::alloc::Global;
 use std::snapshot::Snapshot;
 use std::sync::Wait;
@@ -24,33 +23,13 @@ pub(crate) struct Fed {
     pub(crate) report: FeedReport,
 }
 
-/// What a thread is to hear: so many datagrams at most, in this language.
+/// What a thread is to hear.
 #[derive(Clone, Copy)]
-pub(crate) struct Intake {
-    pub(crate) language: Language,
-    pub(crate) count: u32,
-}
-
-impl Intake {
+pub(crate) enum Intake {
     /// The messages of so many SIP datagrams.
-    pub(crate) fn sip(count: u32) -> Intake
-        ensures { result ≡ record { language = language.Sip; count = count } }
-    {
-        Intake {
-            language: Language::Sip,
-            count,
-        }
-    }
-
+    Sip(u32),
     /// Control lines, until a CLOSE.
-    pub(crate) fn control() -> Intake
-        ensures { result ≡ record { language = language.Control; count = most_lines } }
-    {
-        Intake {
-            language: Language::Control,
-            count: MOST_CONTROL_LINES,
-        }
-    }
+    Control,
 }
 
 /// What a thread is to hear, and the port that it feeds, as contracts see it.
@@ -61,9 +40,9 @@ pub(crate) struct Errand {
 }
 
 impl Promise<Fed> for Errand {
-    ghost use Rattle.commands.specs.UdpHearing.{HearsOutSocket};
+    ghost use Rattle.commands.specs.UdpHearing.{language_of, count_of, HearsOutSocket};
 
-    ghost kept_by = { λ errand fed. HearsOutSocket errand.hearing.language errand.hearing.count errand.port.value fed.port fed.report };
+    ghost kept_by = { λ errand fed. HearsOutSocket (language_of errand.hearing) (count_of errand.hearing) errand.port.value fed.port fed.report };
 }
 
 /// A thread that listens.
@@ -90,7 +69,27 @@ fn closed<H: Wait>(rt: &H, mut port: Port) -> Port
     port
 }
 
-/// Feeds a port with what so many datagrams of a wire say in this language, and closes the port.
+/// Feeds a port with what the datagrams of a wire say of what is to be heard. The port isn't closed.
+fn hear<H: Wait, W: Wire>(
+    rt: &H,
+    alloc: Global,
+    wire: &mut W,
+    port: &mut Port,
+    hearing: Intake,
+) -> FeedReport
+    requires { port.old.is_open ≡ true }
+    ensures fed { (log : Log) × Grows (W.given wire.old) (W.given wire.new) (datagrams log)
+        × IsFed (language_of hearing) (count_of hearing) log port.old port.new result }
+    ensures failures { W.failures wire.new ≡ failures_at result.end (W.failures wire.old) }
+    ensures seats { SameSeats port.old port.new }
+{
+    match hearing {
+        Intake::Sip(count) => feed(rt, alloc, wire, port, count),
+        Intake::Control => control(rt, alloc, wire, port),
+    }
+}
+
+/// Feeds a port with what the datagrams of a wire say of what is to be heard, and closes the port.
 fn hear_out<H: Wait, W: Wire>(
     rt: &H,
     alloc: Global,
@@ -99,10 +98,10 @@ fn hear_out<H: Wait, W: Wire>(
     hearing: Intake,
 ) -> Fed
     requires { port.is_open ≡ true }
-    ensures heard { HearsOut (W.given wire.old) (W.given wire.new) hearing.language hearing.count port result.port result.report }
+    ensures heard { HearsOut (W.given wire.old) (W.given wire.new) (language_of hearing) (count_of hearing) port result.port result.report }
     ensures failures { W.failures wire.new ≡ failures_at result.report.end (W.failures wire.old) }
 {
-    let report = listen(rt, alloc, wire, &mut port, hearing.language, hearing.count);
+    let report = hear(rt, alloc, wire, &mut port, hearing);
     let port = closed(rt, port);
     Fed { port, report }
 }
@@ -128,7 +127,7 @@ pub(crate) fn start_listener<H: Threads + Wait + Copy + Send + 'static>(
         errand,
         move || -> Fed
             requires { port.is_open ≡ true }
-            ensures { HearsOutSocket hearing.language hearing.count port result.port result.report }
+            ensures { HearsOutSocket (language_of hearing) (count_of hearing) port result.port result.report }
         {
             let mut wire = wire;
             hear_out(&rt, alloc, &mut wire, port, hearing)

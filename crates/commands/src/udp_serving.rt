@@ -2,6 +2,7 @@
 ghost use Rattle.std.specs.Prelude.{◌≡◌, ◌<◌, ◌≤◌, ◌∷◌, [], ℕ, List, vec_len, vec_capacity, IfOk, OnErr};
 ghost use Rattle.notifier_model.specs.Start.{Start};
 ghost use Rattle.crew.specs.Ports.{PortSeats};
+ghost use Rattle.commands.specs.UdpHearing.{count_of};
 ghost use Rattle.commands.specs.UdpServing.{Serves};
 ghost use Rattle.commands.specs.UdpRunning.{IsNew, AreErrands, outcome_of};
 
@@ -79,7 +80,7 @@ fn serve_to_end<H: Threads + Wait + Clock, F: Write>(
     requires room { (vec_len ports ≡ 0) × (2 ≤ vec_capacity ports) }
     ensures { (start : ℕ → Start)
         → IsNew start (listeners.sip.promise.port.value ∷ listeners.control.promise.port.value ∷ []) running
-        → Serves F.contents start running.workers listeners.sip.promise.hearing.count sink.old sink.new (outcome_of result) }
+        → Serves F.contents start running.workers (count_of listeners.sip.promise.hearing) sink.old sink.new (outcome_of result) }
 {
     let Running {
         crew,
@@ -146,12 +147,12 @@ where
         count,
     } = ears;
     let control_addr = control.local();
-    let Ok(control) = start_listener(rt, alloc, control, second, Intake::control()) else {
+    let Ok(control) = start_listener(rt, alloc, control, second, Intake::Control) else {
         drop(first);
         wind_up(&rt, alloc, running);
         return Err(NoThread);
     };
-    let Ok(sip) = start_listener(rt, alloc, sip, first, Intake::sip(count)) else {
+    let Ok(sip) = start_listener(rt, alloc, sip, first, Intake::Sip(count)) else {
         let mut running = running;
         let _ = running.outgoing.send(&rt, control_addr, b"CLOSE");
         // First the port that it closed goes: while an end of it is kept the workers wait for the one that went away unclosed.

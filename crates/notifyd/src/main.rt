@@ -1,7 +1,7 @@
 //! `notifyd`, a notifier of SIP event notification (RFC 6665).
 //!
 //! `notifyd serve [options] [<mailbox>...]` is the server that an operator runs, `notifyd tell <line>` tells it what
-//! happened. `notifyd udp [--seed <64 hex digits>] [--stop] <port> <control port> <workers> <count> <mailbox>...` is a
+//! happened, `notifyd tell -` what the lines of standard input say. `notifyd udp [--seed <64 hex digits>] [--stop] <port> <control port> <workers> <count> <mailbox>...` is a
 //! notifier on 127.0.0.1 that ends after so many datagrams and a CLOSE. `notifyd script [--seed <64 hex digits>] [--stop]
 //! <workers> <mailbox>...` reads a script from standard input and prints what the notifier sends; without arguments it is
 //! `notifyd script 1 alice`.
@@ -15,7 +15,7 @@ ghost use Rattle.std.specs.Prelude.{◌≡◌, IfOk};
 ghost use Rattle.arguments.specs.Wanted.{first_seen};
 
 use arguments::{ExitStatus, Wanted};
-use commands::{print_help, serve, tell, udp};
+use commands::{print_help, say_what_is_read, serve, tell, udp};
 use message_summary::Mailboxes;
 use package::{ClosingCell, Package};
 use refer::Transfers;
@@ -80,9 +80,12 @@ fn main(rt: HostRuntime) -> ExitCode {
         [word, rest @ ..] if word.is("serve") => return ExitCode::from(serve(rt, rest, &make)),
         [word, rest @ ..] if word.is("tell") => return ExitCode::from(tell(&rt, rest)),
         [word, ..] if word.is("udp") => { udp::run(rt, alloc, words.as_slice(), &mut sink, &make) }
-        _ => {
+        words => {
+            if words.is_empty() {
+                say_what_is_read(&rt);
+            }
             let mut source = Source::new(rt.reader());
-            server::run(rt, words.as_slice(), &mut source, &mut sink, &make)
+            server::run(rt, words, &mut source, &mut sink, &make)
         }
     };
     end(&rt, status)

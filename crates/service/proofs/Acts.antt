@@ -105,7 +105,7 @@ put_failures : (now : ℕ) (o : Out) (f : Fate) → failures (Put now o f ∷ []
 put_failures now o Sent = refl
 put_failures now o Started = refl
 put_failures now (out.Answer to octets) Failed = refl
-put_failures now (out.Notify to number terminated tag octets) Failed = refl
+put_failures now (out.Notify to number terminated tag note octets) Failed = refl
 put_failures now (out.Start tag refer_to) Failed = refl
 
 pub does_put : (now : ℕ) (o : Out) (f : Fate) (s t : State) (v w : WireSeen) → Grows v.taken w.taken (sent_datagrams (one o f))

@@ -1,17 +1,17 @@
 -- Three ports that were closed.
 use Rattle.std.proofs.Common.{◌≡◌, ℕ, zero, suc, ◌<◌, true, false, List, [], ◌∷◌, ◌++◌, length, get_or, refl, ap, sym, ◌∙◌, subst, arith}
 use Rattle.std.proofs.lemmas.List.{nil_from_length}
-use Rattle.notifier_model.specs.Start.{Start}
+use Rattle.notifier.specs.Standing.{Standing}
 use Rattle.queues.specs.OutboxSeats.{TakerSeat}
 use Rattle.crew.specs.Ports.{PortSeats}
 use Rattle.crew.specs.Kept.{SameSeats, AllClosed}
-use Rattle.crew.specs.Started.{Hired, IsStarted}
+use Rattle.crew.specs.Started.{Hired, HaveBegun}
 use Rattle.crew.specs.Joined.{IsPortOf}
 use Rattle.crew.proofs.Keeping.{started_open, started_port}
 
 -- ---- the crew as it was started
 
-module _ {start : ℕ → Start} {workers n : ℕ} {crew : List Hired} {ports : List PortSeats} {taker : TakerSeat} (is : IsStarted start workers n crew ports taker) where
+module _ {stands : ℕ → Standing} {workers n : ℕ} {crew : List Hired} {ports : List PortSeats} {taker : TakerSeat} (is : HaveBegun stands workers n crew ports taker) where
   pub ports_len : length ports ≡ n
   ports_len = is.dealt.len
 
@@ -42,7 +42,7 @@ module _ (a b c a' b' c' : PortSeats) where
   all_same x y z (suc (suc (suc k))) p low = absurd (omega arith)
 
   -- what `join` asks of them
-  pub ports_closed : {start : ℕ → Start} {workers : ℕ} {crew : List Hired} {taker : TakerSeat} (is : IsStarted start workers 3 crew (a ∷ b ∷ c ∷ []) taker)
+  pub ports_closed : {stands : ℕ → Standing} {workers : ℕ} {crew : List Hired} {taker : TakerSeat} (is : HaveBegun stands workers 3 crew (a ∷ b ∷ c ∷ []) taker)
       (ports : List PortSeats) → ports ≡ a' ∷ b' ∷ c' ∷ [] → a'.is_open ≡ false → b'.is_open ≡ false → c'.is_open ≡ false
       → SameSeats a a' → SameSeats b b' → SameSeats c c' → (p : ℕ) (q : PortSeats) → p < length ports → IsPortOf crew (get_or ports p q)
   ports_closed {crew = crew} is ports are shut shut' shut'' same same' same'' p q low =

@@ -24,9 +24,9 @@ use Rattle.feeds.specs.declared.feeding.Told.TheVariants as told
 use Rattle.feeds.specs.Heard.{Says}
 use Rattle.feeds.specs.Fed.{Log, AllSay, IsPassedOn, Sends, event_heard, events, is_close, closes}
 use Rattle.admission.specs.declared.judging.Admission.{Admission}
-use Rattle.service.specs.Admitted.{Case, IsJudged, AreJudged, arrived, is_allowed, admitted, AreHeard, refusals, unsent, AreRefused}
+use Rattle.service.specs.Admitted.{Case, IsTaken, PassesOn, IsJudged, AreJudged, arrived, is_allowed, admitted, AreHeard, refusals, unsent, AreRefused}
 use Rattle.service.specs.Served.{is_gone, is_short, AreServed}
-use Rattle.service.proofs.Judging.{moment_after, moment_more, judged_more, arrived_more, admitted_more, admitted_same, refused_none, refused_more}
+use Rattle.service.proofs.Judging.{case, one_refused, moment_after, moment_more, judged_more, arrived_more, admitted_more, admitted_same, refused_none, refused_more}
 
 -- ---- too long, or not
 
@@ -236,6 +236,44 @@ module _ {longest : ℕ} {a b : Admission} {moment : ℕ} {old now : PortSeats} 
             },
             refused_after,
           )
+
+  -- after a datagram that was taken
+  module _ (source : Addr) (octets : List ℕ) (m : ℕ) (d : Admission) (next : PortSeats) (after sent : Option (List Datagram)) (count : ℕ) (gone : Bool)
+      (more : Grows given' after (datagram source octets ∷ [])) (is : is_short longest (datagram source octets) ≡ true) (later : moment ≤ m)
+      (took : IsTaken source octets m b d now next taken' sent failures' count gone) where
+    fate : (f : Bool) × Grows taken' sent (refusals (case (datagram source octets) took.says m took.verdict f ∷ []))
+        × (count ≡ rises (unsent (case (datagram source octets) took.says m took.verdict f ∷ [])) failures')
+    fate = one_refused (datagram source octets) took.says m taken' sent failures' count took.verdict took.refuses
+
+    abbrev this : Case
+    this = case (datagram source octets) took.says m took.verdict fate.0
+
+    judged_this : IsJudged b moment this d
+    judged_this = record {
+      speaks = took.speaks;
+      later = later;
+      arrival = took.arrival;
+      told = record { octets = took.of_octets; source = took.of_source; moment = took.of_moment; reads = took.reads };
+      meets = took.meets;
+    }
+
+    goes_on : (k : Bool) → is_allowed took.verdict ≡ k → PassesOn k took.says now next gone → gone ≡ false
+        → Hearing longest a d m old next given after taken sent failures count
+    goes_on true e p on = hearing_sent this d after sent count more is judged_this fate.1 fate.2 e next p.0 p.1 (sym p.2 ∙ on)
+    goes_on false e p on =
+        let P : PortSeats → Type 0 = λ x. Hearing longest a d m old x given after taken sent failures count in
+        subst P (sym p.0) (hearing_refused this d after sent count more is judged_this fate.1 fate.2 e)
+
+    ends_here : (k : Bool) → is_allowed took.verdict ≡ k → PassesOn k took.says now next gone → gone ≡ true
+        → Serves longest a d old next given after taken sent failures count Gone
+    ends_here true e p at = served_gone this d after sent count more is judged_this fate.1 fate.2 e next p.0 p.1 (sym p.2 ∙ at)
+    ends_here false e p at = absurd cc
+
+    pub hearing_taken : gone ≡ false → Hearing longest a d m old next given after taken sent failures count
+    hearing_taken on = goes_on (is_allowed took.verdict) refl took.passes on
+
+    pub served_taken : gone ≡ true → Serves longest a d old next given after taken sent failures count Gone
+    served_taken at = ends_here (is_allowed took.verdict) refl took.passes at
 
   served_done : Serves longest a b old now given given' taken taken' failures failures' Done
   served_done =

@@ -10,13 +10,18 @@ use Rattle.transport.specs.Wires.{Grows}
 use Rattle.feeds.proofs.Telling.{grows_none, grows_more}
 use Rattle.feeds.proofs.Emitting.{rises_more}
 use Rattle.feeds.specs.declared.hearing.Heard.{Heard}
-use Rattle.feeds.specs.Fed.{Log}
+use Rattle.std.specs.Prelude.{MatchBool, not}
+use Rattle.notifier_model.specs.declared.event.Event.{Event}
+use Rattle.crew.specs.Ports.{PortSeats}
+use Rattle.feeds.specs.declared.hearing.Heard.TheVariants as heard
+use Rattle.feeds.specs.declared.feeding.Told.TheVariants as told
+use Rattle.feeds.specs.Fed.{Log, Sends, Misses}
 use Rattle.admission.specs.declared.judging.Admission.{Admission}
 use Rattle.admission.specs.declared.judging.Verdict.{Verdict}
 use Rattle.admission.specs.declared.judging.Verdict.TheVariants as verdict
 use Rattle.feeds.specs.Heard.{SipSays}
 use Rattle.admission.specs.declared.judging.Arrival.{Arrival}
-use Rattle.service.specs.Admitted.{Case, IsRead, Meets, IsJudged, AreJudged, arrived, allows, is_allowed, said, admitted, refusal, refusal_in, Refuses, sent, refusals, fails, unsent, AreRefused}
+use Rattle.service.specs.Admitted.{Case, PassesOn, IsRead, Meets, IsJudged, AreJudged, arrived, allows, is_allowed, said, admitted, refusal, refusal_in, Refuses, sent, refusals, fails, unsent, AreRefused}
 
 abbrev pub case : Datagram → Heard → ℕ → Option Verdict → Bool → Case
 case d h moment v failed = record { came = d; says = h; moment = moment; verdict = v; fails = failed }
@@ -111,3 +116,15 @@ judged_is a earlier d h x v b speaks later octets source reads meets failed = re
   told = record { octets = octets; source = source; moment = refl; reads = reads };
   meets = meets;
 }
+
+-- ---- what the port is sent of one
+
+-- nothing, where it isn't allowed
+pub passes_none : (v : Option Verdict) (says : Heard) (p : PortSeats) → is_allowed v ≡ false → PassesOn (is_allowed v) says p p false
+passes_none v says p e = let P : Bool → Type 0 = λ b. PassesOn b says p p false in subst P (sym e) (refl, refl)
+
+-- its event, where it is
+pub passes_sent : (v : Option Verdict) (e : Event) (old new : PortSeats) (sent : Bool) → is_allowed v ≡ true
+    → MatchBool sent (Sends old (e ∷ []) new) (Misses old e new) → PassesOn (is_allowed v) (heard.Event e) old new (not sent)
+passes_sent v e old new true is did = let P : Bool → Type 0 = λ b. PassesOn b (heard.Event e) old new false in subst P (sym is) (told.Sent, did, refl)
+passes_sent v e old new false is did = let P : Bool → Type 0 = λ b. PassesOn b (heard.Event e) old new true in subst P (sym is) (told.Gone, did, refl)

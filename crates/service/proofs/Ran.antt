@@ -7,7 +7,8 @@ use Rattle.notifier_model.specs.declared.event.Out.{Out}
 use Rattle.notifier_model.specs.Start.{Start}
 use Rattle.queues.specs.OutboxSeats.{TakerSeat}
 use Rattle.crew.specs.Ports.{PortSeats}
-use Rattle.crew.specs.Started.{Hired, IsStarted}
+use Rattle.notifier.specs.Standing.{Standing}
+use Rattle.crew.specs.Started.{Hired, IsStarted, HaveBegun}
 use Rattle.crew.specs.Joined.{IsJoined}
 use Rattle.crew.specs.declared.report.WorkerReport.{WorkerReport}
 use Rattle.feeds.specs.declared.sending.EmitReport.{EmitReport}
@@ -108,10 +109,11 @@ runs_are {crew = crew} {a = a} {b = b} {c = c} {taker = taker} is opened admissi
     }
 
 -- the same, where the number of workers has another name
-module _ {start : ℕ → Start} {n m : ℕ} (same : m ≡ n) where
-  pub started_with : {crew : List Hired} {ports : List PortSeats} {taker : TakerSeat} → IsStarted start n 3 crew ports taker → IsStarted start m 3 crew ports taker
-  started_with {crew = crew} {ports = ports} {taker = taker} is = let P : ℕ → Type 0 = λ k. IsStarted start k 3 crew ports taker in subst P (sym same) is
+module _ {stands : ℕ → Standing} {n m : ℕ} (same : m ≡ n) where
+  pub started_with : {crew : List Hired} {ports : List PortSeats} {taker : TakerSeat} → HaveBegun stands n 3 crew ports taker → HaveBegun stands m 3 crew ports taker
+  started_with {crew = crew} {ports = ports} {taker = taker} is = let P : ℕ → Type 0 = λ k. HaveBegun stands k 3 crew ports taker in subst P (sym same) is
 
+module _ {start : ℕ → Start} {n m : ℕ} (same : m ≡ n) where
   pub runs_with : {repeats : ℕ} {opened : Opening} {admission : Admission} {flow : Outflow} {o : ServiceEnd}
       → Runs start m repeats opened admission flow o → Runs start n repeats opened admission flow o
   runs_with {repeats = repeats} {opened = opened} {admission = admission} {flow = flow} {o = o} runs =

@@ -2,6 +2,7 @@
 use Rattle.std.proofs.Common.{◌≡◌, ◌≤◌, ℕ, zero, suc, ◌+◌, Bool, false, List, [], ◌∷◌, ◌++◌, Option, Some, None, refl, ap, sym, ◌∙◌, subst, arith}
 use Rattle.std.specs.Prelude.{option_to_list}
 use Rattle.std.specs.List.{AllByRecursion, cons_option}
+use Rattle.notifier_model.specs.declared.event.Note.{Note as KnownNote}
 use Rattle.notifier_model.specs.declared.event.Out.TheVariants as out
 use Rattle.feeds.specs.declared.sending.Fate.{Fate}
 use Rattle.transport.specs.declared.datagram.Datagram.{Datagram}
@@ -53,9 +54,9 @@ found (act ∷ acts) earlier call since e = found_at act acts (call_of act) refl
 
 -- a NOTIFY that is kept was put
 put_is : (act : Act) (t : Open) → call_of act ≡ Some (keeping t)
-    → (terminated : Bool) × (fate : Fate) × (act ≡ Put t.first (out.Notify t.to t.number terminated t.tag t.bytes) fate)
+    → (terminated : Bool) × (note : KnownNote) × (fate : Fate) × (act ≡ Put t.first (out.Notify t.to t.number terminated t.tag note t.bytes) fate)
 put_is (Put now (out.Answer to octets) fate) t e = absurd cc
-put_is (Put now (out.Notify to number terminated tag octets) fate) t e = (terminated, fate, cc)
+put_is (Put now (out.Notify to number terminated tag note octets) fate) t e = (terminated, note, fate, cc)
 put_is (Put now (out.Start tag refer_to) fate) t e = absurd cc
 put_is (Noted tag number status) t e = absurd cc
 put_is (Repeated now sent fails) t e = absurd cc
@@ -66,7 +67,7 @@ unended : (tag : List ℕ) (number : ℕ) (acts : List Act) → AllByRecursion (
     → AllByRecursion (λ act. ends_it tag number act ≡ false) acts
 unended tag number [] none = tt
 unended tag number (Put now (out.Answer to octets) fate ∷ acts) none = (refl, unended tag number acts none)
-unended tag number (Put now (out.Notify to n terminated other octets) fate ∷ acts) none = (refl, unended tag number acts none.1)
+unended tag number (Put now (out.Notify to n terminated other note octets) fate ∷ acts) none = (refl, unended tag number acts none.1)
 unended tag number (Put now (out.Start other refer_to) fate ∷ acts) none = (refl, unended tag number acts none)
 unended tag number (Noted other n status ∷ acts) none = (none.0, unended tag number acts none.1)
 unended tag number (Repeated now sent fails ∷ acts) none = (refl, unended tag number acts none.1)
@@ -86,7 +87,7 @@ each_repeat_is limit before after now sent fails asked =
     let order = each_repeat limit (calls before) now t here.0.1 in
     let f = found before order.earlier (keeping t) order.since order.split in
     let put = put_is f.act t f.is in
-    let P : Datagram → Type 0 = λ d. before ≡ f.before ++ Put t.first (out.Notify d.peer t.number put.0 t.tag d.octets) put.1 ∷ f.after in
+    let P : Datagram → Type 0 = λ d. before ≡ f.before ++ Put t.first (out.Notify d.peer t.number put.0 t.tag put.1 d.octets) put.2 ∷ f.after in
     let C : List Call → Type 0 = λ l. AllByRecursion (λ call. is_end t.tag t.number call ≡ false) l in
     let long = half_a_second (times t.tag t.number order.since (state_after (order.earlier ++ keeping t ∷ []) (empty limit))) in
     let waited = order.waited in record {
@@ -96,8 +97,9 @@ each_repeat_is limit before after now sent fails asked =
       tag = t.tag;
       number = t.number;
       terminated = put.0;
-      fate = put.1;
-      split = subst P (sym here.0.2) (f.split ∙ ap (λ act. f.before ++ act ∷ f.after) put.2);
+      note = put.1;
+      fate = put.2;
+      split = subst P (sym here.0.2) (f.split ∙ ap (λ act. f.before ++ act ∷ f.after) put.3);
       unanswered = unended t.tag t.number f.after (subst C (sym f.rest) order.unanswered);
       waited = omega (arith, long, waited);
       in_time = order.in_time;

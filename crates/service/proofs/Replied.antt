@@ -19,7 +19,7 @@ use Rattle.service.specs.Admitted.{Case, IsRead, Meets, IsJudged, AreJudged, is_
 
 -- it takes no token
 answer_lets : (a : Admission) (x : Arrival) → x.reading ≡ reading.Response → lets a x ≡ true
-answer_lets a x is = ap (λ (y : Reading). lets_one (if is_counted y then a.rates else None) x) is
+answer_lets a x is = ap (λ (y : Reading). lets_one (if is_counted y x.octets.now then a.rates else None) x) is
 
 -- and is no further subscription
 answer_none : (a : Admission) (x : Arrival) → x.reading ≡ reading.Response → one_more a x ≡ None

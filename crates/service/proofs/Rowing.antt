@@ -4,6 +4,7 @@ use Rattle.std.specs.Prelude.{option_to_list}
 use Rattle.transactions.specs.declared.open.Open.{Open}
 use Rattle.transactions.specs.Machine.{State, empty, due}
 use Rattle.transactions.specs.Runs.{state_after}
+use Rattle.notifier_model.specs.declared.event.Note.{Note as KnownNote}
 use Rattle.notifier_model.specs.declared.event.Out.{Out}
 use Rattle.feeds.specs.declared.sending.Fate.{Fate}
 use Rattle.transport.specs.declared.datagram.Datagram.{Datagram}
@@ -13,7 +14,7 @@ use Rattle.notifier_model.specs.declared.event.Out.TheVariants as out
 use Rattle.service.specs.declared.post.Note.{Note}
 use Rattle.service.specs.Noted.{answer_of}
 use Rattle.service.specs.Sending.{Act, Put, Repeated, GaveUp, call_of, calls}
-use Rattle.service.specs.Watched.{IsSeen, AreRowed, is_doubtful, doubted, given_up, noted_rows}
+use Rattle.service.specs.Watched.{known_from, IsSeen, AreRowed, is_doubtful, doubted, given_up, noted_rows}
 use Rattle.service.proofs.Acts.{noted, state_first}
 
 rowed_append : (a b : List Act) (s : State) (rows mid rows' : List Row) → AreRowed s a rows mid → AreRowed (state_after (calls a) s) b mid rows'
@@ -75,24 +76,24 @@ rowed_from limit s acts rows rows' rowed none = let P : State → Type 0 = λ u.
 
 -- ---- an out
 
-module _ (now : ℕ) (o : Out) (tag : List ℕ) (number : ℕ) (terminated : Bool) (to : Addr) (octets : List ℕ) (rows rows' : List Row)
-    (is : o ≡ out.Notify to number terminated tag octets) where
-  seen_as : IsSeen now (out.Notify to number terminated tag octets) rows rows' → IsSeen now o rows rows'
+module _ (now : ℕ) (o : Out) (tag : List ℕ) (number : ℕ) (terminated : Bool) (to : Addr) (note : KnownNote) (octets : List ℕ) (rows rows' : List Row)
+    (is : o ≡ out.Notify to number terminated tag note octets) where
+  seen_as : IsSeen now (out.Notify to number terminated tag note octets) rows rows' → IsSeen now o rows rows'
   seen_as seen = let P : Out → Type 0 = λ x. IsSeen now x rows rows' in subst P (sym is) seen
 
   pub seen_last : terminated ≡ true → rows' ≡ without tag rows → IsSeen now o rows rows'
   seen_last last gone = seen_as (step terminated last) where
-    step : (b : Bool) → b ≡ true → IsSeen now (out.Notify to number b tag octets) rows rows'
+    step : (b : Bool) → b ≡ true → IsSeen now (out.Notify to number b tag note octets) rows rows'
     step true e = gone
     step false e = absurd cc
 
-  seen_on : terminated ≡ false → (rows' ≡ after_notify now tag number to octets rows) ⊎ ((begins tag rows ≡ true) × (rows' ≡ rows)) → IsSeen now o rows rows'
+  seen_on : terminated ≡ false → (rows' ≡ after_notify now tag number to (known_from note) rows) ⊎ ((begins tag rows ≡ true) × (rows' ≡ rows)) → IsSeen now o rows rows'
   seen_on on either = seen_as (step terminated on) where
-    step : (b : Bool) → b ≡ false → IsSeen now (out.Notify to number b tag octets) rows rows'
+    step : (b : Bool) → b ≡ false → IsSeen now (out.Notify to number b tag note octets) rows rows'
     step false e = either
     step true e = absurd cc
 
-  pub seen_renewed : terminated ≡ false → rows' ≡ after_notify now tag number to octets rows → IsSeen now o rows rows'
+  pub seen_renewed : terminated ≡ false → rows' ≡ after_notify now tag number to (known_from note) rows → IsSeen now o rows rows'
   seen_renewed on renewed = seen_on on (inl renewed)
 
   pub seen_refused : terminated ≡ false → begins tag rows ≡ true → rows' ≡ rows → IsSeen now o rows rows'

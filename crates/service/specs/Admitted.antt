@@ -15,7 +15,8 @@ use Rattle.feeds.specs.declared.feeding.FeedEnd.{FeedEnd}
 use Rattle.feeds.specs.declared.hearing.Heard.{Heard}
 use Rattle.feeds.specs.declared.hearing.Heard.TheVariants as heard
 use Rattle.feeds.specs.Heard.{SipSays}
-use Rattle.feeds.specs.Fed.{Log, datagrams}
+use Rattle.feeds.specs.declared.feeding.Told.{Told}
+use Rattle.feeds.specs.Fed.{Log, IsPassedOn, datagrams}
 use Rattle.admission.specs.declared.authentication.Authentication.{Authentication}
 use Rattle.admission.specs.declared.judging.Admission.{Admission}
 use Rattle.admission.specs.declared.judging.Arrival.{Arrival}
@@ -25,7 +26,7 @@ use Rattle.admission.specs.declared.judging.Verdict.{Verdict}
 use Rattle.admission.specs.declared.judging.Verdict.TheVariants as verdict
 use Rattle.admission.specs.Inquiries.{IsAdmitted}
 use Rattle.admission.specs.Verdicts.{IsOpen, hears, is_asked, Judges, after}
-use Rattle.service.specs.Served.{AreServed}
+use Rattle.service.specs.Served.{is_gone as worker_gone, AreServed}
 
 -- a datagram, what it says, when it was judged, and the verdict: none where memory was wanting. Did the wire fail at the refusal of it?
 pub record Case : Type 0 where
@@ -115,6 +116,11 @@ pub record AreHeard (a : Admission) (cases : List Case) (b : Admission) (old new
   pub judged : AreJudged a 0 cases b
   pub served : AreServed (admitted cases) old new end
 
+-- the port was sent what is allowed, and nothing else. Is the worker of it gone?
+abbrev pub PassesOn : Bool → Heard → PortSeats → PortSeats → Bool → Type 0
+PassesOn true says old new is_gone = (t : Told) × IsPassedOn says old new t × (is_gone ≡ worker_gone t)
+PassesOn false says old new is_gone = (new ≡ old) × (is_gone ≡ false)
+
 -- ---- who is refused
 
 -- a wire has taken this for who is refused, or failed at it once. Where there is nothing to send it has taken nothing, and didn't fail
@@ -135,6 +141,22 @@ refusal (verdict.Crowded octets) = Some octets
 abbrev pub refusal_in : Option Verdict → Option (List ℕ)
 refusal_in None = None
 refusal_in (Some v) = refusal v
+
+-- a datagram of this source was read and judged at this moment, its source refused if it may be told, and the port sent what it says where it
+-- is allowed
+pub record IsTaken (source : Addr) (octets : List ℕ) (moment : ℕ) (a b : Admission) (old new : PortSeats)
+    (taken taken' : Option (List Datagram)) (failures failures' : ℕ) (is_gone : Bool) : Type 0 where
+  pub says : Heard
+  pub verdict : Option Verdict
+  pub arrival : Arrival
+  pub speaks : SipSays source octets says
+  pub of_octets : arrival.octets.now ≡ octets
+  pub of_source : arrival.source ≡ source
+  pub of_moment : arrival.moment ≡ moment
+  pub reads : IsRead says arrival.reading
+  pub meets : Meets a arrival verdict b
+  pub refuses : Refuses source (refusal_in verdict) taken taken' failures failures'
+  pub passes : PassesOn (is_allowed verdict) says old new is_gone
 
 abbrev pub reply : Case → Option Datagram
 reply c = option_map (datagram c.came.peer) (refusal_in c.verdict)

@@ -2,10 +2,6 @@
 use Rattle.std.specs.Prelude.{ℕ, List, Option, None, codes, bytes_eq, option_map, if◌then◌else◌}
 use Rattle.sip_read.specs.declared.message.Head.{Head}
 use Rattle.sip_read.specs.declared.message.Response.{Response}
-use Rattle.notifier_model.specs.declared.event.Event.{Event}
-use Rattle.notifier_model.specs.declared.event.Event.TheVariants as event
-use Rattle.feeds.specs.declared.hearing.Heard.{Heard}
-use Rattle.feeds.specs.declared.hearing.Heard.TheVariants as heard
 use Rattle.transactions.specs.Runs.{Call, Answer}
 use Rattle.service.specs.declared.post.Note.{Note}
 
@@ -17,19 +13,9 @@ answered_tag head = if bytes_eq head.cseq_method (codes "NOTIFY") then head.from
 abbrev pub noted : Response → List ℕ → Note
 noted r tag = record { tag = tag; number = r.head.cseq; status = r.status }
 
--- the note of what happened, if that is an answer to a NOTIFY
-abbrev pub note_of : Event → Option Note
-note_of (event.Request source r) = None
-note_of (event.Reply r) = option_map (noted r) (answered_tag r.head)
-note_of (event.Mail m) = None
-note_of (event.Progress p) = None
-note_of (event.Tick n) = None
-note_of event.Shut = None
-
-abbrev pub note_in : Heard → Option Note
-note_in (heard.Event e) = note_of e
-note_in heard.Unread = None
-note_in heard.Close = None
+-- the note of a response, if it answers a NOTIFY
+abbrev pub note_of : Response → Option Note
+note_of r = option_map (noted r) (answered_tag r.head)
 
 -- what it is to the open transactions of NOTIFYs
 abbrev pub answer_of : Note → Call

@@ -5,6 +5,7 @@ use Rattle.std.specs.List.{filter, filter_map, AllByRecursion}
 use Rattle.queues.specs.declared.items.Item.{Item}
 use Rattle.notifier_model.specs.declared.event.NotifyOut.{NotifyOut}
 use Rattle.notifier_model.specs.declared.event.Out.{Out}
+use Rattle.notifier_model.specs.declared.event.Note.{Note as KnownNote}
 use Rattle.notifier_model.specs.declared.event.Out.TheVariants as out
 use Rattle.notifier_model.specs.Sent.{notify_of}
 use Rattle.transport.specs.Devices.{rises}
@@ -164,8 +165,9 @@ pub record IsOfNotify (before : List Act) (now : ℕ) (sent : Datagram) : Type 0
   pub tag : List ℕ
   pub number : ℕ
   pub terminated : Bool
+  pub note : KnownNote
   pub fate : Fate
-  pub split : before ≡ earlier ++ Put first (out.Notify sent.peer number terminated tag sent.octets) fate ∷ since
+  pub split : before ≡ earlier ++ Put first (out.Notify sent.peer number terminated tag note sent.octets) fate ∷ since
   pub unanswered : AllByRecursion (λ act. ends_it tag number act ≡ false) since
   pub waited : first + 500 ≤ now
   pub in_time : now < first + 32000

@@ -1,11 +1,13 @@
 -- The rows of the live subscriptions, as the thread that sends keeps them, and a page of some rows.
-use Rattle.std.specs.Prelude.{◌≡◌, ◌⊎◌, ◌+◌, ℕ, Bool, true, false, nat_le, List, [], ◌∷◌, Option, Some, None, option_to_list, if◌then◌else◌}
+use Rattle.std.specs.Prelude.{◌≡◌, ◌⊎◌, ◌+◌, ℕ, Bool, true, false, nat_le, List, [], ◌∷◌, Option, Some, None, unwrap_or, option_to_list, if◌then◌else◌}
+use Rattle.notifier_model.specs.declared.event.Note.{Note as KnownNote}
 use Rattle.notifier_model.specs.declared.event.Out.{Out}
 use Rattle.notifier_model.specs.declared.event.Out.TheVariants as out
 use Rattle.transactions.specs.declared.open.Open.{Open}
 use Rattle.transactions.specs.Machine.{State, due}
 use Rattle.transactions.specs.Runs.{state_after}
 use Rattle.watchers.specs.declared.inquiry.Inquiry.{Inquiry}
+use Rattle.watchers.specs.Notifies.{Known}
 use Rattle.watchers.specs.Rows.{Row, begins, after_notify, without, answered_rows}
 use Rattle.watchers.specs.Pages.{page, page_text}
 use Rattle.service.specs.declared.post.Note.{Note}
@@ -13,13 +15,17 @@ use Rattle.service.specs.Sending.{Act, Put, Noted, Repeated, GaveUp, call_of}
 
 -- ---- what one act makes of the rows
 
+-- what a row is made of: what is known with a NOTIFY that isn't the last one
+abbrev pub known_from : KnownNote → Known
+known_from note = record { watcher = note.watcher; resource = note.resource; seconds = unwrap_or note.left 0 }
+
 -- An out was put. The row of a subscription goes with its last NOTIFY, and begins with the first one that finds none, unless room or
 -- memory is wanting
 abbrev pub IsSeen : ℕ → Out → List Row → List Row → Type 0
 IsSeen now (out.Answer to octets) rows rows' = rows' ≡ rows
-IsSeen now (out.Notify to number true tag octets) rows rows' = rows' ≡ without tag rows
-IsSeen now (out.Notify to number false tag octets) rows rows' =
-    (rows' ≡ after_notify now tag number to octets rows) ⊎ ((begins tag rows ≡ true) × (rows' ≡ rows))
+IsSeen now (out.Notify to number true tag note octets) rows rows' = rows' ≡ without tag rows
+IsSeen now (out.Notify to number false tag note octets) rows rows' =
+    (rows' ≡ after_notify now tag number to (known_from note) rows) ⊎ ((begins tag rows ≡ true) × (rows' ≡ rows))
 IsSeen now (out.Start tag refer_to) rows rows' = rows' ≡ rows
 
 -- the row of the NOTIFY that was given up goes

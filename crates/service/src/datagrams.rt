@@ -1,68 +1,31 @@
 //! What SIP datagrams say, sent on where their sources are heard.
-ghost use Rattle.std.specs.Prelude.{◌≡◌, ◌≤◌, List, Option, [], true, nat_le, IfSome};
+ghost use Rattle.std.specs.Prelude.{◌≡◌, ◌≤◌, ◌∷◌, List, Option, Ok, [], true, not, nat_le, IfSome, MatchBool};
 ghost use Rattle.std.specs.List.{filter};
 ghost use Rattle.admission.specs.declared.judging.Verdict.{Verdict as VerdictSeen};
 ghost use Rattle.admission.specs.Verdicts.{hears};
 ghost use Rattle.crew.specs.Kept.{SameSeats};
 ghost use Rattle.transport.specs.Wires.{Grows};
-ghost use Rattle.feeds.specs.Heard.{SipSays};
+ghost use Rattle.sip_read.specs.Message.{IsReading};
 ghost use Rattle.service.specs.Admitted as spec;
-ghost use Rattle.service.specs.Admitted.{Case, IsRead, Meets, Refuses, arrived, AreHeard, AreRefused};
-ghost use Rattle.feeds.specs.Fed.{is_fault};
+ghost use Rattle.service.specs.Admitted.{Case, IsTaken, Meets, Refuses, arrived, AreHeard, AreRefused};
+ghost use Rattle.feeds.specs.Fed.{is_fault, Misses, Sends};
 ghost use Rattle.service.specs.Listening.{IsDeafAsTold};
-ghost use Rattle.service.specs.Served.{is_gone, is_short};
+ghost use Rattle.service.specs.Served.{is_short};
 ghost use Rattle.transport.specs.declared.datagram.Datagram.{Datagram};
 
-use crate::listening::{Came, Listening, ROOM, Until};
+use crate::listening::{Came, Listening, ROOM};
 use crate::request_log::log_answer;
 use crate::shared::{Counter, Shared};
 use admission::{Admission, Arrival, ChallengeCause, Reading, Verdict};
 use crew::Port;
-use feeds::{FeedEnd, Heard, Told, hear_message, tell};
+use feeds::{FeedEnd, send_event};
 use notifier_model::Event;
-use sip_read::{ReadError, read};
+use sip_read::{Boxed, Message, ReadError, Request, Response, read};
 use sip_text::{Addr, Octets};
 use std::alloc::Global;
 use std::rt::Clock;
 use std::sync::Wait;
 use transport::{Ear, Wire};
-
-/// What a SIP datagram says, and why it can't be read, if it can't.
-#[derive(Drop)]
-struct Said {
-    heard: Heard,
-    error: Option<ReadError>,
-}
-
-/// Reads a SIP datagram.
-fn hear(alloc: Global, source: Addr, octets: &[u8]) -> Said
-    ensures { SipSays source octets.now result.heard }
-{
-    let message = read(alloc, octets);
-    let error = message.as_ref().err().copied();
-    Said {
-        heard: hear_message(source, message),
-        error,
-    }
-}
-
-/// What was read, as the admission is told of it.
-fn reading(heard: &Heard) -> Reading<'_>
-    ensures { IsRead heard.now result }
-{
-    match heard {
-        Heard::Event(Event::Request(_, request)) => Reading::Request(request),
-        Heard::Event(Event::Reply(_)) => Reading::Response,
-        _ => Reading::Unread,
-    }
-}
-
-/// Counts why a datagram can't be read, if it can't.
-fn count_unread(shared: &Shared, error: Option<ReadError>) {
-    if let Some(error) = error {
-        shared.count_unread(&error);
-    }
-}
 
 /// Counts a request that is challenged, by its cause.
 fn count_challenge(shared: &Shared, cause: ChallengeCause) {
@@ -155,21 +118,36 @@ fn next_moment<R: Clock>(rt: &R, shared: &Shared, earlier: u64) -> u64
     }
 }
 
-/// Whether the worker of an event is gone. An event that was sent is counted, and so is what can't be read, by this error.
-fn is_gone(shared: &Shared, told: Told, error: Option<ReadError>) -> bool
-    ensures { result ≡ is_gone told }
+/// A datagram that came, as the admission is told of it.
+fn arrival<'a>(
+    octets: &'a [u8],
+    reading: Reading<'a>,
+    source: Addr,
+    moment: u64,
+    live: usize,
+) -> Arrival<'a>
+    ensures { result ≡ record { octets = octets.entry; reading = reading.entry; source = source; moment = moment; live = live } }
 {
-    match told {
-        Told::Gone => true,
-        Told::Sent => {
-            shared.count(Counter::Event);
-            false
-        }
-        Told::Unread | Told::Close => {
-            count_unread(shared, error);
-            false
-        }
+    Arrival {
+        octets,
+        reading,
+        source,
+        moment,
+        live,
     }
+}
+
+/// Sends an event to its worker, and counts it. False where that worker is gone.
+fn send_on<R: Wait>(rt: &R, port: &mut Port, shared: &Shared, event: Event) -> bool
+    requires still_open { port.old.is_open ≡ true }
+    ensures sent { MatchBool result (Sends port.old (event ∷ []) port.new) (Misses port.old event port.new) }
+    ensures seats { SameSeats port.old port.new }
+{
+    if !send_event(rt, port, event) {
+        return false;
+    }
+    shared.count(Counter::Event);
+    true
 }
 
 /// What hears SIP datagrams.
@@ -197,14 +175,19 @@ impl<W: Ear> SipDesk<W> {
         is_short
     }
 
-    /// How many live subscriptions the source of a request outside a dialog has, where it may have so many only. 0 of anything else: nobody
+    /// How many live subscriptions the source of a request outside a dialog has, where it may have so many only. 0 of any other: nobody
     /// asks.
-    fn live_from<R: Wait>(&self, rt: &R, shared: &Shared, heard: &Heard, source: Addr) -> usize {
-        match (self.admission.per_source, heard) {
-            (Some(_), Heard::Event(Event::Request(_, request))) if request.head.to.tag.is_none() =>
-                { shared.live_from(rt, watchers::source(source)) }
-            _ => 0,
+    fn live_from<R: Wait>(
+        &self,
+        rt: &R,
+        shared: &Shared,
+        request: &Request,
+        source: Addr,
+    ) -> usize {
+        if self.admission.per_source.is_none() || request.head.to.tag.is_some() {
+            return 0;
         }
+        shared.live_from(rt, watchers::source(source))
     }
 
     /// Whether the datagram is heard. Any other is counted by its verdict. A refusal goes to its source.
@@ -238,6 +221,55 @@ impl<W: Ear> SipDesk<W> {
         false
     }
 
+    /// Takes a datagram that came at this moment: an event goes to its worker where its source is heard. False where that worker is gone.
+    fn take_one<R: Wait + Eprint>(
+        &mut self,
+        rt: &R,
+        alloc: Global,
+        port: &mut Port,
+        shared: &Shared,
+        source: Addr,
+        octets: &[u8],
+        moment: u64,
+    ) -> bool
+        requires still_open { port.old.is_open ≡ true }
+        ensures taken { IsTaken source octets.now moment self.old.admission self.new.admission port.old port.new
+            (W.taken self.old.going) (W.taken self.new.going)
+            (W.failures self.old.going) (W.failures self.new.going) (not result) }
+        ensures given { Grows (W.given self.old.going) (W.given self.new.going) [] }
+        ensures coming { self.new.coming ≡ self.old.coming }
+        ensures longest { self.new.longest ≡ self.old.longest }
+        ensures seats { SameSeats port.old port.new }
+    {
+        let message = read(alloc, octets);
+        match message {
+            Err(error) => {
+                let arrival = arrival(octets, Reading::Unread, source, moment, 0);
+                if !self.admits(rt, alloc, shared, arrival) {
+                    return true;
+                }
+                shared.count_unread(&error);
+                true
+            }
+            Ok(Message::Response(response)) => {
+                let arrival = arrival(octets, Reading::Response, source, moment, 0);
+                if !self.admits(rt, alloc, shared, arrival) {
+                    return true;
+                }
+                shared.notes.put(rt, alloc, &response);
+                send_on(rt, port, shared, Event::Reply(response))
+            }
+            Ok(Message::Request(request)) => {
+                let live = self.live_from(rt, shared, &request, source);
+                let arrival = arrival(octets, Reading::Request(&request), source, moment, live);
+                if !self.admits(rt, alloc, shared, arrival) {
+                    return true;
+                }
+                send_on(rt, port, shared, Event::Request(source, request))
+            }
+        }
+    }
+
     /// Sends what SIP datagrams say whose sources are heard, until the service closes, the wire is deaf or a worker is gone. Who isn't
     /// heard for a reason that may be told gets a refusal (RFC 3261 sections 21.4.2, 21.4.4 and 21.5.4). What can't be read, or is too long, is
     /// counted and dropped. Of an answer to a NOTIFY a note is put first, for the thread that sends NOTIFYs again. The port isn't closed.
@@ -265,7 +297,7 @@ impl<W: Ear> SipDesk<W> {
         ensures seats { SameSeats port.old port.new }
     {
         let mut octets = [0; ROOM];
-        let mut listening = Listening::new(Until::Closing);
+        let mut listening = Listening::new(&shared.is_closing);
         let mut moment = 0;
         for _ in rt.forever() {
             let (length, source) = match listening.look(rt, &mut self.coming, shared, &mut octets) {
@@ -278,37 +310,24 @@ impl<W: Ear> SipDesk<W> {
                 continue;
             }
             moment = next_moment(rt, shared, moment);
-            let said = hear(alloc, source, &octets[..length]);
-            let arrival = Arrival {
-                octets: &octets[..length],
-                reading: reading(&said.heard),
-                source,
-                moment,
-                live: self.live_from(rt, shared, &said.heard, source),
-            };
-            if !self.admits(rt, alloc, shared, arrival) {
-                continue;
-            }
-            let error = said.error;
-            shared.notes.put(rt, alloc, &said.heard);
-            let told = tell(rt, port, said.heard);
-            if is_gone(shared, told, error) {
+            if !self.take_one(rt, alloc, port, shared, source, &octets[..length], moment) {
                 return FeedEnd::Gone;
             }
         }
         unreachable!()
     }
 
-    /// What a datagram says that comes while the service closes, where its source is heard and it isn't too long. Anything else is counted.
+    /// The response that a datagram is which comes while the service closes, where its source is heard and it isn't too long. One that can't be
+    /// read, or isn't heard, is counted.
     fn hear_late(
         &self,
         alloc: Global,
         shared: &Shared,
         source: Addr,
         octets: &[u8],
-    ) -> Option<Heard>
-        ensures near { IfSome result (λ heard. hears self.now.admission source.ip ≡ true) }
-        ensures says { IfSome result (SipSays source octets.now) }
+    ) -> Option<Boxed<Response>>
+        ensures near { IfSome result (λ r. hears self.now.admission source.ip ≡ true) }
+        ensures says { IfSome result (λ r. IsReading octets.now (Ok (Message.Response r))) }
     {
         if !self.takes(shared, octets.len()) {
             return None;
@@ -317,9 +336,15 @@ impl<W: Ear> SipDesk<W> {
             shared.count(Counter::Foreign);
             return None;
         }
-        let said = hear(alloc, source, octets);
-        count_unread(shared, said.error);
-        Some(said.heard)
+        let message = read(alloc, octets);
+        match message {
+            Err(error) => {
+                shared.count_unread(&error);
+                None
+            }
+            Ok(Message::Response(response)) => Some(response),
+            Ok(Message::Request(_)) => None,
+        }
     }
 
     /// Puts notes of the answers to NOTIFYs that come while the service closes from sources that are heard, until all was sent out or the
@@ -340,12 +365,17 @@ impl<W: Ear> SipDesk<W> {
         ensures admission { self.new.admission ≡ self.old.admission }
     {
         let mut octets = [0; ROOM];
-        let mut listening = Listening::new(Until::Finished);
+        let mut listening = Listening::new(&shared.is_finished);
         for _ in rt.forever() {
             match listening.look(rt, &mut self.coming, shared, &mut octets) {
                 Came::Datagram(length, source) => {
-                    if let Some(heard) = self.hear_late(alloc, shared, source, &octets[..length]) {
-                        shared.notes.put(rt, alloc, &heard);
+                    if let Some(response) = self.hear_late(
+                        alloc,
+                        shared,
+                        source,
+                        &octets[..length],
+                    ) {
+                        shared.notes.put(rt, alloc, &response);
                     }
                 }
                 Came::Nothing => {}

@@ -1,9 +1,8 @@
 //! The NOTIFYs that nobody answered, as they are told on standard error.
 
 use crate::logging::has_room;
-use crate::request_log::sender;
+use crate::request_log::Unanswered;
 use sip_text::Addr;
-use transactions::Open;
 
 /// How many milliseconds pass between two lines.
 const MINUTE: u64 = 60_000;
@@ -41,18 +40,19 @@ impl GivenUp {
     }
 
     /// Counts one more at this moment. Says, where no line came within the last minute, how many there were, and which this one was.
-    pub(crate) fn add<R: Eprint>(&mut self, rt: &R, now: u64, last: &Open) {
+    pub(crate) fn add<R: Eprint>(&mut self, rt: &R, now: u64, last: Unanswered<'_>) {
         self.count = self.count.saturating_add(1);
-        self.last = last.to;
+        let Unanswered { due, resource } = last;
+        self.last = due.to;
         if !self.is_time(now) || !has_room() {
             return;
         }
         let count = self.count;
-        let [a, b, c, d] = last.to.ip;
-        let port = last.to.port;
-        let sender = sender(last);
+        let [a, b, c, d] = due.to.ip;
+        let port = due.to.port;
+        let tag = due.tag.as_str();
         let _ = eprintln!(rt;
-            "notifyd: nobody answered {count} NOTIFYs, the last of them from {sender} at {a}.{b}.{c}.{d}:{port}"
+            "notifyd: nobody answered {count} NOTIFYs, the last of them from {resource};tag={tag} at {a}.{b}.{c}.{d}:{port}"
         );
         self.count = 0;
         self.told = Some(now);

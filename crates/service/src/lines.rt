@@ -12,7 +12,7 @@ ghost use Rattle.service.specs.Taken.{Line, IsSent, IsChanged, IsDone, IsFound, 
 ghost use Rattle.feeds.specs.Fed.{is_fault};
 ghost use Rattle.service.specs.Listening.{IsDeafAsTold};
 
-use crate::listening::{Came, Listening, ROOM, Until};
+use crate::listening::{Came, Listening, ROOM};
 use crate::operators::{Operators, is_known, tell, tell_each};
 use crate::reports::{counters, dumped, inquiry, shown, watched};
 use crate::shared::{Counter, Shared};
@@ -422,7 +422,7 @@ impl<W: Ear> ControlDesk<W> {
         ensures seats { SameSeats port.old port.new }
     {
         let mut octets = [0; ROOM];
-        let mut listening = Listening::new(Until::Closing);
+        let mut listening = Listening::new(&shared.is_closing);
         for _ in rt.forever() {
             let (length, source) = match listening.look(rt, &mut self.coming, shared, &mut octets) {
                 Came::Datagram(length, source) => (length, source),
@@ -457,7 +457,7 @@ impl<W: Ear> ControlDesk<W> {
         ensures seen { seen self.new ≡ seen self.old }
     {
         let mut octets = [0; ROOM];
-        let mut listening = Listening::new(Until::Finished);
+        let mut listening = Listening::new(&shared.is_finished);
         for _ in rt.forever() {
             match listening.look(rt, &mut self.coming, shared, &mut octets) {
                 Came::Datagram(length, source) => {

@@ -9,6 +9,7 @@ use feeds::FeedEnd;
 use sip_text::Addr;
 use std::rt::Clock;
 use std::sync::Wait;
+use std::sync::atomic::{AtomicBool, Ordering};
 use std::thread;
 use std::time::Duration;
 use transport::{Ear, ReceiveFault};
@@ -41,34 +42,21 @@ pub(crate) enum Came {
     End(FeedEnd),
 }
 
-/// Until when a thread listens.
-#[derive(Clone, Copy)]
-pub(crate) enum Until {
-    /// Until the service closes.
-    Closing,
-    /// Until all was sent out.
-    Finished,
-}
-
 /// How a thread listens by a wire. Its failed receives are told once a minute.
 #[derive(Drop)]
-pub(crate) struct Listening {
-    until: Until,
+pub(crate) struct Listening<'a> {
+    /// Whether the service has come as far as this listens.
+    is_over: &'a AtomicBool,
     /// When the last failed receive was told.
     told: Option<u64>,
 }
 
-impl Listening {
-    /// One that has told nothing.
-    pub(crate) fn new(until: Until) -> Listening {
-        Listening { until, told: None }
-    }
-
-    /// Whether the service has come as far as this listens.
-    fn is_over(&self, shared: &Shared) -> bool {
-        match self.until {
-            Until::Closing => shared.is_closing(),
-            Until::Finished => shared.is_finished(),
+impl<'a> Listening<'a> {
+    /// One that listens until this is so, and has told nothing.
+    pub(crate) fn new(is_over: &'a AtomicBool) -> Listening<'a> {
+        Listening {
+            is_over,
+            told: None,
         }
     }
 
@@ -114,7 +102,7 @@ impl Listening {
         ensures taken { Grows (W.taken wire.old) (W.taken wire.new) [] }
         ensures deaf { IsDeafAsTold (tells_deaf result) (W.misses wire.old) (W.misses wire.new) }
     {
-        if self.is_over(shared) {
+        if self.is_over.load(Ordering::SeqCst) {
             return Came::End(FeedEnd::Done);
         }
         let fault = match wire.recv_in_time(rt, octets) {

@@ -5,8 +5,6 @@ ghost use Rattle.service.specs.Noted as spec;
 
 use crate::window::WatchersPage;
 use crossbeam_queue::ArrayQueue;
-use feeds::Heard;
-use notifier_model::Event;
 use package::Progress;
 use sip_read::{Head, Response};
 use sip_text::{NoMemory, Text};
@@ -98,13 +96,10 @@ fn answered_tag(head: &Head) -> Option<&Text>
     }
 }
 
-/// The note of what was heard, if that is an answer to a NOTIFY.
-pub(crate) fn new_note(alloc: Global, heard: &Heard) -> Result<Option<Note>, NoMemory>
-    ensures { IfOk result (λ note. note ≡ spec.note_in heard.now) }
+/// The note of a response, if it answers a NOTIFY.
+fn new_note(alloc: Global, response: &Response) -> Result<Option<Note>, NoMemory>
+    ensures { IfOk result (λ note. note ≡ spec.note_of response.now) }
 {
-    let Heard::Event(Event::Reply(response)) = heard else {
-        return Ok(None);
-    };
     let Some(tag) = answered_tag(&response.head) else {
         return Ok(None);
     };
@@ -128,10 +123,10 @@ impl Notes {
         Ok(Notes { post })
     }
 
-    /// Puts the note of what was heard, if that is an answer to a NOTIFY. Where there is no room or no memory it is dropped: its
+    /// Puts the note of a response, if it answers a NOTIFY. Where there is no room or no memory it is dropped: its
     /// NOTIFY is sent once more then.
-    pub(crate) fn put<R: Wait>(&self, rt: &R, alloc: Global, heard: &Heard) {
-        if let Ok(Some(note)) = new_note(alloc, heard) {
+    pub(crate) fn put<R: Wait>(&self, rt: &R, alloc: Global, response: &Response) {
+        if let Ok(Some(note)) = new_note(alloc, response) {
             self.post.put(rt, Parcel::Note(note));
         }
     }

@@ -38,21 +38,23 @@ pub(crate) fn log_answer<R: Eprint>(rt: &R, to: Addr, answer: &[u8]) {
     let _ = eprintln!(rt; "notifyd: {a}.{b}.{c}.{d}:{port} {method} {mailbox} {code}");
 }
 
-/// The From of a NOTIFY that was sent: of which mailbox and which dialog it tells. Empty where it can't be read.
-pub(crate) fn sender(due: &Open) -> &str {
-    match text_of(due.bytes.as_slice()) {
-        Some(message) => beginning(header(message, "From")),
-        None => "",
-    }
+/// A NOTIFY that nobody answered.
+#[derive(Clone, Copy)]
+pub(crate) struct Unanswered<'a> {
+    pub(crate) due: &'a Open,
+    /// What its subscription watches: `-` where that has no row.
+    pub(crate) resource: &'a str,
 }
 
-/// Says on standard error to whom a NOTIFY was sent that nobody answered, and its From. A line that nobody reads is dropped.
-pub(crate) fn log_unanswered<R: Eprint>(rt: &R, due: &Open) {
+/// Says on standard error to whom a NOTIFY was sent that nobody answered, of which mailbox and which dialog. A line that nobody reads is
+/// dropped.
+pub(crate) fn log_unanswered<R: Eprint>(rt: &R, unanswered: Unanswered<'_>) {
     if !has_room() {
         return;
     }
+    let Unanswered { due, resource } = unanswered;
     let [a, b, c, d] = due.to.ip;
     let port = due.to.port;
-    let sender = sender(due);
-    let _ = eprintln!(rt; "notifyd: {a}.{b}.{c}.{d}:{port} NOTIFY {sender} unanswered");
+    let tag = due.tag.as_str();
+    let _ = eprintln!(rt; "notifyd: {a}.{b}.{c}.{d}:{port} NOTIFY {resource};tag={tag} unanswered");
 }

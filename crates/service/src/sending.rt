@@ -17,7 +17,7 @@ ghost use Rattle.service.specs.declared.post.Note.{Note};
 use crate::fates::{Put, tell_fate};
 use crate::given_up::GivenUp;
 use crate::post::Note;
-use crate::request_log::log_unanswered;
+use crate::request_log::{Unanswered, log_unanswered};
 use crate::shared::{Counter, LAST_MOMENT, Shared};
 use circular_buffer::HeapCircularBuffer;
 use feeds::Idle;
@@ -28,7 +28,7 @@ use std::rt::{Clock, Files};
 use std::sync::Wait;
 use transactions::{Open, Transactions};
 use transport::Wire;
-use watchers::Watchers;
+use watchers::{Known, Watchers};
 
 /// How many notes are taken between two looks at what is due and what was posted: as many as outs are sent between two looks at notes.
 const NOTES_AT_ONCE: u32 = OUTS_AT_ONCE;
@@ -194,15 +194,24 @@ fn count_doubtful<R: Eprint>(
     rt: &R,
     given_up: &mut GivenUp,
     now: u64,
-    due: &Open,
+    unanswered: Unanswered<'_>,
     shared: &Shared,
 ) {
+    let due = unanswered.due;
     if is_doubtful(now, due) && !was_doubtful(due) {
         shared.count(Counter::GivenUp);
-        given_up.add(rt, now, due);
+        given_up.add(rt, now, unanswered);
         if shared.logs_requests() {
-            log_unanswered(rt, due);
+            log_unanswered(rt, unanswered);
         }
+    }
+}
+
+/// What the subscription of this NOTIFY watches: `-` where it has no row.
+fn resource<'a>(watchers: &'a Watchers, due: &Open) -> &'a str {
+    match watchers.find(due.tag.as_str()) {
+        Some(row) => row.mailbox.as_str(),
+        None => "-",
     }
 }
 
@@ -299,11 +308,12 @@ impl Waiting {
         ensures burst { self.new.burst ≡ self.old.burst }
     {
         let Out::Notify {
-            tag,
+            to,
             number,
             terminated,
-            to,
-            bytes,
+            tag,
+            note,
+            ..
         } = out
         else {
             return;
@@ -312,10 +322,12 @@ impl Waiting {
             self.watchers.end(tag.as_str());
             return;
         }
-        match self
-            .watchers
-            .renew(now, tag.as_str(), *number, *to, bytes.as_slice())
-        {
+        let known = Known {
+            watcher: note.watcher.as_str(),
+            resource: note.resource.as_str(),
+            seconds: note.left.unwrap_or(0),
+        };
+        match self.watchers.renew(now, tag.as_str(), *number, *to, known) {
             Ok(()) => {}
             // It stays without a row.
             Err(_) => {}
@@ -429,7 +441,9 @@ impl Waiting {
         let Some(due) = self.transactions.due(now) else {
             return false;
         };
-        count_doubtful(rt, &mut self.given_up, now, due, shared);
+        let resource = resource(&self.watchers, due);
+        let unanswered = Unanswered { due, resource };
+        count_doubtful(rt, &mut self.given_up, now, unanswered, shared);
         if due.is_over(now) {
             let source = end_row(&mut self.watchers, due.tag.as_str());
             self.transactions.turn(now);

@@ -36,8 +36,8 @@ pub struct Shared {
     place: Addr,
     /// What the system dropped there, or UNKNOWN.
     kernel_drops: AtomicU64,
-    is_closing: AtomicBool,
-    is_finished: AtomicBool,
+    pub(crate) is_closing: AtomicBool,
+    pub(crate) is_finished: AtomicBool,
     logs_requests: AtomicBool,
     pub(crate) notes: Notes,
     pub(crate) lost_starts: LostStarts,

@@ -3,9 +3,9 @@ use Rattle.commands.proofs.udp_listening.hear_out.Goals as goal
 
 pub returns-clause-heard : goal.returns-clause-heard
 returns-clause-heard g c =
-    let heard = c.listen-report.ensures in let closed = c.closed-port.ensures in record {
+    let heard = c.hear-report.ensures in let closed = c.closed-port.ensures in record {
       log = heard.fed.0;
-      fed_to = c.listen-report.new.port;
+      fed_to = c.hear-report.new.port;
       given = heard.fed.1;
       fed = heard.fed.2;
       shut = closed.shut;

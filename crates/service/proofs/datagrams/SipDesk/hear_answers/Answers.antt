@@ -30,20 +30,6 @@ loop-preserved-in-Some-hear_late g c =
       deaf = deaf_after false false (g.W.Ear.misses c.args.self.now.coming) (g.W.Ear.misses c.loop.self.coming) (g.W.Ear.misses c.look.new.wire) at.deaf c.in-Datagram.ensures.deaf;
     }
 
-pub loop-preserved-in-Some-hear_late-2 : goal.loop-preserved-in-Some-hear_late-2
-loop-preserved-in-Some-hear_late-2 g c =
-    let at = c.loop.invariant in let one = c.in-Datagram in
-    let came = datagram one.source (take one.length c.look.new.octets) in
-    let gave : Grows (g.W.Wire.given c.loop.self.coming) (g.W.Wire.given c.look.new.wire) (came ∷ []) = c.in-Datagram.ensures.given in record {
-      came = at.came ++ came ∷ [];
-      longest = at.longest;
-      going = at.going;
-      admission = at.admission;
-      given = grows_more (g.W.Wire.given c.args.self.now.coming) (g.W.Wire.given c.loop.self.coming) (g.W.Wire.given c.look.new.wire) _ _ at.given gave;
-      taken = grows_same (g.W.Wire.taken c.args.self.now.coming) (g.W.Wire.taken c.loop.self.coming) (g.W.Wire.taken c.look.new.wire) _ at.taken c.look.ensures.taken;
-      deaf = deaf_after false false (g.W.Ear.misses c.args.self.now.coming) (g.W.Ear.misses c.loop.self.coming) (g.W.Ear.misses c.look.new.wire) at.deaf c.in-Datagram.ensures.deaf;
-    }
-
 pub loop-preserved-in_default : goal.loop-preserved-in_default
 loop-preserved-in_default g c =
     let at = c.loop.invariant in let one = c.in-Datagram in

@@ -1,0 +1,5 @@
+pub mod Input
+pub mod Kinds
+pub mod Hearing
+pub mod Taken
+pub mod Shown
