@@ -14,9 +14,10 @@ mod vectors;
 mod visits;
 
 use std::io;
+use std::random::RandomSource;
 
 /// Tells of every example.
-pub(crate) fn tell_all(rt: &(impl Print + AllocGlobal)) -> io::Result<()> {
+pub(crate) fn tell_all(rt: &(impl Print + AllocGlobal + RandomSource)) -> io::Result<()> {
     vectors::tell_all(rt)?;
     values::tell_all(rt)?;
     visits::tell_all(rt)?;

@@ -5,7 +5,9 @@ use admission::{Admission, Arrival, ChallengeCause, Reading, Verdict};
 use sip_read::{Message, ReadError, read};
 use sip_text::{Addr, NoMemory};
 use std::alloc::Global;
+use std::collections::hash_map::RandomState;
 use std::io;
+use std::random::RandomSource;
 
 /// A request: what is told of it, its parts, where it comes from and when, in milliseconds.
 struct Case {
@@ -295,15 +297,16 @@ fn tell_foreign(rt: &(impl Print + AllocGlobal), admission: &mut Admission) -> i
 }
 
 /// Tells what comes of each datagram.
-pub(crate) fn tell_all(rt: &(impl Print + AllocGlobal)) -> io::Result<()> {
-    let Ok(mut asking) = admission(rt.alloc()) else {
+pub(crate) fn tell_all(rt: &(impl Print + AllocGlobal + RandomSource)) -> io::Result<()> {
+    let keys = RandomState::new(rt)?;
+    let Ok(mut asking) = admission(rt.alloc(), keys) else {
         return println!(rt; "no memory");
     };
     for case in CASES.iter() {
         asking.rates = None;
         tell_case(rt, &mut asking, case)?;
     }
-    let Ok(mut counting) = admission(rt.alloc()) else {
+    let Ok(mut counting) = admission(rt.alloc(), keys) else {
         return println!(rt; "no memory");
     };
     tell_burst(rt, &mut counting)?;

@@ -4,6 +4,7 @@ use admission::{Admission, Authentication, Network, Rate, Rates};
 use digest::{Guard, Nonces, Passwords};
 use sip_text::{NoMemory, Text};
 use std::alloc::Global;
+use std::collections::hash_map::RandomState;
 use std::num::NonZeroUsize;
 
 /// Lines of a password file.
@@ -39,7 +40,7 @@ fn authentication(alloc: Global) -> Result<Authentication, NoMemory> {
 }
 
 /// Sources of 192.0.2.0/24 are heard, four datagrams at once and one a second, at most two sources at once.
-pub(crate) fn admission(alloc: Global) -> Result<Admission, NoMemory> {
+pub(crate) fn admission(alloc: Global, keys: RandomState) -> Result<Admission, NoMemory> {
     let mut networks = Vec::new(alloc);
     if let Some(network) = Network::of(b"192.0.2.0/24") {
         networks.push(network)?;
@@ -49,7 +50,7 @@ pub(crate) fn admission(alloc: Global) -> Result<Admission, NoMemory> {
         per_second: 1,
     };
     let rates = match NonZeroUsize::new(2) {
-        Some(size) => Some(Rates::new(alloc, rate, size)?),
+        Some(size) => Some(Rates::new(alloc, rate, size, keys)?),
         None => None,
     };
     Ok(Admission {

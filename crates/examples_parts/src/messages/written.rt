@@ -49,23 +49,11 @@ pub(crate) const LEFT: &str = "bytes were left behind";
 
 /// An answer with no line but those that every answer has, that there is nobody.
 fn bare(head: &Head, port: u16) -> Answer<'_> {
-    Answer {
-        head,
-        source: Addr {
-            ip: [127, 0, 0, 1],
-            port,
-        },
-        status: Status::NotFound,
-        tag: None,
-        record_routes: &[],
-        contact: None,
-        expires: None,
-        min_expires: None,
-        allow: None,
-        allow_events: None,
-        unsupported: None,
-        without_subscription: false,
-    }
+    let source = Addr {
+        ip: [127, 0, 0, 1],
+        port,
+    };
+    Answer::bare(head, source, None, Status::NotFound)
 }
 
 /// The answer of an example that grants something, from the address of this server and with its tag.
