@@ -15,6 +15,7 @@ import subprocess
 import sys
 import tempfile
 import time
+import urllib.request
 
 sys.dont_write_bytecode = True
 import cases
@@ -22,6 +23,9 @@ from service import address
 from suite import Running, free_port, run, same
 
 OPTIONS, MAILBOXES, UNIT = "etc/notifyd/options", "etc/notifyd/mailboxes", "usr/lib/systemd/system/notifyd.service"
+
+# The unit of the window for browsers and Prometheus, and its page.
+WINDOW, PAGE = "usr/lib/systemd/system/notifyd-exporter.service", "usr/share/notifyd/notifyd-window.html"
 
 # What the tools of packages keep for themselves, and where kernel and systemd have theirs.
 OTHERS = ("var/lib/dpkg/", "var/log/", "var/cache/", "dev/", "proc/", "sys/", "run/", "tmp/")
@@ -151,7 +155,7 @@ class Package:
 
     def is_installed(self):
         self.machine.install(self.made("1.0~first"))
-        for place in ("usr/sbin/notifyd", "usr/bin/notifyd-run", "usr/bin/notifyd-lamp", MAILBOXES, UNIT):
+        for place in ("usr/sbin/notifyd", "usr/bin/notifyd-run", "usr/bin/notifyd-lamp", "usr/bin/notifyd-exporter", MAILBOXES, UNIT, WINDOW, PAGE):
             same(f"whether there is a {place}", True, os.path.exists(self.machine.path(place)))
         for place in self.machine.more():
             status = os.lstat(self.machine.path(place))
@@ -165,13 +169,25 @@ class Package:
         with open(self.machine.path(MAILBOXES), "a", encoding="utf-8") as file:
             file.write("alice\n")
 
-    def has_a_good_unit(self):
-        """systemd finds nothing wrong with the unit, where the programs that it names are those of the package."""
-        place = f"{self.folder}/notifyd.service"
-        with open(self.machine.path(UNIT), encoding="utf-8") as unit, open(place, "w", encoding="utf-8") as file:
-            file.write(re.sub(r"(?<=[=\s])/usr/s?bin/notifyd", lambda found: self.machine.root + found.group(), unit.read()))
-        told = subprocess.run(["systemd-analyze", "verify", "--man=no", place], capture_output=True, text=True, check=False)
-        same("what systemd says of the unit", (0, ""), (told.returncode, told.stdout + told.stderr))
+    def has_good_units(self):
+        """systemd finds nothing wrong with the units, where the programs that they name are those of the package."""
+        for unit in UNIT, WINDOW:
+            place = os.path.join(self.folder, os.path.basename(unit))
+            with open(self.machine.path(unit), encoding="utf-8") as text, open(place, "w", encoding="utf-8") as file:
+                file.write(re.sub(r"(?<=[=\s])/usr/s?bin/notifyd", lambda found: self.machine.root + found.group(), text.read()))
+            told = subprocess.run(["systemd-analyze", "verify", "--man=no", place], capture_output=True, text=True, check=False)
+            same(f"what systemd says of {unit}", (0, ""), (told.returncode, told.stdout + told.stderr))
+
+    def shows_itself(self):
+        """The installed window has its page, and asks the service. It has Python 3 of this machine."""
+        self.starts()
+        words = ["--listen", "127.0.0.1:0", "--control", self.control]
+        with Running("python3", [self.machine.path("usr/bin/notifyd-exporter"), *words], LIMIT) as window:
+            place = re.search(rb"http://[0-9.:]+/", window.lines_until(b"listening at"))[0].decode()
+            with urllib.request.urlopen(place) as page, urllib.request.urlopen(f"{place}metrics") as metrics:
+                same("whether there is a page", True, b"<title>notifyd</title>" in page.read())
+                same("whether the service is reached", True, b"\nnotifyd_reachable 1\n" in metrics.read())
+        self.stops()
 
     def starts(self):
         self.service = Unit(self.machine).start()
@@ -265,11 +281,12 @@ def try_package(package, all_of_them):
     if not all_of_them.check(f"the package is installed in {where}", package.is_installed):
         return
     if cases.are_there("systemd-analyze"):
-        all_of_them.check("systemd finds its unit good", package.has_a_good_unit)
+        all_of_them.check("systemd finds its units good", package.has_good_units)
     else:
         cases.skip("what systemd says of the unit: systemd-analyze isn't there")
     if all_of_them.check("it is started as its unit says, lights a lamp, is upgraded, and ends at TERM", package.lights_a_lamp):
         all_of_them.check("it is started again, and lights a lamp", package.lights_it_again)
+    all_of_them.check("its window shows it", package.shows_itself)
     all_of_them.check("it is removed, and what was written stays until it is purged", package.is_removed)
 
 
