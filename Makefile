@@ -1,14 +1,18 @@
-# `make gate` proves and tests everything from nothing. `make run` proves and builds the program `notifyd`, leaves it at
-# crates/notifyd/out/notifyd, and runs it on its stored example, one SUBSCRIBE. `make try` compiles it without a proof, in a minute where
-# nothing else runs, leaves it at crates/notifyd/out/notifyd.tried, runs that example, and says how to have a lamp with it; `make tried`
-# leaves it there alone. `make lamp` shows a service, a lamp and a mail change, with the built program, or else with that one, which it
-# compiles. `make tests` tries the built program from outside,
-# as the gate does behind its proofs. `make deb` makes a Debian package of it. `make wrong` tries the wrong bodies that the gate leaves to
-# releases beside those that it tries (`make wrong CRATES="scripts refer"`), and plants those that only a run can show to be wrong.
-# `make field` tries the built program with real peers on this machine and where datagrams are lost, and `make bench` measures it beside
-# an echo; field/run and bench/service say what they need, and neither is part of the gate. `make figures` prints the table of
-# docs/measurements.md.
-.PHONY: gate run try tried lamp tests deb wrong field bench figures
+# `make` alone prints what there is.
+.PHONY: help gate run try tried lamp tests deb wrong field bench figures
+
+help:
+	@echo "make lamp     a service, a lamp and a mail change, with the built program, or else with one compiled in a minute"
+	@echo "make try      compiles notifyd without a proof (crates/notifyd/out/notifyd.tried), and runs one SUBSCRIBE"
+	@echo "make tried    compiles it so, and runs nothing"
+	@echo "make run      proves and builds crates/notifyd/out/notifyd, and runs it: three quarters of an hour or more"
+	@echo "make gate     proves and tests everything, as a landing does: an hour or more"
+	@echo "make tests    tries the built program from outside, as the gate does after its proofs"
+	@echo "make deb      makes a Debian package of the built program"
+	@echo "make wrong    for a release: tries all wrong bodies (make wrong CRATES=\"scripts refer\" tries those of two crates)"
+	@echo "make field    tries the built program with real peers on this machine; field/run says what it needs"
+	@echo "make bench    measures it beside an echo; bench/service says what it needs"
+	@echo "make figures  prints the tables of docs/measurements.md"
 
 gate:
 	@.ci/run
@@ -39,8 +43,7 @@ deb:
 	@.ci/deb
 
 wrong:
-	@.ci/wrong $(CRATES)
-	@test -n "$(CRATES)" || .ci/planted
+	@if [ -n "$(CRATES)" ]; then .ci/wrong $(CRATES); else .ci/record .ci/wrong; status=$$?; .ci/record .ci/planted && exit $$status; fi
 
 field:
 	@field/run

@@ -219,7 +219,7 @@ MAILBOX_FILES = [
     ("0000000-1000000\n", None, "line 1: no range of mailboxes: 0000000-1000000" + SPAN),
 ]
 
-USAGE = b"notifyd: usage: notifyd tell [--control <a.b.c.d:port>] <line>; notifyd tell --json [--control <a.b.c.d:port>] STATUS\n"
+USAGE = b"notifyd: usage: notifyd tell [--control <a.b.c.d:port>] <line>; notifyd tell [--control <a.b.c.d:port>] - [--progress] [--progress-bar]; notifyd tell --json [--control <a.b.c.d:port>] STATUS\n"
 
 # Words behind `tell` that are no call of it.
 BAD_TELLS = [
@@ -232,6 +232,13 @@ BAD_TELLS = [
     ["--json", "WATCHERS"],
     ["--json", "--control", "127.0.0.1:7000", "SHOW", "alice"],
     ["--control", "127.0.0.1:7000", "--json", "STATUS"],
+    ["--json", "-"],
+    ["--progress", "-"],
+    ["-", "--progress-bar", "--progress"],
+    ["-", "--progress", "--progress"],
+    ["-", "--control", "127.0.0.1:7000"],
+    ["-", "MAIL"],
+    ["--control", "localhost:7000", "-"],
 ]
 
 # Control lines, what a service with the mailbox alice answers, and whether `notifyd udp` handles an event for it.

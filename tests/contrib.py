@@ -117,6 +117,252 @@ def no_context_is_told_as_nothing(program, folder):
     same("status and words", (1, b""), (ended.status, ended.out))
 
 
+# Writes its words down, with the folder of its options, and prints what stands in `$0.says`. Then it goes on for so many seconds as `$0.stays`
+# says, as a broker's client that waits for more.
+CLIENT = """\
+#!/bin/sh
+for word; do printf "<%s>" "$word"; done >>"$0.told"
+printf " %s\\n" "${XDG_CONFIG_HOME-}" >>"$0.told"
+[ ! -e "$0.says" ] || cat "$0.says"
+[ ! -e "$0.stays" ] || exec sleep "$(cat "$0.stays")"
+exit "${ENDS:-0}"
+"""
+
+
+def script(folder, name, text):
+    path = os.path.join(folder, name)
+    with open(path, "w", encoding="utf-8") as file:
+        file.write(text)
+    os.chmod(path, 0o700)
+    return path
+
+
+def told(folder, name):
+    """What was told to a script of this name since it was asked for last."""
+    path = os.path.join(folder, f"{name}.told")
+    if not os.path.exists(path):
+        return ""
+    with open(path, encoding="utf-8") as file:
+        text = file.read()
+    os.remove(path)
+    return text
+
+
+def with_mwi(folder, *folders):
+    """A PATH on which the scripts of `contrib/mwi` are."""
+    return ":".join([folder, *(os.path.join(TOP, "contrib", it) for it in (*folders, "mwi", "")), os.environ["PATH"]])
+
+
+def counts_are_published(program, folder):
+    """As a retained message, whose topic has no character that a topic may not have. A bad line is no message."""
+    script(folder, "mosquitto_pub", CLIENT)
+    for words, topic, payload in (
+        (["MAIL 100 voice 1 2 0 0"], "mwi/100/voice", "MAIL 100 voice 1 2 0 0"),
+        (["MAIL", "+49/30#1%x", "fax", "1", "2", "0", "0"], "mwi/%2B49%2F30%231%25x/fax", "MAIL +49/30#1%x fax 1 2 0 0"),
+        (["MAIL *[a]? voice 1 2 0 0"], "mwi/*[a]?/voice", "MAIL *[a]? voice 1 2 0 0"),
+    ):
+        same("its end", Ended(0, b"ok\n", b""), called(folder, "mwi/mwi-publish", *words, XDG_CONFIG_HOME="/here"))
+        same("what is published", f"<-q><1><-r><-t><{topic}><-m><{payload}> /here\n", told(folder, "mosquitto_pub"))
+    same("its end", Ended(0, b"ok\n", b""), called(folder, "mwi/mwi-publish", "COMPLETE"))
+    same("what is published", "<-q><1><-r><-t><mwi-complete><-m><complete> /etc/asterisk\n", told(folder, "mosquitto_pub"))
+    for words in [], ["CLOSE"], ["MAIL 100 voice 1 2 0"], ["MAIL 100 voice 1 2 0 0 0"], ["STATUS", "now"]:
+        ended = called(folder, "mwi/mwi-publish", *words)
+        same(f"its end at {words}", (1, b"", ""), (ended.status, ended.out, told(folder, "mosquitto_pub")))
+    for words in ["MAIL 100 voice 1 2 0 0"], ["STATUS"], ["COMPLETE"]:
+        same("its end where no broker answers", Ended(1, b"", b""), called(folder, "mwi/mwi-publish", *words, ENDS="14"))
+
+
+def redis_keeps_counts(program, folder):
+    """What is kept and what is told is one step of Redis'."""
+    client = script(folder, "redis-cli", CLIENT)
+    with open(f"{client}.says", "w", encoding="ascii") as file:
+        file.write("ok\n")
+    ended = called(folder, "mwi/redis/mwi-publish", "MAIL", "+49/30#1%x", "fax", "1", "2", "0", "0", MWI_REDIS="-h 192.0.2.5 --user voicemail")
+    same("its end", Ended(0, b"ok\n", b""), ended)
+    words = told(folder, "redis-cli")
+    same("the options", "<-e><-h><192.0.2.5><--user><voicemail><EVAL>", words[: words.index("<redis.call")])
+    same("what is kept and told", "<1><mwi><+49/30#1%x/fax><MAIL +49/30#1%x fax 1 2 0 0> \n", words[words.index("<1>") :])
+    same("its status where Redis refuses", 1, called(folder, "mwi/redis/mwi-publish", "MAIL 100 voice 1 2 0 0", ENDS="1").status)
+    same("its status at a bad line", 1, called(folder, "mwi/redis/mwi-publish", "CLOSE").status)
+
+
+def asterisk_is_published(program, folder):
+    """externnotify's words and all of a context's folders become messages; that all are published is said where all were."""
+    script(folder, "mosquitto_pub", CLIENT)
+    path = with_mwi(folder)
+    same("its end", Ended(0, b"ok\n", b""), called(folder, "mwi/mwi-externnotify", "default", "100", "2", "8", "1", PATH=path))
+    same("what is published", "<-q><1><-r><-t><mwi/100/voice><-m><MAIL 100 voice 3 8 1 0> /etc/asterisk\n", told(folder, "mosquitto_pub"))
+    context = os.path.join(folder, "default")
+    for message in "100/INBOX/msg0000.txt", "200/Old/msg0000.txt":
+        os.makedirs(os.path.dirname(os.path.join(context, message)))
+        open(os.path.join(context, message), "w").close()
+    same("its end", Ended(0, b"", b""), called(folder, "mwi/mwi-tell-all", context, PATH=path))
+    published = re.findall("<-m><(.*?)>", told(folder, "mosquitto_pub"))
+    same("what is published", ["probe", "MAIL 100 voice 1 0 0 0", "MAIL 200 voice 0 1 0 0", "complete"], published)
+    ended = called(folder, "mwi/mwi-tell-all", os.path.join(folder, "nowhere"), PATH=path)
+    same("its end where there is nothing", (1, ""), (ended.status, told(folder, "mosquitto_pub")))
+
+
+# What a broker may bring: strangers may publish too.
+BROUGHT = b"MAIL 100 voice 1 0 0 0\nCLOSE\n\nMAIL 200 fax 2 0 0 0\nMAIL a b voice 1 0 0 0\nMAIL 300 voice 12345678901 0 0 0\n# MAIL 1\nMAIL 100 voice 0 1 0 0\n"
+KEPT = b"MAIL 100 voice 1 0 0 0\nMAIL 200 fax 2 0 0 0\nMAIL 100 voice 0 1 0 0\n"
+
+
+def what_is_published_is_a_state(program, folder):
+    """It ends as soon as the broker says that it is complete. What is no MAIL line is left out."""
+    client, place = script(folder, "mosquitto_sub", CLIENT), os.path.join(folder, "published")
+    for brought, stays, kept in (BROUGHT + b"complete\nMAIL 100 voice 9 0 0 0\n", "60", KEPT), (BROUGHT, "0", KEPT), (b"", "0", b""):
+        for name, text in ("says", brought), ("stays", stays.encode()):
+            with open(f"{client}.{name}", "wb") as file:
+                file.write(text)
+        began = time.monotonic()
+        same("its end", Ended(0, b"", b""), called(folder, "mwi/mwi-snapshot", place, "7"))
+        same("whether it ends at once", True, time.monotonic() - began < 30)
+        with open(place, "rb") as file:
+            same("the state", kept, file.read())
+        same("what is asked", "<-q><1><-W><7><-t><mwi/+/+><-t><mwi-complete> /etc/notifyd\n", told(folder, "mosquitto_sub"))
+    same("what stands in the folder", [], [it for it in os.listdir(folder) if it.endswith(".new")])
+
+
+def redis_is_a_state(program, folder):
+    client, place = script(folder, "redis-cli", CLIENT), os.path.join(folder, "published")
+    with open(f"{client}.says", "wb") as file:
+        file.write(BROUGHT)
+    same("its end", Ended(0, b"", b""), called(folder, "mwi/redis/mwi-snapshot", place, "1"))
+    with open(place, "rb") as file:
+        same("the state", KEPT, file.read())
+    same("what is asked", "<GET><mwi-complete> \n<HVALS><mwi> \n", told(folder, "redis-cli"))
+
+
+# A `notifyd` that reads lines, as `notifyd tell -` does.
+READER = """\
+#!/bin/sh
+for word; do printf "<%s>" "$word"; done >"$0.told"
+cat >>"$0.told"
+exit 3
+"""
+
+
+def what_is_published_is_told(program, folder):
+    """The lines come to `notifyd tell -`, whose end is the script's: 3 where the service closes."""
+    client = script(folder, "mosquitto_sub", CLIENT)
+    with open(f"{client}.says", "wb") as file:
+        file.write(BROUGHT)
+    reader = script(folder, "reader", READER)
+    ended = called(folder, "mwi/mwi-subscribe", "127.0.0.1:5061", NOTIFYD_TELL=f"{reader} tell", HOSTNAME="here")
+    same("its end", Ended(3, b"", b""), ended)
+    same("what is told", "<tell><--control><127.0.0.1:5061><->" + BROUGHT.decode(), told(folder, "reader"))
+    words = told(folder, "mosquitto_sub")
+    same("what is asked, without -c", "<-k><10><-q><1><-t><mwi/+/+> /etc/notifyd\n", words[words.index("<-k>") :])
+
+
+def what_redis_has_is_told(program, folder):
+    """What is kept comes once the subscription stands, and then what is published."""
+    script(folder, "redis-cli", """\
+#!/bin/sh
+case $1 in
+  HVALS) printf 'MAIL 100 voice 1 0 0 0\\nMAIL 200 voice 2 0 0 0\\n' ;;
+  SUBSCRIBE) printf 'subscribe\\nmwi\\n1\\nmessage\\nmwi\\nMAIL 100 voice 5 0 0 0\\nmessage\\nmwi\\nCLOSE\\n' ;;
+esac
+""")
+    reader = script(folder, "reader", READER)
+    same("its end", 3, called(folder, "mwi/redis/mwi-subscribe", "127.0.0.1:5061", NOTIFYD_TELL=f"{reader} tell").status)
+    lines = "MAIL 100 voice 1 0 0 0\nMAIL 200 voice 2 0 0 0\nMAIL 100 voice 5 0 0 0\n"
+    same("what is told", "<tell><--control><127.0.0.1:5061><->" + lines, told(folder, "reader"))
+
+
+def text_of(*names):
+    with open(os.path.join(TOP, "contrib", *names), encoding="utf-8") as file:
+        return file.read()
+
+
+def files_below_contrib():
+    for place, _, names in os.walk(os.path.join(TOP, "contrib")):
+        for name in names:
+            yield os.path.relpath(os.path.join(place, name), os.path.join(TOP, "contrib"))
+
+
+# Options of programs beside notifyd that files of contrib name.
+OTHERS = {"--user", "--line-buffered", "--help", "--pid"}
+
+
+def options_exist(program, folder):
+    """Each option of `notifyd serve` that a configuration or a unit names is one."""
+    known = set(re.findall(r"--[a-z-]+", run(program, ["serve", "--help"]).out.decode()))
+    for name in ["kamailio.cfg", "notifyd.service", *(it for it in files_below_contrib() if it.startswith(("mwi/", "fail2ban/", "keepalived/")))]:
+        cited = set(re.findall(r"(?<![\w-])--[a-z][a-z-]+", text_of(name)))
+        same(f"options in contrib/{name} that notifyd doesn't have", set(), cited - known - OTHERS)
+
+
+def a_snapshot_starts_the_program(program, folder):
+    """What mwi-snapshot writes is a state that the program begins with, unknown mailboxes and all."""
+    client, place = script(folder, "mosquitto_sub", CLIENT), os.path.join(folder, "published")
+    with open(f"{client}.says", "wb") as file:
+        file.write(BROUGHT)
+    called(folder, "mwi/mwi-snapshot", place)
+    with Service(program, "--state", place, "100") as service, Phone(service.sip, "100") as phone:
+        phone.leave(phone.subscribe("Messages-Waiting: no\r\nVoice-Message: 0/1 (0/0)\r\n"), "Messages-Waiting: no\r\nVoice-Message: 0/1 (0/0)\r\n")
+        service.close()
+
+
+def programs_of_units_exist(program, folder):
+    """Each program that a unit starts is one of contrib, and each file that it reads is named in it or in operating."""
+    scripts = {os.path.basename(it) for it in files_below_contrib()}
+    for name in (it for it in files_below_contrib() if it.endswith((".service", ".conf"))):
+        for path in re.findall(r"(?m)^(?:Exec\w+|notify\w*|script)[ =][-+\"]*(/usr/local/[^\s\"]+)", text_of(name)):
+            same(f"whether {path} of contrib/{name} is a script of contrib", True, os.path.basename(path) in scripts)
+
+
+def the_proxy_is_whole(program, folder):
+    """Each part that can be switched on is ended and told of, and each route that is gone to is there."""
+    text = text_of("kamailio.cfg")
+    same("parts and their ends", len(re.findall(r"(?m)^#!ifdef ", text)), len(re.findall(r"(?m)^#!endif", text)))
+    same("parts that are told of", set(re.findall(r"(?m)^#!ifdef (\w+)", text)), set(re.findall(r"(?m)^##!define (\w+)", text)))
+    gone_to = set(re.findall(r"(?<![a-z_])route\((\w+)\)", text)) | set(re.findall(r't_on_failure\("(\w+)"\)', text))
+    same("routes", set(re.findall(r"(?m)^(?:failure_)?route\[(\w+)\]", text)), gone_to)
+
+
+# Lines of `notifyd serve --log-requests`, and of whom they tell.
+LOGGED = (
+    ("notifyd: 192.0.2.7:5060 SUBSCRIBE <sip:alice@192.0.2.10>;tag=w256-0 401", "192.0.2.7"),
+    ("notifyd: 192.0.2.7:5060 REFER <sip:alice@192.0.2.10>;tag=w256-0 403", "192.0.2.7"),
+    ("notifyd: 192.0.2.7:5060 SUBSCRIBE <sip:zoe@192.0.2.10>;tag=w256-0 404", "192.0.2.7"),
+    # a To by which somebody would have another one banned
+    ('notifyd: 192.0.2.7:5060 SUBSCRIBE "notifyd: 198.51.100.1:5060 SUBSCRIBE x 401" <sip:a@b>;tag=w 401', "192.0.2.7"),
+    ('notifyd: 192.0.2.7:5060 SUBSCRIBE "notifyd: 198.51.100.1:5060 SUBSCRIBE x 401" <sip:a@b>;tag=w 200', None),
+    ("notifyd: 192.0.2.7:5060 SUBSCRIBE <sip:alice@192.0.2.10>;tag=w0-1-d6a6c0a84c7a305c 200", None),
+    ("notifyd: 192.0.2.7:5060 OPTIONS <sip:alice@192.0.2.10>;tag=w256-0 405", None),
+    ("notifyd: 192.0.2.7:5060 NOTIFY <sip:alice@192.0.2.10>;tag=w0-1 unanswered", None),
+    ("notifyd: 12 requests were answered 401", None),
+)
+
+
+def who_is_refused_is_found(program, folder):
+    """The filter for fail2ban finds the address in a line of the log, and no text of a stranger's is one."""
+    expressions = re.search(r"(?m)^failregex = (.*)$", text_of("fail2ban", "filter.conf"))[1]
+    read = re.compile(expressions.replace("%(__prefix_line)s", r"(?:\S+ notifyd(?:-run)?\[\d+\]: )?").replace("<HOST>", r"(?P<host>\d+\.\d+\.\d+\.\d+)"))
+    for line, host in LOGGED:
+        for prefix in "", "vm notifyd-run[123]: ":
+            found = read.search(prefix + line)
+            same(f"who is refused by {line}", host, found and found["host"])
+
+
+def a_refusal_is_logged_so(program, folder):
+    """The program's own lines are those that the filter reads."""
+    place = os.path.join(folder, "passwords")
+    with open(place, "w", encoding="ascii") as file:
+        file.write(f"alice:pbx:{'0' * 32}\n")
+    with Service(program, "--log-requests", "--passwords", place, "alice") as service, Operator(service.sip) as stranger:
+        request = ["SUBSCRIBE sip:alice@127.0.0.1 SIP/2.0", "Via: SIP/2.0/UDP 127.0.0.1:5070;rport;branch=z9hG4bKa1", "From: <sip:alice@127.0.0.1>;tag=f1", "To: <sip:alice@127.0.0.1>"]
+        request += ["Call-ID: c1", "CSeq: 1 SUBSCRIBE", "Contact: <sip:alice@127.0.0.1:5070>", "Event: message-summary", "Content-Length: 0", "", ""]
+        stranger.socket.send("\r\n".join(request).encode())
+        same("the answer", b"SIP/2.0 401 ", stranger.socket.recv(65535)[:12])
+        port = stranger.socket.getsockname()[1]
+        service.close()
+        line = re.search(rb"(?m)^notifyd: 127.0.0.1:%d .*$" % port, service.running.err)
+        same("the line", True, line is not None and re.fullmatch(rb"notifyd: [\d.]+:\d+ (SUBSCRIBE|REFER) .* 40[134]", line[0]) is not None)
+
+
 # What `notifyd tell STATUS` says: some of the counters, and all of them.
 FEWER_COUNTERS = b"""\
 ok
@@ -238,16 +484,20 @@ def stopped(program, signals, *words):
         return running.end()
 
 
+ENDING = signal.SIGTERM, signal.SIGINT, signal.SIGHUP, signal.SIGQUIT, signal.SIGUSR1, signal.SIGUSR2
+
+
 def a_signal_is_a_close(program, folder):
-    for signals in [signal.SIGTERM], [signal.SIGINT], [signal.SIGTERM, signal.SIGINT, signal.SIGTERM]:
+    for signals in *([number] for number in ENDING), [signal.SIGTERM, signal.SIGINT, signal.SIGTERM]:
         ended = stopped(program, signals, "--workers", "1", "alice")
-        same("the end", (0, b"WORKER 0 N 3 closed\n"), (ended.status, re.sub(rb"(?m)^(WORKER \d) \d+", rb"\1 N", ended.out)))
+        same(f"the end by {signals}", (0, b"WORKER 0 N 3 closed\n"), (ended.status, re.sub(rb"(?m)^(WORKER \d) \d+", rb"\1 N", ended.out)))
 
 
 class Kept:
-    """A service by `notifyd-run` that keeps its counts in a file, at whose end it gets a TERM and must end well."""
+    """A service by `notifyd-run` that keeps its counts in a file, at whose end it gets a signal and must end well."""
 
-    def __init__(self, program, state, *words):
+    def __init__(self, program, state, *words, number=signal.SIGTERM):
+        self.state, self.number = state, number
         self.ports = free_port(), free_port()
         places = ["--listen", f"127.0.0.1:{self.ports[0]}", "--control", f"127.0.0.1:{self.ports[1]}"]
         env = {**os.environ, "NOTIFYD": program, "NOTIFYD_STATE": state}
@@ -260,7 +510,7 @@ class Kept:
 
     def __exit__(self, kind, *_):
         if kind is None:
-            self.running.process.send_signal(signal.SIGTERM)
+            self.running.process.send_signal(self.number)
             ended = self.running.end()
             self.running.err = ended.err
             same("the exit status", 0, ended.status)
@@ -284,6 +534,58 @@ def counts_outlive_restarts(program, folder):
     with open(state, "rb") as file:
         same("what is kept without a mailbox", b"MAIL bob text 1 0 0 0\n", file.read())
     same("what stands in the folder", ["state"], os.listdir(folder))
+
+
+def each_signal_saves(program, folder):
+    state = os.path.join(folder, "state")
+    for new, number in enumerate(ENDING, 1):
+        with Kept(program, state, "alice", number=number) as service, Operator(service.ports[1]) as operator:
+            operator.tell(f"MAIL alice voice {new} 0 0 0")
+        with open(state, "rb") as file:
+            same(f"what is kept at {number.name}", f"MAIL alice voice {new} 0 0 0\n".encode(), file.read())
+        same("what stands in the folder", ["state"], os.listdir(folder))
+
+
+def wait_until(what, is_so):
+    end = time.monotonic() + PATIENCE
+    while not is_so():
+        assert time.monotonic() < end, what
+        time.sleep(0.05)
+
+
+def a_state_is_told_once(program, folder):
+    """Once the service answers its file has another name: after a crash its counts are no longer true, and the next start knows nothing."""
+    state = os.path.join(folder, "state")
+    with open(state, "w", encoding="ascii") as file:
+        file.write("MAIL alice voice 9 0 0 0\n")
+    ports = free_port(), free_port()
+    words = ["--listen", f"127.0.0.1:{ports[0]}", "--control", f"127.0.0.1:{ports[1]}", "alice"]
+    env = {**os.environ, "NOTIFYD": program, "NOTIFYD_STATE": state}
+    with Running(os.path.join(TOP, "contrib", "notifyd-run"), words, env=env) as running:
+        running.lines_until(b"listening at")
+        with Phone(ports[0], "alice") as phone:
+            phone.subscribe("Messages-Waiting: yes\r\nVoice-Message: 9/0 (0/0)\r\n")
+            wait_until("the file keeps its name", lambda: os.listdir(folder) == ["state.loaded"])
+        with open(f"/proc/{running.process.pid}/task/{running.process.pid}/children", encoding="ascii") as file:
+            for child in file.read().split():
+                os.kill(int(child), signal.SIGKILL)
+        same("the exit status", 128 + signal.SIGKILL, running.end().status)
+    with Kept(program, state, "alice") as service, Phone(service.ports[0], "alice") as phone:
+        phone.leave(phone.subscribe(NO_MESSAGES), NO_MESSAGES)
+
+
+def a_state_stays_where_it_cannot_start(program, folder):
+    """A start that fails has told nobody anything: what it was to begin with is there for the next one."""
+    state, kept = os.path.join(folder, "state"), b"MAIL alice voice 9 0 0 0\n"
+    with open(state, "wb") as file:
+        file.write(kept)
+    env = {**os.environ, "NOTIFYD": program, "NOTIFYD_STATE": state}
+    with Service(program, "alice") as service:
+        words = ["--listen", f"127.0.0.1:{service.sip}", "--control", f"127.0.0.1:{free_port()}", "alice"]
+        same("the exit status", 3, run(os.path.join(TOP, "contrib", "notifyd-run"), words, env=env).status)
+        service.close()
+    with open(state, "rb") as file:
+        same("what is kept", kept, file.read())
 
 
 def the_status_is_handed_on(program, folder):
@@ -553,6 +855,12 @@ def checks():
     yield "contrib: notifyd-run ends where the service is killed", the_end_by_a_signal_is_handed_on
     yield "contrib: a state that isn't saved is not told", a_state_that_is_not_saved_is_not_told
     yield "contrib: a state outlives a signal at once", a_state_outlives_a_signal_at_once
+    yield "contrib: each signal saves the counts", each_signal_saves
+    yield "contrib: a state is told once", a_state_is_told_once
+    yield "contrib: a state stays where the start fails", a_state_stays_where_it_cannot_start
+    yield "contrib: configurations name options that there are", options_exist
+    yield "contrib: a snapshot starts the program", a_snapshot_starts_the_program
+    yield "contrib: a refusal is logged as the filter reads it", a_refusal_is_logged_so
 
 
 def checks_apart():
@@ -563,6 +871,16 @@ def checks_apart():
     yield "contrib: of a mailbox one after the other is told", counts_come_in_their_order
     yield "contrib: an empty Maildir is told", an_empty_maildir_is_told
     yield "contrib: a Maildir that isn't there is not told", no_maildir_is_told_as_nothing
+    yield "contrib: counts are published", counts_are_published
+    yield "contrib: Redis keeps counts", redis_keeps_counts
+    yield "contrib: what Asterisk counts is published", asterisk_is_published
+    yield "contrib: what is published is a state to begin with", what_is_published_is_a_state
+    yield "contrib: what Redis has is a state to begin with", redis_is_a_state
+    yield "contrib: what is published is told", what_is_published_is_told
+    yield "contrib: what Redis has is told", what_redis_has_is_told
+    yield "contrib: the programs of the units exist", programs_of_units_exist
+    yield "contrib: the configuration of the proxy is whole", the_proxy_is_whole
+    yield "contrib: who is refused is found by fail2ban", who_is_refused_is_found
     yield "contrib: counters are metrics", counters_are_metrics
     yield "contrib: counters that aren't told are left out of the metrics", fewer_counters_are_metrics
     yield "contrib: metrics are a file that is there as a whole, also where nobody answers", metrics_are_a_file

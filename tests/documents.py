@@ -11,7 +11,8 @@ has to exist, by its name:
   those behind `file:` in an item that begins so;
 - a block of commands (```sh) is read by the shell, its targets of make and its programs exist, and so do their options.
 
-What docs/operating.md says of options and counters is compared with the program's texts. Beside these it says what the pages may not
+docs/definitions.md names each file of definitions that a clause cites of a call which can be made from outside its crate: which these are
+is read off the code. How far docs/decisions.md says that a SUBSCRIBE goes is what `walk.py` counts, and each line of its list names a function. What docs/operating.md says of options and counters is compared with the program's texts. Beside these it says what the pages may not
 become: longer than WORDS in all, README longer than LINES, a sentence outside tables and code longer than SENTENCE words. Names that
 stand nowhere in the repository, since they are of a tool, a language or a protocol, stand in FOREIGN.
 """
@@ -24,11 +25,13 @@ import re
 import shlex
 import subprocess
 
+import walk
+
 TOP = os.path.dirname(os.path.dirname(os.path.abspath(__file__)))
 
 PAGES = ["architecture", "decisions", "definitions", "measurements", "operating", "proofs", "protocol", "testing"]
 
-WORDS = 18_000
+WORDS = 24_000
 
 LINES = 130
 
@@ -36,6 +39,9 @@ SENTENCE = 40
 
 # Names in backquotes that stand nowhere in the repository, since they are of a tool, a language or a protocol.
 FOREIGN = {"unsafe", "Z9HG4BK", "skmem", "--nproc", "TheSendSync"}
+
+# Files of definitions that docs/definitions.md may name by what they are, for all crates.
+ANYWHERE = {"Errors", "Codes", "Numbers", "Views", "LineViews"}
 
 # Programs of the system that a block of commands may name.
 PROGRAMS = {
@@ -49,6 +55,8 @@ ROOTS = ("crates", "docs", "tests", "contrib", "bench", "field", ".ci")
 ENDINGS = ("", ".antt", ".rt", ".edit", ".py", ".page", ".script", ".md")
 
 NAME = re.compile(r"[A-Za-z_][A-Za-z0-9_]*(?:::[A-Za-z_][A-Za-z0-9_]*)*(?:\(\))?$")
+
+FUNCTION = re.compile(r"\bfn (\w+)")
 
 SPAN = re.compile(r"(?<!`)(`+)(?!`)(.+?)(?<!`)\1(?!`)")
 
@@ -113,7 +121,7 @@ def told(wrong):
 
 
 def there_are_eight(_program, _folder):
-    there = sorted(os.path.basename(it)[:-3] for it in glob.glob(f"{TOP}/docs/*"))
+    there = sorted(os.path.basename(it)[:-3] for it in glob.glob(f"{TOP}/docs/*.md"))
     assert there == PAGES, f"docs/ has {there}"
 
 
@@ -325,18 +333,132 @@ def counters_are_explained(_program, _folder):
     told([f"{it} isn't in docs/operating.md" for it in names if it not in known])
 
 
+def uncommented(path):
+    """The text of a file of code without its comments."""
+    return re.sub(r"//.*", "", read(path))
+
+
+@functools.cache
+def shown(crate):
+    """What of its files a crate shows to others: by file the names that it hands on, or None where all that is public there can be named."""
+    found, top = {}, f"crates/{crate}/src"
+
+    def look(file, folder):
+        found[file] = None
+        for path, names in re.findall(r"^pub use ((?:\w+::)+)(\w+|\{[^}]*\})(?: as \w+)?;", uncommented(file), flags=re.M):
+            inner = f"{folder}/{path[:-2].replace('::', '/')}.rt"
+            if os.path.isfile(f"{TOP}/{inner}") and found.get(inner, ()) is not None:
+                found.setdefault(inner, set()).update(re.findall(r"\w+", names))
+        for name in re.findall(r"^pub mod (\w+);", uncommented(file), flags=re.M):
+            look(f"{folder}/{name}.rt", f"{folder}/{name}")
+
+    look(f"{top}/lib.rt", top)
+    return found
+
+
+@functools.cache
+def kinds(crate):
+    """The names of the types that a crate shows."""
+    every = set()
+    for file, names in shown(crate).items():
+        there = set(re.findall(r"^pub (?:struct|enum|trait) (\w+)", uncommented(file), flags=re.M))
+        every |= there if names is None else there & names
+    return every
+
+
+def items(text, names, types):
+    """The items of a file of code that others can call something of: public functions and traits of one of these names, or of any where
+    there are none, and what is written of one of these types. Each with whether it is a function, and whether its functions are as
+    public as it is itself."""
+    for found in re.finditer(r"^(pub )?(?:(?:const )?(?:unsafe )?fn (\w+)|trait (\w+)|impl\b(.*))", text, flags=re.M):
+        public, function, trait, implemented = found.groups()
+        end = re.compile(r"^\}", re.M).search(text, found.end())
+        whole = text[found.start() : end.end() if end else len(text)]
+        if implemented is not None:
+            target = re.sub(r"<.*", "", re.sub(r"^<(?:[^<>]|<[^<>]*>)*>", "", implemented).split(" for ")[-1])
+            if types & set(re.findall(r"\w+", target)):
+                yield whole, False, " for " in implemented
+        elif public and (names is None or (function or trait) in names):
+            yield whole, bool(function), bool(trait)
+
+
+def heads(text, names, types):
+    """What stands before the bodies of the functions that can be called from outside."""
+    for whole, is_function, is_open in items(text, names, types):
+        indent, visibility = ("", "pub ") if is_function else ("    ", "(?:pub )?" if is_open else "pub ")
+        for found in re.finditer(rf"^{indent}{visibility}(?:const )?(?:unsafe )?fn \w+", whole, flags=re.M):
+            end = re.compile(rf"^{indent}[{{}}]|;$", re.M).search(whole, found.end())
+            yield whole[found.start() : end.start() if end else len(whole)]
+
+
+def clauses(head):
+    """The clauses among them, each in its braces."""
+    for found in re.finditer(r"\b(?:requires|ensures)\b(?: \w+)? \{", head):
+        depth = 0
+        for brace in re.compile(r"[{}]").finditer(head, found.end() - 1):
+            depth += 1 if brace[0] == "{" else -1
+            if depth == 0:
+                yield head[found.end() : brace.start()]
+                break
+
+
+def imported(text):
+    """The names that a file of code may cite in clauses, each with the file of definitions of this repository that it is of."""
+    names = {}
+    for crate, file, listed, alias in re.findall(r"ghost use Rattle\.(\w+)\.specs\.(\w+(?:\.[a-z_]\w*)*)(?:\.\{([^}]*)\}| as (\w+));", text):
+        path = f"{crate}/specs/{file.replace('.', '/')}"
+        if os.path.isfile(f"{TOP}/crates/{path}.antt"):
+            for it in [alias] if alias else listed.split(","):
+                names |= {it.split()[-1]: path} if it.split() else {}
+    return names
+
+
+@functools.cache
+def cited():
+    """The files of definitions that clauses of calls cite which can be made from outside their crate, each with such a call."""
+    found = {}
+    for crate in sorted(it for it in crates() if os.path.isfile(f"{TOP}/crates/{it}/src/lib.rt")):
+        for path in sorted(glob.glob(f"{TOP}/crates/{crate}/src/**/*.rt", recursive=True)):
+            file = os.path.relpath(path, TOP)
+            text, known = uncommented(file), imported(uncommented(file))
+            for head in heads(text, shown(crate).get(file, set()), kinds(crate)):
+                for word in re.findall(r"[\w'-]+", " ".join(clauses(head))):
+                    if word in known:
+                        found.setdefault(known[word], f"{crate}::{re.search(FUNCTION, head)[1]}")
+    return found
+
+
+def cited_definitions_are_named(_program, _folder):
+    page = read("docs/definitions.md")
+    named = {it.removeprefix("crates/") for span in spans(page) for it in files_of(span)}
+    anywhere = ANYWHERE & set(spans(page))
+    missing = [it for it in sorted(cited()) if it not in named and os.path.basename(it) not in anywhere]
+    told([f"{it}, which {cited()[it]} cites, isn't in docs/definitions.md" for it in missing])
+
+
 def others_cite_what_is_there(_program, _folder):
     wrong = []
     files = subprocess.run(["git", "ls-files"], cwd=TOP, capture_output=True, text=True).stdout.split("\n")
     for path in files:
         if path and not path.startswith("docs/") and os.path.isfile(f"{TOP}/{path}"):
             cited = re.findall(r"\bdocs/([A-Za-z]+)(?:\.md)?\b", read(path))
-            wrong += [f"{path} cites docs/{it}" for it in cited if it not in PAGES and path != "tests/documents.py"]
+            there = {*PAGES, "figures"}
+            wrong += [f"{path} cites docs/{it}" for it in cited if it not in there and path != "tests/documents.py"]
     told(wrong)
+
+
+def the_way_is_counted(_program, _folder):
+    steps, wrong = walk.walk()
+    assert not wrong, "; ".join(wrong)
+    told = re.search(r"A SUBSCRIBE passes (\d+) functions in (\d+) files .*?(\d+) changes of file.*? it is (\d+) in (\d+), with (\d+) changes", read("docs/decisions.md"))
+    assert told, "docs/decisions.md doesn't say how far a SUBSCRIBE goes"
+    counted = [number for it in walk.counts(steps) for number in (it.functions, it.files, it.turns)]
+    assert [int(it) for it in told.groups()] == counted, f"docs/decisions.md has {told.groups()}, tests/walk.py counts {counted}"
 
 
 def checks_apart():
     yield "docs/ has its eight pages", there_are_eight
+    yield "the way of a SUBSCRIBE is what is counted", the_way_is_counted
     yield f"at most {WORDS} words in all", words_are_few
     yield f"README.md has at most {LINES} lines", the_first_page_is_short
     for page in pages():
@@ -345,6 +467,7 @@ def checks_apart():
         yield f"{page}: what it names exists", names_exist(page)
         yield f"{page}: its tables name what stands in the file", rows_name_their_file(page)
         yield f"{page}: its commands can be typed", commands_can_be_typed(page)
+    yield "docs/definitions.md names what clauses cite", cited_definitions_are_named
     yield "each option stands in the manual", options_stand_in_the_manual
     yield "each option that a page names exists", options_exist
     yield "what options are without a number is what --help says", defaults_are_the_programs

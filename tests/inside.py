@@ -7,8 +7,9 @@ many allocations that the failing one is the first of the call, in the next run 
 ends before it. In each of these the call must say that memory ran out, and leave things as its contract says; a call that goes on all
 the same, whole `again`, has swallowed the failure.
 
-Wrong bodies are planted on further copies (`inside/*.edit`): one that swallows a failure, which must be seen, and one by which a worker
-is gone while a port is open, which no crew has: so the answers that a port and a feed have for it are met. It needs `rt`."""
+On each copy a replay has a method that shows its list. Wrong bodies are planted on further copies (`inside/*.edit`): one that swallows
+a failure, which must be seen, and one by which a worker is gone while a port is open, which no crew has: so the answers that a port and a
+feed have for it are met. It needs `rt`."""
 
 import glob
 import os
@@ -32,7 +33,7 @@ FOLDER = os.path.join(TOP, "tests", "inside")
 
 # What the program stands on.
 LIBRARIES = (
-    "sip_text event_headers sip_read sip_write package message_summary refer notifier queues crew transport scripts feeds arguments server"
+    "sip_text event_headers sip_read sip_write package message_summary refer snapshots notifier queues crew transport scripts feeds arguments server"
 )
 
 # The number of the allocation that fails. No call makes so many, with what stands before it.
@@ -41,7 +42,7 @@ REFUSED = 2000
 # So many runs in a row in which a call ends before the failing allocation end a sweep.
 ENOUGH = 4
 
-# The calls, and for what each is refused in some run: for the whole of it, or for the parts of these numbers.
+# The calls, and for what each is refused in some run: for the whole of it, for the parts of these numbers, or for nothing.
 CALLS = {
     "read": {"refused"},
     "wrong_messages": {"refused 1", "refused 2", "refused 3", "refused 4"},
@@ -50,23 +51,34 @@ CALLS = {
     "headers": {"refused 1", "refused 2", "refused 3", "refused 4"},
     "answer": {"refused"},
     "notify": {"refused"},
+    "new_cell": {"refused"},
+    "new_mailboxes": {"refused"},
+    "new_transfers": {"refused"},
+    "new_desk": {"refused"},
+    "new_inbox": {"refused"},
+    "new_outbox": {"refused"},
+    "bind": set(),
     "mailboxes": {"refused 2", "refused 4"},
     "transfers": {"refused 1", "refused 2", "refused 3", "refused 4", "refused 5", "refused 6"},
     "mail": {"refused 1", "refused 2", "refused 3"},
     "transfer": {"refused 1", "refused 2", "refused 3", "refused 4"},
     "replay": {"refused 1", "refused 2", "refused 3"},
     "script": {"refused"},
+    "scripts": {"refused"},
     "start": {"refused"},
     "closed": {"refused", "refused 1", "refused 2", "refused 3"},
     "dropped": {"refused", "refused 1", "refused 2", "refused 3"},
 }
+
+# The edit by which a replay shows its list, which nothing else reads: it is made on each copy.
+SHOWS = "a_replay_shows_its_list"
 
 # Seconds that the compiler may take: less than two minutes on a machine where nothing else runs, much longer beside proofs.
 LIMIT = 1800
 
 
 def plant(edit, folder):
-    """Puts the wrong body of this name into the crew of a copy."""
+    """Puts the body of this name into the crew of a copy."""
     texts = {}
     if not Edit("crew", f"{FOLDER}/{edit}.edit").apply(texts, folder):
         raise AssertionError(f"what {edit}.edit changes doesn't stand there once")
@@ -77,8 +89,8 @@ def plant(edit, folder):
 def furnish(folder, edit):
     """Makes a copy of the repository in which the program is a crate, with a wrong body or none. Answers the crate's folder."""
     copy_to(folder, below(LIBRARIES.split()), ("must-fail", "wrong", "planted"))
-    if edit:
-        plant(edit, folder)
+    for name in [SHOWS, edit] if edit else [SHOWS]:
+        plant(name, folder)
     crate = f"{folder}/crates/inside"
     os.makedirs(f"{crate}/src")
     for name in os.listdir(FOLDER):
@@ -173,7 +185,7 @@ def is_refused(name):
         came, parts = list(swept(RIGHT, name)), CALLS[name]
         same("what was refused, and all else that was told", sorted(parts | {"before", "whole"}), sorted(set(came)))
         order = "".join("r" if it in parts else it[0] for it in came)
-        same("the order of the runs", True, bool(re.fullmatch("b+r+w+", order)) or order)
+        same("the order of the runs", True, bool(re.fullmatch("b+r+w+" if parts else "b+w+", order)) or order)
 
     return check
 
@@ -188,6 +200,16 @@ def start_none():
     if os.getuid() == 0:
         os.setgid(65534)
         os.setuid(65534)
+
+
+def open_few(count):
+    """Lets the process that begins here have so many open files and sockets, the three streams among them."""
+    return lambda: resource.setrlimit(resource.RLIMIT_NOFILE, (count, count))
+
+
+def a_refused_socket_is_told(program, folder):
+    # One beside the streams: the socket is bound, and has none for its other wire.
+    same("the run", "refused a socket", told_by(RIGHT.path(), "bind", preexec_fn=open_few(4)))
 
 
 def a_refused_thread_is_told(program, folder):
@@ -210,6 +232,7 @@ def checks_apart():
     # The first checks have the programs compiled side by side.
     yield "two ports are handed back, and join their crew", ports_join_the_crew
     yield "a crew whose thread is refused says so", a_refused_thread_is_told
+    yield "a socket that is refused is told", a_refused_socket_is_told
     yield "a worker that swallows a failed allocation is seen", a_swallowed_refusal_is_seen
     yield "Gone and Left are told where a worker is gone", a_gone_worker_is_told
     for name in CALLS:

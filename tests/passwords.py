@@ -340,6 +340,20 @@ def rates(program, folder):
             same("whether the others are counted", 12 - came, counted(operator)["limited"])
 
 
+def a_to_tag_excuses_nobody(program, folder):
+    """A request in a dialog takes a token, too: a To tag is easily made up. Keep-alives take none, and draw nothing."""
+    with Service(program, "--rate", "1/3", "alice") as service, service.operator() as operator:
+        with Elsewhere("127.0.0.2", service.sip) as one, Elsewhere("127.0.0.3", service.sip) as other:
+            guess = question("t1").replace(b"To: <sip:alice@127.0.0.1>", b"To: <sip:alice@127.0.0.1>;tag=made-up")
+            came = one.answers(operator, guess, 12)
+            same("whether the burst and little more is answered", True, 3 <= came <= 4)
+            same("whether the others are counted", 12 - came, counted(operator)["limited"])
+            for _ in range(12):
+                persist(other.socket.send, b"\r\n\r\n")
+            same("how many answers come behind keep-alives", 3, other.answers(operator, question("t2"), 3))
+            same("whether keep-alives are limited", 12 - came, counted(operator)["limited"])
+
+
 def lives(operator, count):
     """Waits until so many subscriptions live: the thread that sends counts them behind its NOTIFYs."""
     until = time.monotonic() + PATIENCE
@@ -505,6 +519,7 @@ def checks():
     yield "malformed values never pass", malformed_values
     yield "networks are let in", networks
     yield "each source has its rate", rates
+    yield "a made-up To tag excuses nobody from its rate, and keep-alives cost nothing", a_to_tag_excuses_nobody
     yield "each source has so many live subscriptions", live_subscriptions
     yield "1,024 strangers keep nobody out", strangers_keep_nobody_out
     yield "bad files of passwords end the start", bad_files

@@ -208,7 +208,7 @@ def it_is_given_up(program, folder):
             silent.go_on(dialog, 3600)
             silent.expect(f"SIP/2.0 {GONE}")
             ended = service.close(lambda: late.accept(3))
-            mailbox = "<sip:alice@127.0.0.1>"
+            mailbox = "alice"
             log = (
                 f"notifyd: nobody answered 1 NOTIFYs, the last of them from {mailbox};tag={dialog.tag} at {silent.me}\n",
                 f"notifyd: nobody answered 1 more NOTIFYs, the last of them at {other.me}\n",

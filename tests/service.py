@@ -360,6 +360,25 @@ def who_watches_is_told(program, folder):
             service.close(other.hear_farewell)
 
 
+def what_is_watched_is_told(program, folder):
+    """WATCHERS tells the mailbox of the Request-URI, whatever the To says, and the transfer of a REFER by its tag."""
+    with Service(program, "alice", "bob") as service, service.operator() as operator, service.phone("bob") as phone:
+        with open_socket(("127.0.0.1", service.sip)) as other:
+            to_bob = SUBSCRIBE.replace(b"To: <sip:alice", b"To: <sip:bob")
+            other.send(to_bob.replace(b"From: <sip:alice", b'From: "To: <x>" <sip:carol'))
+            tag = Message(next_datagram(other)).tag("To")
+            notify = next_datagram(other)
+            transfer = phone.refer("sip:carol@127.0.0.1")
+            at_alice = ("alice", "sip:carol@127.0.0.1", tag, 1, 0)
+            at_transfer = (transfer, "sip:bob@127.0.0.1", transfer, 1, 1)
+            rows_become(operator, "WATCHERS", at_alice, at_transfer)
+            rows_become(operator, "WATCHERS alice", at_alice)
+            rows_become(operator, "WATCHERS bob")
+            other.send(Message(notify).answer("481 Call/Transaction Does Not Exist"))
+            rows_become(operator, "WATCHERS", at_transfer)
+            service.close(phone.hear_farewell)
+
+
 def watchers_are_told_page_by_page(program, folder):
     with Service(program, "--workers", "2", "alice", "bob") as service, service.operator() as operator:
         with service.phone("alice") as phone, service.phone("bob") as other:
@@ -746,6 +765,7 @@ def checks():
     yield "serve: two lines under way at a service that stands still are done once each", lines_wait_for_a_stalled_service
     yield "serve: STATUS as one JSON object", status_is_an_object
     yield "serve: WATCHERS tells how far each phone was told, and how far it answered", who_watches_is_told
+    yield "serve: WATCHERS tells what is watched, whatever the To says", what_is_watched_is_told
     yield "serve: WATCHERS page by page, and tell follows", watchers_are_told_page_by_page
     yield "serve: the clock alone ends a subscription of a second", the_clock_ends_a_subscription
     yield "serve: STATUS counts what came and went", status_counts
