@@ -5,11 +5,10 @@ dialog by 481, and one that is older than the last by 500."""
 
 import os
 import re
-import selectors
 import socket
 import time
 
-from watchers import T1, T2, TIMER_F, Agenda
+from watchers import T1, T2, TIMER_F, Agenda, EventLoop
 
 # Seconds until a phone tries again that was refused.
 AGAIN = 5.0
@@ -164,35 +163,16 @@ class Phone:
             self.begin() if "deactivated" in state or "timeout" in state else self.plant.agenda.add(AGAIN, self.begin)
 
 
-class Plant:
+class Plant(EventLoop):
     """Phones, to be used in a `with`; `see` is called with a phone and what it shows where that is another number."""
 
     def __init__(self, see):
-        self.agenda, self.see = Agenda(), see
+        super().__init__(Agenda())
+        self.see = see
         self.phones = []
         self.answers = {}  # how many of each status came to SUBSCRIBEs
         self.unanswered = 0  # SUBSCRIBEs that nobody answered
-        self.selector = selectors.DefaultSelector()
-
-    def __enter__(self):
-        return self
-
-    def __exit__(self, *_):
-        self.selector.close()
-        for phone in self.phones:
-            phone.socket.close()
 
     def add(self, phone):
         self.phones.append(phone)
-        self.selector.register(phone.socket, selectors.EVENT_READ, phone.hear)
-
-    def wait(self, seconds, is_done=lambda: False):
-        """Hears what comes and does what is due for so many seconds, or until it is done. Whether it is."""
-        end = time.monotonic() + seconds
-        while not is_done():
-            if time.monotonic() >= end:
-                return False
-            for key, _ in self.selector.select(self.agenda.left(end)):
-                key.data()
-            self.agenda.do_what_is_due()
-        return True
+        self.listen_to(phone)

@@ -48,6 +48,38 @@ class Agenda:
             heapq.heappop(self.entries)[2]()
 
 
+class EventLoop:
+    """Sockets that are heard and an agenda that is kept, on one thread; to be used in a `with`, which closes the sockets."""
+
+    def __init__(self, agenda):
+        self.agenda = agenda
+        self.selector = selectors.DefaultSelector()
+
+    def __enter__(self):
+        return self
+
+    def __exit__(self, *_):
+        sockets = [key.fileobj for key in self.selector.get_map().values()]
+        self.selector.close()
+        for it in sockets:
+            it.close()
+
+    def listen_to(self, speaker):
+        """Has its `hear` called whenever something comes to its `socket`."""
+        self.selector.register(speaker.socket, selectors.EVENT_READ, speaker.hear)
+
+    def wait(self, seconds, is_done=lambda: False):
+        """Hears what comes and does what is due for so many seconds, or until it is done. Whether it is."""
+        end = time.monotonic() + seconds
+        while not is_done():
+            if time.monotonic() >= end:
+                return False
+            for key, _ in self.selector.select(self.agenda.left(end)):
+                key.data()
+            self.agenda.do_what_is_due()
+        return True
+
+
 class Network:
     """What befalls datagrams: which shares of them are lost and are held back, and the seconds that each is on its way."""
 
@@ -242,33 +274,14 @@ class Feeder:
         return self.line is None
 
 
-class Crowd:
+class Crowd(EventLoop):
     """Watchers of one mailbox and whoever feeds it, to be used in a `with`."""
 
     def __init__(self, network, watchers, feeder):
-        self.agenda, self.watchers, self.feeder = network.agenda, watchers, feeder
-        self.selector = selectors.DefaultSelector()
+        super().__init__(network.agenda)
+        self.watchers, self.feeder = watchers, feeder
         for speaker in (feeder, *watchers):
-            self.selector.register(speaker.socket, selectors.EVENT_READ, speaker.hear)
-
-    def __enter__(self):
-        return self
-
-    def __exit__(self, *_):
-        self.selector.close()
-        for speaker in (self.feeder, *self.watchers):
-            speaker.socket.close()
-
-    def wait(self, seconds, is_done=lambda: False):
-        """Hears what comes and does what is due for so many seconds, or until it is done. Whether it is."""
-        end = time.monotonic() + seconds
-        while not is_done():
-            if time.monotonic() >= end:
-                return False
-            for key, _ in self.selector.select(self.agenda.left(end)):
-                key.data()
-            self.agenda.do_what_is_due()
-        return True
+            self.listen_to(speaker)
 
     def subscribe(self, seconds):
         """Has each watcher subscribe, or ask for more time, spread over so many seconds."""
