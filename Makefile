@@ -12,7 +12,7 @@ help:
 	@echo "make wrong    for a release: tries all wrong bodies (make wrong CRATES=\"scripts refer\" tries those of two crates)"
 	@echo "make field    tries the built program with real peers on this machine; field/run says what it needs"
 	@echo "make bench    measures it beside an echo; bench/service says what it needs"
-	@echo "make figures  prints the tables of docs/measurements.md"
+	@echo "make figures  draws the pictures of docs/measurements.md from its tables, and measures what they have anew"
 
 gate:
 	@.ci/run
@@ -52,4 +52,5 @@ bench:
 	@bench/service
 
 figures:
+	@bench/draw
 	@bench/figures

@@ -1,4 +1,4 @@
-"""What README.md and docs/ say is there, and is short enough to be read.
+"""What README.md, CONTRIBUTING.md and docs/ say is there, and is short enough to be read.
 
 It touches no program, so its checks are made once. Each file, heading, crate, function, definition and option that a page cites
 has to exist, by its name:
@@ -11,10 +11,12 @@ has to exist, by its name:
   those behind `file:` in an item that begins so;
 - a block of commands (```sh) is read by the shell, its targets of make and its programs exist, and so do their options.
 
-docs/definitions.md names each file of definitions that a clause cites of a call which can be made from outside its crate: which these are
-is read off the code. How far docs/decisions.md says that a SUBSCRIBE goes is what `walk.py` counts, and each line of its list names a function. What docs/operating.md says of options and counters is compared with the program's texts. Beside these it says what the pages may not
-become: longer than WORDS in all, README longer than LINES, a sentence outside tables and code longer than SENTENCE words. Names that
-stand nowhere in the repository, since they are of a tool, a language or a protocol, stand in FOREIGN.
+docs/definitions.md names each file of definitions that a clause cites of a call which can be made from outside its crate, but for the
+crates BESIDE: which these are is read off the code. How far docs/decisions.md says that a SUBSCRIBE goes is what `walk.py` counts, and each
+line of its list names a function. What docs/operating.md says of options and counters is compared with the program's texts, and the pictures
+with the tables that they are drawn from. Beside these it says what the pages may not become: without a list of their headings, longer than
+WORDS in README and docs/, README longer than LINES, a sentence outside tables and code longer than SENTENCE words. Names that stand nowhere
+in the repository, since they are of a tool, a language or a protocol, stand in FOREIGN.
 """
 
 import functools
@@ -35,13 +37,19 @@ WORDS = 24_000
 
 LINES = 130
 
-SENTENCE = 40
+SENTENCE = 30
 
 # Names in backquotes that stand nowhere in the repository, since they are of a tool, a language or a protocol.
 FOREIGN = {"unsafe", "Z9HG4BK", "skmem", "--nproc", "TheSendSync"}
 
 # Files of definitions that docs/definitions.md may name by what they are, for all crates.
 ANYWHERE = {"Errors", "Codes", "Numbers", "Views", "LineViews"}
+
+# Crates of the edge and of the programs, whose definitions stand beside their code: `tests/cited.py` prints them.
+BESIDE = {
+    "admission", "arguments", "commands", "control_lines", "digest", "feeds", "scripts", "server", "service", "telling", "transactions",
+    "transport", "watchers",
+}
 
 # Programs of the system that a block of commands may name.
 PROGRAMS = {
@@ -69,7 +77,7 @@ def read(path):
 
 def pages():
     """The pages, as paths from the top of the repository."""
-    return ["README.md", *(f"docs/{name}.md" for name in PAGES)]
+    return ["README.md", "CONTRIBUTING.md", *(f"docs/{name}.md" for name in PAGES)]
 
 
 @functools.cache
@@ -126,7 +134,7 @@ def there_are_eight(_program, _folder):
 
 
 def words_are_few(_program, _folder):
-    count = sum(len(read(page).split()) for page in pages())
+    count = sum(len(read(page).split()) for page in pages() if page != "CONTRIBUTING.md")
     assert count <= WORDS, f"{count} words in all, where {WORDS} may stand"
 
 
@@ -139,7 +147,7 @@ def sentences(text):
     """The sentences of a page outside tables and code, headings and items apart."""
     for part in re.split(r"\n\s*\n|\n(?=\s*(?:[-*]|\d+\.) )|\n(?=#)", prose(text)):
         lines = [it for it in part.split("\n") if not it.lstrip().startswith("|") and not it.startswith(("#", "    "))]
-        yield from re.split(r"(?<=[.?!:;])\s+(?=[^a-z])|(?<=[.?!])\s", " ".join(lines).strip())
+        yield from re.split(r"(?<=[.?!:;])(?:\*\*)?\s+(?=[^a-z])|(?<=[.?!])\s", " ".join(lines).strip())
 
 
 def sentences_are_short(page):
@@ -153,6 +161,50 @@ def sentences_are_short(page):
 def anchor(heading):
     """The name by which a heading is linked to."""
     return re.sub(r"[^\w\- ]", "", heading.replace("`", "").strip().lower()).replace(" ", "-")
+
+
+def contents_are_listed(page):
+    """A page begins with a list of its headings, each by its link, in their order."""
+
+    def check(_program, _folder):
+        before = read(page).partition("\n## ")[0]
+        listed = re.findall(r"^- \[[^\]]*\]\(#([^)]*)\)", before, flags=re.M)
+        there = [anchor(it) for it in re.findall(r"^## (.*)$", prose(read(page)), flags=re.M)]
+        assert listed == there, f"listed, but no heading: {[it for it in listed if it not in there]}; not listed: {[it for it in there if it not in listed]}; or another order"
+
+    return check
+
+
+def the_clause_is_the_codes(_program, _folder):
+    section = read("docs/proofs.md").partition("\n## How to read a clause\n")[2].partition("\n## ")[0]
+    files = (text_files(path) for span in spans(section) for path in files_of(span))
+    there = {line.strip() for it in itertools.chain.from_iterable(files) for line in read(it).split("\n")}
+    lines = [line.strip() for block in blocks(section, "text") for line in block.split("\n") if line.strip()]
+    assert lines, "docs/proofs.md has no clause under How to read a clause"
+    told([f"no line {it}" for it in lines if it not in there])
+
+
+def lines_below(*patterns):
+    """How many lines the files of these patterns have."""
+    return sum(read(os.path.relpath(it, TOP)).count("\n") for pattern in patterns for it in glob.glob(f"{TOP}/crates/{pattern}", recursive=True))
+
+
+def sizes_are_right(_program, _folder):
+    """How much there is to be read for the headline is told within a tenth."""
+    page = read("docs/proofs.md")
+    found = re.search(r"some ([\d,]+) lines of definitions in all `specs/` the headline below cites (\d+) files, with some ([\d,]+) lines.*?the ([\d,]+) lines in `proofs/`", page)
+    assert found, "docs/proofs.md doesn't say how much there is to be read"
+    every, files, cited_lines, proofs = (int(it.replace(",", "")) for it in found.groups())
+    line = next(it for it in page.split("\n") if it.startswith("**To believe the headline, read**"))
+    named = [it for span in spans(line) for path in files_of(span) for it in text_files(path)]
+    assert len(named) == files, f"docs/proofs.md names {len(named)} files for the headline, and says {files}"
+    sizes = {every: lines_below("*/specs/**/*.antt"), cited_lines: sum(read(it).count("\n") for it in named), proofs: lines_below("*/proofs/**/*.antt")}
+    told([f"docs/proofs.md has {it} lines, where there are {there}" for it, there in sizes.items() if abs(it - there) > there / 10])
+
+
+def pictures_are_drawn(_program, _folder):
+    ended = subprocess.run(["bench/draw", "--check"], cwd=TOP, capture_output=True, text=True)
+    assert ended.returncode == 0, ended.stdout.strip() + ended.stderr.strip()
 
 
 def links_lead_somewhere(page):
@@ -432,8 +484,18 @@ def cited_definitions_are_named(_program, _folder):
     page = read("docs/definitions.md")
     named = {it.removeprefix("crates/") for span in spans(page) for it in files_of(span)}
     anywhere = ANYWHERE & set(spans(page))
-    missing = [it for it in sorted(cited()) if it not in named and os.path.basename(it) not in anywhere]
+    listed = [it for it in sorted(cited()) if it.split("/")[0] not in BESIDE]
+    missing = [it for it in listed if it not in named and os.path.basename(it) not in anywhere]
     told([f"{it}, which {cited()[it]} cites, isn't in docs/definitions.md" for it in missing])
+
+
+def cited_definitions_say_what_they_are(_program, _folder):
+    told([f"{it}, which {call} cites, doesn't begin with a comment" for it, call in cited().items() if not read(f"crates/{it}.antt").startswith("-- ")])
+
+
+def crates_beside_are_named(_program, _folder):
+    section = read("docs/definitions.md").partition("## The edge and the programs\n")[2]
+    told([f"docs/definitions.md doesn't name {it}" for it in sorted(BESIDE) if f"`{it}`" not in section])
 
 
 def others_cite_what_is_there(_program, _folder):
@@ -464,10 +526,17 @@ def checks_apart():
     for page in pages():
         yield f"{page}: no sentence is longer than {SENTENCE} words", sentences_are_short(page)
         yield f"{page}: its links lead somewhere", links_lead_somewhere(page)
+        if page != "README.md":
+            yield f"{page}: it lists its contents", contents_are_listed(page)
         yield f"{page}: what it names exists", names_exist(page)
         yield f"{page}: its tables name what stands in the file", rows_name_their_file(page)
         yield f"{page}: its commands can be typed", commands_can_be_typed(page)
     yield "docs/definitions.md names what clauses cite", cited_definitions_are_named
+    yield "each file of definitions that clauses cite says what it is", cited_definitions_say_what_they_are
+    yield "docs/definitions.md names the crates whose definitions it doesn't list", crates_beside_are_named
+    yield "docs/proofs.md: its clause and definitions are the code's", the_clause_is_the_codes
+    yield "docs/proofs.md: what there is to be read is counted", sizes_are_right
+    yield "the pictures are what the measured tables give", pictures_are_drawn
     yield "each option stands in the manual", options_stand_in_the_manual
     yield "each option that a page names exists", options_exist
     yield "what options are without a number is what --help says", defaults_are_the_programs
