@@ -27,3 +27,4 @@ pub mod Slots
 pub mod Resumed
 pub mod Written
 pub mod Joined
+pub mod Waiting

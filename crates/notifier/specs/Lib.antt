@@ -16,3 +16,4 @@ pub mod Held
 pub mod Errors
 pub mod Resumed
 pub mod Written
+pub mod Awaiting

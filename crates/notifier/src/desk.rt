@@ -3,12 +3,14 @@
 
 ghost use Rattle.std.specs.Prelude.{◌≡◌, ◌++◌, ◌↔◌, map, is_none, IfOk, OnOk, OnErr, Some, None};
 ghost use Rattle.notifier.specs.Standing.{Standing, first_standing, IsHandled};
+ghost use Rattle.notifier.specs.Awaiting.{is_awaited};
 ghost use Rattle.notifier.specs.Held.{seen_by};
 ghost use Rattle.notifier.specs.Errors.{number_of};
 ghost use Rattle.notifier_model.specs.Book.{step};
 ghost use Rattle.notifier_model.specs.Start.{place_of};
 ghost use Rattle.notifier_model.specs.Saved.{book_with};
-ghost use Rattle.notifier.specs.Written.{rows_text};
+ghost use Rattle.snapshots.specs.Books.{book_text, IsSaved};
+ghost use Rattle.notifier.specs.Written.{saved_of};
 ghost use Rattle.notifier.specs.Resumed.{MayGoOn, IsRightly};
 ghost use Rattle.notifier.specs.Ledger.{book_of, IsStep, IsSound};
 
@@ -169,10 +171,14 @@ impl<P: Package> Desk<P> {
         })
     }
 
-    /// Appends the moment, the next serial and the live subscriptions. After an error a part of it may stand there.
+    /// Appends the whole book, but for what its boxes hold: it is read again, and a desk of this place goes on from it. After an
+    /// error a part of it may stand there.
     pub fn save(&self, alloc: Global, out: &mut Vec<u8>) -> Result<(), DeskError>
         ensures saved { OnOk result ((s : Standing) → seen_by P.seen self.now ≡ Some s
-            → out.new.items ≡ out.old.items ++ rows_text s.book) }
+            → out.new.items ≡ out.old.items ++ book_text (saved_of s.book)) }
+        ensures fits { OnOk result ((s : Standing) → seen_by P.seen self.now ≡ Some s → IsSaved (saved_of s.book)) }
+        ensures may { OnOk result ((s : Standing) → seen_by P.seen self.now ≡ Some s
+            → MayGoOn s.place (saved_of s.book)) }
         ensures spent { result ≡ Err DeskError.Spent ↔ seen_by P.seen self.now ≡ None }
     {
         if self.spent {
@@ -189,6 +195,16 @@ impl<P: Package> Desk<P> {
         ensures { (s : Standing) → seen_by P.seen self.now ≡ Some s → result ≡ s.place }
     {
         self.place
+    }
+
+    /// Whether the NOTIFY with this local tag and this number is unanswered. Of a desk that is spent none is.
+    pub fn awaits(&self, tag: &str, number: u32) -> bool
+        ensures { result ≡ is_awaited (seen_by P.seen self.now) tag.now number }
+    {
+        if self.spent {
+            return false;
+        }
+        self.ledger.awaits(&self.place, tag, number)
     }
 
     /// Whether a growth was refused at an earlier event.

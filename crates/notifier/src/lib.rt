@@ -9,13 +9,15 @@
 #![tactic(auto)]
 
 mod answer;
+mod awaiting;
 mod boxes;
 mod create;
 pub mod desk;
+mod farewell;
 mod in_dialog;
 mod incoming;
 pub mod laws;
-mod notice;
+pub mod notice;
 mod resume;
 mod save;
 mod store;
@@ -25,7 +27,8 @@ mod verdict;
 pub mod whole_run;
 
 pub use desk::{Desk, DeskError};
+pub use notice::Teller;
 pub use notifier_model::{Event, Limits, Out, Place, Refusal, Saved, Setup, user_part};
 pub use resume::ResumeError;
 pub use sip_text::NoMemory;
-pub use whole_run::{play, play_on};
+pub use whole_run::{handle_all, play, play_on};

@@ -62,7 +62,12 @@ fn left(phase: Phase) -> Option<u32>
 }
 
 /// What is known of a subscription with a NOTIFY of it in this phase.
-fn note(alloc: Global, usage: &Usage, want: &Want, phase: Phase) -> Result<Boxed<Note>, NoMemory>
+pub fn note(
+    alloc: Global,
+    usage: &Usage,
+    want: &Want,
+    phase: Phase,
+) -> Result<Boxed<Note>, NoMemory>
     ensures { IfOk result (λ note. note ≡ record {
       watcher = usage.now.remote;
       resource = unwrap_or (spec.mailbox_of want.now) usage.now.local_tag;

@@ -1,12 +1,16 @@
 //! What a desk keeps, written.
 
 ghost use Rattle.std.specs.Prelude.{◌≡◌, ◌++◌, OnOk, filter_map};
-ghost use Rattle.std.specs.List.{flat_map};
-ghost use Rattle.slab.specs.Slab as slab;
-ghost use Rattle.snapshots.specs.Forms.{number_text, list_text};
-ghost use Rattle.snapshots.specs.Rows.{row_text};
+ghost use Rattle.std.specs.List.{flat_map, AllByRecursion};
 ghost use Rattle.std.specs.Option.{option_copied};
-ghost use Rattle.notifier.specs.Written.{some_text};
+ghost use Rattle.slab.specs.Slab as slab;
+ghost use Rattle.snapshots.specs.Books.{IsSaved, book_text, first_line};
+ghost use Rattle.snapshots.specs.Forms.{AreAll, list_text};
+ghost use Rattle.snapshots.specs.Rows.{IsRow, row_text};
+ghost use Rattle.notifier_model.specs.declared.place.Place.{Place};
+ghost use Rattle.notifier.specs.Ledger.{IsSound};
+ghost use Rattle.notifier.specs.Resumed.{MayGoOn};
+ghost use Rattle.notifier.specs.Written.{some_text, IsSomeRow, saved_ledger};
 ghost use Rattle.notifier.specs.Stored.{rows_of, IsIndexed};
 
 use crate::store::Ledger;
@@ -19,10 +23,14 @@ use std::alloc::Global;
 
 /// Appends a row, if there is one.
 fn write_found(alloc: Global, row: Option<&Row>, out: &mut Vec<u8>) -> Result<(), NoMemory>
-    ensures { OnOk result (out.new.items ≡ out.old.items ++ some_text (option_copied row.entry)) }
+    ensures text { OnOk result (out.new.items ≡ out.old.items ++ some_text (option_copied row.entry)) }
+    ensures fits { IsSomeRow (option_copied row.entry) }
 {
     match row {
-        Some(row) => row.put(alloc, out),
+        Some(row) => {
+            row.fits();
+            row.put(alloc, out)
+        }
         None => Ok(()),
     }
 }
@@ -34,8 +42,9 @@ fn write_each(
     keys: &[usize],
     out: &mut Vec<u8>,
 ) -> Result<(), NoMemory>
-    ensures { OnOk result (out.new.items
+    ensures text { OnOk result (out.new.items
         ≡ out.old.items ++ flat_map row_text (filter_map (λ key. slab.get rows.now key) keys.now)) }
+    ensures fit { OnOk result (AllByRecursion IsRow (filter_map (λ key. slab.get rows.now key) keys.now)) }
 {
     for key in keys {
         let row = rows.get(*key);
@@ -48,7 +57,8 @@ impl Rows {
     /// Appends the rows, their number first.
     fn write(&self, alloc: Global, out: &mut Vec<u8>) -> Result<(), NoMemory>
         requires { IsIndexed self.now }
-        ensures { OnOk result (out.new.items ≡ out.old.items ++ list_text row_text (rows_of self.now)) }
+        ensures text { OnOk result (out.new.items ≡ out.old.items ++ list_text row_text (rows_of self.now)) }
+        ensures fit { OnOk result (AreAll IsRow (rows_of self.now)) }
     {
         let count = self.len() as u64;
         let keys: Vec<usize> = self.order.values().copied().collect(alloc)?;
@@ -58,15 +68,30 @@ impl Rows {
     }
 }
 
+/// Appends the line that says what is written, and in which version.
+fn write_first_line(out: &mut Vec<u8>) -> Result<(), NoMemory>
+    ensures { OnOk result (out.new.items ≡ out.old.items ++ first_line) }
+{
+    out.extend_from_slice(b"tipongahe book 1\n")?;
+    Ok(())
+}
+
 impl<P> Ledger<P> {
-    /// Appends the moment, the next serial and the rows.
+    /// Appends the whole book but its boxes: the line that says what it is, the moment, the next serial, the rows and the kept
+    /// answers.
     pub fn write(&self, alloc: Global, out: &mut Vec<u8>) -> Result<(), NoMemory>
         requires { IsIndexed self.now.rows }
-        ensures { OnOk result (out.new.items ≡ out.old.items
-            ++ (number_text self.now.clock ++ (number_text self.now.next ++ list_text row_text (rows_of self.now.rows)))) }
+        ensures text { OnOk result (out.new.items ≡ out.old.items ++ book_text (saved_ledger self.now)) }
+        ensures fits { OnOk result (IsSaved (saved_ledger self.now)) }
+        ensures may { OnOk result ((place : Place) → IsSound place self.now → MayGoOn place (saved_ledger self.now)) }
     {
+        write_first_line(out)?;
+        self.clock.fits();
         self.clock.put(alloc, out)?;
+        self.next.fits();
         self.next.put(alloc, out)?;
-        self.rows.write(alloc, out)
+        self.rows.write(alloc, out)?;
+        self.ring.write(alloc, out)?;
+        Ok(())
     }
 }

@@ -1,9 +1,9 @@
 //! Whole runs of one desk.
 #![tactic(auto, unfolding(notifier_model::specs::Run::run, notifier_model::specs::Run::made))]
 
-ghost use Rattle.std.specs.Prelude.{◌≡◌, map, IfOk, Some};
+ghost use Rattle.std.specs.Prelude.{◌≡◌, map, IfOk, OnOk, Some};
 ghost use Rattle.notifier_model.specs.Out.{out_of};
-ghost use Rattle.notifier_model.specs.Run.{made, made_from};
+ghost use Rattle.notifier_model.specs.Run.{made, made_from, run_from};
 ghost use Rattle.notifier.specs.Held.{seen_by};
 ghost use Rattle.notifier.specs.Standing.{Standing};
 ghost use Rattle.notifier_model.specs.Saved.{book_with};
@@ -19,12 +19,14 @@ use sip_text::NoMemory;
 use std::alloc::Global;
 
 /// Handles these events, one by one, and gathers what they send.
-fn handle_all<P: Package>(
+pub fn handle_all<P: Package>(
     alloc: Global,
     desk: &mut Desk<P>,
     events: &[Event],
 ) -> Result<Vec<Out>, NoMemory>
-    ensures { IfOk result (λ outs. (s : Standing) → seen_by P.seen desk.old ≡ Some s → outs.items
+    ensures stands { OnOk result ((s : Standing) → seen_by P.seen desk.old ≡ Some s → seen_by P.seen desk.new
+        ≡ Some (record { place = s.place; book = run_from s.place s.book events.now })) }
+    ensures outs { IfOk result (λ outs. (s : Standing) → seen_by P.seen desk.old ≡ Some s → outs.items
         ≡ map out_of (made_from s.place s.book events.now)) }
 {
     let mut outs = Vec::new(alloc);

@@ -1,16 +1,19 @@
 //! Answers that are kept for retransmissions (RFC 3261 section 17.2.2), newest first.
 #![tactic(auto, unfolding(notifier_model::specs::Answers::kept_answer, notifier_model::specs::Answers::ring_with))]
 
-ghost use Rattle.std.specs.Prelude.{◌≡◌, ℕ, ◌<◌, ◌^◌, ◌-◌, [], take, find, option_map, IfOk, OnOk, Some, true, ◌↔◌};
+ghost use Rattle.std.specs.Prelude.{◌≡◌, ℕ, ◌<◌, ◌≤◌, ◌^◌, ◌-◌, ◌++◌, [], length, take, find, option_map, IfOk, OnOk, Some, true, ◌↔◌};
 ghost use Rattle.circular_buffer.specs.Buffer.{buffer};
 ghost use Rattle.notifier_model.specs.Answers as spec;
 ghost use Rattle.notifier_model.specs.Limits.{Limits as LimitsSeen};
+ghost use Rattle.snapshots.specs.Forms.{list_text, AreAll};
+ghost use Rattle.snapshots.specs.Books.{kept_text, IsKept};
 ghost use Rattle.notifier.specs.Slots as slots;
 ghost use Rattle.notifier.specs.Transactions.{key_of};
 
 use crate::store::transaction::Transaction;
 use circular_buffer::HeapCircularBuffer;
 use sip_text::{NoMemory, Octets};
+use snapshots::form::Form;
 use std::alloc::Global;
 use std::collections::BTreeMap;
 use std::marker::Model;
@@ -58,6 +61,16 @@ impl KeptAnswer {
         ensures { result.now ≡ self.now.bytes }
     {
         &self.bytes
+    }
+
+    /// Appends its key and its bytes.
+    fn write(&self, alloc: Global, out: &mut Vec<u8>) -> Result<(), NoMemory>
+        ensures text { OnOk result (out.new.items ≡ out.old.items ++ kept_text self.now) }
+        ensures fits { OnOk result (IsKept self.now) }
+    {
+        self.transaction.write(alloc, out)?;
+        self.bytes.fits();
+        self.bytes.put(alloc, out)
     }
 
     /// What names its transaction.
@@ -175,6 +188,20 @@ impl KeptAnswers {
         self.slots.insert(named, slot)?;
         self.newest = slot;
         self.ring.push_front(KeptAnswer { transaction, bytes });
+        Ok(())
+    }
+
+    /// Appends the answers, newest first, their number before them.
+    pub fn write(&self, alloc: Global, out: &mut Vec<u8>) -> Result<(), NoMemory>
+        ensures text { OnOk result (out.new.items ≡ out.old.items ++ list_text kept_text self.now.items) }
+        ensures fit { OnOk result (AreAll IsKept self.now.items) }
+        ensures room { length self.now.items ≤ self.now.capacity }
+    {
+        let count = self.ring.len() as u64;
+        count.put(alloc, out)?;
+        for kept in &self.ring {
+            kept.write(alloc, out)?;
+        }
         Ok(())
     }
 }

@@ -1,13 +1,15 @@
 //! What names a transaction, as one text by which its kept answer is found.
 #![tactic(auto, unfolding(notifier_model::specs::Requests::key_of_request))]
 
-ghost use Rattle.std.specs.Prelude.{◌≡◌, ◌+◌, ◌≤◌, length, string_bytes, option_map, IfOk};
+ghost use Rattle.std.specs.Prelude.{◌≡◌, ◌+◌, ◌≤◌, ◌++◌, length, string_bytes, option_map, IfOk, OnOk};
 ghost use Rattle.notifier_model.specs.Requests.{key_of_request};
-ghost use Rattle.notifier.specs.Keys.{parted};
+ghost use Rattle.snapshots.specs.Books.{IsKey, key_text};
+ghost use Rattle.notifier.specs.Keys.{parted, AreTexts};
 
 use notifier_model::row::Key;
 use sip_read::Request;
 use sip_text::NoMemory;
+use snapshots::form::put_bytes;
 use std::alloc::Global;
 
 /// The texts of a key in one: the branch, the sent-by and the method.
@@ -19,6 +21,7 @@ pub struct Transaction {
     /// How many bytes the sent-by has.
     sent_by: usize,
     ghost within: { branch + sent_by ≤ length (string_bytes texts) },
+    ghost are_texts: { AreTexts (parted branch sent_by (string_bytes texts)) },
 }
 
 impl Transaction {
@@ -91,5 +94,33 @@ impl Transaction {
             branch: self.branch,
             sent_by: self.sent_by,
         })
+    }
+
+    /// The branch, the sent-by and the method.
+    fn parts(&self) -> (&[u8], &[u8], &[u8])
+        ensures branch { result.0.now ≡ (parted self.now.branch self.now.sent_by (string_bytes self.now.texts)).branch }
+        ensures sent_by { result.1.now ≡ (parted self.now.branch self.now.sent_by (string_bytes self.now.texts)).sent_by }
+        ensures method { result.2.now ≡ (parted self.now.branch self.now.sent_by (string_bytes self.now.texts)).method }
+        ensures fit { IsKey (parted self.now.branch self.now.sent_by (string_bytes self.now.texts)) }
+    {
+        let texts = self.texts.as_str();
+        let _length = texts.len();
+        let texts = texts.as_bytes();
+        let (branch, rest) = texts.split_at(self.branch);
+        let (sent_by, method) = rest.split_at(self.sent_by);
+        (branch, sent_by, method)
+    }
+
+    /// Appends the texts of its key.
+    pub fn write(&self, alloc: Global, out: &mut Vec<u8>) -> Result<(), NoMemory>
+        ensures text { OnOk result (out.new.items ≡ out.old.items
+            ++ key_text (parted self.now.branch self.now.sent_by (string_bytes self.now.texts))) }
+        ensures fits { IsKey (parted self.now.branch self.now.sent_by (string_bytes self.now.texts)) }
+    {
+        let (branch, sent_by, method) = self.parts();
+        put_bytes(alloc, branch, out)?;
+        put_bytes(alloc, sent_by, out)?;
+        put_bytes(alloc, method, out)?;
+        Ok(())
     }
 }

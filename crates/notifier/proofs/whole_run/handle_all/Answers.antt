@@ -30,5 +30,10 @@ loop-event-preserved g c = λ s e.
           ∙ ap (λ sent. map out_of sent) (sym (made_from-push s.place s.book past item) ∙ sym (ap (λ es. made_from s.place s.book es) more));
     }
 
-pub returns : goal.returns
-returns g c = λ s e. (c.loop-event.invariant s e).outs ∙ ap (λ es. map out_of (made_from s.place s.book es)) (take_all c.loop-event.event-index c.args.events.now c.loop-event-test.false)
+pub returns-clause-stands : goal.returns-clause-stands
+returns-clause-stands g c = λ s e.
+    (c.loop-event.invariant s e).book
+    ∙ ap (λ es. Some (record { place = s.place; book = run_from s.place s.book es })) (take_all c.loop-event.event-index c.args.events.now c.loop-event-test.false)
+
+pub returns-clause-outs : goal.returns-clause-outs
+returns-clause-outs g c = λ s e. (c.loop-event.invariant s e).outs ∙ ap (λ es. map out_of (made_from s.place s.book es)) (take_all c.loop-event.event-index c.args.events.now c.loop-event-test.false)

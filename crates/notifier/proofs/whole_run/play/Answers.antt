@@ -9,4 +9,4 @@ if_ok_then (Err e) f p = p
 
 pub returns : goal.returns
 unfolding made
-returns g c = if_ok_then c.handle_all.result (λ outs told. told _ c.in_ok-desk.ensures) c.handle_all.ensures
+returns g c = if_ok_then c.handle_all.result (λ outs told. told _ c.in_ok-desk.ensures) c.handle_all.ensures.outs
