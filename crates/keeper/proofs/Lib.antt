@@ -1,0 +1,5 @@
+pub mod Rows
+pub mod Lists
+pub mod Calls
+pub mod Saying
+pub mod Following

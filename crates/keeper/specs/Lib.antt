@@ -1,0 +1,4 @@
+pub mod Told
+pub mod Keeping
+pub mod Laws
+pub mod Refusing
