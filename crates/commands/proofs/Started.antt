@@ -17,7 +17,7 @@ use Rattle.arguments.specs.Setup.{dealt_names}
 use Rattle.arguments.specs.Told.{boxes_told, all_told}
 use Rattle.arguments.proofs.ToldBoxes.{told-len}
 use Rattle.service.specs.declared.running.ServiceEnd.{ServiceEnd}
-use Rattle.service.specs.Running.{Opening, Runs}
+use Rattle.service.specs.Running.{Opening, Runs, anew}
 use Rattle.service.specs.Sending.{Outflow}
 use Rattle.commands.proofs.UdpStarted.{started_as}
 use Rattle.commands.specs.declared.plan.Plan.{Plan}
@@ -34,9 +34,9 @@ if_both (Ok x) p q f = f x p q
 if_both (Err e) p q f = p
 
 -- the same under other names of the starts and their number
-runs_as : {start start' : ℕ → Start} {workers workers' repeats : ℕ} {opened : Opening} {admission : Admission} {flow : Outflow} {o : ServiceEnd}
-    → workers ≡ workers' → ((w : ℕ) → w < workers' → start w ≡ start' w) → Runs start workers repeats opened admission flow o
-    → Runs start' workers' repeats opened admission flow o
+pub runs_as : {start start' : ℕ → Start} {workers workers' repeats : ℕ} {opened : Opening} {admission : Admission} {flow : Outflow} {o : ServiceEnd}
+    → workers ≡ workers' → ((w : ℕ) → w < workers' → start w ≡ start' w) → Runs (anew start repeats) workers opened admission flow o
+    → Runs (anew start' repeats) workers' opened admission flow o
 runs_as {start = start} {start' = start'} {workers' = workers'} same each r = record {
   crew = r.crew;
   sip = r.sip;
@@ -80,7 +80,7 @@ module _ {P : Type 0} (seen : P → Seen) (setup : Setup) (boxes : List (Vec P G
       → n ≡ length boxes → 0 < plan.workers → repeats ≡ plan.choices.numbers.repeats → opened ≡ opening_of plan → admission ≡ plan.admission
       → ((held : Vec P Global) → Ran contents (λ w. start_of seen setup w (get_or boxes w held).items) n repeats opened admission before after o)
       → Ran contents (start_at plan local) plan.workers plan.choices.numbers.repeats (opening_of plan) plan.admission before after o
-  ran_is contents n {opened = opened} {admission = admission} {before = before} {after = after} {o = o} size some room are allowed ran =
+  ran_is contents n {repeats = repeats} {opened = opened} {admission = admission} {before = before} {after = after} {o = o} size some room are allowed ran =
       let len = workers_are in
       let held : Vec P Global = element boxes 0 (omega (arith, len, some)) in
       let its = ran held in
@@ -90,5 +90,7 @@ module _ {P : Type 0} (seen : P → Seen) (setup : Setup) (boxes : List (Vec P G
       subst A allowed (subst Q are (subst N room (record {
         wire = its.wire;
         wire' = its.wire';
-        runs = runs_as (size ∙ len) (λ w low. starts_are held w (omega (arith, len, low))) its.runs;
+        runs =
+            runs_as {start = λ w. start_of seen setup w (get_or boxes w held).items} {start' = start_at plan local} {repeats = repeats} (size ∙ len)
+            (λ w low. starts_are held w (omega (arith, len, low))) its.runs;
       })))

@@ -81,6 +81,7 @@ status_of error.NoMemory = 4
 abbrev pub of_run : RunError → ServeError
 of_run run.NoThread = error.System
 of_run run.NoMemory = error.NoMemory
+of_run (run.BadDesk worker) = error.System
 
 -- a service listens here: phones and the operator reach it by these two alone
 abbrev pub IsListened : AddressFlag → Type 0

@@ -1,5 +1,5 @@
 -- A service that an operator runs, from its words to its end.
-use Rattle.std.specs.Prelude.{◌≡◌, ◌≢◌, ℕ, true, false, List, Option}
+use Rattle.std.specs.Prelude.{◌≡◌, ◌≢◌, ℕ, true, false, List, [], Option}
 use Rattle.sip_text.specs.declared.address.Addr.{Addr}
 use Rattle.transport.specs.Devices.{SinkSeen}
 use Rattle.notifier_model.specs.Start.{Start, place_of}
@@ -10,7 +10,7 @@ use Rattle.commands.specs.UdpEnds.{all_closed, Tells}
 use Rattle.service.specs.declared.running.ServiceEnd.{ServiceEnd}
 use Rattle.service.specs.declared.running.ServiceWork.{ServiceWork}
 use Rattle.service.specs.Listening.{IsDeaf}
-use Rattle.service.specs.Running.{Opening, Runs, AreFaults, is_faulty, opening}
+use Rattle.service.specs.Running.{Opening, Runs, anew, AreFaults, is_faulty, opening}
 use Rattle.admission.specs.declared.judging.Admission.{Admission}
 use Rattle.arguments.specs.declared.choices.Choices.{Choices}
 use Rattle.transport.specs.Ears.{no_misses}
@@ -58,6 +58,8 @@ pub record IsWork (plan : Plan) (work : ServiceWork) : Type 0 where
   pub admission : work.sip.admission ≡ plan.admission
   pub repeats : work.repeats ≡ plan.choices.numbers.repeats
   pub linger : work.linger ≡ plan.choices.numbers.linger
+  pub none_waits : work.begins.unanswered.items ≡ []
+  pub none_told : work.begins.tick ≡ 0
   pub sip_misses : misses work.sip.coming ≡ no_misses
   pub line_misses : misses work.desk.coming ≡ no_misses
 
@@ -66,11 +68,11 @@ abbrev pub new_sink : {W : Type 0} → W → SinkSeen W
 new_sink writer = record { writer = writer; failures = 0; is_flushed = false }
 
 module _ {W : Type 0} (contents : W → Option (List ℕ)) where
-  -- a crew ran as a service to its end, over some wire
+  -- a crew ran as a service to its end, over some wire: it began anew, with new desks of these starts
   pub record Ran (start : ℕ → Start) (workers repeats : ℕ) (opened : Opening) (admission : Admission) (before after : SinkSeen W) (outcome : ServiceEnd) : Type 0 where
     pub wire : WireSeen
     pub wire' : WireSeen
-    pub runs : Runs start workers repeats opened admission
+    pub runs : Runs (anew start repeats) workers opened admission
         (record { wire = wire; wire' = wire'; writer = writer_seen contents before; writer' = writer_seen contents after }) outcome
 
   -- the words ask for a service, which ran to its end, and tells each fault of its sockets and of the clock

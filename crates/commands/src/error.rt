@@ -165,6 +165,7 @@ impl From<RunError> for ServeError {
     fn from(error: RunError) -> ServeError {
         match error {
             RunError::NoThread => ServeError::System,
+            RunError::BadDesk(_) => ServeError::System,
             RunError::NoMemory => ServeError::NoMemory,
         }
     }

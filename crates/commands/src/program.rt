@@ -1,5 +1,5 @@
 //! `notifyd serve`.
-ghost use Rattle.std.specs.Prelude.{◌≡◌, ◌<◌, ◌≤◌, ◌⊎◌, true, false, get_or, map, vec_len, IfOk, IfErr, OnOk};
+ghost use Rattle.std.specs.Prelude.{◌≡◌, ◌<◌, ◌≤◌, ◌⊎◌, [], true, false, get_or, map, vec_len, IfOk, IfErr, OnOk};
 ghost use Rattle.crew.specs.Ready.{start_of};
 ghost use Rattle.arguments.specs.Told as call;
 ghost use Rattle.arguments.specs.Wanted.{Gives};
@@ -21,13 +21,15 @@ use crate::sockets::{Sockets, open};
 use crate::udp::all_closed;
 use crate::udp_printing::worker_lines;
 use arguments::{ExitStatus, Wanted, all_told};
+use crew::open_desks;
 use package::Package;
 use scripts::write_page;
 use service::{
-    ControlPort, Exit, ServiceEnd, ServiceWork, Shared, SipDesk, has_room_soon, run_crew,
+    Begins, ControlPort, Exit, ServiceEnd, ServiceWork, Shared, SipDesk, has_room_soon, run_crew,
 };
 use sip_text::{Addr, NoMemory, Text};
 use std::alloc::Global;
+use std::fs::File;
 use std::io;
 use std::io::Write;
 use std::net::Net;
@@ -121,7 +123,12 @@ where
 }
 
 /// What a service works with: the plan over these sockets, and the wire by which its outs go.
-fn new_work(plan: Plan, sockets: Sockets, shared: Arc<Shared, Global>) -> (ServiceWork, UdpWire)
+fn new_work(
+    alloc: Global,
+    plan: Plan,
+    sockets: Sockets,
+    shared: Arc<Shared, Global>,
+) -> (ServiceWork, UdpWire)
     requires { AreOpen plan.choices sockets }
     ensures work { IsWork plan result.0 }
     ensures wire { result.1.local ≡ result.0.sip.coming.local }
@@ -153,6 +160,7 @@ fn new_work(plan: Plan, sockets: Sockets, shared: Arc<Shared, Global>) -> (Servi
         sip,
         desk,
         shared,
+        begins: Begins::anew(alloc),
         repeats: numbers.repeats,
         linger: numbers.linger,
     };
@@ -168,12 +176,15 @@ fn run<R, F, P>(
     exit: Exit<UdpWire, F>,
 ) -> Result<Served<F>, ServeError>
 where
-    R: Threads + Wait + Clock + Files + Eprint + AllocGlobal + Copy + Send + 'static,
+    R: Threads + Wait + Clock + Files<File = File> + Eprint + AllocGlobal + Copy + Send + 'static,
     F: Write + Drop,
     P: Package + 'static,
     requires few_workers { vec_len boxes ≤ 256 }
     // What the workers send leaves from where SIP comes in.
     requires one_place { exit.wire.local ≡ work.sip.coming.local }
+    // It begins anew.
+    requires none_waits { work.begins.unanswered.items ≡ [] }
+    requires none_told { work.begins.tick ≡ 0 }
     ensures refused { IfErr result IsOther }
     ensures ran { IfOk result (λ s. (b : _)
         → Ran F.contents (λ w. start_of P.seen work.setup w (get_or boxes.items w b).items) (vec_len boxes)
@@ -181,7 +192,8 @@ where
     ensures faults { IfOk result (λ s. AreFaults (misses work.sip.coming) (misses work.desk.coming) s.outcome) }
 {
     let mut exit = exit;
-    let outcome = run_crew(rt, rt.alloc(), boxes, work, &mut exit)?;
+    let desks = open_desks(rt.alloc(), &work.setup, boxes)?;
+    let outcome = run_crew(rt, rt.alloc(), desks, work, &mut exit)?;
     Ok(Served {
         outcome,
         sink: exit.sink,
@@ -203,7 +215,7 @@ where
         + Wait
         + Net
         + Clock
-        + Files
+        + Files<File = File>
         + RandomSource
         + Eprint
         + AllocGlobal
@@ -233,7 +245,7 @@ where
     if plan.choices.log_requests {
         shared.log_requests();
     }
-    let (work, wire) = new_work(plan, sockets, theirs);
+    let (work, wire) = new_work(rt.alloc(), plan, sockets, theirs);
     let sink = Sink::new(writer);
     let watch = Watch::begin(rt, &shared, is_watched)?;
     let served = run(rt, boxes, work, shared, Exit { wire, sink });
@@ -284,7 +296,7 @@ where
         + Wait
         + Net
         + Clock
-        + Files
+        + Files<File = File>
         + RandomSource
         + Eprint
         + AllocGlobal
@@ -352,7 +364,7 @@ where
         + Wait
         + Net
         + Clock
-        + Files
+        + Files<File = File>
         + RandomSource
         + Print
         + Eprint

@@ -45,6 +45,7 @@ pub use notifier_model::homes::{home, key_hash};
 pub use port::Port;
 pub use replay::Replay;
 pub use report::{Report, WorkerReport};
+pub use seating::open_desks;
 pub use shared::SharedDesk;
 pub use start::Crew;
 pub use token::{HasStanding, StandingToken};

@@ -18,8 +18,9 @@ use queues::outbox::Poster;
 use sip_text::NoMemory;
 use std::alloc::Global;
 
-/// A new desk for each worker, with these boxes.
-pub(crate) fn open_desks<P: Package>(
+/// A new desk for each worker of this setup, by its number, with its list of these boxes. [`Crew::go_on`](crate::Crew::go_on) starts a crew
+/// with them, each worker of which begins anew.
+pub fn open_desks<P: Package>(
     alloc: Global,
     setup: &Setup,
     boxes: Vec<Vec<P>>,

@@ -20,7 +20,7 @@ use Rattle.feeds.proofs.Emitting.{Running, one, running_out, rises_more, flushed
 use Rattle.feeds.proofs.Telling.{grows_none, grows_more, grows_same}
 use Rattle.transactions.specs.declared.open.Open.{Open}
 use Rattle.transactions.specs.Timers.{is_over}
-use Rattle.transactions.specs.Machine.{State, empty, answer, due, turn}
+use Rattle.transactions.specs.Machine.{State, answer, due, turn}
 use Rattle.transactions.specs.Runs.{Call, after, state_after, repeated, unless_over}
 use Rattle.service.specs.declared.post.Note.{Note}
 use Rattle.service.specs.Noted.{answer_of}
@@ -179,14 +179,13 @@ module _ {S : Type 0} (flushed : S → Bool) (first old : S) (acts : List Act) (
 
 -- ---- all of it
 
-pub sent_out : {limit : ℕ} {t0 t : TakerSeat} {left : ℕ} {told told' : Option (List Datagram)} {acts : List Act} {s u : State} {wire wire' : WireSeen}
+pub sent_out : {t0 t : TakerSeat} {left : ℕ} {told told' : Option (List Datagram)} {acts : List Act} {s u : State} {wire wire' : WireSeen}
     {writer writer' : WriterSeen} {report : EmitReport} → Running (fates acts) t0 t left told told' writer writer' report
-    → Does acts s u wire wire' → s ≡ empty limit → IsSentOut limit t0.workers acts t0.got t.got (record { wire = wire; wire' = wire'; writer = writer; writer' = writer' }) report
-sent_out {limit = limit} {acts = acts} {u = u} {wire = wire} {wire' = wire'} running does none =
-    let P : State → Type 0 = λ z. Does acts z u wire wire' in let did : Does acts (empty limit) u wire wire' = subst P none does in record {
-      met = running.met;
-      does = record { taken = did.taken; failed = did.failed; asked = did.asked; open_now = refl };
-    }
+    → Does acts s u wire wire' → IsSentOut s t0.workers acts t0.got t.got (record { wire = wire; wire' = wire'; writer = writer; writer' = writer' }) report
+sent_out running did = record {
+  met = running.met;
+  does = record { taken = did.taken; failed = did.failed; asked = did.asked; open_now = refl };
+}
 
 -- ---- all of it but repeats
 

@@ -1,5 +1,5 @@
 -- The faults that a service tells.
-use Rattle.std.proofs.Common.{◌≡◌, ◌≤◌, ℕ, Bool, true, false, ◌||◌, refl, sym, ◌∙◌, subst, arith, ⊎_elim}
+use Rattle.std.proofs.Common.{◌≡◌, ◌≤◌, ℕ, Bool, true, false, ◌||◌, refl, ap, sym, ◌∙◌, subst, arith, ⊎_elim}
 use Rattle.transport.specs.Ears.{Misses, no_misses}
 use Rattle.transport.specs.Sockets.{misses}
 use Rattle.transport.specs.declared.udp.UdpWire.{UdpWire}
@@ -14,11 +14,11 @@ use Rattle.service.specs.declared.datagrams.SipDesk.{SipDesk}
 use Rattle.service.specs.declared.lines.ControlDesk.{ControlDesk}
 use Rattle.service.specs.declared.running.Feeders.{Feeders}
 use Rattle.service.specs.declared.running.ServiceEnd.{ServiceEnd}
+use Rattle.service.specs.declared.running.Sources.{Sources}
 use Rattle.service.specs.Handing.{AreErrands}
 use Rattle.service.specs.Running.{IsLeftBehind, AreFaults, is_faulty}
 use Rattle.service.proofs.Deafness.{deaf_behind}
 use Rattle.service.specs.Listening.{IsDeaf, IsDeafAsTold}
-use Rattle.service.specs.Ticks.{new_stopwatch}
 
 same_phones : (a b : SipDesk UdpWire) → task.Datagrams a ≡ task.Datagrams b → a ≡ b
 same_phones a b e = cc
@@ -33,14 +33,14 @@ abbrev Behind : Task → Fed → Type 0
 Behind t fed = IsLeftBehind t fed.end fed.fails_late fed.left
 
 -- what each of them left, once their errands are known
-module _ {phones : SipDesk UdpWire} {desk : ControlDesk UdpWire} {f : Feeders} (are : AreErrands phones desk f) (fed : Fed) where
-  pub left_phones : Behind f.sip.promise.task.value fed → Behind (task.Datagrams phones) fed
+module _ {sources : Sources} {f : Feeders} (are : AreErrands sources f) (fed : Fed) where
+  pub left_phones : Behind f.sip.promise.task.value fed → Behind (task.Datagrams sources.sip) fed
   left_phones fails = let P : Task → Type 0 = λ t. Behind t fed in subst P are.sip fails
 
-  pub left_desk : Behind f.lines.promise.task.value fed → Behind (task.Lines desk) fed
+  pub left_desk : Behind f.lines.promise.task.value fed → Behind (task.Lines sources.desk) fed
   left_desk fails = let P : Task → Type 0 = λ t. Behind t fed in subst P are.lines fails
 
-  pub left_stopwatch : Behind f.time.promise.task.value fed → Behind (task.Time new_stopwatch) fed
+  pub left_stopwatch : Behind f.time.promise.task.value fed → Behind (task.Time sources.stopwatch) fed
   left_stopwatch fails = let P : Task → Type 0 = λ t. Behind t fed in subst P are.time fails
 
 pub phones_heard : (phones left : SipDesk UdpWire) (fed : Fed) → Behind (task.Datagrams phones) fed → fed.left ≡ task.Datagrams left
@@ -55,10 +55,11 @@ desk_heard desk left fed fails is =
     let P : ControlDesk UdpWire → Type 0 = λ d. IsDeafAsTold (is_fault fed.end || fed.fails_late) (misses desk.coming) (misses d.coming) in
     subst P (same_desk fails.0 left (sym fails.1 ∙ is)) fails.2
 
-pub clock_failed : (left : Stopwatch) (fed : Fed) → Behind (task.Time new_stopwatch) fed → fed.left ≡ task.Time left
+pub clock_failed : (stopwatch left : Stopwatch) (fed : Fed) → stopwatch.failures ≡ 0 → Behind (task.Time stopwatch) fed → fed.left ≡ task.Time left
     → left.failures ≡ failures_at fed.end 0
-clock_failed left fed fails is =
-    let P : Stopwatch → Type 0 = λ s. s.failures ≡ failures_at fed.end 0 in subst P (same_stopwatch fails.0 left (sym fails.1 ∙ is)) fails.2
+clock_failed stopwatch left fed none fails is =
+    let P : Stopwatch → Type 0 = λ s. s.failures ≡ failures_at fed.end 0 in
+    subst P (same_stopwatch fails.0 left (sym fails.1 ∙ is)) (fails.2 ∙ ap (failures_at fed.end) none)
 
 -- what is left behind the end of a thread and what it hears then
 pub left_after : (t mid left : Task) (end : FeedEnd) (late : Bool) → IsLeftBehind t end false mid → IsLeftBehind mid ends.Done late left

@@ -5,13 +5,14 @@ use Rattle.std.proofs.lemmas.List.{append-nil, append_assoc, map-append}
 use Rattle.std.proofs.lemmas.List.Elements.{filter_map-append}
 use Rattle.notifier_model.specs.declared.event.Out.{Out}
 use Rattle.feeds.specs.declared.sending.Fate.{Fate}
+use Rattle.feeds.specs.declared.sending.Fate.TheVariants.{Sent}
 use Rattle.feeds.specs.Emitted.{WireSeen}
 use Rattle.transactions.specs.Machine.{State}
 use Rattle.transactions.specs.Runs.{state_after}
 use Rattle.watchers.specs.Rows.{Row}
 use Rattle.service.specs.declared.fates.Put.{Put as OutPut}
 use Rattle.service.specs.declared.sending.Waiting.{Waiting}
-use Rattle.service.specs.Sending.{Act, Put, Does, call_of, calls, fates, kept_after}
+use Rattle.service.specs.Sending.{Act, Put, Does, call_of, calls, fates, kept_after, went_out}
 use Rattle.service.specs.Watched.{IsSeen, AreRowed}
 use Rattle.service.specs.Keeping.{act_of, AreKept, open_then, GoesOnBy}
 use Rattle.service.proofs.Acts.{state_append, state_first, does_none}
@@ -25,6 +26,11 @@ state_more a b s = ap (λ l. state_after l s) (filter_map-append call_of a b) �
 pub state_put : (acts : List Act) (now : ℕ) (o : Out) (f : Fate) (s : State)
     → state_after (calls (acts ++ Put now o f ∷ [])) s ≡ kept_after now o (state_after (calls acts) s)
 state_put acts now o f s = state_more acts (Put now o f ∷ []) s ∙ state_first (call_of (Put now o f)) [] (state_after (calls acts) s)
+
+-- one more that went out before the start
+pub went_out_more : (outs : List Out) (o : Out) (s : State) → state_after (calls (went_out (outs ++ o ∷ []))) s ≡ kept_after 0 o (state_after (calls (went_out outs)) s)
+went_out_more outs o s =
+    ap (λ (l : List Act). state_after (calls l) s) (map-append (λ (x : Out). Put 0 x Sent) outs (o ∷ [])) ∙ state_put (went_out outs) 0 o Sent s
 
 -- ---- where nothing is left to be kept
 

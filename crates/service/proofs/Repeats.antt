@@ -1,8 +1,9 @@
 -- What is sent again is of a NOTIFY that was put.
-use Rattle.std.proofs.Common.{◌≡◌, ◌≤◌, ℕ, zero, suc, ◌+◌, Bool, false, List, [], ◌∷◌, ◌++◌, Option, Some, None, refl, ap, sym, ◌∙◌, subst, arith}
+use Rattle.std.proofs.Common.{◌≡◌, ◌≤◌, ℕ, zero, suc, ◌+◌, Bool, false, List, [], ◌∷◌, ◌++◌, Option, Some, None, refl, ap, sym, ◌∙◌, subst, arith, append_assoc}
 use Rattle.std.specs.Prelude.{option_to_list}
 use Rattle.std.specs.List.{AllByRecursion, cons_option}
 use Rattle.notifier_model.specs.declared.event.Note.{Note as KnownNote}
+use Rattle.notifier_model.specs.declared.event.Out.{Out}
 use Rattle.notifier_model.specs.declared.event.Out.TheVariants as out
 use Rattle.feeds.specs.declared.sending.Fate.{Fate}
 use Rattle.transport.specs.declared.datagram.Datagram.{Datagram}
@@ -10,7 +11,7 @@ use Rattle.transactions.specs.declared.open.Open.{Open}
 use Rattle.transactions.specs.Machine.{State, empty}
 use Rattle.transactions.specs.Runs.{Call, state_after, is_end, earliest, keeping, times}
 use Rattle.transactions.proofs.Histories.{each_repeat}
-use Rattle.service.specs.Sending.{Act, Put, Noted, Repeated, GaveUp, call_of, calls, AreAsked, ends_it, EachRepeatIsOfANotify}
+use Rattle.service.specs.Sending.{Act, Put, Noted, Repeated, GaveUp, kept_by, call_of, calls, went_out, AreAsked, ends_it, IsOfNotify, EachRepeatIsOfANotify}
 use Rattle.service.proofs.Acts.{state_first}
 
 -- what was asked for behind a part
@@ -19,6 +20,13 @@ asked_behind [] b s asked = asked
 asked_behind (act ∷ a) b s asked =
     let P : State → Type 0 = λ u. AreAsked u b in
     subst P (sym (state_first (call_of act) (calls a) s)) (asked_behind a b (state_after (option_to_list (call_of act)) s) asked.1)
+
+-- what was asked for behind outs that were put at the start was so behind nothing
+asked_anew : (outs : List Out) (acts : List Act) (s : State) → AreAsked (state_after (calls (went_out outs)) s) acts → AreAsked s (went_out outs ++ acts)
+asked_anew [] acts s asked = asked
+asked_anew (o ∷ outs) acts s asked =
+    let P : State → Type 0 = λ u. AreAsked u acts in
+    (tt, asked_anew outs acts (state_after (option_to_list (kept_by 0 o)) s) (subst P (state_first (kept_by 0 o) (calls (went_out outs)) s) asked))
 
 -- the act that a call is of
 record Found (acts : List Act) (earlier : List Call) (call : Call) (since : List Call) : Type 0 where
@@ -80,8 +88,10 @@ half_a_second (suc zero) = omega arith
 half_a_second (suc (suc zero)) = omega arith
 half_a_second (suc (suc (suc n))) = omega arith
 
-pub each_repeat_is : EachRepeatIsOfANotify
-each_repeat_is limit before after now sent fails asked =
+-- where none waited at the start
+each_put : (limit : ℕ) (before after : List Act) (now : ℕ) (sent : Datagram) (fails : Bool)
+    → AreAsked (empty limit) (before ++ Repeated now sent fails ∷ after) → IsOfNotify before now sent
+each_put limit before after now sent fails asked =
     let here = asked_behind before (Repeated now sent fails ∷ after) (empty limit) asked in
     let t = here.0.0 in
     let order = each_repeat limit (calls before) now t here.0.1 in
@@ -104,3 +114,9 @@ each_repeat_is limit before after now sent fails asked =
       waited = omega (arith, long, waited);
       in_time = order.in_time;
     }
+
+pub each_repeat_is : EachRepeatIsOfANotify
+each_repeat_is limit unanswered before after now sent fails asked =
+    let rest : List Act = before ++ Repeated now sent fails ∷ after in
+    each_put limit (went_out unanswered ++ before) after now sent fails
+    (subst (AreAsked (empty limit)) (sym (append_assoc (went_out unanswered) before (Repeated now sent fails ∷ after))) (asked_anew unanswered rest (empty limit) asked))

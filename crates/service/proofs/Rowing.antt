@@ -70,10 +70,6 @@ rowed_doubt s now t sent fails rows rows' is_due doubtful gone = (rows', gone �
 pub rowed_give_up : (s : State) (now : ℕ) (t : Open) (rows rows' : List Row) → due s now ≡ Some t → rows' ≡ without t.tag rows → AreRowed s (GaveUp now ∷ []) rows rows'
 rowed_give_up s now t rows rows' is_due is = (rows', is ∙ sym (ap (λ o. given_up o rows) is_due), refl)
 
--- from the first transactions on, where none is open
-pub rowed_from : (limit : ℕ) (s : State) (acts : List Act) (rows rows' : List Row) → AreRowed s acts rows rows' → s ≡ empty limit → AreRowed (empty limit) acts rows rows'
-rowed_from limit s acts rows rows' rowed none = let P : State → Type 0 = λ u. AreRowed u acts rows rows' in subst P none rowed
-
 -- ---- an out
 
 module _ (now : ℕ) (o : Out) (tag : List ℕ) (number : ℕ) (terminated : Bool) (to : Addr) (note : KnownNote) (octets : List ℕ) (rows rows' : List Row)

@@ -1,24 +1,21 @@
 -- A service as its functions hand it on. No public contract cites this.
 use Rattle.std.specs.Prelude.{◌≡◌, ◌<◌, ℕ, true, List, [], ◌∷◌, length, get_or}
-use Rattle.notifier_model.specs.Start.{Start}
+use Rattle.notifier.specs.Standing.{Standing}
 use Rattle.crew.specs.Ports.{PortSeats}
-use Rattle.crew.specs.Started.{IsStarted}
-use Rattle.transport.specs.declared.udp.UdpWire.{UdpWire}
+use Rattle.crew.specs.Started.{HaveBegun}
 use Rattle.service.specs.declared.feeding.Task.TheVariants as task
-use Rattle.service.specs.declared.datagrams.SipDesk.{SipDesk}
-use Rattle.service.specs.declared.lines.ControlDesk.{ControlDesk}
 use Rattle.service.specs.declared.running.Feeders.{Feeders}
 use Rattle.service.specs.declared.running.RunningService.{RunningService}
-use Rattle.transactions.specs.Machine.{empty}
-use Rattle.service.specs.Ticks.{new_stopwatch}
+use Rattle.service.specs.declared.running.Sources.{Sources}
+use Rattle.service.specs.Running.{Beginning}
 
--- it was just started with these ports, and workers with these starts
-abbrev pub IsNew : (ℕ → Start) → List PortSeats → RunningService → Type 0
-IsNew start ports running = IsStarted start running.outgoing.workers 3 running.crew ports running.outgoing.taker
+-- it was just started with these ports, and workers whose desks stand so
+abbrev pub IsNew : (ℕ → Standing) → List PortSeats → RunningService → Type 0
+IsNew stands ports running = HaveBegun stands running.outgoing.workers 3 running.crew ports running.outgoing.taker
 
--- no NOTIFY waits for its answer, and so many may
-abbrev pub NoneWaits : ℕ → RunningService → Type 0
-NoneWaits repeats running = running.outgoing.waiting.transactions ≡ empty repeats
+-- how it begins, where its desks stand so, and this second was told last
+abbrev pub begins_so : (ℕ → Standing) → RunningService → ℕ → Beginning
+begins_so stands running tick = record { stands = stands; first = running.outgoing.waiting.transactions; tick = tick }
 
 -- each port is open
 abbrev pub NoneClosed : List PortSeats → Type 0
@@ -28,8 +25,8 @@ NoneClosed ports = (k : ℕ) (p : PortSeats) → k < length ports → (get_or po
 abbrev pub AreLent : List PortSeats → Feeders → Type 0
 AreLent ports f = ports ≡ f.sip.promise.port.value ∷ f.lines.promise.port.value ∷ f.time.promise.port.value ∷ []
 
--- what they are to send: what these two desks take, and the time
-pub record AreErrands (phones : SipDesk UdpWire) (desk : ControlDesk UdpWire) (f : Feeders) : Type 0 where
-  pub sip : f.sip.promise.task.value ≡ task.Datagrams phones
-  pub lines : f.lines.promise.task.value ≡ task.Lines desk
-  pub time : f.time.promise.task.value ≡ task.Time new_stopwatch
+-- what they are to send: what comes from these sources
+pub record AreErrands (sources : Sources) (f : Feeders) : Type 0 where
+  pub sip : f.sip.promise.task.value ≡ task.Datagrams sources.sip
+  pub lines : f.lines.promise.task.value ≡ task.Lines sources.desk
+  pub time : f.time.promise.task.value ≡ task.Time sources.stopwatch

@@ -11,3 +11,4 @@ pub mod Taken
 pub mod Handing
 pub mod Running
 pub mod Refused
+pub mod Shelved

@@ -1,4 +1,6 @@
 -- Why a service doesn't run.
+use Rattle.crew.specs.declared.errors.GoOnError.{GoOnError}
+use Rattle.crew.specs.declared.errors.GoOnError.TheVariants as go_on
 use Rattle.crew.specs.declared.errors.StartError.{StartError}
 use Rattle.crew.specs.declared.errors.StartError.TheVariants as start
 use Rattle.service.specs.declared.error.RunError.{RunError}
@@ -10,3 +12,8 @@ of_start start.NoWorkers = error.NoThread
 of_start start.NoPorts = error.NoThread
 of_start start.NoMemory = error.NoMemory
 of_start start.NoThread = error.NoThread
+
+-- it goes on with no such crew: a desk is none that a worker can begin with, or it wasn't started
+abbrev pub of_go_on : GoOnError → RunError
+of_go_on (go_on.BadDesk worker) = error.BadDesk worker
+of_go_on (go_on.Start cause) = of_start cause

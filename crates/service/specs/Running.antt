@@ -7,7 +7,10 @@
 -- Where the writer fails at a START line its transfer fails too, by port 2.
 --
 -- Answers to NOTIFYs go as notes to the thread that sends, too, which sends a NOTIFY again until its answer was noted.
-use Rattle.std.specs.Prelude.{◌≡◌, ◌||◌, max, ℕ, Bool, List, [], ◌∷◌, false}
+--
+-- It begins anew, or goes on where a former one stopped: its desks stand as they were left, NOTIFYs that wait for their answers are sent
+-- again as if they had gone out at its start, and the time goes on. For how long none ran is not counted.
+use Rattle.std.specs.Prelude.{◌≡◌, ◌||◌, ◌<◌, max, ℕ, Bool, List, [], ◌∷◌, false}
 use Rattle.admission.specs.declared.judging.Admission.{Admission}
 use Rattle.admission.specs.declared.network.Network.{Network}
 use Rattle.package.specs.declared.change.Change.{Change}
@@ -15,10 +18,11 @@ use Rattle.queues.specs.declared.items.Item.{Item}
 use Rattle.notifier_model.specs.declared.event.Event.{Event}
 use Rattle.notifier_model.specs.declared.event.Out.{Out}
 use Rattle.notifier_model.specs.Start.{Start}
+use Rattle.notifier.specs.Standing.{Standing, first_standing}
 use Rattle.queues.specs.OutboxSeats.{TakerSeat}
 use Rattle.crew.specs.Ports.{PortSeats, IsLeftByClose}
 use Rattle.crew.specs.Kept.{SameSeats}
-use Rattle.crew.specs.Started.{Hired, IsStarted}
+use Rattle.crew.specs.Started.{Hired, HaveBegun}
 use Rattle.crew.specs.Joined.{IsJoined}
 use Rattle.crew.specs.declared.report.WorkerReport.{WorkerReport}
 use Rattle.feeds.specs.declared.sending.EmitReport.{EmitReport}
@@ -27,6 +31,8 @@ use Rattle.feeds.specs.Fed.{is_fault, failures_at}
 use Rattle.transport.specs.Ears.{Misses}
 use Rattle.transport.specs.Sockets.{misses}
 use Rattle.transport.specs.declared.udp.UdpWire.{UdpWire}
+use Rattle.transactions.specs.Machine.{State, empty}
+use Rattle.service.specs.declared.begins.Begins.{Begins}
 use Rattle.service.specs.declared.clock.Stopwatch.{Stopwatch}
 use Rattle.service.specs.declared.feeding.Fed.{Fed}
 use Rattle.service.specs.declared.feeding.Task.{Task}
@@ -37,7 +43,7 @@ use Rattle.service.specs.declared.lines.ControlDesk.{ControlDesk}
 use Rattle.service.specs.declared.lines.ControlPort.{ControlPort}
 use Rattle.service.specs.declared.lines.TheConstants.{KEPT}
 use Rattle.service.specs.declared.running.ServiceEnd.{ServiceEnd}
-use Rattle.service.specs.Sending.{Act, Outflow, IsSentOut}
+use Rattle.service.specs.Sending.{Act, Outflow, IsSentOut, open_first}
 use Rattle.service.specs.Admitted.{Case, AreHeard}
 use Rattle.service.specs.Listening.{IsDeafAsTold}
 use Rattle.service.specs.Taken.{DeskSeen, Line, WereTold, AreTaken, seen}
@@ -72,14 +78,14 @@ SendsLinesOf desk end old new = (log : List Line) × AreTaken desk log old new e
 abbrev pub SendsLines : Opening → ℕ → FeedEnd → PortSeats → PortSeats → Type 0
 SendsLines o workers end old new = (desk : DeskSeen) × IsFresh o workers desk × SendsLinesOf desk end old new
 
--- ticks, and that transfers fail whose START lines were not written
-abbrev pub SendsTicks : FeedEnd → PortSeats → PortSeats → Type 0
-SendsTicks end old new = (events : List Event) × AreNotices 0 events × ArePassedOn events old new end
+-- ticks, each later than this second, and that transfers fail whose START lines were not written
+abbrev pub SendsTicks : ℕ → FeedEnd → PortSeats → PortSeats → Type 0
+SendsTicks tick end old new = (events : List Event) × AreNotices tick events × ArePassedOn events old new end
 
 abbrev pub SendsFor : Task → FeedEnd → PortSeats → PortSeats → Type 0
 SendsFor (task.Datagrams desk) end old new = SendsDatagrams desk.admission end old new
 SendsFor (task.Lines desk) end old new = SendsLinesOf (seen desk) end old new
-SendsFor (task.Time stopwatch) end old new = SendsTicks end old new
+SendsFor (task.Time stopwatch) end old new = SendsTicks stopwatch.tick end old new
 
 -- a port was sent through and then closed: each worker has its end mark then, or only some have it, and one at least has not,
 -- where a worker is gone
@@ -118,44 +124,66 @@ pub record AreFaults (phones operators : Misses) (o : ServiceEnd) : Type 0 where
   pub lines : IsDeafAsTold (is_fault o.lines || o.lines_fail_late) operators (misses o.desk.coming)
   pub time : o.stopwatch.failures ≡ failures_at o.time 0
 
+-- ---- how it begins
+
+-- how each worker's desk stands, the transactions of NOTIFYs that are open, and the second that was told last
+pub record Beginning : Type 0 where
+  pub stands : ℕ → Standing
+  pub first : State
+  pub tick : ℕ
+
+-- where its desks stand so, and so many NOTIFYs may wait for their answers at once
+abbrev pub beginning : (ℕ → Standing) → ℕ → Begins → Beginning
+beginning stands limit begins = record { stands = stands; first = open_first limit begins.unanswered.items; tick = begins.tick }
+
+-- anew: with new desks of these starts, no NOTIFY waits, and no second was told
+abbrev pub anew : (ℕ → Start) → ℕ → Beginning
+anew start limit = record { stands = λ w. first_standing (start w); first = empty limit; tick = 0 }
+
 -- ---- all of it
 
--- workers with these starts handled, as their reports tell, what the three ports sent until all were closed, the first of them what those
+-- workers whose desks stood so handled, as their reports tell, what the three ports sent until all were closed, the first of them what those
 -- SIP datagrams say that this admission allows; and each of their
--- outs was sent, written or failed, in order, and NOTIFYs again as their transactions ask for it, of which so many may be open
-pub record Runs (start : ℕ → Start) (workers repeats : ℕ) (opened : Opening) (admission : Admission) (flow : Outflow) (outcome : ServiceEnd) : Type 0 where
+-- outs was sent, written or failed, in order, and NOTIFYs again as their transactions ask for it, those that were open first, too
+pub record Runs (begins : Beginning) (workers : ℕ) (opened : Opening) (admission : Admission) (flow : Outflow) (outcome : ServiceEnd) : Type 0 where
   -- as it was started
   pub crew : List Hired
   pub sip : PortSeats
   pub lines : PortSeats
   pub time : PortSeats
   pub taker : TakerSeat
-  pub started : IsStarted start workers 3 crew (sip ∷ lines ∷ time ∷ []) taker
+  pub started : HaveBegun begins.stands workers 3 crew (sip ∷ lines ∷ time ∷ []) taker
   -- what the ports sent
   pub sip_closed : PortSeats
   pub lines_closed : PortSeats
   pub time_closed : PortSeats
   pub sends_datagrams : ThenCloses (SendsDatagrams admission outcome.sip) sip sip_closed
   pub sends_lines : ThenCloses (SendsLines opened workers outcome.lines) lines lines_closed
-  pub sends_ticks : ThenCloses (SendsTicks outcome.time) time time_closed
+  pub sends_ticks : ThenCloses (SendsTicks begins.tick outcome.time) time time_closed
   -- what the workers did with it, and which of their outs were got
   pub got : List (Item Out)
   pub joined : IsJoined crew (sip_closed ∷ lines_closed ∷ time_closed ∷ []) got outcome.report.workers.items
   -- what became of these
   pub acts : List Act
   pub counts : EmitReport
-  pub sent : IsSentOut repeats workers acts [] got flow counts
+  pub sent : IsSentOut begins.first workers acts [] got flow counts
+
+-- A service whose desks are new and which takes over nothing is one of the starts of these desks
+abbrev pub BeginsAnewLaw : Type 0
+BeginsAnewLaw = (begins : Beginning) (start : ℕ → Start) (workers limit : ℕ) (opened : Opening) (admission : Admission) (flow : Outflow) (outcome : ServiceEnd)
+    → ((w : ℕ) → w < workers → begins.stands w ≡ first_standing (start w)) → begins.first ≡ empty limit → begins.tick ≡ 0
+    → Runs begins workers opened admission flow outcome → Runs (anew start limit) workers opened admission flow outcome
 
 -- ---- a service that doesn't run
 
--- what left by a wire and a writer were outs of workers with these starts: of each all that the one-thread notifier makes of the
+-- what left by a wire and a writer were outs of workers whose desks stood so: of each all that the one-thread notifier makes there of the
 -- events that it handled, and no others. Of what the ports sent this says nothing. Each out was sent, written or failed, in order, and
 -- NOTIFYs again as in a service that runs
-pub record Leaves (start : ℕ → Start) (workers repeats : ℕ) (flow : Outflow) : Type 0 where
+pub record Leaves (begins : Beginning) (workers : ℕ) (flow : Outflow) : Type 0 where
   pub crew : List Hired
   pub ports : List PortSeats
   pub taker : TakerSeat
-  pub started : IsStarted start workers 3 crew ports taker
+  pub started : HaveBegun begins.stands workers 3 crew ports taker
   -- what the workers did, and which of their outs were got
   pub got : List (Item Out)
   pub reports : List WorkerReport
@@ -163,4 +191,4 @@ pub record Leaves (start : ℕ → Start) (workers repeats : ℕ) (flow : Outflo
   -- what became of these
   pub acts : List Act
   pub counts : EmitReport
-  pub sent : IsSentOut repeats workers acts [] got flow counts
+  pub sent : IsSentOut begins.first workers acts [] got flow counts

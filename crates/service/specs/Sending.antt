@@ -1,6 +1,6 @@
 -- What the thread that sends does: it sends, writes or fails at each out that the workers post, takes notes of answers to NOTIFYs,
 -- and sends a NOTIFY again whose time has come, or gives it up (RFC 3261 section 17.1.2). Moments are milliseconds.
-use Rattle.std.specs.Prelude.{◌≡◌, ◌<◌, ◌≤◌, ◌+◌, ℕ, Bool, true, false, not, List, [], ◌∷◌, ◌++◌, length, Option, Some, None, option_map, option_to_list, if◌then◌else◌}
+use Rattle.std.specs.Prelude.{◌≡◌, ◌<◌, ◌≤◌, ◌+◌, ℕ, Bool, true, false, not, List, [], ◌∷◌, ◌++◌, length, map, Option, Some, None, option_map, option_to_list, if◌then◌else◌}
 use Rattle.std.specs.List.{filter, filter_map, AllByRecursion}
 use Rattle.queues.specs.declared.items.Item.{Item}
 use Rattle.notifier_model.specs.declared.event.NotifyOut.{NotifyOut}
@@ -12,6 +12,7 @@ use Rattle.transport.specs.Devices.{rises}
 use Rattle.transport.specs.declared.datagram.Datagram.{Datagram}
 use Rattle.transport.specs.Wires.{datagram, Grows}
 use Rattle.feeds.specs.declared.sending.Fate.{Fate}
+use Rattle.feeds.specs.declared.sending.Fate.TheVariants.{Sent}
 use Rattle.feeds.specs.declared.sending.EmitReport.{EmitReport}
 use Rattle.feeds.specs.Emitted.{Fates, WireSeen, WriterSeen, wire_seen, writer_seen, AreMet, datagram_sent, sent_datagrams, fails_to_send}
 use Rattle.service.specs.declared.outs.Exit.{Exit}
@@ -105,6 +106,17 @@ abbrev pub AreAsked : State → List Act → Type 0
 AreAsked s [] = Unit {0}
 AreAsked s (act ∷ acts) = IsAsked s act × AreAsked (state_after (option_to_list (call_of act)) s) acts
 
+-- ---- what waits for its answer at the start
+
+-- outs that went out before the service began, as put at its start
+abbrev pub went_out : List Out → List Act
+went_out outs = map (λ o. Put 0 o Sent) outs
+
+-- the open transactions at its start, of which there may be so many: those of the NOTIFYs among these outs, which went out before and wait
+-- for their answers
+abbrev pub open_first : ℕ → List Out → State
+open_first limit outs = state_after (calls (went_out outs)) (empty limit)
+
 -- ---- all of it
 
 -- the wire has taken what was sent, in this order, and failed at the rest; what was sent again was asked for, and the transactions
@@ -130,10 +142,11 @@ outflow taken failures contents old new = record {
   writer' = writer_seen contents new.sink;
 }
 
--- the outs that were got of the workers met these fates; and the wire has taken what the acts tell, repeats too
-pub record IsSentOut (limit workers : ℕ) (acts : List Act) (got got' : List (Item Out)) (flow : Outflow) (report : EmitReport) : Type 0 where
+-- the outs that were got of the workers met these fates; and the wire has taken what the acts tell, repeats too, where these transactions
+-- were open first
+pub record IsSentOut (first : State) (workers : ℕ) (acts : List Act) (got got' : List (Item Out)) (flow : Outflow) (report : EmitReport) : Type 0 where
   pub met : AreMet workers (fates acts) got got' flow.writer flow.writer' report
-  pub does : Does acts (empty limit) (state_after (calls acts) (empty limit)) flow.wire flow.wire'
+  pub does : Does acts first (state_after (calls acts) first) flow.wire flow.wire'
 
 -- ---- what is sent but for repeats
 
@@ -172,6 +185,7 @@ pub record IsOfNotify (before : List Act) (now : ℕ) (sent : Datagram) : Type 0
   pub waited : first + 500 ≤ now
   pub in_time : now < first + 32000
 
+-- One that waited for its answer at the start is put then. Where none did, `went_out []` is empty, and each was put by the service itself
 abbrev pub EachRepeatIsOfANotify : Type 0
-EachRepeatIsOfANotify = (limit : ℕ) (before after : List Act) (now : ℕ) (sent : Datagram) (fails : Bool)
-    → AreAsked (empty limit) (before ++ Repeated now sent fails ∷ after) → IsOfNotify before now sent
+EachRepeatIsOfANotify = (limit : ℕ) (unanswered : List Out) (before after : List Act) (now : ℕ) (sent : Datagram) (fails : Bool)
+    → AreAsked (open_first limit unanswered) (before ++ Repeated now sent fails ∷ after) → IsOfNotify (went_out unanswered ++ before) now sent

@@ -8,9 +8,9 @@ use Rattle.feeds.specs.declared.feeding.FeedEnd.TheVariants.{Done, Fault, Gone}
 use Rattle.feeds.specs.Fed.{Sends, Misses}
 use Rattle.service.specs.declared.clock.Stopwatch.{Stopwatch}
 
--- what read the time, and never failed
-abbrev pub new_stopwatch : Stopwatch
-new_stopwatch = record { failures = 0 }
+-- what read the time from this second on, and never failed
+abbrev pub new_stopwatch : ℕ → Stopwatch
+new_stopwatch tick = record { tick = tick; failures = 0 }
 
 -- what may be told after this second: a later one, or that a transfer fails (RFC 3261 section 21.5.1)
 abbrev pub MayTell : ℕ → Event → Type 0

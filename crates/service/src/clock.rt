@@ -21,15 +21,17 @@ const NAP: u64 = 100;
 /// What the time is read by. It counts how often the clock couldn't be read.
 #[derive(Drop)]
 pub struct Stopwatch {
+    /// The second that was told last before the service began.
+    tick: u64,
     failures: u64,
 }
 
 impl Stopwatch {
-    /// One that hasn't failed yet.
-    pub fn new() -> Stopwatch
-        ensures { result ≡ new_stopwatch }
+    /// One that hasn't failed yet, of a service that goes on from this second.
+    pub fn new(tick: u64) -> Stopwatch
+        ensures { result ≡ new_stopwatch tick }
     {
-        Stopwatch { failures: 0 }
+        Stopwatch { tick, failures: 0 }
     }
 
     /// How many seconds the service is up. None where the clock can't be read.
@@ -46,9 +48,9 @@ impl Stopwatch {
     }
 }
 
-/// Sends a tick each second of the monotonic clock, with the seconds since the service began, and fails the transfers whose START lines
-/// were not written, until the service closes, the clock fails or a worker is gone. Once a minute it says on standard error what was
-/// refused, dropped or not sent in it.
+/// Sends a tick each second of the monotonic clock: the seconds since the service began, behind those that were told before it did.
+/// It fails the transfers whose START lines were not written. So it goes on until the service closes, the clock fails or a worker is gone.
+/// Once a minute it says on standard error what was refused, dropped or not sent in it.
 /// The port isn't closed.
 pub fn tell_time<R: Wait + Clock + Eprint>(
     rt: &R,
@@ -58,11 +60,11 @@ pub fn tell_time<R: Wait + Clock + Eprint>(
 ) -> FeedEnd
     requires still_open { port.old.is_open ≡ true }
     // Ticks are sent to all workers, each later than the one before, and to its worker that a transfer fails, and nothing else.
-    ensures ticks { (events : List Event) × AreNotices 0 events × ArePassedOn events port.old port.new result }
+    ensures ticks { (events : List Event) × AreNotices stopwatch.old.tick events × ArePassedOn events port.old port.new result }
     ensures failures { stopwatch.new.failures ≡ failures_at result stopwatch.old.failures }
     ensures seats { SameSeats port.old port.new }
 {
-    let mut second = 0;
+    let mut second = stopwatch.tick;
     for _ in rt.forever() {
         if shared.is_closing() {
             return FeedEnd::Done;
@@ -74,10 +76,12 @@ pub fn tell_time<R: Wait + Clock + Eprint>(
             continue;
         }
         thread::sleep(rt, Duration::from_millis(NAP));
-        let Some(now) = stopwatch.seconds(rt, shared) else {
+        let Some(passed) = stopwatch.seconds(rt, shared) else {
             return FeedEnd::Fault;
         };
-        shared.complain(rt, now);
+        shared.complain(rt, passed);
+        shared.sync_journal(rt, passed);
+        let now = stopwatch.tick.saturating_add(passed);
         if now <= second {
             continue;
         }

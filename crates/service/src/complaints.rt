@@ -16,6 +16,18 @@ pub(crate) struct Complaints {
     told: [u64; COMPLAINTS],
     /// How much had not been sent when that was told last.
     unsent: u64,
+    /// The same of the records of the journal that had not been written.
+    unwritten: u64,
+}
+
+/// Says how often this happened, and the system's words at the last time, where it told any.
+fn tell_last<R: Eprint>(rt: &R, more: u64, what: &str, number: Option<u32>) {
+    let Some(number) = number else {
+        let _ = eprintln!(rt; "notifyd: {more} {what}");
+        return;
+    };
+    let cause = io::Error::from_raw_os_error(number.cast_signed());
+    let _ = eprintln!(rt; "notifyd: {more} {what}, the last since: {cause}");
 }
 
 impl Complaints {
@@ -25,6 +37,7 @@ impl Complaints {
             looked: 0,
             told: [0; COMPLAINTS],
             unsent: 0,
+            unwritten: 0,
         }
     }
 
@@ -46,6 +59,7 @@ impl Complaints {
             }
         }
         self.tell_unsent(rt, shared);
+        self.tell_unwritten(rt, shared);
     }
 
     /// Says how much was not sent that was not told yet, and the system's words at the last send that failed.
@@ -57,11 +71,18 @@ impl Complaints {
         }
         self.unsent = count;
         let what = "datagrams or lines could not be sent";
-        let Some(number) = shared.send_error() else {
-            let _ = eprintln!(rt; "notifyd: {more} {what}");
+        tell_last(rt, more, what, shared.send_error());
+    }
+
+    /// Says how many records were not written to the journal that was not told yet, and the system's words at the last of them.
+    fn tell_unwritten<R: Eprint>(&mut self, rt: &R, shared: &Shared) {
+        let count = shared.unwritten();
+        let more = count.saturating_sub(self.unwritten);
+        if more == 0 || !has_room() {
             return;
-        };
-        let cause = io::Error::from_raw_os_error(number.cast_signed());
-        let _ = eprintln!(rt; "notifyd: {more} {what}, the last since: {cause}");
+        }
+        self.unwritten = count;
+        let what = "records were not written to the journal";
+        tell_last(rt, more, what, shared.journal_error());
     }
 }

@@ -1,9 +1,9 @@
 //! Why a service doesn't run.
 ghost use Rattle.std.specs.Prelude.{◌≡◌};
 ghost use Rattle.service.specs.declared.error.RunError.TheVariants as error;
-ghost use Rattle.service.specs.Refused.{of_start};
+ghost use Rattle.service.specs.Refused.{of_go_on, of_start};
 
-use crew::StartError;
+use crew::{GoOnError, StartError};
 use sip_text::NoMemory;
 use std::alloc::{AllocError, AllocFailed};
 use thiserror::Error;
@@ -17,6 +17,10 @@ pub enum RunError {
     /// A growth was refused: there is no memory.
     #[error("out of memory")]
     NoMemory,
+    /// The number of the first desk that no worker can begin with: it is spent, or it is another worker's, or its limits give the outbox
+    /// other room than those of the first desk.
+    #[error("worker {0} can't go on")]
+    BadDesk(u32),
 }
 
 impl From<NoMemory> for RunError {
@@ -52,6 +56,17 @@ impl From<StartError> for RunError {
             StartError::NoWorkers | StartError::NoPorts | StartError::NoThread => {
                 RunError::NoThread
             }
+        }
+    }
+}
+
+impl From<GoOnError> for RunError {
+    ghost from_gives = { λ refused e. e ≡ of_go_on refused };
+
+    fn from(error: GoOnError) -> RunError {
+        match error {
+            GoOnError::BadDesk(worker) => RunError::BadDesk(worker),
+            GoOnError::Start(error) => RunError::from(error),
         }
     }
 }

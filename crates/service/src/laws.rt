@@ -1,11 +1,12 @@
 //! Laws of whom a service hears and what it sends again, over the definitions alone.
 
 ghost use Rattle.service.specs.Admitted.{EachIsVouched, EachAnswerIsSentOn, OpenHearsAll};
+ghost use Rattle.service.specs.Running.{BeginsAnewLaw};
 ghost use Rattle.service.specs.Sending.{EachRepeatIsOfANotify, WithoutRepeatsLaw};
 ghost use Rattle.service.specs.Taken.{EachForeignIsSilent, EachOwnIsSilent};
 
 /// What is sent again is the datagram of a NOTIFY that was put before, half a second before at least and less than 32 seconds before
-/// (RFC 3261 section 17.1.2.2), and no answer that ends it was noted since.
+/// (RFC 3261 section 17.1.2.2), and no answer that ends it was noted since. One that was unanswered at the start counts as put then.
 pub fn each_repeat()
     ensures { EachRepeatIsOfANotify }
 {}
@@ -36,4 +37,9 @@ pub fn open_hears_all()
 pub fn each_foreign_is_silent()
     ensures foreign { EachForeignIsSilent }
     ensures own { EachOwnIsSilent }
+{}
+
+/// A service over new desks, which takes over no NOTIFY and no second, is one of workers with the starts of these desks.
+pub fn begins_anew()
+    ensures { BeginsAnewLaw }
 {}

@@ -17,11 +17,15 @@
 //!        +---------------> send_outs                          the calling thread: wire, START lines
 //! ```
 //!
+//! Where a journal is kept ([`Journal`], put into [`Shared`]) each worker writes there what it handled before it posts anything of it, and the
+//! thread that takes lines writes a line before it answers `ok`. So a service that is killed can go on. No contract says what a file keeps.
+//!
 //! What it isn't: what the workers do is `notifier`'s, what a port sends `crew`'s, and what a datagram says `feeds`'s; the
 //! counters of [`Shared`] are no part of any contract. Begin with [`run_crew`], then `specs/Ticks`, `specs/Listening`, `specs/Served`,
 //! `specs/Admitted`, `specs/Taken` and `specs/Running`.
 #![tactic(auto)]
 
+mod begins;
 mod clock;
 mod complaints;
 mod datagrams;
@@ -30,6 +34,7 @@ mod error;
 mod fates;
 mod feeding;
 mod given_up;
+mod journaling;
 pub mod laws;
 mod lines;
 mod listening;
@@ -42,12 +47,16 @@ mod request_log;
 mod running;
 mod sending;
 mod shared;
+mod shelf;
 mod statuses;
+mod volume;
 mod window;
 
+pub use begins::{Begins, Living};
 pub use clock::Stopwatch;
 pub use datagrams::SipDesk;
 pub use error::RunError;
+pub use journaling::{Journal, SETTLED, Upkeep};
 pub use lines::{ControlDesk, ControlPort};
 pub use logging::has_room_soon;
 pub use operators::Operators;
@@ -55,3 +64,4 @@ pub use outs::Exit;
 pub use running::{ServiceEnd, ServiceWork, run_crew};
 pub use shared::Shared;
 pub use sip_text::NoMemory;
+pub use volume::Volume;

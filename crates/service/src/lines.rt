@@ -14,7 +14,7 @@ ghost use Rattle.service.specs.Listening.{IsDeafAsTold};
 
 use crate::listening::{Came, Listening, ROOM};
 use crate::operators::{Operators, is_known, tell, tell_each};
-use crate::reports::{counters, dumped, inquiry, shown, watched};
+use crate::reports::{counters, dumped, home, inquiry, shown, watched};
 use crate::shared::{Counter, Shared};
 use admission::Network;
 use control_lines::{
@@ -377,6 +377,27 @@ impl<W: Wire> ControlDesk<W> {
         }
     }
 
+    /// Has the change of a line that is about to be answered `ok` written, where a journal is kept: so a service that is killed behind the
+    /// answer knows it. Where it can't be written the line is answered all the same: its event is in the worker's inbox.
+    fn write_down<R: Wait>(&self, rt: &R, shared: &Shared, octets: &[u8], done: Handled) {
+        if !matches!(done, Handled::Answered(ControlAnswer::Done)) || !shared.has_journal() {
+            return;
+        }
+        let (_, line) = cut_token(octets);
+        match hear_line(self.alloc, line) {
+            Asked::Change(Change::Mail(change)) => {
+                let worker = home(self.workers, change.mailbox());
+                shared.write_answered(rt, worker, &change);
+            }
+            Asked::NoMemory => shared.lose_line(rt),
+            Asked::Change(Change::Begin(_) | Change::Step(_) | Change::Forget(_))
+            | Asked::Close
+            | Asked::Question(_)
+            | Asked::Nothing
+            | Asked::Bad => {}
+        }
+    }
+
     /// Does what a control line asks, unless it came before with the same token, or its source isn't heard.
     fn take<R: Wait>(&mut self, rt: &R, port: &mut Port, source: Addr, octets: &[u8]) -> Handled
         requires still_open { port.old.is_open ≡ true }
@@ -430,6 +451,7 @@ impl<W: Ear> ControlDesk<W> {
                 Came::End(end) => return end,
             };
             let done = self.take(rt, port, source, &octets[..length]);
+            self.write_down(rt, shared, &octets[..length], done);
             self.answer(rt, shared, source, done);
             if let Some(end) = end_after(done) {
                 return end;

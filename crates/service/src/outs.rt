@@ -1,10 +1,9 @@
 //! What the workers post, sent out, and each NOTIFY again that nobody answers.
-ghost use Rattle.std.specs.Prelude.{◌≡◌, ◌⊎◌, ℕ, List, [], true};
+ghost use Rattle.std.specs.Prelude.{◌≡◌, ◌⊎◌, List, [], true};
 ghost use Rattle.queues.specs.Ended.{AllEnded};
 ghost use Rattle.transport.specs.Wires.{Grows};
 ghost use Rattle.feeds.specs.declared.sending.EmitReport.{EmitReport};
 ghost use Rattle.feeds.specs.Emitted as spec;
-ghost use Rattle.transactions.specs.Machine.{empty};
 ghost use Rattle.service.specs.Sending.{Act, IsSentOut, fates, outflow};
 ghost use Rattle.service.specs.Watched.{AreRowed};
 
@@ -14,9 +13,10 @@ use crate::shared::{Counter, Shared};
 use crew::Gate;
 use crossbeam_utils::sync::{Parker, Unparker};
 use feeds::{Fate, Next, next_out, put_out};
-use notifier_model::Out;
+use notifier_model::{Event, Out};
 use queues::outbox::Taker;
 use std::alloc::{AllocError, Global};
+use std::fs::File;
 use std::io::Write;
 use std::rt::{Clock, Files};
 use std::sync::{Arc, Wait};
@@ -42,8 +42,8 @@ fn note_error<W: Wire>(shared: &Shared, wire: &W, out: &Out, fate: Fate) {
     }
 }
 
-/// Wakes the thread that sends when a worker posts, and closes the service where a worker runs out of memory: what is sent to that worker
-/// nobody would handle any more.
+/// Writes the journal of what workers handle, wakes the thread that sends when one posts, and closes the service where one runs out of memory:
+/// what is sent to that worker nobody would handle any more.
 #[derive(Drop)]
 pub(crate) struct Waker {
     unparker: Unparker,
@@ -67,8 +67,20 @@ impl Waker {
 impl Gate for Waker {
     fn pass(&self, _worker: u32, _index: u64) {}
 
+    fn handled<R: Wait>(&self, rt: &R, worker: u32, event: &Event, _outs: &[Out]) {
+        self.shared.write_handled(rt, worker, event);
+    }
+
     fn posted(&self, _worker: u32) {
         self.unparker.unpark();
+    }
+
+    fn wants_book(&self, worker: u32) -> bool {
+        self.shared.wants_book(worker)
+    }
+
+    fn book<R: Wait>(&self, rt: &R, worker: u32, written: Vec<u8>) {
+        self.shared.write_book(rt, worker, written.as_slice());
     }
 
     fn give_up(&self, worker: u32) {
@@ -117,8 +129,8 @@ impl Outgoing {
 /// Sends out what the workers post, in the order in which it is taken, until each has ended: answers and NOTIFYs by the wire,
 /// and a line for each transfer that starts. What fails is counted, and the rest goes on. Between them it takes notes of answers, and
 /// sends a NOTIFY again whose time has come; where all workers have ended it waits a while for the answers to the last ones. No
-/// worker's end mark was taken yet, and no NOTIFY waits.
-pub(crate) fn send_outs<R: Wait + Clock + Files + Eprint, W: Wire, F: Write>(
+/// worker's end mark was taken yet.
+pub(crate) fn send_outs<R: Wait + Clock + Files<File = File> + Eprint, W: Wire, F: Write>(
     rt: &R,
     exit: &mut Exit<W, F>,
     outgoing: &mut Outgoing,
@@ -130,13 +142,12 @@ pub(crate) fn send_outs<R: Wait + Clock + Files + Eprint, W: Wire, F: Write>(
     // Each out that was taken is sent, written or failed, in order, and nothing else is sent or written but NOTIFYs again, as
     // their transactions ask for it. Where the writer never failed, what it took is flushed. The rows of live subscriptions are what
     // was sent and noted makes of them.
-    ensures sent { (limit : ℕ) → outgoing.old.waiting.transactions ≡ empty limit
-        → (acts : List Act) × (report : EmitReport)
-        × IsSentOut limit outgoing.old.taker.workers acts outgoing.old.taker.got outgoing.new.taker.got
+    ensures sent { (acts : List Act) × (report : EmitReport)
+        × IsSentOut outgoing.old.waiting.transactions outgoing.old.taker.workers acts outgoing.old.taker.got outgoing.new.taker.got
         (outflow W.taken W.failures F.contents exit.old exit.new) report
         × (spec.count spec.fails_to_start (fates acts) ≡ 0
         → (exit.new.sink ≡ exit.old.sink) ⊎ (exit.new.sink.is_flushed ≡ true))
-        × AreRowed (empty limit) acts outgoing.old.waiting.watchers.rows outgoing.new.waiting.watchers.rows }
+        × AreRowed outgoing.old.waiting.transactions acts outgoing.old.waiting.watchers.rows outgoing.new.waiting.watchers.rows }
     ensures given { Grows (W.given exit.old.wire) (W.given exit.new.wire) [] }
     ensures outbox { outgoing.new.taker.outbox ≡ outgoing.old.taker.outbox }
     ensures ended { AllEnded outgoing.old.taker.workers outgoing.new.taker.got }

@@ -35,7 +35,7 @@ pub(crate) fn counters<R: Clock>(rt: &R, alloc: Global, shared: &Shared) -> Opti
 }
 
 /// The worker that has this mailbox.
-fn home(workers: NonZeroU32, mailbox: &str) -> u32
+pub(crate) fn home(workers: NonZeroU32, mailbox: &str) -> u32
     ensures { result ≡ spec.worker_for (non_zero_u32_get workers) mailbox.now }
 {
     key_hash(mailbox) % workers.get()

@@ -1,20 +1,20 @@
 //! A crew that runs as a service, to its end.
-ghost use Rattle.std.specs.Prelude.{◌≡◌, ◌<◌, ◌≤◌, ◌⊎◌, ◌∷◌, [], ℕ, List, get_or, vec_len, vec_capacity, Err, IfOk, IfErr, OnErr};
-ghost use Rattle.notifier_model.specs.Start.{Start};
+ghost use Rattle.std.specs.Prelude.{◌≡◌, ◌<◌, ◌≤◌, ◌⊎◌, ◌∷◌, [], ℕ, List, get_or, vec_len, vec_capacity, Err, IfOk, IfErr, OnOk, OnErr};
+ghost use Rattle.notifier.specs.Standing.{Standing};
+ghost use Rattle.crew.specs.Desks.{standing_of, AllMayBegin, IsUnfit};
 ghost use Rattle.crew.specs.Ports.{PortSeats};
-ghost use Rattle.crew.specs.Ready.{start_of};
-ghost use Rattle.crew.specs.Started.{IsStarted};
-ghost use Rattle.service.specs.Handing.{IsNew, NoneWaits, NoneClosed, AreLent, AreErrands};
+ghost use Rattle.crew.specs.Started.{HaveBegun};
+ghost use Rattle.service.specs.Handing.{IsNew, NoneClosed, AreLent, AreErrands, begins_so};
 ghost use Rattle.service.specs.declared.error.RunError.TheVariants as error;
-ghost use Rattle.service.specs.declared.datagrams.SipDesk.{SipDesk};
-ghost use Rattle.service.specs.declared.lines.ControlDesk.{ControlDesk};
+ghost use Rattle.service.specs.declared.running.Sources.{Sources};
 ghost use Rattle.transport.specs.Sockets.{misses};
-ghost use Rattle.transport.specs.declared.udp.UdpWire.{UdpWire};
 ghost use Rattle.transactions.specs.Machine.{empty};
-ghost use Rattle.service.specs.Running.{Opening, Runs, Leaves, AreFaults, IsFresh, is_faulty, opening};
-ghost use Rattle.service.specs.Sending.{outflow};
+ghost use Rattle.service.specs.Running.{Opening, Runs, Leaves, AreFaults, IsFresh, beginning, is_faulty, opening};
+ghost use Rattle.service.specs.Sending.{open_first, outflow};
 ghost use Rattle.service.specs.Taken.{seen};
+ghost use Rattle.service.specs.Ticks.{new_stopwatch};
 
+use crate::begins::Begins;
 use crate::clock::Stopwatch;
 use crate::datagrams::SipDesk;
 use crate::error::RunError;
@@ -25,11 +25,13 @@ use crate::sending::Waiting;
 use crate::shared::Shared;
 use crew::{Crew, Port, Report};
 use feeds::FeedEnd;
+use notifier::Desk;
 use notifier_model::Setup;
 use package::Package;
 use queues::outbox::Taker;
 use sip_text::NoMemory;
 use std::alloc::Global;
+use std::fs::File;
 use std::io::Write;
 use std::rt::{Clock, Files};
 use std::sync::{Arc, Wait};
@@ -47,6 +49,8 @@ pub struct ServiceWork {
     /// Where control lines come in, and of which mailboxes.
     pub desk: ControlPort<UdpWire>,
     pub shared: Arc<Shared, Global>,
+    /// What it begins with beside its desks.
+    pub begins: Begins,
     /// How many NOTIFYs may wait for their answers at once, and are sent again until these come. 0: each is sent once.
     pub repeats: u32,
     /// For how many seconds at most it waits, at its end, for the answers to the last NOTIFYs.
@@ -97,11 +101,12 @@ pub(crate) struct RunningService {
     pub(crate) shared: Arc<Shared, Global>,
 }
 
-/// What it listens with.
+/// What its ports are fed from: SIP datagrams, control lines, and the time.
 #[derive(Drop)]
-pub(crate) struct Desks {
+pub(crate) struct Sources {
     pub(crate) sip: SipDesk<UdpWire>,
     pub(crate) desk: ControlDesk<UdpWire>,
+    pub(crate) stopwatch: Stopwatch,
 }
 
 /// The threads that feed its ports.
@@ -158,19 +163,23 @@ fn start_feeders<R: Threads + Wait + Clock + Eprint + Copy + Send + 'static>(
     rt: R,
     alloc: Global,
     ports: &mut Vec<Port>,
-    desks: Desks,
+    sources: Sources,
     shared: &Arc<Shared, Global>,
 ) -> Result<Feeders, Begun>
     requires three { vec_len ports.old ≡ 3 }
     requires still_open { NoneClosed ports.old.items }
     ensures ports { IfOk result (λ f. AreLent ports.old.items f) }
-    ensures errands { IfOk result (AreErrands desks.sip desks.desk) }
+    ensures errands { IfOk result (AreErrands sources) }
     ensures none { vec_len ports.new ≡ 0 }
     ensures capacity { vec_capacity ports.new ≡ vec_capacity ports.old }
 {
     let (first, second, third) = take_three(ports);
-    let Desks { sip, desk } = desks;
-    let Ok(time) = start_feeder(rt, alloc, third, Task::Time(Stopwatch::new()), shared) else {
+    let Sources {
+        sip,
+        desk,
+        stopwatch,
+    } = sources;
+    let Ok(time) = start_feeder(rt, alloc, third, Task::Time(stopwatch), shared) else {
         return Err(Begun {
             time: None,
             lines: None,
@@ -192,17 +201,17 @@ fn start_feeders<R: Threads + Wait + Clock + Eprint + Copy + Send + 'static>(
 }
 
 /// Closes a service of which only these threads were started, and waits for their end and that of its crew.
-fn wind_up<R: Threads + Wait + Clock + Files + Eprint, W: Wire, F: Write>(
+fn wind_up<R: Threads + Wait + Clock + Files<File = File> + Eprint, W: Wire, F: Write>(
     rt: &R,
     alloc: Global,
     running: RunningService,
     begun: Begun,
     exit: &mut Exit<W, F>,
 )
-    requires new { (start : ℕ → Start) × (ports : List PortSeats) × IsNew start ports running }
+    requires new { (stands : ℕ → Standing) × (ports : List PortSeats) × IsNew stands ports running }
     requires none_put { running.outgoing.waiting.burst.items ≡ [] }
-    ensures { (start : ℕ → Start) (ports : List PortSeats) (repeats : ℕ) → IsNew start ports running → NoneWaits repeats running
-        → Leaves start running.outgoing.workers repeats
+    ensures { (stands : ℕ → Standing) (ports : List PortSeats) (tick : ℕ) → IsNew stands ports running
+        → Leaves (begins_so stands running tick) running.outgoing.workers
         (outflow W.taken W.failures F.contents exit.old exit.new) }
 {
     let RunningService {
@@ -219,23 +228,23 @@ fn wind_up<R: Threads + Wait + Clock + Files + Eprint, W: Wire, F: Write>(
 }
 
 /// Sends out what the workers post until the ports have ended, and joins all threads. There is room for the ports.
-fn send_to_end<R: Threads + Wait + Clock + Files + Eprint, W: Wire, F: Write>(
+fn send_to_end<R: Threads + Wait + Clock + Files<File = File> + Eprint, W: Wire, F: Write>(
     rt: &R,
     running: RunningService,
     mut ports: Vec<Port>,
     feeders: Feeders,
     exit: &mut Exit<W, F>,
 ) -> ServiceEnd
-    requires new { (start : ℕ → Start) × (lent : List PortSeats) × IsNew start lent running × AreLent lent feeders }
+    requires new { (stands : ℕ → Standing) × (lent : List PortSeats) × IsNew stands lent running × AreLent lent feeders }
     requires none_put { running.outgoing.waiting.burst.items ≡ [] }
-    requires errands { (phones : SipDesk UdpWire) × (desk : ControlDesk UdpWire) × AreErrands phones desk feeders }
+    requires errands { (sources : Sources) × AreErrands sources feeders }
     requires room { (vec_len ports ≡ 0) × (3 ≤ vec_capacity ports) }
-    ensures faults { (phones : SipDesk UdpWire) (desk : ControlDesk UdpWire) → AreErrands phones desk feeders
-        → AreFaults (misses phones.coming) (misses desk.coming) result }
-    ensures runs { (start : ℕ → Start) (lent : List PortSeats) (phones : SipDesk UdpWire) (desk : ControlDesk UdpWire) (repeats : ℕ)
-        → IsNew start lent running → NoneWaits repeats running → AreLent lent feeders → AreErrands phones desk feeders
-        → (opened : Opening) → IsFresh opened running.outgoing.workers (seen desk)
-        → Runs start running.outgoing.workers repeats opened phones.admission
+    ensures faults { (sources : Sources) → AreErrands sources feeders → sources.stopwatch.failures ≡ 0
+        → AreFaults (misses sources.sip.coming) (misses sources.desk.coming) result }
+    ensures runs { (stands : ℕ → Standing) (lent : List PortSeats) (sources : Sources)
+        → IsNew stands lent running → AreLent lent feeders → AreErrands sources feeders
+        → (opened : Opening) → IsFresh opened running.outgoing.workers (seen sources.desk)
+        → Runs (begins_so stands running sources.stopwatch.tick) running.outgoing.workers opened sources.sip.admission
         (outflow W.taken W.failures F.contents exit.old exit.new) result }
 {
     let RunningService {
@@ -268,33 +277,34 @@ fn send_to_end<R: Threads + Wait + Clock + Files + Eprint, W: Wire, F: Write>(
 }
 
 /// Has a crew that was just started run as a service to its end, and joins it. Where a thread is refused all that was started
-/// ends.
+/// ends. The stopwatch hasn't failed yet.
 fn run_to_end<R, W, F>(
     rt: R,
     alloc: Global,
     running: RunningService,
     mut ports: Vec<Port>,
-    desks: Desks,
+    sources: Sources,
     exit: &mut Exit<W, F>,
 ) -> Result<ServiceEnd, RunError>
 where
-    R: Threads + Wait + Clock + Files + Eprint + Copy + Send + 'static,
+    R: Threads + Wait + Clock + Files<File = File> + Eprint + Copy + Send + 'static,
     W: Wire,
     F: Write,
     requires some { 0 < running.outgoing.workers }
-    requires new { (start : ℕ → Start) × IsNew start ports.items running }
+    requires new { (stands : ℕ → Standing) × IsNew stands ports.items running }
     requires none_put { running.outgoing.waiting.burst.items ≡ [] }
-    ensures served { IfOk result (λ o. (start : ℕ → Start) (repeats : ℕ) → IsNew start ports.items running
-        → NoneWaits repeats running → (opened : Opening) → IsFresh opened running.outgoing.workers (seen desks.desk)
-        → Runs start running.outgoing.workers repeats opened desks.sip.admission
+    requires unfailed { sources.stopwatch.failures ≡ 0 }
+    ensures served { IfOk result (λ o. (stands : ℕ → Standing) → IsNew stands ports.items running
+        → (opened : Opening) → IsFresh opened running.outgoing.workers (seen sources.desk)
+        → Runs (begins_so stands running sources.stopwatch.tick) running.outgoing.workers opened sources.sip.admission
         (outflow W.taken W.failures F.contents exit.old exit.new) o) }
-    ensures faults { IfOk result (AreFaults (misses desks.sip.coming) (misses desks.desk.coming)) }
+    ensures faults { IfOk result (AreFaults (misses sources.sip.coming) (misses sources.desk.coming)) }
     ensures refused { IfErr result (λ e. e ≡ error.NoThread) }
-    ensures left { OnErr result ((start : ℕ → Start) (repeats : ℕ) → IsNew start ports.items running
-        → NoneWaits repeats running → Leaves start running.outgoing.workers repeats
+    ensures left { OnErr result ((stands : ℕ → Standing) → IsNew stands ports.items running
+        → Leaves (begins_so stands running sources.stopwatch.tick) running.outgoing.workers
         (outflow W.taken W.failures F.contents exit.old exit.new)) }
 {
-    match start_feeders(rt, alloc, &mut ports, desks, &running.shared) {
+    match start_feeders(rt, alloc, &mut ports, sources, &running.shared) {
         Ok(feeders) => Ok(send_to_end(&rt, running, ports, feeders, exit)),
         Err(begun) => {
             wind_up(&rt, alloc, running, begun, exit);
@@ -303,24 +313,25 @@ where
     }
 }
 
-/// Starts a crew with these packages and three ports, whose workers pass this gate.
+/// Starts a crew with these desks and three ports, whose workers pass this gate.
 fn start_crew<R, P>(
     rt: R,
     alloc: Global,
-    setup: &Setup,
-    boxes: Vec<Vec<P>>,
+    desks: Vec<Desk<P>>,
     waker: Waker,
 ) -> Result<(Crew, Vec<Port>, Taker), RunError>
 where
     R: Threads + Wait + Copy + Send + 'static,
     P: Package + 'static,
-    requires few_workers { vec_len boxes ≤ 256 }
-    ensures started { IfOk result (λ r. (b : _) → IsStarted
-        (λ w. start_of P.seen setup.now w (get_or boxes.items w b).items) (vec_len boxes) 3 r.0 r.1.items r.2) }
-    ensures some { IfOk result (λ _. 0 < vec_len boxes) }
+    requires few_workers { vec_len desks ≤ 256 }
+    ensures begun { IfOk result (λ r. (d : _) → HaveBegun
+        (λ w. standing_of P.seen (get_or desks.items w d)) (vec_len desks) 3 r.0 r.1.items r.2) }
+    ensures some { IfOk result (λ _. 0 < vec_len desks) }
+    ensures fit { OnOk result (AllMayBegin P.seen desks.items) }
+    ensures bad_desk { (worker : ℕ) → result ≡ Err (error.BadDesk worker) → IsUnfit P.seen desks.items worker }
 {
     let gate = Arc::new(alloc, waker)?;
-    let started = Crew::start_any(rt, alloc, setup, 3, boxes, gate)?;
+    let started = Crew::go_on(rt, alloc, 3, desks, gate)?;
     Ok(started)
 }
 
@@ -336,8 +347,7 @@ pub(crate) struct Sending {
 /// What a service begins with, before its crew is there.
 #[derive(Drop)]
 pub(crate) struct Ready {
-    pub(crate) setup: Setup,
-    pub(crate) desks: Desks,
+    pub(crate) sources: Sources,
     pub(crate) sending: Sending,
 }
 
@@ -356,79 +366,91 @@ fn new_waiting(
     Waiting::new(alloc, transactions, rows, repeats, per_source)
 }
 
-/// What it listens with, of a service with so many workers. It took no line yet, and hears none that one of its two sockets sends.
-fn new_desks(
+/// What the ports of a service with so many workers are fed from, which goes on from this second. It took no line yet, and hears none
+/// that one of its two sockets sends.
+fn new_sources(
     alloc: Global,
     workers: u32,
     sip: SipDesk<UdpWire>,
     desk: ControlPort<UdpWire>,
-) -> Result<Desks, NoMemory>
+    tick: u64,
+) -> Result<Sources, NoMemory>
     ensures sip { IfOk result (λ e. e.sip ≡ sip) }
     ensures coming { IfOk result (λ e. e.desk.coming ≡ desk.coming) }
     ensures fresh { IfOk result (λ e. IsFresh (opening desk) workers (seen e.desk)) }
     ensures own { IfOk result (λ e. e.desk.operators.own ≡ sip.coming.local ∷ desk.coming.local ∷ []) }
+    ensures stopwatch { IfOk result (λ e. e.stopwatch ≡ new_stopwatch tick) }
 {
     let own = [sip.coming.local(), desk.coming.local()];
     let desk = ControlDesk::at(alloc, desk, own, workers)?;
-    Ok(Desks { sip, desk })
+    let stopwatch = Stopwatch::new(tick);
+    Ok(Sources {
+        sip,
+        desk,
+        stopwatch,
+    })
 }
 
 /// Makes what a service with so many workers begins with.
-fn make_ready(alloc: Global, workers: u32, work: ServiceWork) -> Result<Ready, NoMemory>
-    ensures setup { IfOk result (λ r. r.setup ≡ work.setup) }
-    ensures sip { IfOk result (λ r. r.desks.sip ≡ work.sip) }
-    ensures coming { IfOk result (λ r. r.desks.desk.coming ≡ work.desk.coming) }
-    ensures fresh { IfOk result (λ r. IsFresh (opening work.desk) workers (seen r.desks.desk)) }
-    ensures none { IfOk result (λ r. r.sending.waiting.transactions ≡ empty work.repeats) }
+fn make_ready<R: Wait>(
+    rt: &R,
+    alloc: Global,
+    workers: u32,
+    work: ServiceWork,
+) -> Result<Ready, NoMemory>
+    ensures sip { IfOk result (λ r. r.sources.sip ≡ work.sip) }
+    ensures coming { IfOk result (λ r. r.sources.desk.coming ≡ work.desk.coming) }
+    ensures fresh { IfOk result (λ r. IsFresh (opening work.desk) workers (seen r.sources.desk)) }
+    ensures stopwatch { IfOk result (λ r. r.sources.stopwatch ≡ new_stopwatch work.begins.tick) }
+    ensures first { IfOk result (λ r. r.sending.waiting.transactions ≡ open_first work.repeats work.begins.unanswered.items) }
     ensures none_put { IfOk result (λ r. r.sending.waiting.burst.items ≡ []) }
 {
     let rows = work.setup.limits.table().saturating_mul(workers);
     let per_source = work.sip.admission.per_source;
-    let waiting = new_waiting(alloc, work.repeats, rows, per_source)?;
+    let mut waiting = new_waiting(alloc, work.repeats, rows, per_source)?;
     let ServiceWork {
-        setup,
+        setup: _,
         sip,
         desk,
         shared,
+        begins,
         repeats: _,
         linger,
     } = work;
-    let desks = new_desks(alloc, workers, sip, desk)?;
+    let sources = new_sources(alloc, workers, sip, desk, begins.tick)?;
     shared.set_workers(workers);
+    waiting.begin(rt, begins, &shared);
     let linger = u64::from(linger) * 1000;
     let sending = Sending {
         waiting,
         linger,
         shared,
     };
-    Ok(Ready {
-        setup,
-        desks,
-        sending,
-    })
+    Ok(Ready { sources, sending })
 }
 
-/// Starts a crew with these packages and three ports, whose outs are sent so.
+/// Starts a crew with these desks and three ports, whose outs are sent so.
 fn start_running<R, P>(
     rt: R,
     alloc: Global,
-    setup: &Setup,
-    boxes: Vec<Vec<P>>,
+    desks: Vec<Desk<P>>,
     sending: Sending,
 ) -> Result<(RunningService, Vec<Port>), RunError>
 where
     R: Threads + Wait + Copy + Send + 'static,
     P: Package + 'static,
-    requires few_workers { vec_len boxes ≤ 256 }
-    ensures started { IfOk result (λ r. (b : _)
-        → IsNew (λ w. start_of P.seen setup.now w (get_or boxes.items w b).items) r.1.items r.0) }
-    ensures workers { IfOk result (λ r. r.0.outgoing.workers ≡ vec_len boxes) }
-    ensures some { IfOk result (λ _. 0 < vec_len boxes) }
+    requires few_workers { vec_len desks ≤ 256 }
+    ensures begun { IfOk result (λ r. (d : _)
+        → IsNew (λ w. standing_of P.seen (get_or desks.items w d)) r.1.items r.0) }
+    ensures workers { IfOk result (λ r. r.0.outgoing.workers ≡ vec_len desks) }
+    ensures some { IfOk result (λ _. 0 < vec_len desks) }
     ensures waiting { IfOk result (λ r. r.0.outgoing.waiting ≡ sending.waiting) }
+    ensures fit { OnOk result (AllMayBegin P.seen desks.items) }
+    ensures bad_desk { (worker : ℕ) → result ≡ Err (error.BadDesk worker) → IsUnfit P.seen desks.items worker }
 {
-    let workers = boxes.len() as u32;
+    let workers = desks.len() as u32;
     let (parker, waker) = Waker::pair(alloc, &sending.shared)?;
-    let (crew, ports, taker) = start_crew(rt, alloc, setup, boxes, waker)?;
+    let (crew, ports, taker) = start_crew(rt, alloc, desks, waker)?;
     let Sending {
         waiting,
         linger,
@@ -449,43 +471,44 @@ where
     Ok((running, ports))
 }
 
-/// Runs a crew with these packages as a service: a thread for each of three ports feeds it, with what SIP datagrams say, with
-/// what control lines tell, and with the time, while this one sends out what the workers post; then all are joined. Of the SIP datagrams
-/// only those are sent on that the admission of `work` allows.
+/// Runs a crew as a service, whose workers go on where these desks stand: a thread for each of three ports feeds it, with what SIP
+/// datagrams say, with what control lines tell, and with the time, while this one sends out what the workers post; then all are joined. Of
+/// the SIP datagrams only those are sent on that the admission of `work` allows. [`open_desks`](crew::open_desks) makes the desks of a
+/// service that begins anew.
 pub fn run_crew<R, P, W, F>(
     rt: R,
     alloc: Global,
-    boxes: Vec<Vec<P>>,
+    desks: Vec<Desk<P>>,
     work: ServiceWork,
     exit: &mut Exit<W, F>,
 ) -> Result<ServiceEnd, RunError>
 where
-    R: Threads + Wait + Clock + Files + Eprint + Copy + Send + 'static,
+    R: Threads + Wait + Clock + Files<File = File> + Eprint + Copy + Send + 'static,
     P: Package + 'static,
     W: Wire,
     F: Write,
-    requires few_workers { vec_len boxes ≤ 256 }
-    ensures runs { IfOk result (λ o. (b : _)
-        → Runs (λ w. start_of P.seen work.setup w (get_or boxes.items w b).items) (vec_len boxes) work.repeats
+    requires few_workers { vec_len desks ≤ 256 }
+    // NOTIFYs that were unanswered before are sent again as if they had gone out at its start, and the time goes on.
+    ensures runs { IfOk result (λ o. (d : _)
+        → Runs (beginning (λ w. standing_of P.seen (get_or desks.items w d)) work.repeats work.begins) (vec_len desks)
         (opening work.desk) work.sip.admission
         (outflow W.taken W.failures F.contents exit.old exit.new) o) }
-    // Without a worker nothing runs.
-    ensures workers { IfOk result (λ _. 0 < vec_len boxes) }
+    // Without a worker nothing runs, nor where a worker can't begin with its desk: the first such desk is named.
+    ensures workers { IfOk result (λ _. 0 < vec_len desks) }
+    ensures fit { OnOk result (AllMayBegin P.seen desks.items) }
+    ensures bad_desk { (worker : ℕ) → result ≡ Err (error.BadDesk worker)
+        → IsUnfit P.seen desks.items worker × (exit.new ≡ exit.old) }
     // A socket that wasn't deaf before is so now exactly where a fault of it is told; a read of the clock failed exactly where one of
     // it is.
     ensures faults { IfOk result (AreFaults (misses work.sip.coming) (misses work.desk.coming)) }
-    // Without memory nothing is started, and nothing leaves. Where a thread is refused only outs of workers with these starts do.
+    // Without memory nothing is started, and nothing leaves. Where a thread is refused only outs of workers that went on there do.
     ensures no_memory { result ≡ Err error.NoMemory → exit.new ≡ exit.old }
-    ensures no_thread { OnErr result ((exit.new ≡ exit.old) ⊎ ((b : _)
-        → Leaves (λ w. start_of P.seen work.setup w (get_or boxes.items w b).items) (vec_len boxes) work.repeats
+    ensures no_thread { OnErr result ((exit.new ≡ exit.old) ⊎ ((d : _)
+        → Leaves (beginning (λ w. standing_of P.seen (get_or desks.items w d)) work.repeats work.begins) (vec_len desks)
         (outflow W.taken W.failures F.contents exit.old exit.new))) }
 {
-    let workers = boxes.len() as u32;
-    let Ready {
-        setup,
-        desks,
-        sending,
-    } = make_ready(alloc, workers, work)?;
-    let (running, ports) = start_running(rt, alloc, &setup, boxes, sending)?;
-    run_to_end(rt, alloc, running, ports, desks, exit)
+    let workers = desks.len() as u32;
+    let Ready { sources, sending } = make_ready(&rt, alloc, workers, work)?;
+    let (running, ports) = start_running(rt, alloc, desks, sending)?;
+    run_to_end(rt, alloc, running, ports, sources, exit)
 }

@@ -24,6 +24,7 @@ use feeds::Idle;
 use notifier_model::{NotifyOut, Out};
 use sip_text::NoMemory;
 use std::alloc::Global;
+use std::fs::File;
 use std::rt::{Clock, Files};
 use std::sync::Wait;
 use transactions::{Open, Transactions};
@@ -126,7 +127,7 @@ impl Watch {
 
     /// Looks at the clock, unless outs follow one another: an out that comes behind a wait is of a moment of its own. Where the clock
     /// can't be read no answer is waited for.
-    pub(crate) fn look<R: Clock + Files>(&mut self, rt: &R, shared: &Shared) {
+    pub(crate) fn look<R: Wait + Clock + Files<File = File>>(&mut self, rt: &R, shared: &Shared) {
         if self.idle.is_none() && self.outs % OUTS_A_LOOK != 0 {
             return;
         }
@@ -134,6 +135,7 @@ impl Watch {
             Some(moment) if moment > self.moment => {
                 if self.moment == 0 || self.moment / SECOND < moment / SECOND {
                     shared.look_at_drops(rt);
+                    shared.look_at_journal(rt, moment / SECOND);
                 }
                 self.moment = moment;
                 self.repeats = PACE;
@@ -285,7 +287,7 @@ impl Waiting {
     }
 
     /// Tells how many subscriptions a source has, for those who ask for one more.
-    fn tell_source<R: Wait>(&self, rt: &R, shared: &Shared, source: Option<u32>) {
+    pub(crate) fn tell_source<R: Wait>(&self, rt: &R, shared: &Shared, source: Option<u32>) {
         let Some(source) = source else {
             return;
         };
@@ -334,14 +336,13 @@ impl Waiting {
         }
     }
 
-    /// Counts and tells what became of an out. A NOTIFY is kept, any other out is dropped.
-    fn keep<R: Wait + Eprint>(&mut self, rt: &R, put: Put, shared: &Shared)
-        ensures kept { self.new.transactions ≡ kept_after put.now put.out self.old.transactions }
-        ensures seen { IsSeen put.now put.out self.old.watchers.rows self.new.watchers.rows }
+    /// Notes what an out tells of its subscription. A NOTIFY is kept from this moment on, any other out is dropped.
+    pub(crate) fn take_up<R: Wait>(&mut self, rt: &R, now: u64, out: Out, shared: &Shared)
+        requires in_range { now < 2 ^ 63 }
+        ensures kept { self.new.transactions ≡ kept_after now out self.old.transactions }
+        ensures seen { IsSeen now out self.old.watchers.rows self.new.watchers.rows }
         ensures burst { self.new.burst ≡ self.old.burst }
     {
-        let Put { now, out, fate } = put;
-        tell_fate(rt, shared, &out, fate);
         let before = self.told_source(&out);
         self.watch(now, &out);
         let after = self.told_source(&out);
@@ -365,6 +366,17 @@ impl Waiting {
         if kept.is_err() && !self.is_off {
             shared.count(Counter::Once);
         }
+    }
+
+    /// Counts and tells what became of an out. A NOTIFY is kept, any other out is dropped.
+    fn keep<R: Wait + Eprint>(&mut self, rt: &R, put: Put, shared: &Shared)
+        ensures kept { self.new.transactions ≡ kept_after put.now put.out self.old.transactions }
+        ensures seen { IsSeen put.now put.out self.old.watchers.rows self.new.watchers.rows }
+        ensures burst { self.new.burst ≡ self.old.burst }
+    {
+        let Put { now, out, fate } = put;
+        tell_fate(rt, shared, &out, fate);
+        self.take_up(rt, now, out, shared);
     }
 
     /// Keeps the outs of the burst, in their order.

@@ -3,15 +3,19 @@ ghost use Rattle.std.specs.Prelude.{◌<◌, ◌^◌, IfSome};
 
 use crate::complaints::Complaints;
 use crate::drops::kernel_drops;
+use crate::journaling::Journal;
 use crate::post::{LostStarts, Notes};
 use crate::statuses::Statuses;
 use crate::window::Window;
+use notifier_model::Event;
+use package::MailChange;
 use sip_read::ReadError;
 use sip_text::{Addr, NoMemory};
 use std::alloc::Global;
+use std::fs::File;
 use std::rt::{Clock, Files};
 use std::sync::atomic::{AtomicBool, AtomicU32, AtomicU64, Ordering};
-use std::sync::{Mutex, Wait};
+use std::sync::{Mutex, OnceLock, Wait};
 use std::time::Instant;
 use watchers::Counts;
 
@@ -42,6 +46,8 @@ pub struct Shared {
     pub(crate) notes: Notes,
     pub(crate) lost_starts: LostStarts,
     pub(crate) window: Window,
+    /// What is written of the workers, where that is kept.
+    journal: OnceLock<Journal>,
     /// How many live subscriptions each source has, as the thread that sends told it last.
     sources: Mutex<Counts>,
     complaints: Mutex<Complaints>,
@@ -77,6 +83,7 @@ pub struct Shared {
     control_foreign: AtomicU64,
     starts_dropped: AtomicU64,
     per_source: AtomicU64,
+    journal_lost: AtomicU64,
     // the number of the system's error at the last send that failed, or NO_ERROR
     send_error: AtomicU32,
 }
@@ -199,6 +206,7 @@ impl Shared {
             notes,
             lost_starts,
             window,
+            journal: OnceLock::new(),
             sources,
             complaints,
             live: AtomicU64::new(0),
@@ -232,6 +240,7 @@ impl Shared {
             control_foreign: AtomicU64::new(0),
             starts_dropped: AtomicU64::new(0),
             per_source: AtomicU64::new(0),
+            journal_lost: AtomicU64::new(0),
             send_error: AtomicU32::new(NO_ERROR),
         })
     }
@@ -332,6 +341,88 @@ impl Shared {
             Counter::Crowded => &self.per_source,
         };
         counted.fetch_add(1, Ordering::SeqCst);
+    }
+
+    /// From now on what the workers handle is written to this journal.
+    pub fn keep_journal(&self, journal: Journal) {
+        if let Err(other) = self.journal.try_set(journal) {
+            drop(other);
+        }
+    }
+
+    /// Whether that is written.
+    pub(crate) fn has_journal(&self) -> bool {
+        self.journal.get().is_some()
+    }
+
+    /// Counts a record of the journal that was not written.
+    pub fn count_unwritten(&self) {
+        self.journal_lost.fetch_add(1, Ordering::SeqCst);
+    }
+
+    /// How many were not.
+    pub(crate) fn unwritten(&self) -> u64 {
+        self.journal_lost.load(Ordering::SeqCst)
+    }
+
+    /// The number of the system's error at the last of them. None where it told none yet.
+    pub(crate) fn journal_error(&self) -> Option<u32> {
+        self.journal.get()?.error()
+    }
+
+    /// A worker handled an event, and nothing of it was posted yet: that is written, where a journal is kept.
+    pub(crate) fn write_handled<R: Wait>(&self, rt: &R, worker: u32, event: &Event) {
+        if let Some(journal) = self.journal.get()
+            && !journal.handled(rt, worker, event)
+        {
+            self.count_unwritten();
+        }
+    }
+
+    /// A control line that changes a mailbox of this worker is about to be answered `ok`: that is written, where a journal is kept.
+    pub(crate) fn write_answered<R: Wait>(&self, rt: &R, worker: u32, change: &MailChange) {
+        if let Some(journal) = self.journal.get()
+            && !journal.answered(rt, worker, change)
+        {
+            self.count_unwritten();
+        }
+    }
+
+    /// A control line that changes a mailbox is about to be answered `ok`, but it can't be read again for want of memory.
+    pub(crate) fn lose_line<R: Wait>(&self, rt: &R) {
+        if let Some(journal) = self.journal.get() {
+            journal.lose_count(rt);
+            self.count_unwritten();
+        }
+    }
+
+    /// Whether the journal wants the book of this worker.
+    pub(crate) fn wants_book(&self, worker: u32) -> bool {
+        match self.journal.get() {
+            Some(journal) => journal.wants_book(worker),
+            None => false,
+        }
+    }
+
+    /// The book of this worker after all that it handled, for the journal.
+    pub(crate) fn write_book<R: Wait>(&self, rt: &R, worker: u32, written: &[u8]) {
+        if let Some(journal) = self.journal.get() {
+            journal.book(rt, worker, written);
+        }
+    }
+
+    /// Begins a next file of the journal where one is due, and removes one that is not needed any more. It is asked once a second.
+    pub(crate) fn look_at_journal<R: Wait + Files<File = File>>(&self, rt: &R, now: u64) {
+        if let Some(journal) = self.journal.get() {
+            journal.look(rt, now);
+        }
+    }
+
+    /// Has the system bring the journal to the disk, where that is asked for and its time has come.
+    pub(crate) fn sync_journal<R: Wait>(&self, rt: &R, now: u64) {
+        if let Some(journal) = self.journal.get() {
+            journal.sync(rt, now);
+        }
     }
 
     /// The system told this number at a send that failed, if it told one.
@@ -506,6 +597,7 @@ impl Shared {
             ("control_foreign", &self.control_foreign),
             ("starts_dropped", &self.starts_dropped),
             ("per_source", &self.per_source),
+            ("journal_lost", &self.journal_lost),
         ];
         for (name, counted) in named {
             add_line(alloc, text, name, counted)?;
@@ -548,6 +640,14 @@ impl Shared {
         add_line(alloc, text, "kernel_drops", &self.kernel_drops)
     }
 
+    /// Appends how many bytes the current file of the journal has: 0 without one.
+    fn add_journal(&self, alloc: Global, text: &mut String) -> Result<(), NoMemory> {
+        match self.journal.get() {
+            Some(journal) => add_line(alloc, text, "journal_bytes", journal.bytes()),
+            None => add_line(alloc, text, "journal_bytes", &AtomicU64::new(0)),
+        }
+    }
+
     /// The counters, each on a line of its own, behind the seconds that the service is up. The datagrams that couldn't be
     /// read are counted by the number of the error, from 1, on one line, and by cause, the answers by status code. What the system
     /// dropped at the socket of SIP stands there where it tells that.
@@ -556,6 +656,7 @@ impl Shared {
         self.add_named(alloc, &mut text)?;
         self.add_unread(alloc, &mut text)?;
         add_line(alloc, &mut text, "live", &self.live)?;
+        self.add_journal(alloc, &mut text)?;
         self.statuses.add_lines(alloc, &mut text)?;
         self.add_causes(alloc, &mut text)?;
         self.add_drops(alloc, &mut text)?;

@@ -4,7 +4,7 @@ use Rattle.service.proofs.Ticking.{ticking_none, ticking_more, ticking_failed, t
 use Rattle.service.proofs.clock.tell_time.Goals as goal
 
 pub loop-init : goal.loop-init
-loop-init g c = record { still_open = c.requires.still_open; seats = refl; ticking = ticking_none c.args.port.now; failures = refl }
+loop-init g c = record { still_open = c.requires.still_open; seats = refl; ticking = ticking_none c.args.stopwatch.now.tick c.args.port.now; failures = refl }
 
 pub loop-preserved-in-Some-take : goal.loop-preserved-in-Some-take
 loop-preserved-in-Some-take g c =
@@ -21,13 +21,13 @@ returns-then-not-send_event-clause-ticks g c =
 
 pub returns-then-not-send_event-2-clause-ticks : goal.returns-then-not-send_event-2-clause-ticks
 returns-then-not-send_event-2-clause-ticks g c =
-    told_gone c.loop.invariant.ticking c.send_event-in-loop.new.port (event.Tick c.in-Some-seconds.now) c.if-now-second.false c.if-not-send_event-2.ensures.sent
+    told_gone c.loop.invariant.ticking c.send_event-in-loop.new.port (event.Tick c.saturating_add-now.result) c.if-now-second.false c.if-not-send_event-2.ensures.sent
 
 pub loop-preserved : goal.loop-preserved
 loop-preserved g c =
     let sent = c.if-not-send_event-2.ensures.sent in record {
       still_open = sent.still_open ∙ c.loop.invariant.still_open;
       seats = c.send_event-in-loop.ensures.seats ∙ c.loop.invariant.seats;
-      ticking = ticking_more c.loop.invariant.ticking c.send_event-in-loop.new.port c.in-Some-seconds.now c.if-now-second.false sent;
+      ticking = ticking_more c.loop.invariant.ticking c.send_event-in-loop.new.port c.saturating_add-now.result c.if-now-second.false sent;
       failures = c.in-Some-seconds.ensures ∙ c.loop.invariant.failures;
     }

@@ -7,6 +7,6 @@ abbrev pub invariant-loop : goal.invariant-loop
 invariant-loop g l = record {
   still_open : l.port.is_open ≡ true;
   seats : SameSeats l.fn.port l.port;
-  ticking : Ticking l.fn.port l.port l.second;
+  ticking : Ticking l.fn.stopwatch.tick l.fn.port l.port l.second;
   failures : l.stopwatch.failures ≡ l.fn.stopwatch.failures;
 }

@@ -5,7 +5,6 @@ use Rattle.feeds.proofs.Emitting.{running_first, running_as, running_end, runnin
 use Rattle.service.specs.Sending.{Put}
 use Rattle.service.proofs.Acts.{does_none, does_more, does_put, running_on, running_put, sent_out, flushed_on, flushed_put}
 use Rattle.service.specs.Keeping.{act_of}
-use Rattle.service.proofs.Rowing.{rowed_from}
 use Rattle.service.proofs.Keeping.{state_put, settled_rows, does_behind}
 use Rattle.service.proofs.outs.send_outs.Goals as goal
 
@@ -20,14 +19,13 @@ loop-init g c = record {
 }
 
 pub returns-then-is_over-clause-sent : goal.returns-then-is_over-clause-sent
-returns-then-is_over-clause-sent g c = λ limit none.
+returns-then-is_over-clause-sent g c =
     let at = c.loop.invariant in let last = c.settle.ensures in (
       at.acts,
       at.report,
-      sent_out at.running at.does none,
+      sent_out at.running at.does,
       at.flushed,
-      rowed_from limit c.args.outgoing.now.waiting.transactions at.acts c.args.outgoing.now.waiting.watchers.rows c.settle.new.self.watchers.rows
-          (settled_rows (last.kept _ _ _ at.kept) last.none) none,
+      settled_rows (last.kept _ _ _ at.kept) last.none,
     )
 
 pub returns-then-is_over-clause-ended : goal.returns-then-is_over-clause-ended

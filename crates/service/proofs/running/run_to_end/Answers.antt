@@ -12,17 +12,17 @@ pub send_to_end-requires-clause-new : goal.send_to_end-requires-clause-new
 send_to_end-requires-clause-new g c = (c.requires.new.0, c.args.ports.items, c.requires.new.1, c.in-Ok.ensures.ports)
 
 pub send_to_end-requires-clause-errands : goal.send_to_end-requires-clause-errands
-send_to_end-requires-clause-errands g c = (c.args.desks.sip, c.args.desks.desk, c.in-Ok.ensures.errands)
+send_to_end-requires-clause-errands g c = (c.args.sources, c.in-Ok.ensures.errands)
 
 pub wind_up-requires-clause-new : goal.wind_up-requires-clause-new
 wind_up-requires-clause-new g c = (c.requires.new.0, c.args.ports.items, c.requires.new.1)
 
 pub returns-in-Ok-clause-served : goal.returns-in-Ok-clause-served
 returns-in-Ok-clause-served g c =
-    λ start repeats is none opened fresh. c.send_to_end.ensures.runs start c.args.ports.items c.args.desks.sip c.args.desks.desk repeats is none c.in-Ok.ensures.ports c.in-Ok.ensures.errands opened fresh
+    λ stands is opened fresh. c.send_to_end.ensures.runs stands c.args.ports.items c.args.sources is c.in-Ok.ensures.ports c.in-Ok.ensures.errands opened fresh
 
 pub returns-in-Ok-clause-faults : goal.returns-in-Ok-clause-faults
-returns-in-Ok-clause-faults g c = c.send_to_end.ensures.faults c.args.desks.sip c.args.desks.desk c.in-Ok.ensures.errands
+returns-in-Ok-clause-faults g c = c.send_to_end.ensures.faults c.args.sources c.in-Ok.ensures.errands c.requires.unfailed
 
 pub returns-in-Err-clause-left : goal.returns-in-Err-clause-left
-returns-in-Err-clause-left g c = λ start repeats is none. c.wind_up.ensures start c.args.ports.items repeats is none
+returns-in-Err-clause-left g c = λ stands is. c.wind_up.ensures stands c.args.ports.items c.args.sources.stopwatch.tick is

@@ -1,5 +1,5 @@
 use Rattle.std.proofs.Common.{ap}
-use Rattle.service.proofs.running.new_desks.Goals as goal
+use Rattle.service.proofs.running.new_sources.Goals as goal
 
 pub returns-clause-fresh : goal.returns-clause-fresh
 returns-clause-fresh c = record {

@@ -1,0 +1,238 @@
+//! The journal of a service: what each worker handled is written before anything of it is sent, and a line before it is answered `ok`.
+//!
+//! So a service that is killed goes on where it was: who reads the journal plays the events again. What is written is in the system's
+//! hands then, which outlives the process. What it brings to the disk, and when, is said by [`Upkeep::sync`].
+
+use crate::shelf::{Chore, Limits, Loss, Shelf};
+use crate::volume::Volume;
+use journal::Header;
+use keeper::Keeper;
+use notifier_model::Event;
+use package::MailChange;
+use sip_text::{NoMemory, Text};
+use std::alloc::Global;
+use std::fs::{File, OpenOptions};
+use std::rt::Files;
+use std::sync::atomic::{AtomicBool, AtomicU32, AtomicU64, Ordering};
+use std::sync::{Mutex, Wait};
+use std::{fs, io};
+
+/// No error of the system has this number.
+const NO_ERROR: u32 = 0;
+
+/// For how many seconds a file is the current one at least, where it misses nothing: by then each NOTIFY that was unanswered at its begin is
+/// answered or given up (RFC 3261 section 17.1.2.2), so the file before it may go.
+pub const SETTLED: u64 = 40;
+
+/// How a journal is kept.
+#[derive(Drop)]
+pub struct Upkeep {
+    /// Where its files are.
+    pub folder: Text,
+    /// Behind so many bytes a next file is begun.
+    pub limit: u64,
+    /// For how many seconds a file is the current one at least: [`SETTLED`], and fewer where one tries what happens between two files.
+    pub age: u64,
+    /// Every how many seconds the system brings to the disk what was written. None: when it likes.
+    pub sync: Option<u32>,
+}
+
+/// The journal of a service that runs. All its threads share it.
+#[derive(Drop)]
+pub struct Journal {
+    alloc: Global,
+    header: Header,
+    upkeep: Upkeep,
+    shelf: Mutex<Shelf>,
+    /// Of each worker whether its book is wanted.
+    wanted: Vec<AtomicBool>,
+    /// How many bytes the current file has.
+    bytes: AtomicU64,
+    /// The number of the system's error at the last record that wasn't written, or NO_ERROR.
+    error: AtomicU32,
+    /// The second of the last sync.
+    synced: AtomicU64,
+}
+
+/// No book is wanted of so many workers.
+fn no_books(alloc: Global, workers: u32) -> Result<Vec<AtomicBool>, NoMemory> {
+    let mut wanted = Vec::new(alloc);
+    for _ in 0..workers {
+        wanted.push(AtomicBool::new(false))?;
+    }
+    Ok(wanted)
+}
+
+impl Journal {
+    /// One that goes on in this file. Each further one begins with this header, and holds a book of each of its workers. Nothing of the
+    /// keeper waits to be written.
+    pub fn new(
+        alloc: Global,
+        keeper: Keeper,
+        header: Header,
+        current: Volume,
+        upkeep: Upkeep,
+    ) -> Result<Journal, NoMemory> {
+        let wanted = no_books(alloc, header.workers)?;
+        let bytes = AtomicU64::new(current.length());
+        Ok(Journal {
+            alloc,
+            header,
+            upkeep,
+            shelf: Mutex::new(Shelf::new(keeper, current)),
+            wanted,
+            bytes,
+            error: AtomicU32::new(NO_ERROR),
+            synced: AtomicU64::new(0),
+        })
+    }
+
+    /// How many bytes the current file has.
+    pub(crate) fn bytes(&self) -> &AtomicU64 {
+        &self.bytes
+    }
+
+    /// The number of the system's error at the last record that wasn't written. None where it told none yet.
+    pub(crate) fn error(&self) -> Option<u32> {
+        match self.error.load(Ordering::SeqCst) {
+            NO_ERROR => None,
+            number => Some(number),
+        }
+    }
+
+    /// The system told this number where something was not written, if it told one.
+    fn note_error(&self, number: Option<i32>) {
+        if let Some(number) = number {
+            self.error.store(number.cast_unsigned(), Ordering::SeqCst);
+        }
+    }
+
+    /// Notes what came of a record. Tells whether it is written.
+    fn note(&self, shelf: &Shelf, written: Result<(), Loss>) -> bool {
+        self.bytes.store(shelf.current().length(), Ordering::SeqCst);
+        match written {
+            Ok(()) => true,
+            Err(Loss::Refused(number)) => {
+                self.note_error(number);
+                false
+            }
+            Err(Loss::Behind | Loss::Unmade) => false,
+        }
+    }
+
+    /// A worker handled an event, and nothing of it was posted yet. Tells whether that is written.
+    pub(crate) fn handled<R: Wait>(&self, rt: &R, worker: u32, event: &Event) -> bool {
+        let mut shelf = self.shelf.lock(rt);
+        let written = shelf.handled(worker, event);
+        self.note(&shelf, written)
+    }
+
+    /// A control line that changes a mailbox of this worker is about to be answered `ok`. Tells whether that is written.
+    pub(crate) fn answered<R: Wait>(&self, rt: &R, worker: u32, change: &MailChange) -> bool {
+        let mut shelf = self.shelf.lock(rt);
+        let written = shelf.answered(worker, change);
+        self.note(&shelf, written)
+    }
+
+    /// A control line is about to be answered `ok` that is unknown for want of memory. Nothing more is written then.
+    pub(crate) fn lose_count<R: Wait>(&self, rt: &R) {
+        let mut shelf = self.shelf.lock(rt);
+        let written = shelf.lose_count();
+        self.note(&shelf, written);
+    }
+
+    /// Whether the book of this worker is wanted. It is asked behind each event, so it takes no lock.
+    pub(crate) fn wants_book(&self, worker: u32) -> bool {
+        match self.wanted.get(worker as usize) {
+            Some(wanted) => wanted.load(Ordering::SeqCst),
+            None => false,
+        }
+    }
+
+    /// The book of this worker after all that it handled.
+    pub(crate) fn book<R: Wait>(&self, rt: &R, worker: u32, written: &[u8]) {
+        if let Some(wanted) = self.wanted.get(worker as usize) {
+            wanted.store(false, Ordering::SeqCst);
+        }
+        let mut shelf = self.shelf.lock(rt);
+        shelf.book(worker, written);
+        self.note(&shelf, Ok(()));
+    }
+
+    /// Opens the file with this number, in place of one that was begun and not kept.
+    fn open<R: Files<File = File>>(&self, rt: &R, path: &str) -> io::Result<File> {
+        let _ = fs::remove_file(rt, path);
+        OpenOptions::new()
+            .append(true)
+            .create_new(true)
+            .open(rt, path)
+    }
+
+    /// Begins the file with this number, and asks each worker for its book. Where it can't be it is tried again later.
+    fn begin<R: Wait + Files<File = File>>(&self, rt: &R, number: u64, path: &str) {
+        let file = match self.open(rt, path) {
+            Ok(file) => file,
+            Err(error) => {
+                self.note_error(error.raw_os_error());
+                return;
+            }
+        };
+        let next = Volume::new(file, number, 0);
+        let mut shelf = self.shelf.lock(rt);
+        if !shelf.begin(next, &self.header) {
+            return;
+        }
+        for wanted in &self.wanted {
+            wanted.store(true, Ordering::SeqCst);
+        }
+    }
+
+    /// What is to be done in this second.
+    fn chore<R: Wait>(&self, rt: &R, now: u64) -> Chore {
+        let limits = Limits {
+            length: self.upkeep.limit,
+            age: self.upkeep.age,
+        };
+        self.shelf.lock(rt).chore(now, limits)
+    }
+
+    /// The path of the file with this number.
+    fn path(&self, number: u64) -> Result<String, NoMemory> {
+        let folder = self.upkeep.folder.as_str();
+        let path = format!(in self.alloc; "{folder}/journal.{number}")?;
+        Ok(path)
+    }
+
+    /// Begins a next file where one is due, and removes one that is not needed any more. It is asked once a second.
+    pub(crate) fn look<R: Wait + Files<File = File>>(&self, rt: &R, now: u64) {
+        match self.chore(rt, now) {
+            Chore::Nothing => {}
+            Chore::Remove(number) => {
+                if let Ok(path) = self.path(number) {
+                    let _ = fs::remove_file(rt, path.as_str());
+                }
+            }
+            Chore::Begin(number) => {
+                if let Ok(path) = self.path(number) {
+                    self.begin(rt, number, path.as_str());
+                }
+            }
+        }
+    }
+
+    /// Has the system bring to the disk what was written, where the last time is long enough ago. No lock is held meanwhile. Where it can't
+    /// that is tried again the next time: a process that is killed loses nothing by it.
+    pub(crate) fn sync<R: Wait>(&self, rt: &R, now: u64) {
+        let Some(seconds) = self.upkeep.sync else {
+            return;
+        };
+        if now.saturating_sub(self.synced.load(Ordering::SeqCst)) < u64::from(seconds) {
+            return;
+        }
+        self.synced.store(now, Ordering::SeqCst);
+        let handle = self.shelf.lock(rt).current().handle();
+        if let Ok(file) = handle {
+            let _ = file.sync_data();
+        }
+    }
+}

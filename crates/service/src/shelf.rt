@@ -1,0 +1,307 @@
+//! The files of a journal, as one lock guards them.
+ghost use Rattle.std.specs.Prelude.{◌≡◌, ◌+◌, ◌<◌, ℕ, true, false, OnOk, OnErr};
+ghost use Rattle.service.specs.Shelved as spec;
+ghost use Rattle.service.specs.Shelved.{Writes};
+ghost use Rattle.service.specs.declared.shelf.Chore.TheVariants as chore;
+
+use crate::volume::Volume;
+use journal::Header;
+use keeper::{Keeper, Unkept};
+use notifier_model::Event;
+use package::MailChange;
+
+/// Why a record isn't in the current file.
+#[derive(Clone, Copy)]
+pub(crate) enum Loss {
+    /// That file misses an earlier one, and is written no more.
+    Behind,
+    /// It could not be made.
+    Unmade,
+    /// The system refused it, with this number where it told one.
+    Refused(Option<i32>),
+}
+
+/// What is to be done about files.
+#[derive(Clone, Copy)]
+pub(crate) enum Chore {
+    Nothing,
+    /// The file with this number is removed.
+    Remove(u64),
+    /// The one with this number is begun.
+    Begin(u64),
+}
+
+/// How the files stand at a look.
+#[derive(Clone, Copy)]
+pub(crate) struct Sight {
+    /// Whether no further file is begun.
+    is_over: bool,
+    /// Whether a next file is being begun.
+    is_beginning: bool,
+    /// Whether the current one misses a record.
+    is_behind: bool,
+    /// How many bytes it had as it became the current one: those of its books, most of all.
+    books: u64,
+    /// How many bytes stand behind them.
+    rest: u64,
+    /// For how many seconds it is the current one.
+    age: u64,
+    /// How many seconds ago it was tried last to begin a next one.
+    pause: u64,
+}
+
+/// When a next file is begun, beside one that misses a record.
+#[derive(Clone, Copy)]
+pub(crate) struct Limits {
+    /// More bytes stand behind the books of the current one, and more than these have: so books alone turn no file over.
+    pub(crate) length: u64,
+    /// And it is the current one for so many seconds.
+    pub(crate) age: u64,
+}
+
+/// How many seconds pass between two tries to begin a next file.
+const PAUSE: u64 = 5;
+
+/// Whether a next file is to be begun.
+fn wants_next(limits: Limits, sight: Sight) -> bool
+    ensures { result ≡ spec.wants_next limits sight }
+{
+    let is_free = !sight.is_over && !sight.is_beginning && PAUSE <= sight.pause;
+    let is_due = limits.length.max(sight.books) < sight.rest && limits.age <= sight.age;
+    is_free && (sight.is_behind || is_due)
+}
+
+/// The files of a journal: the current one, and the next one while that is being begun.
+#[derive(Drop)]
+pub(crate) struct Shelf {
+    keeper: Keeper,
+    current: Volume,
+    next: Option<Volume>,
+    /// Whether the current file misses a record. A gap would make what is read of it wrong: nothing more is written there.
+    is_behind: bool,
+    /// Whether count was lost of a worker for want of memory. No further file can be begun then.
+    is_over: bool,
+    /// How many bytes the current file had as it became that.
+    books: u64,
+    /// Since which second it is the current one, as the first look at it found.
+    since: Option<u64>,
+    /// In which second it was tried last to begin a next one.
+    tried: u64,
+    /// The number of the oldest file that may be there.
+    oldest: u64,
+}
+
+impl Shelf {
+    /// One that goes on in this file.
+    pub(crate) fn new(keeper: Keeper, current: Volume) -> Shelf
+        ensures { result.is_behind ≡ false }
+    {
+        let oldest = current.number().saturating_sub(1);
+        Shelf {
+            keeper,
+            current,
+            next: None,
+            is_behind: false,
+            is_over: false,
+            books: 0,
+            since: None,
+            tried: 0,
+            oldest,
+        }
+    }
+
+    /// The file that is written.
+    pub(crate) fn current(&self) -> &Volume
+        ensures { result.now ≡ self.now.current }
+    {
+        &self.current
+    }
+
+    /// The next file isn't begun after all.
+    fn give_up_next(&mut self)
+        ensures current { self.new.current ≡ self.old.current }
+        ensures behind { self.new.is_behind ≡ self.old.is_behind }
+    {
+        self.keeper.give_up_next();
+        self.next = None;
+    }
+
+    /// Writes what waits for the next file, if one is being begun and there was memory for it. Else it is given up: it would miss a record.
+    fn write_next(&mut self, is_made: bool)
+        ensures current { self.new.current ≡ self.old.current }
+        ensures behind { self.new.is_behind ≡ self.old.is_behind }
+    {
+        let Some(next) = &mut self.next else {
+            return;
+        };
+        if !is_made || next.append(self.keeper.next()).is_err() {
+            self.give_up_next();
+        }
+    }
+
+    /// The current file misses a record from now on.
+    fn fall_behind(&mut self)
+        ensures current { self.new.current ≡ self.old.current }
+        ensures behind { self.new.is_behind ≡ true }
+    {
+        self.is_behind = true;
+        let _ = self.current.tear();
+    }
+
+    /// Writes what waits for the current file, unless it misses a record. It does so where this one couldn't be made or isn't written.
+    fn write_current(&mut self, is_made: bool) -> Result<(), Loss>
+        ensures { Writes self.old self.new result }
+    {
+        if self.is_behind {
+            return Err(Loss::Behind);
+        }
+        if !is_made {
+            self.fall_behind();
+            return Err(Loss::Unmade);
+        }
+        match self.current.append(self.keeper.current()) {
+            Ok(()) => Ok(()),
+            Err(error) => {
+                self.fall_behind();
+                Err(Loss::Refused(error.raw_os_error()))
+            }
+        }
+    }
+
+    /// Writes what waits for each file.
+    fn write(&mut self, is_made: bool) -> Result<(), Loss>
+        ensures { Writes self.old self.new result }
+    {
+        let written = self.write_current(is_made);
+        self.write_next(is_made);
+        self.keeper.clear();
+        written
+    }
+
+    /// The keeper counted something whose record it could not make, or lost count of it.
+    fn miss(&mut self, counted: Result<(), Unkept>)
+        ensures current { self.new.current ≡ self.old.current }
+        ensures behind { self.new.is_behind ≡ self.old.is_behind }
+    {
+        if counted.is_err() {
+            self.is_over = true;
+        }
+    }
+
+    /// A worker handled an event.
+    pub(crate) fn handled(&mut self, worker: u32, event: &Event) -> Result<(), Loss>
+        ensures { Writes self.old self.new result }
+    {
+        let is_made = self.keeper.handled(worker, event).is_ok();
+        if !is_made {
+            let passed = self.keeper.passed(worker, event);
+            self.miss(passed);
+        }
+        self.write(is_made)
+    }
+
+    /// A control line that changes a mailbox of a worker is about to be answered `ok`.
+    pub(crate) fn answered(&mut self, worker: u32, change: &MailChange) -> Result<(), Loss>
+        ensures { Writes self.old self.new result }
+    {
+        let is_made = self.keeper.answered(worker, change).is_ok();
+        if !is_made {
+            let counted = self.keeper.counted(worker);
+            self.miss(counted);
+        }
+        self.write(is_made)
+    }
+
+    /// A line is about to be answered `ok` that is unknown for want of memory: so it isn't known either which lines wait.
+    pub(crate) fn lose_count(&mut self) -> Result<(), Loss>
+        ensures { Writes self.old self.new result }
+    {
+        self.is_over = true;
+        self.write(false)
+    }
+
+    /// Begins this next file. False where it can't be.
+    pub(crate) fn begin(&mut self, next: Volume, header: &Header) -> bool {
+        if self.keeper.begin_next(header).is_err() {
+            return false;
+        }
+        self.next = Some(next);
+        self.write_next(true);
+        self.keeper.clear();
+        self.next.is_some()
+    }
+
+    /// Puts the book of a worker into the next file, unless that was given up meanwhile. Where it was the last that was wanted this file is
+    /// the current one from now on.
+    pub(crate) fn book(&mut self, worker: u32, written: &[u8]) {
+        if !self.keeper.wants_book(worker) {
+            return;
+        }
+        let made = self.keeper.book(worker, written);
+        self.write_next(made.is_ok());
+        self.keeper.clear();
+        if self.keeper.is_next_whole() {
+            self.turn();
+        }
+    }
+
+    /// The next file is the current one.
+    fn turn(&mut self) {
+        let Some(next) = self.next.take() else {
+            return;
+        };
+        self.keeper.turn();
+        self.current = next;
+        self.is_behind = false;
+        self.books = self.current.length();
+        self.since = None;
+    }
+
+    /// How the files stand in this second.
+    fn sight(&mut self, now: u64) -> Sight
+        ensures current { self.new.current ≡ self.old.current }
+        ensures oldest { self.new.oldest ≡ self.old.oldest }
+        ensures behind { result.is_behind ≡ self.old.is_behind }
+        ensures over { result.is_over ≡ self.old.is_over }
+    {
+        let since = match self.since {
+            Some(since) => since,
+            None => now,
+        };
+        self.since = Some(since);
+        let length = self.current.length();
+        Sight {
+            is_over: self.is_over,
+            is_beginning: self.next.is_some(),
+            is_behind: self.is_behind,
+            books: self.books,
+            rest: length.saturating_sub(self.books),
+            age: now.saturating_sub(since),
+            pause: now.saturating_sub(self.tried),
+        }
+    }
+
+    /// What is to be done in this second. Two files are kept: a reader goes on from the one before the current one where it can, since what
+    /// was unanswered as that one ended is known from there.
+    pub(crate) fn chore(&mut self, now: u64, limits: Limits) -> Chore
+        ensures current { self.new.current ≡ self.old.current }
+        ensures kept { (n : ℕ) → result ≡ chore.Remove n → n + 1 < self.old.current.number }
+        ensures further { (n : ℕ) → result ≡ chore.Begin n → self.old.current.number < n }
+    {
+        let sight = self.sight(now);
+        let number = self.current.number();
+        if self.oldest < number.saturating_sub(1) {
+            let oldest = self.oldest;
+            self.oldest = oldest.saturating_add(1);
+            return Chore::Remove(oldest);
+        }
+        let Some(following) = number.checked_add(1) else {
+            return Chore::Nothing;
+        };
+        if !wants_next(limits, sight) {
+            return Chore::Nothing;
+        }
+        self.tried = now;
+        Chore::Begin(following)
+    }
+}
