@@ -44,7 +44,7 @@ STILL, PATIENCE = 6.0, 120.0
 LINGER, LIMIT = 10, 400
 
 # What no phone here causes.
-NOTHING = ("starts", "starts_dropped", "failed", "once", "lost", "failed_receives", "too_long", "foreign", "limited", "control_foreign")
+NOTHING = ("starts", "starts_dropped", "journal_lost", "failed", "once", "lost", "failed_receives", "too_long", "foreign", "limited", "control_foreign")
 NOTHING += ("challenged", "wrong", "stale", "forbidden")
 
 

@@ -377,26 +377,27 @@ begun 18
 over 17
 unread 1 2 3 4 5 6 7
 """
-MORE = b"repeats 5\ngiven_up 3\nonce 4\nlost 6\ngone_by_481 9\nfailed_receives 7\ntoo_long 8\nforeign 10\nlimited 11\nchallenged 12\nwrong 13\nstale 14\nforbidden 15\ncontrol_lines 8\nworkers_ended 0\nstarts_dropped 16\nkernel_drops 17\ncontrol_foreign 18\n"
+MORE = b"repeats 5\ngiven_up 3\nonce 4\nlost 6\ngone_by_481 9\nfailed_receives 7\ntoo_long 8\nforeign 10\nlimited 11\nchallenged 12\nwrong 13\nstale 14\nforbidden 15\ncontrol_lines 8\nworkers_ended 0\nstarts_dropped 16\nkernel_drops 17\ncontrol_foreign 18\njournal_lost 19\n"
 COUNTERS = FEWER_COUNTERS.replace(b"unread", MORE + b"unread") + b"""\
 workers 2
 live 1
+journal_bytes 4096
 answers_200 13
 answers_416 5
 answers_503 2
 unread_not_sip 1
 unread_bad_header 2
 """
-ALSO = ("repeats", "given_up", "once", "lost", "gone_by_481", "failed_receives", "too_long", "foreign", "limited", "challenged", "wrong", "stale", "forbidden", "control_lines", "workers_ended", "starts_dropped", "kernel_drops", "control_foreign")
+ALSO = ("repeats", "given_up", "once", "lost", "gone_by_481", "failed_receives", "too_long", "foreign", "limited", "challenged", "wrong", "stale", "forbidden", "control_lines", "workers_ended", "starts_dropped", "kernel_drops", "control_foreign", "journal_lost")
 REPEATS = {f"notifyd_{name}_total" for name in ALSO}
-GAUGES = {"notifyd_live": "1", "notifyd_workers": "2"}
+GAUGES = {"notifyd_live": "1", "notifyd_workers": "2", "notifyd_journal_bytes": "4096"}
 CODES = {f'notifyd_answers_by_code_total{{code="{code}"}}': count for code, count in (("200", "13"), ("416", "5"), ("503", "2"))}
 REPEATS |= {*GAUGES, *CODES}
 
 UNREAD = ("not_sip", "bad_header", "header_missing", "header_twice", "short_body", "too_long", "no_memory")
 
 VALUES = {"notifyd_reachable": "1", "notifyd_up_seconds": "120"}
-VALUES |= {f"notifyd_{name}_total": number for name, number in re.findall(r"(?m)^((?!up|unread|live|workers |answers_)\w+) (\d+)$", COUNTERS.decode())}
+VALUES |= {f"notifyd_{name}_total": number for name, number in re.findall(r"(?m)^((?!up|unread|live|workers |journal_bytes|answers_)\w+) (\d+)$", COUNTERS.decode())}
 VALUES |= GAUGES | CODES
 VALUES |= {f'notifyd_unread_total{{cause="{cause}"}}': str(number) for number, cause in enumerate(UNREAD, 1)}
 

@@ -47,7 +47,7 @@ ANYWHERE = {"Errors", "Codes", "Numbers", "Views", "LineViews"}
 
 # Crates of the edge and of the programs, whose definitions stand beside their code: `tests/cited.py` prints them.
 BESIDE = {
-    "admission", "arguments", "commands", "control_lines", "digest", "feeds", "scripts", "server", "service", "telling", "transactions",
+    "admission", "arguments", "commands", "control_lines", "digest", "feeds", "keeper", "restarts", "scripts", "server", "service", "telling", "transactions",
     "transport", "watchers",
 }
 
