@@ -1,6 +1,6 @@
 -- What the words say: what is found is so, what is so is found, and an error names what is wrong first.
 use Rattle.std.proofs.Common.{◌≡◌, ℕ, ◌+◌, ◌≤◌, ◌<◌, Bool, true, false, cond, eqb, List, [], ◌∷◌, ◌++◌, length, take, drop, get_or, Option, Some, None, Result, Ok, Err, inl, inr, refl, sym, ap, subst, ◌∙◌, arith, append_assoc, length-append}
-use Rattle.std.specs.Prelude.{codes, decimal, ◌&&◌, not, IfOk, IfErr}
+use Rattle.std.specs.Prelude.{codes, decimal, bytes_eq, ◌&&◌, not, IfOk, IfErr}
 use Rattle.std.specs.List.{position_or_len, before_first, after_first}
 use Rattle.std.proofs.lemmas.Bool.{eqb-true, eqb-false, ne_eqb}
 use Rattle.std.proofs.lemmas.List.Sums.{split_at_first, passes_at_first, prefix_len-le-length}
@@ -30,10 +30,10 @@ use Rattle.arguments.specs.declared.error.OptionsError.{OptionsError}
 use Rattle.arguments.specs.declared.error.OptionsError.TheVariants as error
 use Rattle.arguments.specs.Flags.{address_flag_text, bound_text, flag_text, switch_text, least, most}
 use Rattle.arguments.specs.Settings.{is_user, has_no_colon, watched_text, IsRateNumber, rate_text, joined, AreOption, IsMailbox, IsSetting, AreSettings, BeginsWrong, AreWrong, Answers}
-use Rattle.arguments.specs.Reading.{flag_named, joined_of, switch_of, or_bad, is_mailbox, is_colon, watch, watch_of, rate_of, valued, named, by_switch, by_joined, alone, then_more, by_flag, settings_from, Reads}
+use Rattle.arguments.specs.Reading.{flag_named, joined_of, switch_of, or_bad, is_mailbox, is_colon, watch, watch_of, rate_of, sync_of, valued, named, by_switch, by_joined, alone, then_more, by_flag, settings_from, Reads}
 use Rattle.arguments.specs.Values.{seed_bytes, between}
 use Rattle.arguments.proofs.Values.{between_takes, between_again, seed_takes, seed_again}
-use Rattle.arguments.proofs.Flags.{flag_takes, flag_again, no_flag, joined_takes, joined_again, no_joined, joined_is_no_flag, switch_takes, switch_again, no_switch, switch_is_no_flag}
+use Rattle.arguments.proofs.Flags.{same_text, flag_takes, flag_again, no_flag, joined_takes, joined_again, no_joined, joined_is_no_flag, switch_takes, switch_again, no_switch, switch_is_no_flag}
 
 -- ---- numbers
 
@@ -55,6 +55,7 @@ most_is_small bound.MaxDatagram = omega arith
 most_is_small bound.ReceiveBuffer = omega arith
 most_is_small bound.NonceTime = omega arith
 most_is_small bound.PerSource = omega arith
+most_is_small bound.JournalBytes = omega arith
 
 -- ---- a rate
 
@@ -83,6 +84,34 @@ rate_again r n b =
       between_again 1 65536 r.per_second n.0 n.1 (omega arith),
       between_again 1 65536 r.burst b.0 b.1 (omega arith),
     ) refl
+
+-- ---- how often a journal is written to the disk
+
+sync_takes : (words : List (List ℕ)) (w : List ℕ) (s : Option ℕ) → sync_of w ≡ Some s → AreOption words (codes "--sync") w → IsSetting words (setting.Sync s)
+unfolding sync_of
+sync_takes words w s e are = step (bytes_eq w (codes "never")) refl e where
+  step : (b : Bool) → bytes_eq w (codes "never") ≡ b → cond {A = Option (Option ℕ)} b (Some None) (between 1 3600 w >>= λ n. Some (Some n)) ≡ Some s
+      → IsSetting words (setting.Sync s)
+  step true is k =
+      subst (λ (x : Option ℕ). IsSetting words (setting.Sync x)) (some_is {A = Option ℕ} None s k) (subst (AreOption words (codes "--sync")) (same_text w (codes "never") is) are)
+  step false is k =
+      let p = bind_some (between 1 3600 w) (λ n. Some (Some n)) s k in
+      let n = between_takes 1 3600 w p.0 p.1 in
+      subst (λ (x : Option ℕ). IsSetting words (setting.Sync x)) (some_is {A = Option ℕ} (Some p.0) s p.2) (n.1, n.2, subst (AreOption words (codes "--sync")) n.0 are)
+
+-- a number is not that word: `n` is no digit
+no_never : (n : ℕ) → n ≤ 3600 → bytes_eq (decimal n) (codes "never") ≡ false
+no_never n le = step (bytes_eq (decimal n) (codes "never")) refl where
+  clash : false ≡ true → ⊥
+  clash e = absurd cc
+
+  step : (b : Bool) → bytes_eq (decimal n) (codes "never") ≡ b → b ≡ false
+  step false is = refl
+  step true is = absurd (clash (subst (Lacks 110) (same_text (decimal n) (codes "never") is) (decimal_lacks 110 n refl (omega arith))))
+
+sync_again : (n : ℕ) → 1 ≤ n → n ≤ 3600 → sync_of (decimal n) ≡ Some (Some n)
+unfolding sync_of
+sync_again n high le = rw (no_never n le, between_again 1 3600 n high le (omega arith)) refl
 
 -- ---- a further mailbox of a user
 
@@ -163,6 +192,10 @@ valued_takes (flag.Number bound) words value s are e =
     subst (IsSetting words) (some_is (setting.Number bound p.0) s p.2) (n.1, n.2, subst (AreOption words (bound_text bound)) n.0 are)
 valued_takes flag.MailboxFile words value s are e = subst (IsSetting words) (ok_is (setting.MailboxFile value) s e) are
 valued_takes flag.StateFile words value s are e = subst (IsSetting words) (ok_is (setting.StateFile value) s e) are
+valued_takes flag.JournalFolder words value s are e = subst (IsSetting words) (ok_is (setting.JournalFolder value) s e) are
+valued_takes flag.Sync words value s are e =
+    let p = bind_some (sync_of value) (λ x. Some (setting.Sync x)) s (or_bad_ok flag.Sync (sync_of value >>= λ x. Some (setting.Sync x)) s e) in
+    subst (IsSetting words) (some_is (setting.Sync p.0) s p.2) (sync_takes words value p.0 p.1 are)
 valued_takes flag.PasswordFile words value s are e = subst (IsSetting words) (ok_is (setting.PasswordFile value) s e) are
 valued_takes flag.Watch words value s are e =
     let p = bind_some (watch_of value) (λ w. Some (setting.Watch w.0 w.1)) s (or_bad_ok flag.Watch (watch_of value >>= λ w. Some (setting.Watch w.0 w.1)) s e) in
@@ -192,6 +225,8 @@ valued_wrong (flag.Address which) value e k = or_bad_err (flag.Address which) (a
 valued_wrong (flag.Number bound) value e k = or_bad_err (flag.Number bound) (between (least bound) (most bound) value >>= λ n. Some (setting.Number bound n)) e k
 valued_wrong flag.MailboxFile value e k = absurd cc
 valued_wrong flag.StateFile value e k = absurd cc
+valued_wrong flag.JournalFolder value e k = absurd cc
+valued_wrong flag.Sync value e k = or_bad_err flag.Sync (sync_of value >>= λ x. Some (setting.Sync x)) e k
 valued_wrong flag.PasswordFile value e k = absurd cc
 valued_wrong flag.Watch value e k = or_bad_err flag.Watch (watch_of value >>= λ w. Some (setting.Watch w.0 w.1)) e k
 valued_wrong flag.Rate value e k = or_bad_err flag.Rate (rate_of value >>= λ r. Some (setting.Rate r)) e k
@@ -254,8 +289,11 @@ flag_begins (flag.Number bound.MaxDatagram) = refl
 flag_begins (flag.Number bound.ReceiveBuffer) = refl
 flag_begins (flag.Number bound.NonceTime) = refl
 flag_begins (flag.Number bound.PerSource) = refl
+flag_begins (flag.Number bound.JournalBytes) = refl
 flag_begins flag.MailboxFile = refl
 flag_begins flag.StateFile = refl
+flag_begins flag.JournalFolder = refl
+flag_begins flag.Sync = refl
 flag_begins flag.PasswordFile = refl
 flag_begins flag.Watch = refl
 flag_begins flag.Rate = refl
@@ -323,6 +361,18 @@ state_again : (path : List ℕ) → valued flag.StateFile path ≡ Ok (setting.S
 unfolding valued
 state_again path = refl
 
+journal_again : (path : List ℕ) → valued flag.JournalFolder path ≡ Ok (setting.JournalFolder path)
+unfolding valued
+journal_again path = refl
+
+never_again : valued flag.Sync (codes "never") ≡ Ok (setting.Sync None)
+unfolding valued sync_of
+never_again = refl
+
+syncs_again : (n : ℕ) → 1 ≤ n → n ≤ 3600 → valued flag.Sync (decimal n) ≡ Ok (setting.Sync (Some n))
+unfolding valued
+syncs_again n high le = rw (sync_again n high le) refl
+
 passwords_again : (path : List ℕ) → valued flag.PasswordFile path ≡ Ok (setting.PasswordFile path)
 unfolding valued
 passwords_again path = refl
@@ -376,6 +426,9 @@ setting_again (setting.Address p a) front rest h = options_again (flag.Address p
 setting_again (setting.Number b n) front rest h = options_again (flag.Number b) (decimal n) front rest h.2 ∙ ap (λ r. then_more r (settings_from None rest)) (number_again b n h.0 h.1)
 setting_again (setting.MailboxFile path) front rest h = options_again flag.MailboxFile path front rest h ∙ ap (λ r. then_more r (settings_from None rest)) (file_again path)
 setting_again (setting.StateFile path) front rest h = options_again flag.StateFile path front rest h ∙ ap (λ r. then_more r (settings_from None rest)) (state_again path)
+setting_again (setting.JournalFolder path) front rest h = options_again flag.JournalFolder path front rest h ∙ ap (λ r. then_more r (settings_from None rest)) (journal_again path)
+setting_again (setting.Sync None) front rest h = options_again flag.Sync (codes "never") front rest h ∙ ap (λ r. then_more r (settings_from None rest)) never_again
+setting_again (setting.Sync (Some n)) front rest h = options_again flag.Sync (decimal n) front rest h.2 ∙ ap (λ r. then_more r (settings_from None rest)) (syncs_again n h.0 h.1)
 setting_again (setting.PasswordFile path) front rest h = options_again flag.PasswordFile path front rest h ∙ ap (λ r. then_more r (settings_from None rest)) (passwords_again path)
 setting_again (setting.Watch user mailbox) front rest h =
     options_again flag.Watch (watched_text user mailbox) front rest h.2 ∙ ap (λ r. then_more r (settings_from None rest)) (watches_again user mailbox h.0 h.1)

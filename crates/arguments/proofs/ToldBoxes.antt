@@ -13,7 +13,7 @@ use Rattle.package.specs.Changes.{change_of}
 use Rattle.refer.specs.Transfers.{new_transfers}
 use Rattle.message_summary.specs.Mailboxes.{new_mailboxes}
 use Rattle.arguments.specs.Setup.{mailboxes_named, dealt_names}
-use Rattle.arguments.specs.Told.{told, boxes_told, all_told}
+use Rattle.arguments.specs.Told.{told, boxes_left, boxes_told, all_told}
 use Rattle.arguments.proofs.Dealt.{new_mailboxes-named}
 
 -- one change more
@@ -41,20 +41,21 @@ told-len seen all n no_refer changes names are =
     sym (length-map all seen) ∙ ap length are ∙ length-map-range_with_len (λ w. boxes_told no_refer changes (dealt_names n w names)) 0 n
 
 -- the mailboxes alone
-pub one_box : {P : Type 0} (seen : P → Seen) (boxes : List P) (first told_so : P) (no_refer : Bool) (changes : List Change) (names : List (String Global))
+pub one_box : {P : Type 0} (seen : P → Seen) (boxes : List P) (first told_so : P) (no_refer : Bool) (changes steps : List Change) (names : List (String Global))
     → no_refer ≡ true → boxes ≡ told_so ∷ [] → seen first ≡ new_mailboxes names → seen told_so ≡ told changes (seen first)
-    → map seen boxes ≡ boxes_told no_refer changes (map string_bytes names)
-one_box seen boxes first told_so no_refer changes names without are new so =
+    → map seen boxes ≡ boxes_left no_refer changes steps (map string_bytes names)
+one_box seen boxes first told_so no_refer changes steps names without are new so =
     ap (map seen) are
     ∙ ap (λ (m : Seen). m ∷ []) (so ∙ ap (told changes) (new ∙ new_mailboxes-named names))
-    ∙ ap (λ (b : Bool). told changes (mailboxes_named (map string_bytes names)) ∷ (if b then [] else new_transfers ∷ [])) (sym without)
+    ∙ ap (λ (b : Bool). told changes (mailboxes_named (map string_bytes names)) ∷ (if b then [] else told steps new_transfers ∷ [])) (sym without)
 
 -- and with transfers
-pub two_boxes : {P : Type 0} (seen : P → Seen) (boxes : List P) (first told_so transfers : P) (no_refer : Bool) (changes : List Change) (names : List (String Global))
-    → no_refer ≡ false → boxes ≡ told_so ∷ transfers ∷ [] → seen first ≡ new_mailboxes names → seen told_so ≡ told changes (seen first) → seen transfers ≡ new_transfers
-    → map seen boxes ≡ boxes_told no_refer changes (map string_bytes names)
-two_boxes seen boxes first told_so transfers no_refer changes names with_it are new so moved =
+pub two_boxes : {P : Type 0} (seen : P → Seen) (boxes : List P) (first told_so second begun : P) (no_refer : Bool) (changes steps : List Change) (names : List (String Global))
+    → no_refer ≡ false → boxes ≡ told_so ∷ begun ∷ [] → seen first ≡ new_mailboxes names → seen told_so ≡ told changes (seen first)
+    → seen second ≡ new_transfers → seen begun ≡ told steps (seen second)
+    → map seen boxes ≡ boxes_left no_refer changes steps (map string_bytes names)
+two_boxes seen boxes first told_so second begun no_refer changes steps names with_it are new so moved stepped =
     ap (map seen) are
-    ∙ ap (λ (m : Seen). m ∷ seen transfers ∷ []) (so ∙ ap (told changes) (new ∙ new_mailboxes-named names))
-    ∙ ap (λ (t : Seen). told changes (mailboxes_named (map string_bytes names)) ∷ t ∷ []) moved
-    ∙ ap (λ (b : Bool). told changes (mailboxes_named (map string_bytes names)) ∷ (if b then [] else new_transfers ∷ [])) (sym with_it)
+    ∙ ap (λ (m : Seen). m ∷ seen begun ∷ []) (so ∙ ap (told changes) (new ∙ new_mailboxes-named names))
+    ∙ ap (λ (t : Seen). told changes (mailboxes_named (map string_bytes names)) ∷ t ∷ []) (stepped ∙ ap (told steps) moved)
+    ∙ ap (λ (b : Bool). told changes (mailboxes_named (map string_bytes names)) ∷ (if b then [] else told steps new_transfers ∷ [])) (sym with_it)

@@ -38,6 +38,7 @@ default_numbers = record {
   receive_buffer = 4194304;
   nonce_time = None;
   per_source = None;
+  journal_bytes = 16777216;
 }
 
 -- what is done where nothing is set
@@ -54,6 +55,7 @@ default_choices = record {
   rate = None;
   old_digest = false;
   log_requests = false;
+  sync = Some 1;
 }
 
 abbrev pub with_number : Bound → ℕ → Numbers → Numbers
@@ -74,6 +76,7 @@ with_number bound.MaxDatagram n numbers = record numbers { max_datagram = n }
 with_number bound.ReceiveBuffer n numbers = record numbers { receive_buffer = n }
 with_number bound.NonceTime n numbers = record numbers { nonce_time = Some n }
 with_number bound.PerSource n numbers = record numbers { per_source = Some n }
+with_number bound.JournalBytes n numbers = record numbers { journal_bytes = n }
 
 abbrev pub with_address : AddressFlag → Addr → Choices → Choices
 with_address address.Listen addr choices = record choices { listen = addr }
@@ -93,6 +96,8 @@ after choices (setting.Address which addr) = with_address which addr choices
 after choices (setting.Number bound n) = record choices { numbers = with_number bound n choices.numbers }
 after choices (setting.MailboxFile path) = choices
 after choices (setting.StateFile path) = choices
+after choices (setting.JournalFolder path) = choices
+after choices (setting.Sync seconds) = record choices { sync = seconds }
 after choices (setting.PasswordFile path) = choices
 after choices (setting.Watch user mailbox) = choices
 after choices (setting.Rate rate) = record choices { rate = Some rate }
@@ -111,6 +116,8 @@ with_state path (setting.Address which addr) = path
 with_state path (setting.Number bound n) = path
 with_state path (setting.MailboxFile file) = path
 with_state path (setting.StateFile file) = Some file
+with_state path (setting.JournalFolder folder) = path
+with_state path (setting.Sync seconds) = path
 with_state path (setting.PasswordFile file) = path
 with_state path (setting.Watch user mailbox) = path
 with_state path (setting.Rate rate) = path
@@ -123,12 +130,34 @@ with_state path (setting.Mailbox name) = path
 abbrev pub state_of : List Setting → Option (List ℕ)
 state_of settings = fold with_state None settings
 
+-- the path of a folder of a journal, if a setting before this one or this one names it
+abbrev pub with_journal : Option (List ℕ) → Setting → Option (List ℕ)
+with_journal path (setting.Address which addr) = path
+with_journal path (setting.Number bound n) = path
+with_journal path (setting.MailboxFile file) = path
+with_journal path (setting.StateFile file) = path
+with_journal path (setting.JournalFolder folder) = Some folder
+with_journal path (setting.Sync seconds) = path
+with_journal path (setting.PasswordFile file) = path
+with_journal path (setting.Watch user mailbox) = path
+with_journal path (setting.Rate rate) = path
+with_journal path (setting.Allow network) = path
+with_journal path (setting.ControlAllow network) = path
+with_journal path (setting.Seed seed) = path
+with_journal path (setting.Switch switch) = path
+with_journal path (setting.Mailbox name) = path
+
+abbrev pub journal_folder : List Setting → Option (List ℕ)
+journal_folder settings = fold with_journal None settings
+
 -- the path of a file of passwords, if a setting before this one or this one names it
 abbrev pub with_passwords : Option (List ℕ) → Setting → Option (List ℕ)
 with_passwords path (setting.Address which addr) = path
 with_passwords path (setting.Number bound n) = path
 with_passwords path (setting.MailboxFile file) = path
 with_passwords path (setting.StateFile file) = path
+with_passwords path (setting.JournalFolder folder) = path
+with_passwords path (setting.Sync seconds) = path
 with_passwords path (setting.PasswordFile file) = Some file
 with_passwords path (setting.Watch user mailbox) = path
 with_passwords path (setting.Rate rate) = path
@@ -147,6 +176,8 @@ with_watched pairs (setting.Address which addr) = pairs
 with_watched pairs (setting.Number bound n) = pairs
 with_watched pairs (setting.MailboxFile path) = pairs
 with_watched pairs (setting.StateFile path) = pairs
+with_watched pairs (setting.JournalFolder path) = pairs
+with_watched pairs (setting.Sync seconds) = pairs
 with_watched pairs (setting.PasswordFile path) = pairs
 with_watched pairs (setting.Watch user mailbox) = pairs ++ (user, mailbox) ∷ []
 with_watched pairs (setting.Rate rate) = pairs
@@ -165,6 +196,8 @@ with_network networks (setting.Address which addr) = networks
 with_network networks (setting.Number bound n) = networks
 with_network networks (setting.MailboxFile path) = networks
 with_network networks (setting.StateFile path) = networks
+with_network networks (setting.JournalFolder path) = networks
+with_network networks (setting.Sync seconds) = networks
 with_network networks (setting.PasswordFile path) = networks
 with_network networks (setting.Watch user mailbox) = networks
 with_network networks (setting.Rate rate) = networks
@@ -184,6 +217,8 @@ with_control_network networks (setting.Address which addr) = networks
 with_control_network networks (setting.Number bound n) = networks
 with_control_network networks (setting.MailboxFile path) = networks
 with_control_network networks (setting.StateFile path) = networks
+with_control_network networks (setting.JournalFolder path) = networks
+with_control_network networks (setting.Sync seconds) = networks
 with_control_network networks (setting.PasswordFile path) = networks
 with_control_network networks (setting.Watch user mailbox) = networks
 with_control_network networks (setting.Rate rate) = networks

@@ -32,12 +32,15 @@ bound_text bound.MaxDatagram = codes "--max-datagram"
 bound_text bound.ReceiveBuffer = codes "--receive-buffer"
 bound_text bound.NonceTime = codes "--nonce-time"
 bound_text bound.PerSource = codes "--per-source"
+bound_text bound.JournalBytes = codes "--journal-bytes"
 
 abbrev pub flag_text : Flag → List ℕ
 flag_text (flag.Address which) = address_flag_text which
 flag_text (flag.Number bound) = bound_text bound
 flag_text flag.MailboxFile = codes "--mailboxes"
 flag_text flag.StateFile = codes "--state"
+flag_text flag.JournalFolder = codes "--journal"
+flag_text flag.Sync = codes "--sync"
 flag_text flag.PasswordFile = codes "--passwords"
 flag_text flag.Watch = codes "--watch"
 flag_text flag.Rate = codes "--rate"
@@ -59,6 +62,7 @@ least bound.Repeats = 0
 least bound.Linger = 0
 least bound.MaxDatagram = 512
 least bound.ReceiveBuffer = 4096
+least bound.JournalBytes = 65536
 least other = 1
 
 -- the greatest number that an option takes
@@ -80,3 +84,4 @@ most bound.MaxDatagram = 65507
 most bound.ReceiveBuffer = 1073741824
 most bound.NonceTime = 86400
 most bound.PerSource = 65536
+most bound.JournalBytes = 1073741824

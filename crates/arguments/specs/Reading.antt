@@ -1,5 +1,5 @@
 -- What the reader of settings computes, piece by piece. No public contract cites this.
-use Rattle.std.specs.Prelude.{◌≡◌, ℕ, Bool, ◌==◌, ◌&&◌, not, length, List, [], ◌∷◌, ◌++◌, if◌then◌else◌, Option, Some, None, Result, Ok, Err, bytes_eq}
+use Rattle.std.specs.Prelude.{◌≡◌, ℕ, Bool, ◌==◌, ◌&&◌, not, length, List, [], ◌∷◌, ◌++◌, if◌then◌else◌, Option, Some, None, Result, Ok, Err, bytes_eq, codes}
 use Rattle.std.specs.Str.{byte}
 use Rattle.std.specs.List.{position_or_len, before_first, after_first}
 use Rattle.sip_text.specs.Reading.{◌>>=◌, begins, addr_of, cut_at}
@@ -38,7 +38,7 @@ abbrev pub counts : List Bound
 counts = bound.Workers ∷ bound.MaxCseq ∷ bound.Table ∷ bound.Serials ∷ bound.Kept ∷ bound.Inbox ∷ bound.Outbox ∷ bound.Repeats ∷ bound.PerSource ∷ []
 
 abbrev pub sizes : List Bound
-sizes = bound.MaxDatagram ∷ bound.ReceiveBuffer ∷ []
+sizes = bound.MaxDatagram ∷ bound.ReceiveBuffer ∷ bound.JournalBytes ∷ []
 
 unfoldable pub address_flag_of : List ℕ → Option AddressFlag
 address_flag_of word = find_text address_flag_text address_flags word
@@ -69,7 +69,7 @@ number_flag None = None
 -- the options whose value is neither an address nor a number
 abbrev pub specials : List Flag
 specials =
-    flag.MailboxFile ∷ flag.StateFile ∷ flag.PasswordFile ∷ flag.Watch ∷ flag.Rate ∷ flag.Allow ∷ flag.ControlAllow ∷ flag.Seed ∷ []
+    flag.MailboxFile ∷ flag.StateFile ∷ flag.JournalFolder ∷ flag.Sync ∷ flag.PasswordFile ∷ flag.Watch ∷ flag.Rate ∷ flag.Allow ∷ flag.ControlAllow ∷ flag.Seed ∷ []
 
 unfoldable pub special_of : List ℕ → Option Flag
 special_of word = find_text flag_text specials word
@@ -133,11 +133,17 @@ rate_of value = do
   burst ← between 1 65536 cut.1
   Some (record { burst = burst; per_second = n })
 
+-- so many seconds from 1 to 3600, or never
+unfoldable pub sync_of : List ℕ → Option (Option ℕ)
+sync_of value = if bytes_eq value (codes "never") then Some None else (between 1 3600 value >>= λ n. Some (Some n))
+
 unfoldable pub valued : Flag → List ℕ → Result Setting OptionsError
 valued (flag.Address which) value = or_bad (flag.Address which) (addr_of value >>= λ a. Some (setting.Address which a))
 valued (flag.Number bound) value = or_bad (flag.Number bound) (between (least bound) (most bound) value >>= λ n. Some (setting.Number bound n))
 valued flag.MailboxFile value = Ok (setting.MailboxFile value)
 valued flag.StateFile value = Ok (setting.StateFile value)
+valued flag.JournalFolder value = Ok (setting.JournalFolder value)
+valued flag.Sync value = or_bad flag.Sync (sync_of value >>= λ s. Some (setting.Sync s))
 valued flag.PasswordFile value = Ok (setting.PasswordFile value)
 valued flag.Watch value = or_bad flag.Watch (watch_of value >>= λ w. Some (setting.Watch w.0 w.1))
 valued flag.Rate value = or_bad flag.Rate (rate_of value >>= λ r. Some (setting.Rate r))

@@ -4,8 +4,9 @@
 --   setting  = ("--listen" / "--contact" / "--control") address
 --            / ("--workers" / "--min-time" / "--max-time" / "--default-time" / "--refer-time" / "--linger" / "--max-cseq" / "--table"
 --              / "--serials" / "--kept" / "--inbox" / "--outbox" / "--repeats" / "--max-datagram" / "--receive-buffer" / "--nonce-time"
---              / "--per-source") number
---            / ("--mailboxes" / "--state" / "--passwords") path
+--              / "--per-source" / "--journal-bytes") number
+--            / ("--mailboxes" / "--state" / "--journal" / "--passwords") path
+--            / "--sync" (number / "never")       ; seconds, from 1 to 3600
 --            / "--watch" user ":" mailbox         ; no `:` in the user
 --            / "--rate" number "/" number         ; so many datagrams a second, and so many at once, each from 1 to 65536
 --            / ("--allow" / "--control-allow") network
@@ -19,7 +20,7 @@
 --   network  = octet "." octet "." octet "." octet "/" bits      ; 0 to 32 bits
 --
 -- Numbers are decimal without leading zeros, from the least to the greatest that the option takes.
-use Rattle.std.specs.Prelude.{◌≡◌, ◌≢◌, ℕ, ◌≤◌, ◌⊎◌, Bool, true, false, not, ◌&&◌, ◌==◌, List, [], ◌∷◌, ◌++◌, codes, decimal, Some, Result, Ok, Err}
+use Rattle.std.specs.Prelude.{◌≡◌, ◌≢◌, ℕ, ◌≤◌, ◌⊎◌, Bool, true, false, not, ◌&&◌, ◌==◌, List, [], ◌∷◌, ◌++◌, codes, decimal, Some, None, Result, Ok, Err}
 use Rattle.std.specs.Str.{byte}
 use Rattle.std.specs.List.{list_all}
 use Rattle.hex.specs.Hex.{decode_sized}
@@ -76,6 +77,9 @@ IsSetting words (setting.Address which addr) = IsAddr addr × AreOption words (a
 IsSetting words (setting.Number bound n) = (least bound ≤ n) × (n ≤ most bound) × AreOption words (bound_text bound) (decimal n)
 IsSetting words (setting.MailboxFile path) = AreOption words (codes "--mailboxes") path
 IsSetting words (setting.StateFile path) = AreOption words (codes "--state") path
+IsSetting words (setting.JournalFolder path) = AreOption words (codes "--journal") path
+IsSetting words (setting.Sync None) = AreOption words (codes "--sync") (codes "never")
+IsSetting words (setting.Sync (Some seconds)) = (1 ≤ seconds) × (seconds ≤ 3600) × AreOption words (codes "--sync") (decimal seconds)
 IsSetting words (setting.PasswordFile path) = AreOption words (codes "--passwords") path
 IsSetting words (setting.Watch user mailbox) =
     (has_no_colon user ≡ true) × IsMailbox mailbox × AreOption words (codes "--watch") (watched_text user mailbox)

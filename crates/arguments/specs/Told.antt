@@ -11,6 +11,10 @@ use Rattle.arguments.specs.Setup.{mailboxes_named, dealt_names}
 abbrev pub told : List Change → Seen → Seen
 told changes box = fold (λ (b : Seen) c. (change_of b c).1) box changes
 
+-- the packages of a worker whose mailboxes were told of these changes, and whose transfers of those, unless they are left out
+abbrev pub boxes_left : Bool → List Change → List Change → List (List ℕ) → List Seen
+boxes_left no_refer changes steps names = told changes (mailboxes_named names) ∷ (if no_refer then [] else told steps new_transfers ∷ [])
+
 -- the packages of a worker: the mailboxes of these names, and transfers, unless they are left out
 abbrev pub boxes_told : Bool → List Change → List (List ℕ) → List Seen
 boxes_told no_refer changes names = told changes (mailboxes_named names) ∷ (if no_refer then [] else new_transfers ∷ [])

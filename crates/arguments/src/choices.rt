@@ -36,6 +36,8 @@ pub struct Numbers {
     pub nonce_time: Option<u32>,
     /// How many live subscriptions one source address may have. None: as many as it likes.
     pub per_source: Option<u32>,
+    /// How many octets a file of the journal has at most before the next one is begun.
+    pub journal_bytes: u32,
 }
 
 /// What the service does, but for its mailboxes and who is heard.
@@ -62,6 +64,8 @@ pub struct Choices {
     pub old_digest: bool,
     /// Whether each request that is answered is told on standard error.
     pub log_requests: bool,
+    /// After how many seconds the journal is written to the disk. None: when the system likes.
+    pub sync: Option<u32>,
 }
 
 /// 127.0.0.1 with this port.
@@ -97,6 +101,7 @@ impl Numbers {
             receive_buffer: 4194304,
             nonce_time: None,
             per_source: None,
+            journal_bytes: 16777216,
         }
     }
 
@@ -121,6 +126,7 @@ impl Numbers {
             Bound::ReceiveBuffer => self.receive_buffer = number,
             Bound::NonceTime => self.nonce_time = Some(number),
             Bound::PerSource => self.per_source = Some(number),
+            Bound::JournalBytes => self.journal_bytes = number,
         }
     }
 }
@@ -142,6 +148,7 @@ impl Choices {
             rate: None,
             old_digest: false,
             log_requests: false,
+            sync: Some(1),
         }
     }
 
@@ -176,8 +183,10 @@ impl Choices {
             Setting::Seed(seed) => self.seed = Some(*seed),
             Setting::Switch(switch) => self.set_switch(*switch),
             Setting::Rate(rate) => self.rate = Some(*rate),
+            Setting::Sync(seconds) => self.sync = *seconds,
             Setting::MailboxFile(_)
             | Setting::StateFile(_)
+            | Setting::JournalFolder(_)
             | Setting::PasswordFile(_)
             | Setting::Watch(..)
             | Setting::Allow(..)

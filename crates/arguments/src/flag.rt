@@ -39,6 +39,7 @@ pub enum Bound {
     ReceiveBuffer,
     NonceTime,
     PerSource,
+    JournalBytes,
 }
 
 /// An option that has a value.
@@ -50,6 +51,10 @@ pub enum Flag {
     MailboxFile,
     /// `--state`: a file of MAIL lines that are done before the first datagram of SIP is heard.
     StateFile,
+    /// `--journal`: a folder with what a restart goes on from.
+    JournalFolder,
+    /// `--sync`: how often the journal is written to the disk.
+    Sync,
     /// `--passwords`: a file of users and their passwords' hashes.
     PasswordFile,
     /// `--watch`: a further mailbox that a user may watch.
@@ -100,6 +105,7 @@ impl Bound {
             Bound::ReceiveBuffer => "--receive-buffer",
             Bound::NonceTime => "--nonce-time",
             Bound::PerSource => "--per-source",
+            Bound::JournalBytes => "--journal-bytes",
         }
     }
 
@@ -111,6 +117,7 @@ impl Bound {
             Bound::Repeats | Bound::Linger => 0,
             Bound::MaxDatagram => 512,
             Bound::ReceiveBuffer => 4096,
+            Bound::JournalBytes => 65536,
             _ => 1,
         }
     }
@@ -128,7 +135,7 @@ impl Bound {
             Bound::Kept => 4096,
             Bound::Linger => 32,
             Bound::MaxDatagram => 65507,
-            Bound::ReceiveBuffer => 1073741824,
+            Bound::ReceiveBuffer | Bound::JournalBytes => 1073741824,
             Bound::NonceTime => 86400,
             Bound::MaxTime | Bound::DefaultTime | Bound::ReferTime | Bound::Serials => u32::MAX,
         }
@@ -145,6 +152,8 @@ impl Flag {
             Flag::Number(bound) => bound.text(),
             Flag::MailboxFile => "--mailboxes",
             Flag::StateFile => "--state",
+            Flag::JournalFolder => "--journal",
+            Flag::Sync => "--sync",
             Flag::PasswordFile => "--passwords",
             Flag::Watch => "--watch",
             Flag::Rate => "--rate",
@@ -168,6 +177,8 @@ impl Display for Flag {
             Flag::MailboxFile | Flag::StateFile | Flag::PasswordFile => {
                 write!(f, "{text} <file>")
             }
+            Flag::JournalFolder => write!(f, "{text} <folder>"),
+            Flag::Sync => write!(f, "{text} <1 to 3600, or never>"),
             Flag::Watch => write!(f, "{text} <user:mailbox>"),
             Flag::Rate => write!(f, "{text} <a second>/<at once>, each 1 to 65536"),
             Flag::Allow | Flag::ControlAllow => write!(f, "{text} <a.b.c.d/bits>"),
@@ -250,6 +261,8 @@ fn size_flag(word: &str) -> Option<Bound>
         Some(Bound::MaxDatagram)
     } else if word == "--receive-buffer" {
         Some(Bound::ReceiveBuffer)
+    } else if word == "--journal-bytes" {
+        Some(Bound::JournalBytes)
     } else {
         None
     }
@@ -285,6 +298,10 @@ fn special_flag(word: &str) -> Option<Flag>
         Some(Flag::MailboxFile)
     } else if word == "--state" {
         Some(Flag::StateFile)
+    } else if word == "--journal" {
+        Some(Flag::JournalFolder)
+    } else if word == "--sync" {
+        Some(Flag::Sync)
     } else if word == "--passwords" {
         Some(Flag::PasswordFile)
     } else if word == "--watch" {

@@ -1,8 +1,8 @@
 //! Who is heard by the settings of a service: networks that are let in, with SIP or with control lines, and mailboxes that users may
-//! watch beside their own.
+//! watch beside their own. And the paths that they name beside those of mailboxes: a file of passwords, and a folder of a journal.
 ghost use Rattle.std.specs.Prelude.{◌≡◌, IfOk, OnOk};
 ghost use Rattle.arguments.specs.Choices as spec;
-ghost use Rattle.arguments.specs.Choices.{with_network, with_control_network, with_alone, with_watched, with_passwords};
+ghost use Rattle.arguments.specs.Choices.{with_network, with_control_network, with_alone, with_watched, with_passwords, with_journal};
 
 use crate::choices::Choices;
 use crate::setting::Setting;
@@ -96,6 +96,27 @@ pub fn further_mailboxes(alloc: Global, settings: &[Setting]) -> Result<Vec<(Tex
         add_watched(alloc, &mut pairs, setting)?;
     }
     Ok(pairs)
+}
+
+/// The path of a folder of a journal behind a setting: of two the last counts.
+fn add_folder(alloc: Global, path: &mut Option<Text>, setting: &Setting) -> Result<(), NoMemory>
+    ensures { OnOk result (path.new ≡ with_journal path.old setting.now) }
+{
+    if let Setting::JournalFolder(named) = setting {
+        *path = Some(named.copy(alloc)?);
+    }
+    Ok(())
+}
+
+/// The path of the folder of the journal that the settings name, if they name one. Its only error is out of memory.
+pub fn journal_folder(alloc: Global, settings: &[Setting]) -> Result<Option<Text>, NoMemory>
+    ensures { IfOk result (λ path. path ≡ spec.journal_folder settings.now) }
+{
+    let mut path = None;
+    for setting in settings {
+        add_folder(alloc, &mut path, setting)?;
+    }
+    Ok(path)
 }
 
 /// The path of a file of passwords behind a setting: of two the last counts.

@@ -34,7 +34,9 @@ pub use choices::{Choices, Numbers};
 pub use error::OptionsError;
 pub use exit_status::ExitStatus;
 pub use flag::{AddressFlag, Bound, Flag};
-pub use heard::{allowed_networks, control_networks, further_mailboxes, password_file};
+pub use heard::{
+    allowed_networks, control_networks, further_mailboxes, journal_folder, password_file,
+};
 pub use lines_call::{LinesCall, parse_lines_call};
 pub use mailbox_file::{is_blank, line_mailboxes};
 pub use setting::{Setting, parse_settings};
@@ -42,6 +44,6 @@ pub use setup::{dealt_names, loopback_setup};
 pub use sip_text::NoMemory;
 pub use switch::Switch;
 pub use tell::{TellCall, TellError, parse_tell};
-pub use told::{all_told, dealt_boxes, made_boxes};
+pub use told::{all_told, boxes_left, dealt_boxes, made_boxes};
 pub use udp_arguments::{UdpArguments, parse_udp_arguments};
 pub use wanted::Wanted;

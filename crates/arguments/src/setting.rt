@@ -5,7 +5,7 @@ ghost use Rattle.arguments.specs.declared.setting.Setting.{Setting};
 ghost use Rattle.arguments.specs.declared.setting.Setting.TheVariants as setting;
 ghost use Rattle.arguments.specs.Settings.{is_user, IsMailbox, AreSettings, AreWrong, Answers};
 ghost use Rattle.arguments.specs.Reading as spec;
-ghost use Rattle.arguments.specs.Reading.{watch_of, rate_of, valued, named, alone, Reads};
+ghost use Rattle.arguments.specs.Reading.{watch_of, rate_of, sync_of, valued, named, alone, Reads};
 ghost use Rattle.sip_text.specs.Reading.{begins};
 
 use crate::error::OptionsError;
@@ -28,6 +28,10 @@ pub enum Setting {
     MailboxFile(Text),
     /// `--state` with the path of a file.
     StateFile(Text),
+    /// `--journal` with the path of a folder.
+    JournalFolder(Text),
+    /// `--sync` with the seconds from one to the next, or with `never`.
+    Sync(Option<u32>),
     /// `--passwords` with the path of a file.
     PasswordFile(Text),
     /// `--watch` with a user and a further mailbox of that user.
@@ -55,6 +59,18 @@ fn read_rate(value: &[u8]) -> Option<Rate>
     let per_second = between(1, 65536, per_second)?;
     let burst = between(1, 65536, rest)?;
     Some(Rate { burst, per_second })
+}
+
+/// Seconds from 1 to 3600, or none where it says `never`.
+#[tactic(auto, unfolding(crate::specs::Reading::sync_of))]
+fn read_sync(value: &str) -> Option<Option<u32>>
+    ensures { Finds (λ x. x) result (sync_of value.now) }
+{
+    if value == "never" {
+        return Some(None);
+    }
+    let seconds = between(1, 3600, value.as_bytes())?;
+    Some(Some(seconds))
 }
 
 /// A user before the first colon, and a mailbox behind it.
@@ -94,6 +110,8 @@ fn valued(alloc: Global, flag: Flag, value: &str) -> Result<Setting, OptionsErro
         }
         Flag::MailboxFile => Some(Setting::MailboxFile(Text::of(alloc, value)?)),
         Flag::StateFile => Some(Setting::StateFile(Text::of(alloc, value)?)),
+        Flag::JournalFolder => Some(Setting::JournalFolder(Text::of(alloc, value)?)),
+        Flag::Sync => read_sync(value).map(Setting::Sync),
         Flag::PasswordFile => Some(Setting::PasswordFile(Text::of(alloc, value)?)),
         Flag::Watch => match read_watch(value) {
             Some((user, mailbox)) => Some(watched(alloc, user, mailbox)?),

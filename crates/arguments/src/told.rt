@@ -20,6 +20,37 @@ fn tell<P: Package>(alloc: Global, mailboxes: &mut P, changes: &[Change]) -> Res
     Ok(())
 }
 
+/// The packages of a worker with these mailboxes, which were told of these changes, and with transfers that were told of those steps, unless
+/// they are left out. Each is as `make` gives it.
+pub fn boxes_left<P, F>(
+    alloc: Global,
+    names: Vec<String>,
+    changes: (&[Change], &[Change]),
+    no_refer: bool,
+    make: &F,
+) -> Result<Vec<P>, NoMemory>
+where
+    P: Package,
+    F: Fn(Wanted) -> Result<P, NoMemory>,
+    requires callable { F.IsAlwaysCallable make.now }
+    requires gives { Gives P.seen (F.post make.now) }
+    ensures { IfOk result (λ boxes. map P.seen boxes.items
+        ≡ spec.boxes_left no_refer changes.entry.0.now changes.entry.1.now (map string_bytes names.items)) }
+{
+    let (mails, steps) = changes;
+    let mut mailboxes = make(Wanted::Mailboxes(names))?;
+    tell(alloc, &mut mailboxes, mails)?;
+    let mut boxes = Vec::new(alloc);
+    boxes.push(mailboxes)?;
+    if no_refer {
+        return Ok(boxes);
+    }
+    let mut transfers = make(Wanted::Transfers)?;
+    tell(alloc, &mut transfers, steps)?;
+    boxes.push(transfers)?;
+    Ok(boxes)
+}
+
 /// The packages of a worker of a service with these mailboxes, each as `make` gives it.
 fn boxes_told<P, F>(
     alloc: Global,
@@ -36,16 +67,7 @@ where
     ensures { IfOk result (λ boxes. map P.seen boxes.items
         ≡ spec.boxes_told no_refer changes.now (map string_bytes names.items)) }
 {
-    let mut mailboxes = make(Wanted::Mailboxes(names))?;
-    tell(alloc, &mut mailboxes, changes)?;
-    let mut boxes = Vec::new(alloc);
-    boxes.push(mailboxes)?;
-    if no_refer {
-        return Ok(boxes);
-    }
-    let transfers = make(Wanted::Transfers)?;
-    boxes.push(transfers)?;
-    Ok(boxes)
+    boxes_left(alloc, names, (changes, &[]), no_refer, make)
 }
 
 /// The packages of each worker of a service, among whom the mailboxes are dealt out, each as `make` gives it. The mailboxes were

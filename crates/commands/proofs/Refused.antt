@@ -10,7 +10,7 @@ use Rattle.arguments.specs.declared.choices.Choices.{Choices}
 use Rattle.notifier_model.specs.Limits.{AreLimits}
 use Rattle.commands.specs.declared.ranged.Ranged.{Ranged}
 use Rattle.commands.specs.Ranges.{ranges, IsFirstOut}
-use Rattle.commands.specs.Plans.{limits_of, AreRead}
+use Rattle.commands.specs.Plans.{limits_of, AreRead, IsJournal}
 use Rattle.commands.specs.declared.error.ServeError.{ServeError}
 use Rattle.commands.specs.declared.error.ServeError.TheVariants as error
 use Rattle.transport.specs.Devices.{SinkSeen}
@@ -19,7 +19,7 @@ use Rattle.service.specs.Running.{is_faulty}
 use Rattle.service.proofs.Faults.{unfailed}
 use Rattle.commands.specs.UdpEnds.{all_closed, Tells}
 use Rattle.commands.specs.Serving.{Serves, EndedWell, CanEndWell}
-use Rattle.commands.specs.Refused.{IsOther, IsNoSocket, IsOfFile, IsOfState, IsOfNamedState, IsOfPasswords, IsOfAdmission, IsOfSetting, IsOfOne, NameFile, NameState, NamePasswords, IsListened, IsRefusal, asks_for_text, AskForText, IsStatus, status_of, status_after}
+use Rattle.commands.specs.Refused.{IsOther, IsNoSocket, IsOfJournal, IsOfFile, IsOfState, IsOfNamedState, IsOfPasswords, IsOfAdmission, IsOfSetting, IsOfOne, NameFile, NameState, NamePasswords, IsListened, IsRefusal, asks_for_text, AskForText, IsStatus, status_of, status_after}
 
 pub other_is : (words : List (List ℕ)) (e : ServeError) → IsOther e → IsRefusal words e
 other_is words (error.Options e) is = absurd is
@@ -29,6 +29,7 @@ other_is words error.NoMailbox is = absurd is
 other_is words (error.File path) is = absurd is
 other_is words (error.Line path line e) is = absurd is
 other_is words (error.StateLine path line fault) is = absurd is
+other_is words (error.JournalInUse path) is = absurd is
 other_is words error.NoPasswords is = absurd is
 other_is words (error.PasswordLine path e) is = absurd is
 other_is words (error.NoUsers path) is = absurd is
@@ -54,6 +55,7 @@ no_socket_is which error.NoMailbox is listened = absurd is
 no_socket_is which (error.File path) is listened = absurd is
 no_socket_is which (error.Line path line e) is listened = absurd is
 no_socket_is which (error.StateLine path line fault) is listened = absurd is
+no_socket_is which (error.JournalInUse path) is listened = absurd is
 no_socket_is which error.NoPasswords is listened = absurd is
 no_socket_is which (error.PasswordLine path e) is listened = absurd is
 no_socket_is which (error.NoUsers path) is listened = absurd is
@@ -78,6 +80,8 @@ memory_of_setting (setting.Address which addr) e is = is
 memory_of_setting (setting.Number bound n) e is = is
 memory_of_setting (setting.MailboxFile path) e is = memory_of_file path e is
 memory_of_setting (setting.StateFile path) e is = is
+memory_of_setting (setting.JournalFolder path) e is = is
+memory_of_setting (setting.Sync seconds) e is = is
 memory_of_setting (setting.PasswordFile path) e is = is
 memory_of_setting (setting.Watch user mailbox) e is = is
 memory_of_setting (setting.Rate rate) e is = is
@@ -95,6 +99,7 @@ of_file_is words path error.NoMailbox names is = absurd is
 of_file_is words path (error.File named) names is = inl (subst (NameFile words) (sym is) names)
 of_file_is words path (error.Line named line e) names is = (subst (NameFile words) (sym is.0) names, is.1)
 of_file_is words path (error.StateLine named line fault) names is = absurd is
+of_file_is words path (error.JournalInUse named) names is = absurd is
 of_file_is words path error.NoPasswords names is = absurd is
 of_file_is words path (error.PasswordLine named e) names is = absurd is
 of_file_is words path (error.NoUsers named) names is = absurd is
@@ -116,6 +121,8 @@ of_setting_is words settings k (setting.Address which addr) e are at is = no_mem
 of_setting_is words settings k (setting.Number bound n) e are at is = no_memory_is words e is
 of_setting_is words settings k (setting.MailboxFile path) e are at is = of_file_is words path e (settings, k, are, at) is
 of_setting_is words settings k (setting.StateFile path) e are at is = no_memory_is words e is
+of_setting_is words settings k (setting.JournalFolder path) e are at is = no_memory_is words e is
+of_setting_is words settings k (setting.Sync seconds) e are at is = no_memory_is words e is
 of_setting_is words settings k (setting.PasswordFile path) e are at is = no_memory_is words e is
 of_setting_is words settings k (setting.Watch user mailbox) e are at is = no_memory_is words e is
 of_setting_is words settings k (setting.Rate rate) e are at is = no_memory_is words e is
@@ -136,6 +143,7 @@ of_path_is words path error.NoMailbox names is = absurd is
 of_path_is words path (error.File named) names is = inr (inl (subst (NameState words) (sym is) names))
 of_path_is words path (error.Line named line e) names is = absurd is
 of_path_is words path (error.StateLine named number fault) names is = (subst (NameState words) (sym is.0) names, is.1, is.2, is.3)
+of_path_is words path (error.JournalInUse named) names is = absurd is
 of_path_is words path error.NoPasswords names is = absurd is
 of_path_is words path (error.PasswordLine named e) names is = absurd is
 of_path_is words path (error.NoUsers named) names is = absurd is
@@ -160,6 +168,7 @@ of_users_is words path error.NoMailbox names is = absurd is
 of_users_is words path (error.File named) names is = inr (inr (subst (NamePasswords words) (sym is) names))
 of_users_is words path (error.Line named line e) names is = absurd is
 of_users_is words path (error.StateLine named line fault) names is = absurd is
+of_users_is words path (error.JournalInUse named) names is = absurd is
 of_users_is words path error.NoPasswords names is = absurd is
 of_users_is words path (error.PasswordLine named e) names is = (subst (NamePasswords words) (sym is.0) names, is.1)
 of_users_is words path (error.NoUsers named) names is = subst (NamePasswords words) (sym is) names
@@ -178,6 +187,10 @@ of_admission_is words settings e are (inr (inl is)) = subst (IsRefusal words) (s
 of_admission_is words settings e are (inr (inr (inl (inl none)))) = no_memory_is words e none
 of_admission_is words settings e are (inr (inr (inl (inr is)))) = subst (IsRefusal words) (sym is.3) (settings, is.1, are, is.2)
 of_admission_is words settings e are (inr (inr (inr is))) = of_users_is words is.0 e (settings, are, is.1) is.2
+
+pub of_journal_is : (words : List (List ℕ)) (journal : Option (List ℕ)) (e : ServeError) → IsJournal words journal → IsOfJournal journal e → IsRefusal words e
+of_journal_is words journal e is (inl none) = no_memory_is words e none
+of_journal_is words journal e is (inr of) = subst (IsRefusal words) (sym of.2) (subst (IsJournal words) of.1 is)
 
 -- a service that ran and was closed off so ended well
 pub ended_well : {W : Type 0} (contents : W → Option (List ℕ)) (words : List (List ℕ)) (before between after : SinkSeen W) (o : ServiceEnd)
@@ -212,6 +225,10 @@ can_end_well contents words before after o ended = record {
       is_plan = ended.serves.is_plan;
       local = ended.serves.local;
       is_at = ended.serves.is_at;
+      begins = ended.serves.begins;
+      begins_as = ended.serves.begins_as;
+      opened = ended.serves.opened;
+      opens_as = ended.serves.opens_as;
       ran = record { wire = ended.serves.ran.wire; wire' = ended.serves.ran.wire'; runs = ended.serves.ran.runs };
       faults = ended.serves.faults;
     };

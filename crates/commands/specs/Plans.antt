@@ -1,5 +1,5 @@
 -- What the words behind `notifyd serve` ask for, and what its workers start from.
-use Rattle.std.specs.Prelude.{◌≡◌, ◌≢◌, ℕ, not, List, [], ◌∷◌, ◌++◌, Option, Some, None, if◌then◌else◌}
+use Rattle.std.specs.Prelude.{◌≡◌, ◌≢◌, ℕ, min, max, not, List, [], ◌∷◌, ◌++◌, Option, Some, None, if◌then◌else◌}
 use Rattle.std.specs.List.{All, fold}
 use Rattle.control_lines.specs.Told.{is_held}
 use Rattle.sip_text.specs.declared.address.Addr.{Addr}
@@ -12,7 +12,7 @@ use Rattle.arguments.specs.declared.setting.Setting.{Setting}
 use Rattle.admission.specs.declared.judging.Admission.{Admission}
 use Rattle.arguments.specs.declared.setting.Setting.TheVariants as setting
 use Rattle.admission.specs.declared.network.Network.{Network}
-use Rattle.arguments.specs.Choices.{choices_of, state_of, control_networks}
+use Rattle.arguments.specs.Choices.{choices_of, state_of, journal_folder, control_networks}
 use Rattle.commands.specs.State.{IsState}
 use Rattle.commands.specs.Heard.{IsAdmission}
 use Rattle.arguments.specs.Settings.{IsMailbox, AreSettings}
@@ -27,6 +27,8 @@ Names (setting.Address place addr) names = names ≡ []
 Names (setting.Number bound n) names = names ≡ []
 Names (setting.MailboxFile path) names = All IsMailbox names
 Names (setting.StateFile path) names = names ≡ []
+Names (setting.JournalFolder path) names = names ≡ []
+Names (setting.Sync seconds) names = names ≡ []
 Names (setting.PasswordFile path) names = names ≡ []
 Names (setting.Watch user mailbox) names = names ≡ []
 Names (setting.Rate rate) names = names ≡ []
@@ -71,12 +73,12 @@ limits_of n = record {
   outbox = n.outbox;
 }
 
--- so many workers, where a number was asked for or none
+-- so many workers, where a number was asked for or none: then one a processor, or those of a journal
 abbrev pub IsCount : Option ℕ → ℕ → Type 0
 IsCount None n = IsWithin 1 256 n
 IsCount (Some asked) n = IsWithin 1 256 n × (IsWithin 1 256 asked → n ≡ asked)
 
--- a seed that was asked for, or any
+-- a seed that was asked for, or any: the system's randomness, or that of a journal
 abbrev pub IsSeed : Option (List ℕ) → List ℕ → Type 0
 IsSeed None seed = Unit {0}
 IsSeed (Some asked) seed = seed ≡ asked
@@ -117,6 +119,12 @@ pub record AreOperators (words : List (List ℕ)) (networks : List Network) : Ty
   pub are_settings : AreSettings words settings
   pub are_networks : networks ≡ control_networks settings
 
+-- the words name this folder of a journal, or none
+pub record IsJournal (words : List (List ℕ)) (journal : Option (List ℕ)) : Type 0 where
+  pub settings : List Setting
+  pub are_settings : AreSettings words settings
+  pub is_folder : journal ≡ journal_folder settings
+
 -- the words ask for this
 pub record IsPlan (words : List (List ℕ)) (plan : Plan) : Type 0 where
   pub named : List (List ℕ)
@@ -125,12 +133,30 @@ pub record IsPlan (words : List (List ℕ)) (plan : Plan) : Type 0 where
   pub changes : AreChanges words plan.changes.items
   pub heard : AreHeard words plan.admission
   pub operators : AreOperators words plan.operators.items
+  pub journal : IsJournal words plan.journal
   pub reached : IsReached plan.choices
   pub some : plan.mailboxes.items ≢ []
   pub limits : plan.limits ≡ limits_of plan.choices.numbers
   pub within : AreLimits plan.limits
   pub seed : IsSeed plan.choices.seed plan.seed
   pub workers : IsCount plan.choices.numbers.workers plan.workers
+
+-- ---- what a journal had, where the words ask for none
+
+abbrev pub seed_or : Option (List ℕ) → List ℕ → List ℕ → List ℕ
+seed_or None seed planned = seed
+seed_or (Some asked) seed planned = planned
+
+abbrev pub workers_or : Option ℕ → ℕ → ℕ → ℕ
+workers_or None workers planned = min 256 (max 1 workers)
+workers_or (Some asked) workers planned = planned
+
+-- the plan with the seed and the number of workers that a journal had
+abbrev pub adopted : List ℕ → ℕ → Plan → Plan
+adopted seed workers plan = record plan {
+  seed = seed_or plan.choices.seed seed plan.seed;
+  workers = workers_or plan.choices.numbers.workers workers plan.workers;
+}
 
 -- what the desks of the workers stand on, where the socket is here
 abbrev pub setup_of : Plan → Addr → Setup

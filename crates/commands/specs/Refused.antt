@@ -23,9 +23,11 @@ use Rattle.arguments.specs.Choices.{choices_of, state_of, password_file, further
 use Rattle.arguments.specs.Settings.{AreSettings, AreWrong}
 use Rattle.service.specs.declared.error.RunError.{RunError}
 use Rattle.service.specs.declared.error.RunError.TheVariants as run
+use Rattle.resumption.specs.declared.desks.Halt.{Halt}
+use Rattle.resumption.specs.declared.desks.Halt.TheVariants as halt
 use Rattle.commands.specs.declared.error.ServeError.{ServeError}
 use Rattle.commands.specs.declared.error.ServeError.TheVariants as error
-use Rattle.commands.specs.Plans.{limits_of, IsReached, AreRead}
+use Rattle.commands.specs.Plans.{limits_of, IsReached, AreRead, IsJournal}
 use Rattle.commands.specs.Ranges.{ranges, IsFirstOut}
 use Rattle.commands.specs.State.{IsNoChange, IsFault}
 use Rattle.commands.specs.Heard.{needs_passwords}
@@ -38,6 +40,8 @@ status_of_words (wrong.Bad (flag.Address which)) = 3
 status_of_words (wrong.Bad (flag.Number bound)) = 1
 status_of_words (wrong.Bad flag.MailboxFile) = 1
 status_of_words (wrong.Bad flag.StateFile) = 1
+status_of_words (wrong.Bad flag.JournalFolder) = 1
+status_of_words (wrong.Bad flag.Sync) = 1
 status_of_words (wrong.Bad flag.PasswordFile) = 1
 status_of_words (wrong.Bad flag.Watch) = 1
 status_of_words (wrong.Bad flag.Rate) = 1
@@ -65,6 +69,7 @@ status_of error.NoMailbox = 1
 status_of (error.File path) = 3
 status_of (error.Line path line e) = status_of_line e
 status_of (error.StateLine path line fault) = 3
+status_of (error.JournalInUse path) = 3
 status_of error.NoPasswords = 1
 status_of (error.PasswordLine path e) = 3
 status_of (error.NoUsers path) = 3
@@ -83,6 +88,11 @@ of_run run.NoThread = error.System
 of_run run.NoMemory = error.NoMemory
 of_run (run.BadDesk worker) = error.System
 
+-- the desks of a journal don't go on for this cause
+abbrev pub of_halt : Halt → ServeError
+of_halt halt.NoMemory = error.NoMemory
+of_halt halt.Unfit = error.System
+
 -- a service listens here: phones and the operator reach it by these two alone
 abbrev pub IsListened : AddressFlag → Type 0
 IsListened address.Listen = Unit {0}
@@ -98,6 +108,7 @@ IsOther error.NoMailbox = ⊥
 IsOther (error.File path) = ⊥
 IsOther (error.Line path line e) = ⊥
 IsOther (error.StateLine path line fault) = ⊥
+IsOther (error.JournalInUse path) = ⊥
 IsOther error.NoPasswords = ⊥
 IsOther (error.PasswordLine path e) = ⊥
 IsOther (error.NoUsers path) = ⊥
@@ -125,6 +136,7 @@ IsNoSocket which error.NoMailbox = ⊥
 IsNoSocket which (error.File path) = ⊥
 IsNoSocket which (error.Line path line e) = ⊥
 IsNoSocket which (error.StateLine path line fault) = ⊥
+IsNoSocket which (error.JournalInUse path) = ⊥
 IsNoSocket which error.NoPasswords = ⊥
 IsNoSocket which (error.PasswordLine path e) = ⊥
 IsNoSocket which (error.NoUsers path) = ⊥
@@ -158,6 +170,7 @@ IsOfFile path error.NoMailbox = ⊥
 IsOfFile path (error.File named) = named ≡ path
 IsOfFile path (error.Line named line e) = (named ≡ path) × IsOfLine e
 IsOfFile path (error.StateLine named line fault) = ⊥
+IsOfFile path (error.JournalInUse named) = ⊥
 IsOfFile path error.NoPasswords = ⊥
 IsOfFile path (error.PasswordLine named e) = ⊥
 IsOfFile path (error.NoUsers named) = ⊥
@@ -176,6 +189,8 @@ IsOfSetting (setting.Address which addr) e = e ≡ error.NoMemory
 IsOfSetting (setting.Number bound n) e = e ≡ error.NoMemory
 IsOfSetting (setting.MailboxFile path) e = IsOfFile path e
 IsOfSetting (setting.StateFile path) e = e ≡ error.NoMemory
+IsOfSetting (setting.JournalFolder path) e = e ≡ error.NoMemory
+IsOfSetting (setting.Sync seconds) e = e ≡ error.NoMemory
 IsOfSetting (setting.PasswordFile path) e = e ≡ error.NoMemory
 IsOfSetting (setting.Watch user mailbox) e = e ≡ error.NoMemory
 IsOfSetting (setting.Rate rate) e = e ≡ error.NoMemory
@@ -205,6 +220,7 @@ IsOfState path error.NoMailbox = ⊥
 IsOfState path (error.File named) = named ≡ path
 IsOfState path (error.Line named line e) = ⊥
 IsOfState path (error.StateLine named number fault) = (named ≡ path) × (line : List ℕ) × IsNoChange line × IsFault line fault
+IsOfState path (error.JournalInUse named) = ⊥
 IsOfState path error.NoPasswords = ⊥
 IsOfState path (error.PasswordLine named e) = ⊥
 IsOfState path (error.NoUsers named) = ⊥
@@ -240,6 +256,7 @@ IsOfPasswords path error.NoMailbox = ⊥
 IsOfPasswords path (error.File named) = named ≡ path
 IsOfPasswords path (error.Line named line e) = ⊥
 IsOfPasswords path (error.StateLine named line fault) = ⊥
+IsOfPasswords path (error.JournalInUse named) = ⊥
 IsOfPasswords path error.NoPasswords = ⊥
 IsOfPasswords path (error.PasswordLine named e) = (named ≡ path) × IsOfPassword e
 IsOfPasswords path (error.NoUsers named) = named ≡ path
@@ -277,6 +294,12 @@ abbrev pub NameUser : List (List ℕ) → List ℕ → Type 0
 NameUser words user =
     (settings : List Setting) × (mailbox : List ℕ) × AreSettings words settings × Contains (further_mailboxes settings) (user, mailbox)
 
+-- ---- the journal
+
+-- the folder of this journal can't be had for this cause
+abbrev pub IsOfJournal : Option (List ℕ) → ServeError → Type 0
+IsOfJournal journal e = (e ≡ error.NoMemory) ⊎ ((path : List ℕ) × (journal ≡ Some path) × (e ≡ error.JournalInUse path))
+
 -- ---- all of it
 
 -- the words ask for no service for this cause. What stands in a file, and of the system and memory, no contract can tell
@@ -290,6 +313,7 @@ IsRefusal words error.NoMailbox = (choices : Choices) × AreRead words choices [
 IsRefusal words (error.File path) = NameFile words path ⊎ NameState words path ⊎ NamePasswords words path
 IsRefusal words (error.Line path line e) = NameFile words path × IsOfLine e
 IsRefusal words (error.StateLine path number fault) = NameState words path × (line : List ℕ) × IsNoChange line × IsFault line fault
+IsRefusal words (error.JournalInUse path) = IsJournal words (Some path)
 IsRefusal words error.NoPasswords = (settings : List Setting) × AreSettings words settings × HaveNoPasswords settings
 IsRefusal words (error.PasswordLine path e) = NamePasswords words path × IsOfPassword e
 IsRefusal words (error.NoUsers path) = NamePasswords words path

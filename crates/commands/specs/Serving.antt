@@ -1,5 +1,11 @@
 -- A service that an operator runs, from its words to its end.
-use Rattle.std.specs.Prelude.{◌≡◌, ◌≢◌, ℕ, true, false, List, [], Option}
+use Rattle.std.specs.Prelude.{◌≡◌, ◌≢◌, ◌<◌, ℕ, true, false, List, [], get_or, Option, Some, None, Vec}
+use Rattle.std.specs.declared.alloc.Global.{Global}
+use Rattle.package.specs.Content.{Seen}
+use Rattle.package.specs.declared.change.Change.{Change}
+use Rattle.notifier.specs.Held.{Held, seen_by}
+use Rattle.notifier.specs.Standing.{first_standing}
+use Rattle.service.specs.declared.begins.Begins.{Begins}
 use Rattle.sip_text.specs.declared.address.Addr.{Addr}
 use Rattle.transport.specs.Devices.{SinkSeen}
 use Rattle.notifier_model.specs.Start.{Start, place_of}
@@ -10,7 +16,7 @@ use Rattle.commands.specs.UdpEnds.{all_closed, Tells}
 use Rattle.service.specs.declared.running.ServiceEnd.{ServiceEnd}
 use Rattle.service.specs.declared.running.ServiceWork.{ServiceWork}
 use Rattle.service.specs.Listening.{IsDeaf}
-use Rattle.service.specs.Running.{Opening, Runs, anew, AreFaults, is_faulty, opening}
+use Rattle.service.specs.Running.{Beginning, Opening, Runs, anew, AreFaults, is_faulty, opening}
 use Rattle.admission.specs.declared.judging.Admission.{Admission}
 use Rattle.arguments.specs.declared.choices.Choices.{Choices}
 use Rattle.transport.specs.Ears.{no_misses}
@@ -46,10 +52,37 @@ pub record AreOpen (choices : Choices) (s : Sockets) : Type 0 where
 abbrev pub opening_of : Plan → Opening
 opening_of plan = record { mailboxes = plan.mailboxes.items; changes = plan.changes.items; networks = plan.operators.items }
 
+-- ---- how it begins
+
+-- A service without a journal has new desks, and nothing of its begin is left of a former one. With one it may go on from that: no contract tells
+-- what a file holds.
+abbrev pub BeginsBy : Option (List ℕ) → Plan → Addr → Beginning → Type 0
+BeginsBy None plan local b = b ≡ anew (start_at plan local) plan.choices.numbers.repeats
+BeginsBy (Some folder) plan local b = Unit {0}
+
+abbrev pub BeginsAs : Plan → Addr → Beginning → Type 0
+BeginsAs plan local b = BeginsBy plan.journal plan local b
+
+-- Desks that begin anew: one of each worker, as this plan asks for it. Nothing is left of a former service: no NOTIFY waits for its answer,
+-- no second was told, and of mailboxes only what the plan says
+pub record BeginsAnew {P : Type 0} (seen : P → Seen) (plan : Plan) (local : Addr) (desks : List (Option (Held P))) (begins : Begins) (changes : Option (Vec Change Global)) : Type 0 where
+  pub stands : (w : ℕ) (d : Option (Held P)) → w < plan.workers → seen_by seen (get_or desks w d) ≡ Some (first_standing (start_at plan local w))
+  pub none_waits : begins.unanswered.items ≡ []
+  pub none_told : begins.tick ≡ 0
+  pub unchanged : changes ≡ None
+
+-- with a journal the changes that were told before may be those that stood there
+abbrev pub OpensBy : Option (List ℕ) → Plan → Opening → Type 0
+OpensBy None plan opened = opened ≡ opening_of plan
+OpensBy (Some folder) plan opened = (opened.mailboxes ≡ plan.mailboxes.items) × (opened.networks ≡ plan.operators.items)
+
+abbrev pub OpensAs : Plan → Opening → Type 0
+OpensAs plan opened = OpensBy plan.journal plan opened
+
 -- what the plan asks for, over the sockets that were chosen
 pub record IsWork (plan : Plan) (work : ServiceWork) : Type 0 where
   pub setup : work.setup ≡ setup_of plan work.sip.coming.local
-  pub opened : opening work.desk ≡ opening_of plan
+  pub opened : OpensAs plan (opening work.desk)
   pub sip : IsAt plan.choices.listen work.sip.coming.local
   pub lines : IsAt plan.choices.control work.desk.coming.local
   pub replies : work.desk.going.local ≡ work.desk.coming.local
@@ -58,8 +91,6 @@ pub record IsWork (plan : Plan) (work : ServiceWork) : Type 0 where
   pub admission : work.sip.admission ≡ plan.admission
   pub repeats : work.repeats ≡ plan.choices.numbers.repeats
   pub linger : work.linger ≡ plan.choices.numbers.linger
-  pub none_waits : work.begins.unanswered.items ≡ []
-  pub none_told : work.begins.tick ≡ 0
   pub sip_misses : misses work.sip.coming ≡ no_misses
   pub line_misses : misses work.desk.coming ≡ no_misses
 
@@ -68,11 +99,11 @@ abbrev pub new_sink : {W : Type 0} → W → SinkSeen W
 new_sink writer = record { writer = writer; failures = 0; is_flushed = false }
 
 module _ {W : Type 0} (contents : W → Option (List ℕ)) where
-  -- a crew ran as a service to its end, over some wire: it began anew, with new desks of these starts
-  pub record Ran (start : ℕ → Start) (workers repeats : ℕ) (opened : Opening) (admission : Admission) (before after : SinkSeen W) (outcome : ServiceEnd) : Type 0 where
+  -- a crew ran as a service to its end, over some wire
+  pub record Ran (begins : Beginning) (workers : ℕ) (opened : Opening) (admission : Admission) (before after : SinkSeen W) (outcome : ServiceEnd) : Type 0 where
     pub wire : WireSeen
     pub wire' : WireSeen
-    pub runs : Runs (anew start repeats) workers opened admission
+    pub runs : Runs begins workers opened admission
         (record { wire = wire; wire' = wire'; writer = writer_seen contents before; writer' = writer_seen contents after }) outcome
 
   -- the words ask for a service, which ran to its end, and tells each fault of its sockets and of the clock
@@ -81,7 +112,11 @@ module _ {W : Type 0} (contents : W → Option (List ℕ)) where
     pub is_plan : IsPlan words plan
     pub local : Addr
     pub is_at : IsAt plan.choices.listen local
-    pub ran : Ran (start_at plan local) plan.workers plan.choices.numbers.repeats (opening_of plan) plan.admission before after outcome
+    pub begins : Beginning
+    pub begins_as : BeginsAs plan local begins
+    pub opened : Opening
+    pub opens_as : OpensAs plan opened
+    pub ran : Ran begins plan.workers opened plan.admission before after outcome
     pub faults : AreFaults no_misses no_misses outcome
 
   -- that service ended well: neither of its two sockets was deaf, no read of the clock failed, no thread tells of a fault, each worker

@@ -1,11 +1,12 @@
 //! Why a service doesn't run.
 ghost use Rattle.std.specs.Prelude.{◌≡◌};
 ghost use Rattle.commands.specs.declared.error.ServeError.TheVariants as error;
-ghost use Rattle.commands.specs.Refused.{of_run, status_of, status_of_words};
+ghost use Rattle.commands.specs.Refused.{of_halt, of_run, status_of, status_of_words};
 
 use crate::ranged::Ranged;
 use arguments::{AddressFlag, ExitStatus, Flag, OptionsError};
 use digest::PasswordsError;
+use resumption::Halt;
 use service::RunError;
 use sip_text::{NoMemory, Text};
 use std::alloc::{AllocError, AllocFailed};
@@ -46,6 +47,9 @@ pub enum ServeError {
     /// A line of a file of changes is no MAIL line.
     #[error("{path}, line {line}: {fault} (MAIL <mailbox> <class> <new> <old> <urgent new> <urgent old>)", path = .0.as_str(), line = .1, fault = .2)]
     StateLine(Text, u64, StateFault),
+    /// Another service writes the journal in this folder.
+    #[error("another service has this journal: {path}", path = .0.as_str())]
+    JournalInUse(Text),
     /// Something is said of users, and no file of their passwords is named.
     #[error("no passwords: --watch, --nonce-time and --old-digest need --passwords <file>")]
     NoPasswords,
@@ -115,6 +119,7 @@ impl ServeError {
             ServeError::Line(..)
             | ServeError::File(_)
             | ServeError::StateLine(..)
+            | ServeError::JournalInUse(_)
             | ServeError::PasswordLine(..)
             | ServeError::NoUsers(_)
             | ServeError::Address(_)
@@ -165,8 +170,20 @@ impl From<RunError> for ServeError {
     fn from(error: RunError) -> ServeError {
         match error {
             RunError::NoThread => ServeError::System,
-            RunError::BadDesk(_) => ServeError::System,
             RunError::NoMemory => ServeError::NoMemory,
+            RunError::BadDesk(_) => ServeError::System,
+        }
+    }
+}
+
+impl From<Halt> for ServeError {
+    ghost from_gives = { λ halt e. e ≡ of_halt halt };
+
+    fn from(halt: Halt) -> ServeError {
+        match halt {
+            Halt::NoMemory => ServeError::NoMemory,
+            // A journal that tells of no such desks was put aside before.
+            Halt::Unfit => ServeError::System,
         }
     }
 }

@@ -5,7 +5,7 @@ ghost use Rattle.commands.specs.Refused.{asks_for_text, AskForText};
 
 use sip_text::Text;
 
-const VERSION: &str = "notifyd 1.0";
+pub(crate) const VERSION: &str = "notifyd 1.0";
 
 pub(crate) const HELP: &str = "\
 usage: notifyd serve [options] [<mailbox>...]      (also --option=value)
@@ -19,6 +19,9 @@ usage: notifyd serve [options] [<mailbox>...]      (also --option=value)
   --workers <1 to 256>       worker threads (one a processor)
   --mailboxes <file>         a mailbox a line, or 1000-1999; # in front: a comment
   --state <file>             MAIL lines that are done first; # in front: a comment
+  --journal <folder>         what is kept there outlives a crash (nothing is kept)
+  --journal-bytes <octets>   a file of it has about so many at most (16777216)
+  --sync <seconds>           from one write to the disk to the next, or never (1)
   --passwords <file>         who may subscribe and refer: user:realm:hash a line,
                              as htdigest writes them; # in front: a comment
   --watch <user:mailbox>     a mailbox that this user may watch too (repeatable)

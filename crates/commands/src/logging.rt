@@ -3,7 +3,7 @@
 
 use arguments::AddressFlag;
 use service::{Shared, has_room_soon};
-use sip_text::{Addr, NoMemory};
+use sip_text::{Addr, NoMemory, Text};
 use std::rt::Clock;
 
 /// Whether only this machine reaches the address.
@@ -55,6 +55,14 @@ pub(crate) fn say_room<R: Eprint>(rt: &R, which: AddressFlag, asked: u32, got: u
         let _ = eprintln!(rt;
             "notifyd: the system gives the socket of {option} room for {got} octets, not for {asked}"
         );
+    }
+}
+
+/// Says how it stands with the journal in this folder.
+pub(crate) fn say_journal<R: Eprint>(rt: &R, folder: &Text, what: &str) {
+    if has_room_soon() {
+        let folder = folder.as_str();
+        let _ = eprintln!(rt; "notifyd: journal {folder}: {what}");
     }
 }
 

@@ -61,6 +61,8 @@ fn setting_names<R: Files + AllocGlobal>(rt: &R, setting: &Setting) -> Result<Ve
         Setting::Address(..)
         | Setting::Number(..)
         | Setting::StateFile(_)
+        | Setting::JournalFolder(_)
+        | Setting::Sync(_)
         | Setting::PasswordFile(_)
         | Setting::Watch(..)
         | Setting::Rate(_)
@@ -108,4 +110,17 @@ pub(crate) fn each_once(alloc: Global, names: Vec<Text>) -> Result<Vec<Text>, No
         once.push(Text::new(name))?;
     }
     Ok(once)
+}
+
+/// Whether these are the same names, in any order.
+pub(crate) fn are_same(
+    alloc: Global,
+    names: &[Text],
+    others: Vec<String>,
+) -> Result<bool, NoMemory> {
+    let mut set = IndexSet::new(alloc);
+    for name in others {
+        set.insert(name)?;
+    }
+    Ok(set.len() == names.len() && names.iter().all(|name| set.contains(name.as_str())))
 }

@@ -1,5 +1,5 @@
 //! What a service begins with, by the words behind `serve`.
-ghost use Rattle.std.specs.Prelude.{◌≡◌, ◌↔◌, Some, IsTrue, IfOk, IfErr, OnErr};
+ghost use Rattle.std.specs.Prelude.{◌≡◌, ◌↔◌, ℕ, List, Some, IsTrue, IfOk, IfErr, OnErr};
 ghost use Rattle.notifier_model.specs.Limits.{AreLimits};
 ghost use Rattle.commands.specs.declared.error.ServeError.TheVariants as error;
 ghost use Rattle.commands.specs.declared.ranged.Ranged.{Ranged};
@@ -14,7 +14,7 @@ use crate::mailboxes::{each_once, named_mailboxes};
 use crate::ranged::number_out;
 use crate::state::told_changes;
 use admission::{Admission, Network};
-use arguments::{Choices, Numbers, control_networks, parse_settings};
+use arguments::{Choices, Numbers, control_networks, journal_folder, parse_settings};
 use notifier_model::{Limits, Setup};
 use package::Change;
 use sip_text::{Addr, Text};
@@ -38,6 +38,8 @@ pub struct Plan {
     pub admission: Admission,
     /// The networks whose control lines are heard, beside this machine's: all are, where there is none.
     pub operators: Vec<Network>,
+    /// The folder of its journal, if it keeps one.
+    pub journal: Option<Text>,
 }
 
 /// The limits that the numbers ask for. An error names the first number that is out of its range: times may not go together.
@@ -113,6 +115,7 @@ struct Read {
     changes: Vec<Change>,
     admission: Admission,
     operators: Vec<Network>,
+    journal: Option<Text>,
 }
 
 /// What the words ask for, and what stands in the files that they name.
@@ -124,6 +127,7 @@ where
     ensures changes { IfOk result (λ r. spec.AreChanges words.now r.changes.items) }
     ensures heard { IfOk result (λ r. spec.AreHeard words.now r.admission) }
     ensures operators { IfOk result (λ r. spec.AreOperators words.now r.operators.items) }
+    ensures journal { IfOk result (λ r. spec.IsJournal words.now r.journal) }
     ensures refused { IfErr result (IsRefusal words.now) }
 {
     let settings = parse_settings(rt.alloc(), words)?;
@@ -131,12 +135,14 @@ where
     let changes = told_changes(rt, settings.as_slice())?;
     let admission = new_admission(rt, settings.as_slice())?;
     let operators = control_networks(rt.alloc(), settings.as_slice())?;
+    let journal = journal_folder(rt.alloc(), settings.as_slice())?;
     Ok(Read {
         choices: Choices::of(settings.as_slice()),
         mailboxes,
         changes,
         admission,
         operators,
+        journal,
     })
 }
 
@@ -154,6 +160,7 @@ where
         changes,
         admission,
         operators,
+        journal,
     } = read_words(rt, words)?;
     if !is_reached(&choices) {
         return Err(ServeError::NoContact);
@@ -171,7 +178,40 @@ where
         changes,
         admission,
         operators,
+        journal,
     })
+}
+
+/// The seed of a journal, where none was asked for; else the planned one.
+fn seed_or(asked: Option<[u8; 32]>, seed: [u8; 32], planned: [u8; 32]) -> [u8; 32]
+    ensures { result ≡ spec.seed_or asked seed planned }
+{
+    match asked {
+        Some(_) => planned,
+        None => seed,
+    }
+}
+
+/// The number of workers of a journal, where none was asked for; else the planned one.
+fn workers_or(asked: Option<u32>, workers: u32, planned: u32) -> u32
+    ensures { result ≡ spec.workers_or asked workers planned }
+{
+    match asked {
+        Some(_) => planned,
+        None => workers.clamp(1, 256),
+    }
+}
+
+/// The plan with the seed and the number of workers that a journal had, where the words ask for none.
+#[tactic(auto, using(crate::proofs::Adopted::still_a_plan))]
+pub(crate) fn adopted(plan: Plan, seed: [u8; 32], workers: u32) -> Plan
+    ensures adopted { result ≡ spec.adopted seed workers plan }
+    ensures plan { (words : List (List ℕ)) → IsPlan words plan → IsPlan words result }
+{
+    let mut plan = plan;
+    plan.seed = seed_or(plan.choices.seed, seed, plan.seed);
+    plan.workers = workers_or(plan.choices.numbers.workers, workers, plan.workers);
+    plan
 }
 
 /// What the desks of the workers stand on. Phones reach the service at its contact, or else where its socket is.

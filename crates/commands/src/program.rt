@@ -1,31 +1,33 @@
 //! `notifyd serve`.
-ghost use Rattle.std.specs.Prelude.{◌≡◌, ◌<◌, ◌≤◌, ◌⊎◌, [], true, false, get_or, map, vec_len, IfOk, IfErr, OnOk};
-ghost use Rattle.crew.specs.Ready.{start_of};
-ghost use Rattle.arguments.specs.Told as call;
+ghost use Rattle.std.specs.Prelude.{◌≡◌, ◌<◌, ◌≤◌, ◌⊎◌, ℕ, List, None, true, false, get_or, vec_len, IfOk, IfErr, OnOk};
+ghost use Rattle.crew.specs.Desks.{standing_of};
 ghost use Rattle.arguments.specs.Wanted.{Gives};
 ghost use Rattle.transport.specs.Sockets.{misses};
-ghost use Rattle.service.specs.Running.{AreFaults, is_faulty, opening};
+ghost use Rattle.service.specs.Running.{AreFaults, beginning, is_faulty, opening};
 ghost use Rattle.commands.specs.UdpEnds as ends;
 ghost use Rattle.commands.specs.UdpEnds.{Tells};
 ghost use Rattle.commands.specs.Refused.{AskForText, IsOther, IsRefusal, IsStatus, status_after, status_of};
 ghost use Rattle.commands.specs.declared.error.ServeError.TheVariants as error;
-ghost use Rattle.commands.specs.Serving.{AreOpen, EndedWell, IsWork, Ran, Serves, new_sink};
+ghost use Rattle.commands.specs.Plans.{IsPlan};
+ghost use Rattle.commands.specs.Serving.{AreOpen, BeginsAnew, EndedWell, IsWork, Ran, Serves, new_sink};
 
 use crate::error::ServeError;
 use crate::help::{HELP, asked_text};
 use crate::input::Watch;
-use crate::logging::{say_goodbye, say_hello, say_spent_worker, warn_of_control};
-use crate::plan::{Plan, local_setup, new_plan};
+use crate::journal_start::{Opened, Started, found_header, open_journal, start};
+use crate::logging::{say_goodbye, say_hello, say_journal, say_spent_worker, warn_of_control};
+use crate::plan::{Plan, adopted, local_setup, new_plan};
 use crate::prompt::{Patience, Prompt};
 use crate::sockets::{Sockets, open};
 use crate::udp::all_closed;
 use crate::udp_printing::worker_lines;
-use arguments::{ExitStatus, Wanted, all_told};
-use crew::open_desks;
-use package::Package;
+use arguments::{ExitStatus, Wanted};
+use notifier::Desk;
+use package::{Change, Package};
 use scripts::write_page;
 use service::{
-    Begins, ControlPort, Exit, ServiceEnd, ServiceWork, Shared, SipDesk, has_room_soon, run_crew,
+    Begins, ControlPort, Exit, Journal, ServiceEnd, ServiceWork, Shared, SipDesk, has_room_soon,
+    run_crew,
 };
 use sip_text::{Addr, NoMemory, Text};
 use std::alloc::Global;
@@ -80,42 +82,83 @@ fn open_sockets<R: Wait + Net + Eprint + AllocGlobal>(
     Ok(sockets)
 }
 
+/// What the words ask for, and the folder of the journal that they name, with what stands there. Seed and number of workers are then those of the
+/// journal, where the words ask for none.
+#[tactic(auto, using(crate::proofs::Refused::other_is, crate::proofs::Refused::of_journal_is))]
+fn plan_with_journal<R>(rt: &R, words: &[Text]) -> Result<(Plan, Option<Opened>), ServeError>
+where
+    R: Threads + Files<File = File> + RandomSource + AllocGlobal + Clone + Drop,
+    ensures plan { IfOk result (λ r. IsPlan words.now r.0) }
+    ensures refused { IfErr result (IsRefusal words.now) }
+{
+    let plan = new_plan(rt, words)?;
+    let opened = open_journal(rt, &plan)?;
+    match found_header(&opened) {
+        Some(header) => {
+            let plan = adopted(plan, header.seed, header.workers);
+            Ok((plan, opened))
+        }
+        None => Ok((plan, opened)),
+    }
+}
+
 /// What a service is run with, beside its plan.
 #[derive(Drop)]
 struct Fitted<P> {
-    boxes: Vec<Vec<P>>,
+    desks: Vec<Desk<P>>,
+    begins: Begins,
+    changes: Option<Vec<Change>>,
     shared: Arc<Shared, Global>,
     theirs: Arc<Shared, Global>,
     sockets: Sockets,
 }
 
+/// Has a service keep the journal that it begins with. Where one is asked for and can't be written, it is said once.
+fn keep_journal<R: Eprint>(rt: &R, plan: &Plan, shared: &Shared, journal: Option<Journal>) {
+    match (journal, &plan.journal) {
+        (Some(journal), _) => shared.keep_journal(journal),
+        (None, Some(folder)) => {
+            say_journal(rt, folder, "can't be written, so nothing is kept");
+            shared.count_unwritten();
+        }
+        (None, None) => {}
+    }
+}
+
 /// Makes what a service that is planned so is run with, and says where it is.
-fn fit_out<R, P, M>(rt: &R, plan: &Plan, make: &M) -> Result<Fitted<P>, ServeError>
+fn fit_out<R, P, M>(
+    rt: &R,
+    plan: &Plan,
+    opened: &mut Option<Opened>,
+    make: &M,
+) -> Result<Fitted<P>, ServeError>
 where
-    R: Wait + Net + Clock + Eprint + AllocGlobal,
+    R: Wait + Net + Clock + Files<File = File> + Eprint + AllocGlobal,
     P: Package,
     M: Fn(Wanted) -> Result<P, NoMemory>,
     requires some { 0 < plan.now.workers }
+    requires few { plan.now.workers ≤ 256 }
     requires callable { M.IsAlwaysCallable make.now }
     requires gives { Gives P.seen (M.post make.now) }
-    ensures boxes { IfOk result (λ f.
-        map (λ boxes. map P.seen boxes.items) f.boxes.items
-        ≡ call.all_told plan.now.workers plan.now.choices.no_refer plan.now.changes.items plan.now.mailboxes.items) }
     ensures opened { IfOk result (λ f. AreOpen plan.now.choices f.sockets) }
+    ensures workers { IfOk result (λ f. vec_len f.desks ≡ plan.now.workers) }
+    ensures anew { IfOk result (λ f. plan.now.journal ≡ None
+        → BeginsAnew P.seen plan.now f.sockets.sip.local f.desks.items f.begins f.changes) }
     ensures refused { IfErr result IsOther }
 {
-    let boxes = all_told(
-        rt.alloc(),
-        plan.mailboxes.as_slice(),
-        plan.workers,
-        plan.changes.as_slice(),
-        plan.choices.no_refer,
-        make,
-    )?;
     let sockets = open_sockets(rt, plan)?;
+    let Started {
+        desks,
+        begins,
+        changes,
+        journal,
+    } = start(rt, plan, sockets.sip.local(), opened, make)?;
     let (shared, theirs) = begin(rt, sockets.sip.local())?;
+    keep_journal(rt, plan, &shared, journal);
     Ok(Fitted {
-        boxes,
+        desks,
+        begins,
+        changes,
         shared,
         theirs,
         sockets,
@@ -123,14 +166,19 @@ where
 }
 
 /// What a service works with: the plan over these sockets, and the wire by which its outs go.
+#[tactic(auto, using(crate::proofs::Started::opens_as))]
 fn new_work(
-    alloc: Global,
     plan: Plan,
     sockets: Sockets,
     shared: Arc<Shared, Global>,
+    begins: Begins,
+    changes: Option<Vec<Change>>,
 ) -> (ServiceWork, UdpWire)
-    requires { AreOpen plan.choices sockets }
+    requires sockets { AreOpen plan.choices sockets }
+    // Without a journal nothing was told but what the plan says.
+    requires changes { plan.journal ≡ None → changes ≡ None }
     ensures work { IsWork plan result.0 }
+    ensures begins { result.0.begins ≡ begins }
     ensures wire { result.1.local ≡ result.0.sip.coming.local }
 {
     let Sockets {
@@ -146,7 +194,7 @@ fn new_work(
         coming: lines,
         going: replies,
         mailboxes: plan.mailboxes,
-        changes: plan.changes,
+        changes: changes.unwrap_or(plan.changes),
         networks: plan.operators,
     };
     let sip = SipDesk {
@@ -160,17 +208,17 @@ fn new_work(
         sip,
         desk,
         shared,
-        begins: Begins::anew(alloc),
+        begins,
         repeats: numbers.repeats,
         linger: numbers.linger,
     };
     (work, outgoing)
 }
 
-/// Runs a service to its end, with these packages of its workers.
+/// Runs a service to its end, with these desks of its workers.
 fn run<R, F, P>(
     rt: R,
-    boxes: Vec<Vec<P>>,
+    desks: Vec<Desk<P>>,
     work: ServiceWork,
     shared: Arc<Shared, Global>,
     exit: Exit<UdpWire, F>,
@@ -179,20 +227,16 @@ where
     R: Threads + Wait + Clock + Files<File = File> + Eprint + AllocGlobal + Copy + Send + 'static,
     F: Write + Drop,
     P: Package + 'static,
-    requires few_workers { vec_len boxes ≤ 256 }
+    requires few_workers { vec_len desks ≤ 256 }
     // What the workers send leaves from where SIP comes in.
     requires one_place { exit.wire.local ≡ work.sip.coming.local }
-    // It begins anew.
-    requires none_waits { work.begins.unanswered.items ≡ [] }
-    requires none_told { work.begins.tick ≡ 0 }
     ensures refused { IfErr result IsOther }
-    ensures ran { IfOk result (λ s. (b : _)
-        → Ran F.contents (λ w. start_of P.seen work.setup w (get_or boxes.items w b).items) (vec_len boxes)
-        work.repeats (opening work.desk) work.sip.admission exit.sink s.sink s.outcome) }
+    ensures ran { IfOk result (λ s. (d : _)
+        → Ran F.contents (beginning (λ w. standing_of P.seen (get_or desks.items w d)) work.repeats work.begins) (vec_len desks)
+        (opening work.desk) work.sip.admission exit.sink s.sink s.outcome) }
     ensures faults { IfOk result (λ s. AreFaults (misses work.sip.coming) (misses work.desk.coming) s.outcome) }
 {
     let mut exit = exit;
-    let desks = open_desks(rt.alloc(), &work.setup, boxes)?;
     let outcome = run_crew(rt, rt.alloc(), desks, work, &mut exit)?;
     Ok(Served {
         outcome,
@@ -220,6 +264,8 @@ where
         + Eprint
         + AllocGlobal
         + Copy
+        + Clone
+        + Drop
         + Send
         + 'static,
     F: Write + Drop,
@@ -234,22 +280,26 @@ where
     // A cause that is in the words stands in them.
     ensures refused { IfErr result (IsRefusal words.now) }
 {
-    let plan = new_plan(&rt, words)?;
+    let (plan, mut opened) = plan_with_journal(&rt, words)?;
     let Fitted {
-        boxes,
+        desks,
+        begins,
+        changes,
         shared,
         theirs,
         sockets,
-    } = fit_out(&rt, &plan, make)?;
+    } = fit_out(&rt, &plan, &mut opened, make)?;
     let is_watched = plan.choices.until_input_ends;
     if plan.choices.log_requests {
         shared.log_requests();
     }
-    let (work, wire) = new_work(rt.alloc(), plan, sockets, theirs);
+    let (work, wire) = new_work(plan, sockets, theirs, begins, changes);
     let sink = Sink::new(writer);
     let watch = Watch::begin(rt, &shared, is_watched)?;
-    let served = run(rt, boxes, work, shared, Exit { wire, sink });
+    let served = run(rt, desks, work, shared, Exit { wire, sink });
     watch.end(&rt);
+    // Up to here no other service may write the folder.
+    drop(opened);
     served
 }
 
@@ -301,6 +351,8 @@ where
         + Eprint
         + AllocGlobal
         + Copy
+        + Clone
+        + Drop
         + Send
         + 'static,
     F: Write + Drop,
@@ -370,6 +422,8 @@ where
         + Eprint
         + AllocGlobal
         + Copy
+        + Clone
+        + Drop
         + Send
         + 'static,
     P: Package + 'static,

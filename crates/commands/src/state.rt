@@ -88,6 +88,8 @@ fn add_path(alloc: Global, path: &mut Option<Text>, setting: &Setting) -> Result
         Setting::Address(..)
         | Setting::Number(..)
         | Setting::MailboxFile(_)
+        | Setting::JournalFolder(_)
+        | Setting::Sync(_)
         | Setting::PasswordFile(_)
         | Setting::Watch(..)
         | Setting::Rate(_)

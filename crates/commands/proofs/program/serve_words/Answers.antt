@@ -1,32 +1,40 @@
-use Rattle.std.proofs.Common.{arith}
+use Rattle.std.proofs.Common.{None, subst, arith}
+use Rattle.admission.specs.declared.judging.Admission.{Admission}
+use Rattle.service.specs.Running.{opening}
 use Rattle.service.proofs.Faults.{faults_new}
 use Rattle.std.proofs.lemmas.Result.{err_from_is_err_and}
+use Rattle.commands.specs.Serving.{Ran, new_sink}
 use Rattle.commands.proofs.Refused.{other_is, others_are}
-use Rattle.commands.proofs.Started.{count_is, workers_are, ran_is, if_both}
+use Rattle.commands.proofs.Started.{count_is, begun, if_both}
 use Rattle.commands.proofs.program.serve_words.Goals as goal
 
 pub run-served-requires-clause-few_workers : goal.run-served-requires-clause-few_workers
 run-served-requires-clause-few_workers g c κs within =
-    let plan = c.in_ok-plan.plan in let fitted = c.in_ok-boxes.field-0 in let boxes = fitted.boxes in let size = boxes.ok.0 in
+    let plan = c.in_ok-plan.plan in
     let few = count_is plan.choices.numbers.workers plan.workers c.in_ok-plan.ensures.plan.workers in
-    let len = workers_are g.P.Package.seen c.new_work-work.result.0.setup boxes.items plan c.new_work-work.result.0.sip.coming.local c.new_work-work.ensures.work.setup c.in_ok-boxes.ensures.boxes in
-    omega (arith, few.1)
+    let len = c.in_ok-desks.ensures.workers in omega (arith, few.1, len)
 
 pub returns-clause-served : goal.returns-clause-served
 returns-clause-served g c =
-    let plan = c.in_ok-plan.plan in let fitted = c.in_ok-boxes.field-0 in let boxes = fitted.boxes in let local = c.new_work-work.result.0.sip.coming.local in
-    let few = count_is plan.choices.numbers.workers plan.workers c.in_ok-plan.ensures.plan.workers in
-    let work = c.new_work-work.ensures.work in
-    if_both c.run-served.result (rw c.new-sink.ensures at c.run-served.ensures.ran) c.run-served.ensures.faults
-    (λ served ran faults. record {
+    let plan = c.in_ok-plan.plan in let fitted = c.in_ok-desks.field-0 in let local = fitted.sockets.sip.local in
+    let work = c.new_work-work.result.0 in let is_work = c.new_work-work.ensures.work in
+    let before = new_sink c.args.writer in
+    if_both c.run-served.result (rw (c.new-sink.ensures, c.new_work-work.ensures.begins) at c.run-served.ensures.ran) c.run-served.ensures.faults
+    (λ served ran faults.
+    let start =
+    begun g.P.Package.seen plan local fitted.desks.items work.repeats fitted.begins fitted.changes g.F.Write.contents plan.journal _
+    c.in_ok-desks.ensures.workers is_work.repeats c.in_ok-desks.ensures.anew (ran None) in
+    let A : Admission → Type 0 = λ a. Ran g.F.Write.contents start.begins plan.workers (opening work.desk) a before served.sink served.outcome in record {
       plan = plan;
       is_plan = c.in_ok-plan.ensures.plan;
       local = local;
-      is_at = work.sip;
-      ran =
-          ran_is g.P.Package.seen c.new_work-work.result.0.setup boxes.items plan local work.setup c.in_ok-boxes.ensures.boxes
-          g.F.Write.contents _ boxes.ok.0 (omega (arith, few.0)) work.repeats work.opened work.admission ran;
-      faults = faults_new work.sip_misses work.line_misses faults;
+      is_at = c.in_ok-desks.ensures.opened.at;
+      begins = start.begins;
+      begins_as = start.begins_as;
+      opened = opening work.desk;
+      opens_as = is_work.opened;
+      ran = subst A is_work.admission start.ran;
+      faults = faults_new is_work.sip_misses is_work.line_misses faults;
     })
 
 pub returns-clause-refused : goal.returns-clause-refused

@@ -1,0 +1,659 @@
+//! How a service with a journal begins: its folder is its own, what stands there is read, and its desks go on from that.
+
+ghost use Rattle.std.specs.Prelude.{◌<◌, ◌≤◌, ◌≡◌, None, IfOk, IfErr, vec_len};
+ghost use Rattle.arguments.specs.Wanted.{Gives};
+ghost use Rattle.commands.specs.Refused.{IsOfJournal, IsOther};
+ghost use Rattle.commands.specs.Serving.{BeginsAnew};
+
+use crate::error::ServeError;
+use crate::help::VERSION;
+use crate::journal_folder::{Access, Folder, boot_text, take_folder};
+use crate::journal_new::{begin_desks, end_and_begin};
+use crate::logging::say_journal;
+use crate::mailboxes::are_same;
+use crate::plan::{Plan, local_setup};
+use arguments::{Wanted, all_told};
+use crew::open_desks;
+use journal::{Account, Generation, Header};
+use keeper::Keeper;
+use notifier::{Desk, Out, Setup};
+use package::{Change, Package};
+use restarts::Living as Row;
+use resumption::{
+    Found, Halt, Reading, Renewed, Replayed, Terms, Wish, Worked, add_mails, held_names,
+    read_files, renew, replay, saved,
+};
+use service::{Begins, Journal, Living, SETTLED, Upkeep, Volume};
+use sip_text::{Addr, NoMemory, Text};
+use std::alloc::Global;
+use std::fs::File;
+use std::rt::Files;
+
+/// The folder of a journal, and what stands there.
+#[derive(Drop)]
+pub(crate) struct Opened {
+    folder: Folder,
+    /// The numbers of its files, the greatest first.
+    numbers: Vec<u64>,
+    /// The newest file that says something: its number, and what it says.
+    found: Option<(u64, Found)>,
+}
+
+/// Reads the file with this number, with the one before, if there is one.
+fn read_file<R>(
+    rt: &R,
+    folder: &Folder,
+    number: u64,
+    before: Option<u64>,
+) -> Result<Reading, NoMemory>
+where
+    R: Files<File = File> + AllocGlobal,
+{
+    let alloc = rt.alloc();
+    let newer = folder.bytes(rt, number)?;
+    let older = match before {
+        Some(number) => folder.bytes(rt, number)?,
+        None => Vec::new(alloc),
+    };
+    read_files(alloc, VERSION, newer.as_slice(), older.as_slice())
+}
+
+/// Reads the newest file that says something, with the one before. Where a newer one is torn, what was written last may be lost.
+fn look<R>(rt: &R, folder: &Folder, numbers: &[u64]) -> Result<Option<(u64, Found)>, NoMemory>
+where
+    R: Files<File = File> + AllocGlobal,
+{
+    let mut is_lost = false;
+    for at in 0..numbers.len() {
+        match read_file(rt, folder, numbers[at], numbers.get(at + 1).copied())? {
+            Reading::Found(mut found) => {
+                found.is_torn = found.is_torn || is_lost;
+                return Ok(Some((numbers[at], found)));
+            }
+            Reading::Nothing { is_torn } => is_lost = is_lost || is_torn,
+        }
+    }
+    Ok(None)
+}
+
+/// Has the folder that the plan names for this service alone, and reads what stands there. None where the plan names none, or where it can't be written.
+pub(crate) fn open_journal<R>(rt: &R, plan: &Plan) -> Result<Option<Opened>, ServeError>
+where
+    R: Files<File = File> + AllocGlobal + Clone + Drop,
+    ensures refused { IfErr result (IsOfJournal plan.now.journal) }
+{
+    let Some(path) = &plan.journal else {
+        return Ok(None);
+    };
+    let folder = match take_folder(rt, path)? {
+        Access::Ours(folder) => folder,
+        Access::Theirs => return Err(ServeError::JournalInUse(path.copy(rt.alloc())?)),
+        Access::Refused => return Ok(None),
+    };
+    let numbers = folder.numbers(rt)?;
+    let found = look(rt, &folder, numbers.as_slice())?;
+    Ok(Some(Opened {
+        folder,
+        numbers,
+        found,
+    }))
+}
+
+/// What the journal begins with that is gone on from, if one is.
+pub(crate) fn found_header(opened: &Option<Opened>) -> Option<&Header> {
+    let (_, found) = opened.as_ref()?.found.as_ref()?;
+    Some(&found.generation.header)
+}
+
+/// Desks, what a service begins with beside them, what was told of its mailboxes, and its journal, where it has one.
+#[derive(Drop)]
+pub(crate) struct Started<P> {
+    pub(crate) desks: Vec<Desk<P>>,
+    pub(crate) begins: Begins,
+    /// None: those of the plan.
+    pub(crate) changes: Option<Vec<Change>>,
+    pub(crate) journal: Option<Journal>,
+}
+
+/// What a service is to begin with, and what its journal is to begin with.
+#[derive(Drop)]
+struct Order<'a> {
+    plan: &'a Plan,
+    work: Worked,
+    terms: Terms,
+    header: Header,
+}
+
+/// What the journal of a service begins with that is planned so and hears SIP here.
+fn new_order<'a, R>(rt: &R, plan: &'a Plan, local: Addr) -> Result<Order<'a>, NoMemory>
+where
+    R: Files<File = File> + AllocGlobal,
+    ensures plan { IfOk result (λ o. o.plan.now ≡ plan.now) }
+{
+    let setup = local_setup(plan, local);
+    let no_refer = plan.choices.no_refer;
+    let terms = Terms {
+        limits: plan.limits,
+        no_refer,
+    };
+    let header = Header {
+        version: terms.text(rt.alloc(), VERSION)?,
+        workers: plan.workers,
+        seed: plan.seed,
+        listen: local,
+        contact: setup.me,
+        boot: boot_text(rt)?,
+    };
+    Ok(Order {
+        plan,
+        work: Worked { setup, no_refer },
+        terms,
+        header,
+    })
+}
+
+impl Order<'_> {
+    /// What its desks are to be.
+    fn wish(&self) -> Wish<'_>
+        ensures workers { result.workers ≡ self.now.plan.now.workers }
+    {
+        Wish {
+            work: &self.work,
+            workers: self.plan.workers,
+            mailboxes: self.plan.mailboxes.as_slice(),
+        }
+    }
+
+    /// How its journal is kept in this folder.
+    fn upkeep(&self, alloc: Global, folder: &Folder) -> Result<Upkeep, NoMemory> {
+        Ok(Upkeep {
+            folder: folder.path.copy(alloc)?,
+            limit: u64::from(self.plan.choices.numbers.journal_bytes),
+            age: SETTLED,
+            sync: self.plan.choices.sync,
+        })
+    }
+
+    /// Under what the desks worked that a journal tells of.
+    fn worked(&self, found: &Found) -> Worked {
+        let header = &found.generation.header;
+        Worked {
+            setup: Setup {
+                limits: found.terms.limits,
+                seed: header.seed,
+                me: header.contact,
+                stop: self.work.setup.stop,
+            },
+            no_refer: found.terms.no_refer,
+        }
+    }
+}
+
+/// How a service goes on from a journal.
+#[derive(Clone, Copy)]
+enum Course {
+    /// As it stood.
+    Straight,
+    /// With other mailboxes, other limits, or with a leap of its numbers: in a new file.
+    Renewed { is_lost: bool },
+    /// Its subscriptions end: nobody who knows them would know the service.
+    Ended,
+}
+
+/// Whether workers held these mailboxes.
+fn held_these(alloc: Global, accounts: &[Account], names: &[Text]) -> Result<bool, NoMemory> {
+    let mut held = Vec::new(alloc);
+    for account in accounts {
+        let mut more = held_names(alloc, &account.book.told)?;
+        held.append(&mut more)?;
+    }
+    are_same(alloc, names, held)
+}
+
+/// How a service goes on from what was found.
+fn course_from(alloc: Global, order: &Order<'_>, found: &Found) -> Result<Course, NoMemory> {
+    let (was, is) = (&found.generation.header, &order.header);
+    if was.seed != is.seed || was.workers != is.workers || was.contact != is.contact {
+        return Ok(Course::Ended);
+    }
+    let is_lost = found.is_torn || is.boot.is("") || !is.boot.is(was.boot.as_str());
+    let accounts = found.generation.accounts.as_slice();
+    let names = order.plan.mailboxes.as_slice();
+    if is_lost || !found.terms.is(&order.terms) || !held_these(alloc, accounts, names)? {
+        return Ok(Course::Renewed { is_lost });
+    }
+    Ok(Course::Straight)
+}
+
+/// Adds what is known of the subscriptions that go on.
+fn add_living(living: &mut Vec<Living>, rows: Vec<Row>) -> Result<(), NoMemory> {
+    for row in rows {
+        let Row {
+            tag,
+            number,
+            to,
+            note,
+        } = row;
+        living.push(Living {
+            tag,
+            number,
+            to,
+            note,
+        })?;
+    }
+    Ok(())
+}
+
+/// What a service begins with beside these desks, where these NOTIFYs are sent first.
+fn begin_with<P: Package>(
+    alloc: Global,
+    desks: &[Desk<P>],
+    first: Vec<Out>,
+) -> Result<Begins, Halt> {
+    let mut begins = Begins::anew(alloc);
+    begins.unanswered = first;
+    for desk in desks {
+        let book = saved(alloc, desk)?;
+        begins.tick = begins.tick.max(book.clock);
+        add_living(&mut begins.living, Row::all(alloc, &book)?)?;
+    }
+    Ok(begins)
+}
+
+/// What was told of the mailboxes of these workers.
+fn told_changes(alloc: Global, keeper: &Keeper, workers: u32) -> Result<Vec<Change>, Halt> {
+    let mut changes = Vec::new(alloc);
+    for worker in 0..workers {
+        add_mails(alloc, &mut changes, &keeper.told(worker)?)?;
+    }
+    Ok(changes)
+}
+
+/// Has the book of a worker's desk stand in the next file.
+fn put_book<P: Package>(
+    alloc: Global,
+    keeper: &mut Keeper,
+    worker: u32,
+    desk: &Desk<P>,
+) -> Result<(), Halt> {
+    let mut bytes = Vec::new(alloc);
+    if desk.save(alloc, &mut bytes).is_err() {
+        return Err(Halt::NoMemory);
+    }
+    keeper.book(worker, bytes.as_slice())?;
+    Ok(())
+}
+
+/// Has the books of these desks stand in the next file.
+fn put_books<P: Package>(
+    alloc: Global,
+    keeper: &mut Keeper,
+    desks: &[Desk<P>],
+) -> Result<(), Halt> {
+    let mut worker = 0u32;
+    for desk in desks {
+        put_book(alloc, keeper, worker, desk)?;
+        worker = worker.saturating_add(1);
+    }
+    Ok(())
+}
+
+/// A new file with the books of these desks. None where it can't be written.
+fn new_volume<R, P>(
+    rt: &R,
+    opened: &Opened,
+    header: &Header,
+    keeper: &mut Keeper,
+    desks: &[Desk<P>],
+) -> Result<Option<Volume>, Halt>
+where
+    R: Files<File = File> + AllocGlobal,
+    P: Package,
+{
+    let alloc = rt.alloc();
+    let last = opened.numbers.first().copied().unwrap_or(0);
+    let number = last.saturating_add(1);
+    keeper.begin_next(header)?;
+    put_books(alloc, keeper, desks)?;
+    keeper.turn();
+    let Some(file) = opened.folder.file(rt, number, 0)? else {
+        return Ok(None);
+    };
+    let mut volume = Volume::new(file, number, 0);
+    if volume.append(keeper.current()).is_err() {
+        opened.folder.remove(rt, &[number])?;
+        return Ok(None);
+    }
+    keeper.clear();
+    Ok(Some(volume))
+}
+
+/// A service with these desks, which writes a new file.
+fn begin_file<R, P>(
+    rt: &R,
+    order: Order<'_>,
+    opened: &Opened,
+    renewed: Renewed<P>,
+) -> Result<Started<P>, Halt>
+where
+    R: Files<File = File> + AllocGlobal,
+    P: Package,
+{
+    let alloc = rt.alloc();
+    let Renewed { desks, first, told } = renewed;
+    let mut keeper = Keeper::new(alloc, told)?;
+    let volume = new_volume(rt, opened, &order.header, &mut keeper, desks.as_slice())?;
+    let begins = begin_with(alloc, desks.as_slice(), first)?;
+    let changes = told_changes(alloc, &keeper, order.plan.workers)?;
+    let upkeep = order.upkeep(alloc, &opened.folder)?;
+    let journal = match volume {
+        Some(volume) => Some(Journal::new(alloc, keeper, order.header, volume, upkeep)?),
+        None => None,
+    };
+    opened.folder.remove(rt, opened.numbers.as_slice())?;
+    Ok(Started {
+        desks,
+        begins,
+        changes: Some(changes),
+        journal,
+    })
+}
+
+/// A service whose desks stand where they stood, and which goes on in the file with this number.
+fn go_straight<R, P>(
+    rt: &R,
+    order: Order<'_>,
+    opened: &Opened,
+    end: (u64, u64),
+    replayed: Replayed<P>,
+) -> Result<Started<P>, Halt>
+where
+    R: Files<File = File> + AllocGlobal,
+    P: Package,
+{
+    let alloc = rt.alloc();
+    let (number, whole) = end;
+    let Replayed {
+        desks,
+        unanswered,
+        mut keeper,
+    } = replayed;
+    let begins = begin_with(alloc, desks.as_slice(), unanswered)?;
+    let changes = told_changes(alloc, &keeper, order.plan.workers)?;
+    let upkeep = order.upkeep(alloc, &opened.folder)?;
+    let journal = match old_volume(rt, opened, number, whole, &mut keeper)? {
+        Some(volume) => Some(Journal::new(alloc, keeper, order.header, volume, upkeep)?),
+        None => None,
+    };
+    Ok(Started {
+        desks,
+        begins,
+        changes: Some(changes),
+        journal,
+    })
+}
+
+/// Those of these files that a service doesn't need which goes on in the one with this number: it needs that one and the one before. Newer ones were never
+/// whole.
+fn spare_numbers(alloc: Global, numbers: &[u64], number: u64) -> Result<Vec<u64>, NoMemory> {
+    let mut spare = Vec::new(alloc);
+    for other in numbers {
+        if *other > number || other.saturating_add(1) < number {
+            spare.push(*other)?;
+        }
+    }
+    Ok(spare)
+}
+
+/// The file with this number, to be gone on in behind so many bytes, with what waits in the keeper: the lines that are handled now. None where it can't be
+/// written; then nobody goes on from it any more.
+fn old_volume<R>(
+    rt: &R,
+    opened: &Opened,
+    number: u64,
+    whole: u64,
+    keeper: &mut Keeper,
+) -> Result<Option<Volume>, Halt>
+where
+    R: Files<File = File> + AllocGlobal,
+{
+    let numbers = opened.numbers.as_slice();
+    let spare = spare_numbers(rt.alloc(), numbers, number)?;
+    opened.folder.remove(rt, spare.as_slice())?;
+    if let Some(file) = opened.folder.file(rt, number, whole)? {
+        let mut volume = Volume::new(file, number, whole);
+        if volume.append(keeper.current()).is_ok() {
+            keeper.clear();
+            return Ok(Some(volume));
+        }
+    }
+    opened.folder.put_aside(rt, numbers)?;
+    Ok(None)
+}
+
+/// A service that goes on from what was found.
+fn go_on<R, P, M>(
+    rt: &R,
+    order: Order<'_>,
+    opened: &Opened,
+    from: (u64, Found),
+    make: &M,
+) -> Result<Started<P>, Halt>
+where
+    R: Files<File = File> + Eprint + AllocGlobal,
+    P: Package,
+    M: Fn(Wanted) -> Result<P, NoMemory>,
+    requires callable { M.IsAlwaysCallable make.now }
+    requires gives { Gives P.seen (M.post make.now) }
+    requires some { 0 < order.plan.now.workers }
+{
+    let alloc = rt.alloc();
+    let (number, found) = from;
+    let course = course_from(alloc, &order, &found)?;
+    let worked = order.worked(&found);
+    let Found {
+        generation,
+        whole,
+        ..
+    } = found;
+    let Generation { accounts, .. } = generation;
+    let replayed = replay(alloc, &worked, accounts.into_vec(), make)?;
+    say_course(rt, &opened.folder.path, course);
+    match course {
+        Course::Straight => go_straight(rt, order, opened, (number, whole), replayed),
+        Course::Renewed { is_lost } => {
+            let renewed = renew(alloc, &order.wish(), replayed, is_lost, make)?;
+            begin_file(rt, order, opened, renewed)
+        }
+        Course::Ended => {
+            let renewed = end_and_begin(alloc, &order.wish(), replayed, make)?;
+            begin_file(rt, order, opened, renewed)
+        }
+    }
+}
+
+/// A service with a journal that begins with new desks.
+fn begin_anew<R, P, M>(
+    rt: &R,
+    order: Order<'_>,
+    opened: &Opened,
+    make: &M,
+) -> Result<Started<P>, Halt>
+where
+    R: Files<File = File> + AllocGlobal,
+    P: Package,
+    M: Fn(Wanted) -> Result<P, NoMemory>,
+    requires callable { M.IsAlwaysCallable make.now }
+    requires gives { Gives P.seen (M.post make.now) }
+    requires some { 0 < order.plan.now.workers }
+{
+    let changes = order.plan.changes.as_slice();
+    let renewed = begin_desks(rt.alloc(), &order.wish(), changes, make)?;
+    opened.folder.put_aside(rt, opened.numbers.as_slice())?;
+    begin_file(rt, order, opened, renewed)
+}
+
+/// Says how a service goes on from the journal in this folder.
+fn say_course<R: Eprint>(rt: &R, path: &Text, course: Course) {
+    match course {
+        Course::Straight => say_journal(rt, path, "goes on from it"),
+        Course::Renewed { is_lost: false } => {
+            say_journal(rt, path, "goes on from it, with other options")
+        }
+        Course::Renewed { is_lost: true } => say_journal(
+            rt,
+            path,
+            "goes on from it, but for what was written last",
+        ),
+        Course::Ended => say_journal(
+            rt,
+            path,
+            "its subscriptions end: another seed, contact or number of workers",
+        ),
+    }
+}
+
+/// A service without a journal, which begins with new desks.
+fn begin_without<P, M>(
+    alloc: Global,
+    plan: &Plan,
+    local: Addr,
+    make: &M,
+) -> Result<Started<P>, ServeError>
+where
+    P: Package,
+    M: Fn(Wanted) -> Result<P, NoMemory>,
+    requires callable { M.IsAlwaysCallable make.now }
+    requires gives { Gives P.seen (M.post make.now) }
+    requires some { 0 < plan.now.workers }
+    requires few { plan.now.workers ≤ 256 }
+    ensures anew { IfOk result (λ s. BeginsAnew P.seen plan.now local s.desks.items s.begins s.changes) }
+    ensures refused { IfErr result IsOther }
+{
+    let setup = local_setup(plan, local);
+    let boxes = all_told(
+        alloc,
+        plan.mailboxes.as_slice(),
+        plan.workers,
+        plan.changes.as_slice(),
+        plan.choices.no_refer,
+        make,
+    )?;
+    Ok(Started {
+        desks: open_desks(alloc, &setup, boxes)?,
+        begins: Begins::anew(alloc),
+        changes: None,
+        journal: None,
+    })
+}
+
+/// A service with a journal in this folder, which goes on from what was found there, if something was.
+fn start_there<R, P, M>(
+    rt: &R,
+    plan: &Plan,
+    local: Addr,
+    opened: &mut Opened,
+    make: &M,
+) -> Result<Started<P>, Halt>
+where
+    R: Files<File = File> + Eprint + AllocGlobal,
+    P: Package,
+    M: Fn(Wanted) -> Result<P, NoMemory>,
+    requires callable { M.IsAlwaysCallable make.now }
+    requires gives { Gives P.seen (M.post make.now) }
+    requires some { 0 < plan.now.workers }
+{
+    let order = new_order(rt, plan, local)?;
+    match opened.found.take() {
+        Some(found) => go_on(rt, order, opened, found, make),
+        None => begin_anew(rt, order, opened, make),
+    }
+}
+
+/// A service with a journal in this folder. Where what was found there is of no service like this one, it is put aside, and the service begins anew.
+fn start_with<R, P, M>(
+    rt: &R,
+    plan: &Plan,
+    local: Addr,
+    opened: &mut Opened,
+    make: &M,
+) -> Result<Started<P>, ServeError>
+where
+    R: Files<File = File> + Eprint + AllocGlobal,
+    P: Package,
+    M: Fn(Wanted) -> Result<P, NoMemory>,
+    requires callable { M.IsAlwaysCallable make.now }
+    requires gives { Gives P.seen (M.post make.now) }
+    requires some { 0 < plan.now.workers }
+    ensures refused { IfErr result IsOther }
+{
+    if opened.found.is_none() && !opened.numbers.is_empty() {
+        say_journal(rt, &opened.folder.path, "can't be read, and is put aside");
+    }
+    match start_there(rt, plan, local, opened, make) {
+        Err(Halt::Unfit) => {
+            say_journal(
+                rt,
+                &opened.folder.path,
+                "can't be gone on from, and is put aside",
+            );
+            let order = new_order(rt, plan, local)?;
+            Ok(begin_anew(rt, order, opened, make)?)
+        }
+        came => Ok(came?),
+    }
+}
+
+/// What a service begins with that is planned so: without a journal new desks, and with one where it stood.
+fn begin_as_planned<R, P, M>(
+    rt: &R,
+    plan: &Plan,
+    local: Addr,
+    opened: &mut Option<Opened>,
+    make: &M,
+) -> Result<Started<P>, ServeError>
+where
+    R: Files<File = File> + Eprint + AllocGlobal,
+    P: Package,
+    M: Fn(Wanted) -> Result<P, NoMemory>,
+    requires callable { M.IsAlwaysCallable make.now }
+    requires gives { Gives P.seen (M.post make.now) }
+    requires some { 0 < plan.now.workers }
+    requires few { plan.now.workers ≤ 256 }
+    ensures anew { IfOk result (λ s. plan.now.journal ≡ None → BeginsAnew P.seen plan.now local s.desks.items s.begins s.changes) }
+    ensures refused { IfErr result IsOther }
+{
+    match (&plan.journal, opened) {
+        (Some(_), Some(opened)) => start_with(rt, plan, local, opened, make),
+        _ => begin_without(rt.alloc(), plan, local, make),
+    }
+}
+
+/// What a service begins with that is planned so and hears SIP here.
+pub(crate) fn start<R, P, M>(
+    rt: &R,
+    plan: &Plan,
+    local: Addr,
+    opened: &mut Option<Opened>,
+    make: &M,
+) -> Result<Started<P>, ServeError>
+where
+    R: Files<File = File> + Eprint + AllocGlobal,
+    P: Package,
+    M: Fn(Wanted) -> Result<P, NoMemory>,
+    requires callable { M.IsAlwaysCallable make.now }
+    requires gives { Gives P.seen (M.post make.now) }
+    requires some { 0 < plan.now.workers }
+    requires few { plan.now.workers ≤ 256 }
+    ensures workers { IfOk result (λ s. vec_len s.desks ≡ plan.now.workers) }
+    ensures anew { IfOk result (λ s. plan.now.journal ≡ None → BeginsAnew P.seen plan.now local s.desks.items s.begins s.changes) }
+    ensures refused { IfErr result IsOther }
+{
+    let started = begin_as_planned(rt, plan, local, opened, make)?;
+    // Another number of desks is in no journal that such a service wrote.
+    if started.desks.len() == plan.workers as usize {
+        Ok(started)
+    } else {
+        Err(ServeError::System)
+    }
+}

@@ -1,0 +1,5 @@
+pub mod Told
+pub mod Terms
+pub mod Accounts
+pub mod Noted
+pub mod Changed
