@@ -1,10 +1,11 @@
 # `make` alone prints what there is.
-.PHONY: help gate run try tried lamp tests deb wrong field bench figures
+.PHONY: help gate run try tried check lamp tests deb wrong field bench figures
 
 help:
 	@echo "make lamp     a service, a lamp and a mail change, with the built program, or else with one compiled in a minute"
 	@echo "make try      compiles notifyd without a proof (crates/notifyd/out/notifyd.tried), and runs one SUBSCRIBE"
 	@echo "make tried    compiles it so, and runs nothing"
+	@echo "make check    compiles it so, and tries it from outside: for who changes a test or a script, in five minutes or so"
 	@echo "make run      proves and builds crates/notifyd/out/notifyd, and runs it: three quarters of an hour or more"
 	@echo "make gate     proves and tests everything, as a landing does: an hour or more"
 	@echo "make tests    tries the built program from outside, as the gate does after its proofs"
@@ -33,6 +34,9 @@ try: tried
 tried:
 	@.ci/tried
 
+check: tried
+	@tests/run --tried
+
 lamp:
 	@.ci/lamp
 
@@ -43,7 +47,7 @@ deb:
 	@.ci/deb
 
 wrong:
-	@if [ -n "$(CRATES)" ]; then .ci/wrong $(CRATES); else .ci/record .ci/wrong; status=$$?; .ci/record .ci/planted && exit $$status; fi
+	@if [ -n "$(CRATES)" ]; then .ci/wrong $(CRATES); else .ci/record .ci/wrong; status=$$?; .ci/record .ci/run-refuses && exit $$status; fi
 
 field:
 	@field/run

@@ -1,10 +1,13 @@
-"""Copies of the repository with some of its crates alone, for `.ci/wrong` and `.ci/program`."""
+"""Copies of the repository with some of its crates alone, for the scripts of this folder and `tests/inside.py`."""
 import filecmp
 import os
 import shutil
 import subprocess
 
 TOP = os.path.dirname(os.path.dirname(os.path.abspath(__file__)))
+
+# What of a crate's folder has its wrong bodies, which nothing is made of.
+WRONG = ("must-fail", "wrong.edits", "run-refuses")
 
 
 def read(path):
@@ -48,7 +51,7 @@ def below(names):
 
 
 def files_of(names, without=()):
-    """The repository's files of these crates, but for those in folders of these names, and the files that every copy has."""
+    """The repository's files of these crates, but for what in their folders has one of these names, and the files that every copy has."""
     words = ["git", "ls-files", "-z", "--cached", "--others", "--exclude-standard", "crates"]
     listed = subprocess.run(words, cwd=TOP, stdout=subprocess.PIPE, check=True).stdout.decode().split("\0")
     wanted = {it for it in listed if it and it.split("/")[1] in names and it.split("/")[2] not in without}

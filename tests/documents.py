@@ -11,6 +11,8 @@ has to exist, by its name:
   those behind `file:` in an item that begins so;
 - a block of commands (```sh) is read by the shell, its targets of make and its programs exist, and so do their options.
 
+What the crates' wrong bodies change stands there (`.ci/edits.py`).
+
 docs/definitions.md names each file of definitions that a clause cites of a call which can be made from outside its crate, but for the
 crates BESIDE: which these are is read off the code. How far docs/decisions.md says that a SUBSCRIBE goes is what `walk.py` counts, and each
 line of its list names a function. What docs/operating.md says of options and counters is compared with the program's texts, and the pictures
@@ -47,8 +49,8 @@ ANYWHERE = {"Errors", "Codes", "Numbers", "Views", "LineViews"}
 
 # Crates of the edge and of the programs, whose definitions stand beside their code: `tests/cited.py` prints them.
 BESIDE = {
-    "admission", "arguments", "commands", "control_lines", "digest", "feeds", "keeper", "restarts", "scripts", "server", "service", "telling", "transactions",
-    "transport", "watchers",
+    "admission", "arguments", "commands", "control_lines", "digest", "feeds", "keeper", "restarts", "resumption", "scripts", "server",
+    "service", "telling", "transactions", "transport", "watchers",
 }
 
 # Programs of the system that a block of commands may name.
@@ -509,6 +511,11 @@ def others_cite_what_is_there(_program, _folder):
     told(wrong)
 
 
+def wrong_bodies_can_be_planted(_program, _folder):
+    ended = subprocess.run([f"{TOP}/.ci/edits.py", "--check"], capture_output=True, text=True)
+    assert ended.returncode == 0, "; ".join(ended.stdout.split("\n")[:12]) + ended.stderr
+
+
 def the_way_is_counted(_program, _folder):
     steps, wrong = walk.walk()
     assert not wrong, "; ".join(wrong)
@@ -542,3 +549,4 @@ def checks_apart():
     yield "what options are without a number is what --help says", defaults_are_the_programs
     yield "each counter is explained", counters_are_explained
     yield "what other files cite of docs/ exists", others_cite_what_is_there
+    yield "each wrong body can be planted, and is listed", wrong_bodies_can_be_planted

@@ -25,8 +25,8 @@ import time
 TOP = os.path.dirname(os.path.dirname(os.path.abspath(__file__)))
 sys.path.append(os.path.join(TOP, ".ci"))
 
-from copies import below, copy_to, read, write
-from edits import Edit
+from copies import WRONG, below, copy_to, read, write
+from edits import alone
 from suite import run, same
 
 FOLDER = os.path.join(TOP, "tests", "inside")
@@ -80,7 +80,7 @@ LIMIT = 1800
 def plant(edit, folder):
     """Puts the body of this name into the crew of a copy."""
     texts = {}
-    if not Edit("crew", f"{FOLDER}/{edit}.edit").apply(texts, folder):
+    if not alone("crew", f"{FOLDER}/{edit}.edit").apply(texts, folder):
         raise AssertionError(f"what {edit}.edit changes doesn't stand there once")
     for file, text in texts.items():
         write(f"{folder}/crates/crew/{file}", text)
@@ -88,7 +88,7 @@ def plant(edit, folder):
 
 def furnish(folder, edit):
     """Makes a copy of the repository in which the program is a crate, with a wrong body or none. Answers the crate's folder."""
-    copy_to(folder, below(LIBRARIES.split()), ("must-fail", "wrong", "planted"))
+    copy_to(folder, below(LIBRARIES.split()), WRONG)
     for name in [SHOWS, edit] if edit else [SHOWS]:
         plant(name, folder)
     crate = f"{folder}/crates/inside"

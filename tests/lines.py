@@ -9,7 +9,7 @@ import subprocess
 import time
 
 from calls import ask, fake_service, service_words, untokened
-from suite import LONG_LIMIT, Ended, Running, ended_with, free_port, run, same, shown, started
+from suite import LONG_LIMIT, SLOWER, Ended, Running, ended_with, free_port, run, same, shown, started
 
 # A line that is longer than a datagram, and what is shown of it.
 LONG = b"MAIL " + b"a" * 70_000 + b" voice 1 0 0 0"
@@ -250,8 +250,8 @@ def a_script_on_a_terminal(program, _):
     same("what is said", True, err.startswith(b"notifyd: reading a script from standard input") and err.count(b"\n") == 1)
 
 
-# Mailboxes, and how often each is told something.
-BOXES, ROUNDS = 400, 50
+# Mailboxes, and how often each is told something: fewer times by a slow program. Half of the lines are more than a pipe holds.
+BOXES, ROUNDS = 400, 50 if SLOWER == 1 else 20
 
 
 def state(number):

@@ -10,7 +10,7 @@ import time
 
 from phone import NO_MESSAGES, PATIENCE, Message, persist
 from service import HEARD, SUBSCRIBE, Service, address, counters_become
-from suite import Running, ended_with, free_port, run, same
+from suite import SLOWER, Running, ended_with, free_port, run, same
 
 REALM = "pbx"
 USERS = {"alice": "wonderland", "bob": "can he"}
@@ -20,7 +20,7 @@ FORBIDDEN = "SIP/2.0 403 Forbidden"
 TAKEN = "SIP/2.0 200 OK"
 
 # So many malformed values are shown, and so many of them wait for their answers at a time.
-MALFORMED, AT_A_TIME = 10_000, 50
+MALFORMED, AT_A_TIME = 10_000 // SLOWER, 50
 
 COUNTED = ("foreign", "limited", "challenged", "wrong", "stale", "forbidden")
 
@@ -251,7 +251,7 @@ def malformed_values(program, folder):
     with Service(program, "--passwords", password_file(folder), "alice") as service, service.operator() as operator:
         with service.phone("alice") as phone:
             value = written(Caller(phone).right("wonder"))
-            phone.socket.settimeout(2)
+            phone.socket.settimeout(2 * SLOWER)
             left, firsts = MALFORMED, set()
             while left:
                 batch = min(left, AT_A_TIME)
@@ -287,7 +287,7 @@ class Elsewhere:
         self.socket = socket.socket(socket.AF_INET, socket.SOCK_DGRAM)
         self.socket.bind((ip, 0))
         self.socket.connect(("127.0.0.1", server))
-        self.socket.settimeout(0.4)
+        self.socket.settimeout(0.4 * SLOWER)
 
     def __enter__(self):
         return self
@@ -384,7 +384,7 @@ def strangers(service, count):
     with socket.socket(socket.AF_INET, socket.SOCK_DGRAM) as stranger:
         stranger.bind(("127.0.0.2", 0))
         stranger.connect(("127.0.0.1", service.sip))
-        stranger.settimeout(0.2)
+        stranger.settimeout(0.2 * SLOWER)
         contact = "127.0.0.2:{}".format(stranger.getsockname()[1]).encode()
         request = SUBSCRIBE.replace(b"127.0.0.1:5070", contact).replace(b"Content-Length", b"Expires: 4294967295\r\nContent-Length")
         for number in range(count):
@@ -410,7 +410,7 @@ def strangers_keep_nobody_out(program, folder):
     full = ("--workers", "1", "--table", "1024")
     ways = (
         ((), 1, 1024),
-        ((*full, "--rate", "10/20"), 20, 200),
+        ((*full, "--rate", "10/20"), 20, 200 * SLOWER),
         ((*full, "--passwords", password_file(folder)), 0, 0),
     )
     for words, least, most in ways:

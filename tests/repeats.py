@@ -13,7 +13,7 @@ from contextlib import ExitStack
 
 from phone import OVER, Message, Phone
 from service import HEARD, Service, counters_become, last_counters, rows_told
-from suite import same
+from suite import SLOWER, same
 
 # Seconds from the first time that a NOTIFY is sent to each, while nobody answers: the intervals double from T1, half a second, up to
 # T2, four seconds, as long as T1 times 64 are not over.
@@ -23,7 +23,7 @@ MOMENTS = (0.0, 0.5, 1.5, 3.5, 7.5, 11.5, 15.5, 19.5, 23.5, 27.5, 31.5)
 MOMENTS_WHEN_PROCEEDING = (0.0, 0.5, 4.5, 8.5)
 
 # Seconds by which a datagram may come before its moment, and behind the one before later than it should.
-EARLY, LATE = 0.02, 0.4
+EARLY, LATE = 0.02 * SLOWER, 0.4 * SLOWER
 
 # Seconds after which nothing is sent again (timer F).
 GIVEN_UP = 32.0

@@ -10,7 +10,7 @@ import selectors
 
 from phone import OVER, Operator, Phone
 from service import Service, counters_become
-from suite import same
+from suite import SLOWER, same
 from tags import home_of
 
 WORKERS = 4
@@ -30,8 +30,8 @@ MOST_UNKNOWN = 64
 STRIDE = 24
 
 # Seconds in which nothing comes before it is missed, and behind which the service is killed and the storm has failed. It takes a few.
-PATIENCE = 60
-LIMIT = 600
+PATIENCE = 60 * SLOWER
+LIMIT = 600 * SLOWER
 
 
 def body_of(counts):

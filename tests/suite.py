@@ -29,11 +29,14 @@ from collections import namedtuple
 # How a call ended: its exit status (negative: the signal that killed it), and the bytes of both streams.
 Ended = namedtuple("Ended", "status out err")
 
+# How many times as slow a program may be as the built ones: `tests/run --tried` says so of one that was compiled without a proof.
+SLOWER = int(os.environ.get("NOTIFYD_SLOWER", "1"))
+
 # Seconds that a call may take where nothing else is said. All of them take far less; a busy machine may be slow.
-LIMIT = 120
+LIMIT = 120 * SLOWER
 
 # The same for calls that have much to read, or start many others.
-LONG_LIMIT = 300
+LONG_LIMIT = 300 * SLOWER
 
 
 _lock = threading.Lock()

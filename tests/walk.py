@@ -1,12 +1,16 @@
 #!/usr/bin/env python3
-"""Counts the way of one SUBSCRIBE through `notifyd serve`: tests/walk.py [--missing] [LIST].
+"""Counts the way of one SUBSCRIBE through `notifyd serve`: tests/walk.py.
 
-LIST (tests/walk.txt) names each function that is called once on the normal way, in the order of calls. Those with a star are of the
+The list tests/walk.txt names each function that is called once on the normal way, in the order of calls. Those with a star are of the
 short count, which leaves out getters, the readers of single words and the writers of single lines; all are of the strict one. For both it
 prints how many functions, files and crates there are, how long their bodies are, and how often one turns to another file; then
-each stage. A line that names no function, or several, is told, and makes the status 1. With --missing it also prints each function that
-one of the list calls by a name that the list has not: most are on another way, and the list says of some why they are left out.
-`tests/documents.py` compares what a page says of it with what this counts.
+each stage.
+
+What else a function of the list calls is on another way: tests/walk-off.txt says of each such name why. So both together are complete,
+by names: a function that shares its name with one of the list is not missed. What is wrong is told, and makes the status 1: a line of the
+list that names no function, or several; a name that is called and stands in neither; a line of the second list that names no
+function, or one that nothing of the first calls. `tests/documents.py` looks at this too, and compares what a page says of the way with
+what this counts.
 """
 import collections
 import os
@@ -28,6 +32,8 @@ def body_of(lines, first, indent):
     """The lines of the body of the function whose name stands in this line, or None where it has none."""
     for at in range(first, min(first + 60, len(lines))):
         line = lines[at]
+        if at == first and line.endswith(" {}"):
+            return []
         if at > first and line.startswith(indent + "{ ") and line.endswith("}"):
             return [line]
         if line == indent + "{" or (line.rstrip().endswith(" {") and not re.search(r"ensures|requires|ghost|where|struct|impl", line)):
@@ -71,22 +77,39 @@ def index():
     return found
 
 
-def walk(path=f"{TOP}/tests/walk.txt"):
-    """The functions of the list, and what is wrong with it, as lines."""
+def lines_of(name):
+    """The lines of a list beside this file that are no comment."""
+    with open(f"{TOP}/tests/{name}", encoding="utf-8") as file:
+        return [line.rstrip("\n") for line in file if line.strip() and not line.startswith("#")]
+
+
+def walk():
+    """The functions of the list, and what is wrong with it and the one of those beside the way, as lines."""
     found, steps, wrong, stage = index(), [], [], ""
-    with open(path, encoding="utf-8") as file:
-        lines = [line.rstrip("\n") for line in file]
-    for line in lines:
+    for line in lines_of("walk.txt"):
         if line.startswith("@"):
             stage = line[2:]
-        elif line.strip() and not line.startswith("#"):
+        else:
             file, name, owner, kind = line.lstrip("* ").split()
-            those = [it for it in found[file, name] if owner == "." or (owner[1:] not in it[0] if owner[0] == "!" else owner in it[0])]
+            those = [it for it in found.get((file, name), []) if owner == "." or (owner[1:] not in it[0] if owner[0] == "!" else owner in it[0])]
             if len(those) == 1:
                 steps.append(Step(stage, line.startswith("*"), file, name, kind, len(those[0][1]), "\n".join(those[0][1])))
             else:
-                wrong.append(f"{file} {name} {owner}: {len(those)} functions")
-    return steps, wrong
+                wrong.append(f"walk.txt: {file} {name} {owner}: {len(those)} functions")
+    return steps, wrong + wrong_beside(found, steps)
+
+
+def wrong_beside(found, steps):
+    """What is wrong with the list of what is called and is not on the way, as lines."""
+    wrong, left = [], missing(found, steps)
+    for line in lines_of("walk-off.txt"):
+        name, file, why = (line.split(" ", 2) + ["", ""])[:3]
+        if not why or file != "std" and (file, name) not in found:
+            wrong.append(f"walk-off.txt: no function: {line}")
+        elif name not in left:
+            wrong.append(f"walk-off.txt: nothing of walk.txt calls it, or it stands twice, or there: {line}")
+        left.pop(name, None)
+    return wrong + [f"called, and neither in walk.txt nor in walk-off.txt: {name} ({', '.join(files[:3])})" for name, files in sorted(left.items())]
 
 
 def count(steps):
@@ -102,10 +125,10 @@ def counts(steps):
     return count([it for it in sent if it.is_short]), count(sent)
 
 
-def missing(steps):
-    """Functions that one of the list calls by a name that none of the list has."""
+def missing(found, steps):
+    """The names that a function of the list calls and none of the list has, each with the files in which there are such functions."""
     places = collections.defaultdict(set)
-    for file, name in index():
+    for file, name in found:
         places[name].add(file)
     called = {name for it in steps for name in re.findall(r"(?:\.|::|\b)(\w+)(?:::<[^>]*>)?\(", it.body)}
     return {name: sorted(places[name]) for name in called & set(places) - {it.name for it in steps}}
@@ -116,8 +139,8 @@ def tell(what, it):
           f"{it.turns} changes of file")
 
 
-def main(words):
-    steps, wrong = walk(*[it for it in words if it != "--missing"])
+def main():
+    steps, wrong = walk()
     for line in wrong:
         print(line)
     for what, short in (("short", True), ("strict", False)):
@@ -126,11 +149,8 @@ def main(words):
     for stage in dict.fromkeys(it.stage for it in steps):
         those = [it for it in steps if it.stage == stage]
         print(f"  {stage}: {sum(it.is_short for it in those)} short, {len(those)} strict")
-    if "--missing" in words:
-        for name, files in sorted(missing(steps).items()):
-            print(f"  called, and not in the list: {name} ({', '.join(files[:3])})")
     return 1 if wrong else 0
 
 
 if __name__ == "__main__":
-    sys.exit(main(sys.argv[1:]))
+    sys.exit(main())
