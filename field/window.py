@@ -1,10 +1,11 @@
 #!/usr/bin/env python3
 """Looks at the page of contrib/notifyd-exporter as an operator's browser does, and has Prometheus scrape it:
 
-    field/window.py [<program>] [--figures]
+    field/window.py [<program>] [--figures | --subscriptions N]
 
-It takes Debian's packages chromium, chromium-driver and prometheus, and two minutes. Services of thousands of phones are made up, those with
-a phone that dies, and those that Prometheus loses, are the program's. With --figures the pictures of docs are made anew, and small where
+It takes Debian's packages chromium, chromium-driver and prometheus, and three minutes. Some services of thousands of phones are made up. One
+of 64,000 subscriptions is the program's, as are those with a phone that dies, and those that Prometheus loses. A build without proofs is
+too slow for so many and has 500, unless --subscriptions says otherwise. With --figures the pictures of docs are made anew, and small where
 pngquant is installed.
 """
 
@@ -14,6 +15,7 @@ import json
 import math
 import os
 import random
+import statistics
 import subprocess
 import sys
 import tempfile
@@ -25,6 +27,7 @@ sys.dont_write_bytecode = True
 import cases
 from browser import Browser
 from desk import Desk, Watched
+from multitude import Multitude
 from service import Service
 from suite import Running, free_port, run, same
 from exporter import EXPORTER, Exporter
@@ -32,6 +35,12 @@ from exporter import EXPORTER, Exporter
 FIGURES = os.path.join(cases.TOP, "docs", "figures")
 
 PASSWORD = "correct horse"
+
+# Subscriptions of the program, those of a build without proofs, and seconds for each thousand of them to begin, however busy the machine is.
+SUBSCRIPTIONS, FEW, PATIENCE = 64000, 500, 60
+
+# Scrapes of Prometheus whose time is taken, and the seconds between two of them.
+SCRAPES, BETWEEN = 60, 0.2
 
 # Seconds for what the page does at its next look, for what comes at the one after that, and until a dead phone is red at the latest.
 LOOK, LOOKS, RED = 12, 25, 35
@@ -269,6 +278,112 @@ def a_dead_phone_is_red(browser, program):
     return f"        red behind {red:.1f} s, gone behind {gone:.1f} s"
 
 
+def status_of(process, name):
+    """A line of the system's of a process, in MB."""
+    with open(f"/proc/{process.pid}/status", encoding="ascii") as file:
+        return next(int(line.split()[1]) // 1024 for line in file if line.startswith(name))
+
+
+def processor(process):
+    """Seconds of a processor that a process has taken."""
+    with open(f"/proc/{process.pid}/stat", encoding="ascii") as file:
+        words = file.read().rpartition(")")[2].split()
+    return (int(words[11]) + int(words[12])) / os.sysconf("SC_CLK_TCK")
+
+
+def all_rows(exporter):
+    """Who watches, page after page, as often as it takes for all pages to be of one look."""
+    while True:
+        place, tags, surveys = 0, [], set()
+        while place is not None:
+            told = exporter.json("/watchers.json", count=500, **{"from": place})
+            tags += [it["tag"] for it in told["rows"]]
+            surveys.add(told["survey"])
+            place = told["next"]
+        if len(surveys) == 1:
+            return tags
+
+
+def scrapes(exporter, looks):
+    """Milliseconds that scrapes take, while somebody looks or nobody does: their median, and the most of them."""
+    took = []
+    for number in range(SCRAPES):
+        if looks and number % 10 == 0:
+            exporter.json("/watchers.json")
+        began = time.monotonic()
+        same("the status of a scrape", 200, exporter.status("/metrics"))
+        took.append(1000 * (time.monotonic() - began))
+        time.sleep(BETWEEN)
+    return f"{statistics.median(took):.0f} ms, {max(took):.0f} at most"
+
+
+def is_told(exporter, phones):
+    """All that watch are there, in pages, and each is found by its tag, its address and its mailbox."""
+    began = time.monotonic()
+    while exporter.json("/watchers.json", count=1)["total"] < len(phones.mailboxes):
+        same("whether all are told", True, time.monotonic() - began < PATIENCE * 5)
+        time.sleep(0.2)
+    first = time.monotonic() - began
+    tags = all_rows(exporter)
+    same("rows that come twice", len(tags), len(set(tags)))
+    same("tags that are told", set(phones.tags.values()), set(tags))
+    for number in 0, len(phones.mailboxes) - 1:
+        asked = {"search": phones.tags[number]}, {"search": f"{phones.address(number)} {phones.tags[number]}"}
+        same("who is found", [[phones.tags[number]]] * 2, [[it["tag"] for it in exporter.json("/watchers.json", **query)["rows"]] for query in asked])
+    others = {phones.tags[number] for number, name in enumerate(phones.mailboxes) if name == phones.mailboxes[0]}
+    same("who watches a mailbox", others, {it["tag"] for it in exporter.json("/watchers.json", mailbox=phones.mailboxes[0], count=500)["rows"]})
+    return first
+
+
+def is_seen(browser, exporter, phones, dead):
+    """The page shows them, and finds the dead one."""
+    began = time.monotonic()
+    browser.open(exporter.place)
+    filled(browser, f"{len(phones.mailboxes):,}", 60)
+    first = time.monotonic() - began
+    browser.wait("return document.title === '(1) notifyd'", 90)
+    same("which row is the first", (True, phones.address(dead)), (rows(browser)[0][0] in ("row behind", "row gone"), rows(browser)[0][4]))
+    browser.run(f"document.querySelector('#watchers .grid').scrollTop = {len(phones.mailboxes) // 2} * 30")
+    browser.wait(f"return {ARE_THERE} && {ROWS}[0].place > {len(phones.mailboxes) // 2 - 60}", LOOKS)
+    typed(browser, phones.tags[dead])
+    filled(browser, f"1 of {len(phones.mailboxes):,}", LOOKS)
+    is_whole(browser, 1280)
+    return first
+
+
+def real_subscriptions(browser, program, folder, count):
+    """So many subscriptions of the program: in pages of the exporter, in the page, found, and one of them behind once its phone is dead."""
+    boxes = max(1, count // 2)
+    place = os.path.join(folder, "mailboxes")
+    with open(place, "w", encoding="ascii") as file:
+        file.write(f"100000-{100000 + boxes - 1}\n")
+    words = ["--workers", "4", "--table", "65536", "--max-time", "86400", "--default-time", "86400", "--mailboxes", place]
+    phones = Multitude([str(100000 + number % boxes) for number in range(count)])
+    limit = PATIENCE * (10 + count // 1000)
+    with Service(program, *words, limit=2 * limit) as service, phones.at(service.sip), Exporter(service.control, limit=2 * limit) as exporter:
+        begun = phones.await_all(limit)
+        first = is_told(exporter, phones)
+        dead = count // 3
+        phones.dead.add(dead)
+        with service.operator() as operator:
+            operator.tell(f"MAIL {phones.mailboxes[dead]} voice 1 0 0 0")
+        died = time.monotonic()
+        becomes("who is behind", lambda: [it["tag"] for it in exporter.json("/watchers.json", state="behind,gone")["rows"]], [phones.tags[dead]], RED)
+        red = time.monotonic() - died
+        seen = is_seen(browser, exporter, phones, dead)
+        taken, began = processor(exporter.running.process), time.monotonic()
+        looked = scrapes(exporter, True)
+        share = (processor(exporter.running.process) - taken) / (time.monotonic() - began)
+        time.sleep(12)
+        alone = scrapes(exporter, False)
+        most = status_of(exporter.running.process, "VmHWM")
+        service.running.process.kill()
+    return (
+        f"        {count:,} subscriptions in {begun:.1f} s; all told in {first:.1f} s, in the page {seen:.1f} s; the dead one behind {red:.1f} s\n"
+        f"        a scrape takes {looked} while somebody looks, {alone} else; the exporter {most} MB, and {share:.0%} of a processor; load {os.getloadavg()[0]:.0f}"
+    )
+
+
 def a_lamp_from_the_page(browser, program, folder):
     """With --read-write the page turns a lamp on, by the password; without it there is no such button."""
     place = os.path.join(folder, "password")
@@ -503,7 +618,9 @@ def pictures():
 
 def main():
     figures = "--figures" in sys.argv
-    sys.argv = [it for it in sys.argv if it != "--figures"]
+    wanted = sys.argv.index("--subscriptions") if "--subscriptions" in sys.argv else None
+    count = int(sys.argv.pop(wanted + 1)) if wanted else None
+    sys.argv = [it for it in sys.argv if it not in ("--figures", "--subscriptions")]
     all_of_them = cases.Cases()
     if not cases.are_there("chromium", "chromedriver"):
         cases.skip("the page in a browser: chromium or its driver isn't installed (Debian's packages chromium, chromium-driver)")
@@ -512,6 +629,7 @@ def main():
         pictures()
         return 0
     program = cases.program()
+    count = count or (FEW if program.endswith(".tried") else SUBSCRIPTIONS)
     with tempfile.TemporaryDirectory() as folder:
         all_of_them.check("the page shows three watchers", shown(three_watchers))
         all_of_them.check("it keeps the place among 3,000 of them", shown(the_place_is_kept))
@@ -519,6 +637,7 @@ def main():
         all_of_them.check("it is usable with 64,000 of them", shown(many_watchers))
         all_of_them.check("names of strangers are texts", shown(names_of_strangers))
         all_of_them.check("the service is away and back", shown(away_and_back))
+        all_of_them.check(f"it is usable with {count:,} subscriptions of the program", shown(real_subscriptions), program, folder, count)
         all_of_them.check("a dead phone is red", shown(a_dead_phone_is_red), program)
         all_of_them.check("the page turns a lamp on", shown(a_lamp_from_the_page), program, folder)
         all_of_them.check("it fits from 400 to 1,920 pixels", shown(it_fits))

@@ -31,12 +31,13 @@ class Watched:
 class Desk:
     """Answers at a port of 127.0.0.1. `rows` may be changed while it runs, `counters` too, and `mails`: MAIL lines. `status` has an answer to
     STATUS in place of the counters, and while it `is_silent` it answers nothing. So often as `busy` says it has no time
-    for WATCHERS."""
+    for WATCHERS, and as `busy_later` says none for a page behind the first."""
 
     def __init__(self, rows=(), mails=(), port=0, **counters):
         self.rows, self.mails, self.counters = list(rows), list(mails), {**COUNTERS, "live": len(rows), **counters}
         self.unread = [1, 2, 3, 4, 5, 6, 7]
-        self.heard, self.status, self.is_silent, self.busy, self.began = [], None, False, 0, time.monotonic()
+        self.heard, self.status, self.is_silent, self.began = [], None, False, time.monotonic()
+        self.busy = self.busy_later = 0
         self.socket = socket.socket(socket.AF_INET, socket.SOCK_DGRAM)
         self.socket.bind(("127.0.0.1", port))
         self.port = self.socket.getsockname()[1]
@@ -69,6 +70,9 @@ class Desk:
             return self.status or "".join(["ok\n", *(f"{name} {number}\n" for name, number in told.items()), f"unread {' '.join(map(str, self.unread))}\n"])
         if words[0] == "WATCHERS" and self.busy:
             self.busy -= 1
+            return "busy"
+        if words[0] == "WATCHERS" and len(words) > 2 and self.busy_later:
+            self.busy_later -= 1
             return "busy"
         if words[0] == "WATCHERS":
             return self.watchers(int(words[2]) if len(words) > 2 else 0)

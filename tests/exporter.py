@@ -16,7 +16,7 @@ import urllib.parse
 from contrib import COUNTERS, VALUES, values
 from desk import Desk, Watched
 from service import Service
-from suite import Ended, Running, free_port, run, same
+from suite import LONG_LIMIT, Ended, Running, free_port, run, same
 
 TOP = os.path.dirname(os.path.dirname(os.path.abspath(__file__)))
 
@@ -39,8 +39,8 @@ PLACES = ["/", "/metrics", "/healthz", "/status.json", "/history.json", "/watche
 class Exporter:
     """An exporter over the service at this control port, which ends well at TERM. Used in a `with`."""
 
-    def __init__(self, control, *words, program=EXPORTER, port=0):
-        self.running = Running(program, ["--listen", f"127.0.0.1:{port}", "--control", f"127.0.0.1:{control}", *words])
+    def __init__(self, control, *words, program=EXPORTER, port=0, limit=LONG_LIMIT):
+        self.running = Running(program, ["--listen", f"127.0.0.1:{port}", "--control", f"127.0.0.1:{control}", *words], limit)
 
     def __enter__(self):
         self.running.__enter__()
@@ -238,6 +238,19 @@ def a_service_that_is_busy(program, folder):
             same("whether it is reachable", 200, exporter.status("/healthz"))
             desk.busy = 0
             becomes("what is known again", lambda: exporter.json("/watchers.json")["why"], None)
+
+
+def a_service_that_is_busy_later(program, folder):
+    """Where a page behind the first isn't told, it is asked for again some times: what the others told isn't lost."""
+    rows = [Watched(number, f"m{number}") for number in range(400)]
+    with Desk(rows) as desk:
+        desk.busy_later = 3
+        with Exporter(desk.port) as exporter:
+            becomes("how many watch", lambda: exporter.json("/watchers.json")["total"], len(rows))
+            same("how often it is busy yet", 0, desk.busy_later)
+            desk.busy_later = 1000
+            becomes("why nothing newer is known", lambda: exporter.json("/watchers.json")["why"], "busy")
+            same("how many watch", len(rows), exporter.json("/watchers.json")["total"])
 
 
 def mailboxes_in_pages(program, folder):
@@ -507,6 +520,61 @@ def a_dashboard_of_the_families(program, folder):
             same(f"whether {title} and {name} stand apart", True, is_beside)
 
 
+# What Grafana's schema of a dashboard (its version 38) knows, as far as this one has it: keys, and the values of those that are words.
+BOARD = {
+    "title", "uid", "tags", "timezone", "editable", "graphTooltip", "refresh", "time", "schemaVersion", "version", "annotations", "templating", "panels",
+}
+PANEL = {"id", "type", "title", "description", "datasource", "gridPos", "fieldConfig", "options", "targets"}
+FIELD = {"unit", "min", "max", "decimals", "color", "thresholds", "mappings", "custom", "noValue"}
+VARIABLES = {"datasource", "query"}
+COLORS = {"thresholds", "palette-classic", "palette-classic-by-name", "fixed"}
+UNITS = {"short", "s", "ops", "bytes"}
+REDUCERS = {"lastNotNull", "last", "max", "min", "mean", "sum"}
+BUILT_IN = {"__rate_interval", "__interval", "__range"}
+
+
+def known(what, allowed, came):
+    same(f"words that Grafana doesn't know in {what}", set(), set(came) - allowed)
+
+
+def a_panel_of_the_schema(panel, variables):
+    name, defaults = panel["title"], panel["fieldConfig"]["defaults"]
+    known(name, PANEL, panel)
+    known(f"defaults of {name}", FIELD, defaults)
+    same(f"overrides of {name}", [], panel["fieldConfig"]["overrides"])
+    known(f"unit and colour of {name}", UNITS | COLORS, {defaults["unit"], *([defaults["color"]["mode"]] if "color" in defaults else [])})
+    same(f"type and identity of {name}", (True, True), (panel["type"] in ("stat", "timeseries"), type(panel["id"]) is int and panel["id"] > 0))
+    box = panel["gridPos"]
+    same(f"place of {name}", True, set(box) == set("xywh") and all(type(it) is int for it in box.values()) and min(box["w"], box["h"]) > 0 <= min(box["x"], box["y"]))
+    if "thresholds" in defaults:
+        first, *others = [it["value"] for it in defaults["thresholds"]["steps"]]
+        same(f"thresholds of {name}", ("absolute", None, sorted(others)), (defaults["thresholds"]["mode"], first, others))
+    if panel["type"] == "stat":
+        known(f"calculations of {name}", REDUCERS, panel["options"]["reduceOptions"]["calcs"])
+    for target in panel["targets"]:
+        same(f"a target of {name}", (True, panel["datasource"]), (bool(re.fullmatch("[A-Z]", target["refId"])), target["datasource"]))
+        known(f"variables of {name}", variables | BUILT_IN, re.findall(r"\$\{?(\w+)", target["expr"]))
+        same(f"parentheses of {name}", [target["expr"].count(it) for it in "({["], [target["expr"].count(it) for it in ")}]"])
+
+
+def a_dashboard_of_the_schema(program, folder):
+    """What Grafana reads of a dashboard, as far as its schema says it; and each query fits the kind of its family."""
+    with open(os.path.join(TOP, "contrib", "grafana.json"), encoding="utf-8") as file:
+        board = json.load(file)
+    known("the dashboard", BOARD, board)
+    told = board["schemaVersion"] >= 36, board["graphTooltip"] in (0, 1, 2), board["timezone"] in ("browser", "utc", ""), set(board["time"])
+    same("version, tooltip, zone and time", (True, True, True, {"from", "to"}), told)
+    variables = board["templating"]["list"]
+    known("variables", VARIABLES, {it["type"] for it in variables})
+    same("the first variable, which the others ask", ("source", "datasource", "prometheus"), tuple(variables[0][it] for it in ("name", "type", "query")))
+    same("how often variables are asked anew", {None, 2}, {it.get("refresh") for it in variables})
+    for panel in board["panels"]:
+        a_panel_of_the_schema(panel, {it["name"] for it in variables})
+        for target in panel["targets"]:
+            over_time = set(re.findall(r"(?:rate|increase)\((notifyd_\w+)", target["expr"]))
+            same(f"families of {panel['title']} whose growth is asked, that are no counters", set(), {it for it in over_time if not it.endswith("_total")})
+
+
 def alarms_of_the_families(program, folder):
     with open(os.path.join(TOP, "contrib", "alerts.yml"), encoding="utf-8") as file:
         asked = set(re.findall(r"notifyd_\w+", "".join(line for line in file if not line.lstrip().startswith("#"))))
@@ -562,6 +630,7 @@ def checks_apart():
     yield "exporter: watchers in pages", watchers_in_pages
     yield "exporter: a restart forgets who was behind", a_restart_forgets_who_was_behind
     yield "exporter: a service that is busy", a_service_that_is_busy
+    yield "exporter: a service that is busy behind the first page", a_service_that_is_busy_later
     yield "exporter: mailboxes in pages", mailboxes_in_pages
     yield "exporter: texts of strangers", texts_of_strangers
     yield "exporter: the page and its policy", the_page_and_its_policy
@@ -572,4 +641,5 @@ def checks_apart():
     yield "exporter: bad requests", bad_requests
     yield "exporter: bad words", bad_words
     yield "exporter: a dashboard of the families", a_dashboard_of_the_families
+    yield "exporter: a dashboard of Grafana's schema", a_dashboard_of_the_schema
     yield "exporter: alarms of the families", alarms_of_the_families
