@@ -7,13 +7,13 @@ import re
 import socket
 import time
 
-from suite import same, shown
+from suite import SLOWER, same, shown
 
 # The lines of a request that its answer repeats (RFC 3261 section 8.2.6.2).
 REPEATED = ("Via: ", "From: ", "To: ", "Call-ID: ", "CSeq: ")
 
 # Seconds that a phone waits for a datagram.
-PATIENCE = 60
+PATIENCE = 60 * SLOWER
 
 # Seconds within which an out that went out is counted.
 MOMENT = 0.1
