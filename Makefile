@@ -5,7 +5,7 @@ help:
 	@echo "make lamp     a service, a lamp and a mail change, with the built program, or else with one compiled in a minute"
 	@echo "make try      compiles notifyd without a proof (crates/notifyd/out/notifyd.tried), and runs one SUBSCRIBE"
 	@echo "make tried    compiles it so, and runs nothing"
-	@echo "make check    compiles it so, and tries it from outside: for who changes a test or a script, in five minutes or so"
+	@echo "make check    compiles it so, and tries it from outside: for who changes a test or a script, in some minutes"
 	@echo "make run      proves and builds crates/notifyd/out/notifyd, and runs it: three quarters of an hour or more"
 	@echo "make gate     proves and tests everything, as a landing does: an hour or more"
 	@echo "make tests    tries the built program from outside, as the gate does after its proofs"
