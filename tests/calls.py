@@ -163,6 +163,11 @@ BAD_SERVICES = [
     (["--repeats", "all"], 1, "a bad value: --repeats <0 to 65536>"),
     (["--linger", "0.5"], 1, "a bad value: --linger <0 to 32>"),
     (["alice", "--linger"], 1, "a value is missing: --linger <0 to 32>"),
+    (["--guesses", "5"], 1, "a bad value: --guesses <at once>/<a minute>, each 1 to 65536"),
+    (["--guesses", "0/20"], 1, "a bad value: --guesses <at once>/<a minute>, each 1 to 65536"),
+    (["--guesses=5/65537"], 1, "a bad value: --guesses <at once>/<a minute>, each 1 to 65536"),
+    (["--max-texts", "511"], 1, "a bad value: --max-texts <512 to 65535>"),
+    (["--max-texts", "65536"], 1, "a bad value: --max-texts <512 to 65535>"),
     (["--listen", "localhost"], 3, "a bad value: --listen <a.b.c.d:port>"),
     (["alice", "--seed", "00"], 1, "a bad value: --seed <64 hex digits>"),
     (["alice", "--mailboxes"], 1, "a value is missing: --mailboxes <file>"),
@@ -178,9 +183,11 @@ BAD_SERVICES = [
     ([], 1, "no mailbox: name some, or a file of them with --mailboxes <file>"),
     (["--listen", "0.0.0.0:5060", "alice"], 1, NOWHERE),
     (["--contact", "0.0.0.0:5060", "alice"], 1, NOWHERE),
-    (["--max-time", "600", "alice"], 1, times("--default-time is 3600, but must be from 60 to 600")),
-    (["--max-time", "100", "--default-time", "100", "alice"], 1, times("--refer-time is 180, but must be from 60 to 100")),
-    (["--min-time", "200", "alice"], 1, times("--refer-time is 180, but must be from 200 to 3600")),
+    (["--max-time", "600", "--default-time", "601", "alice"], 1, times("--default-time is 601, but must be from 60 to 600")),
+    (["--default-time", "3600", "--max-time", "600", "alice"], 1, times("--default-time is 3600, but must be from 60 to 600")),
+    (["--max-time", "100", "--refer-time", "180", "alice"], 1, times("--refer-time is 180, but must be from 60 to 100")),
+    (["--min-time", "200", "--refer-time", "180", "alice"], 1, times("--refer-time is 180, but must be from 200 to 3600")),
+    (["--min-time", "600", "--max-time", "300", "alice"], 1, times("--max-time is 300, but must be from 600 to 4294967295")),
     (["--max-time", "59", "alice"], 1, times("--max-time is 59, but must be from 60 to 4294967295")),
     (["--mailboxes", "nowhere"], 3, "no such file, or it can't be read as UTF-8 text: nowhere"),
     (["--state=nowhere", "alice"], 3, "no such file, or it can't be read as UTF-8 text: nowhere"),
@@ -188,8 +195,13 @@ BAD_SERVICES = [
     (["--listen=127.0.0.1:0", "--control=198.51.100.1:5061", "alice"], 3, "an address not of this machine: --control"),
 ]
 
-# Words behind `serve` that are good: the least and the greatest numbers of the options that take 0.
+# Words behind `serve` that are good: the least and the greatest numbers of some options, and a bound of times by itself.
 GOOD_SERVICES = [
+    ["--guesses", "1/65536", "--max-texts", "512", "alice"],
+    ["--guesses=65536/1", "--max-texts", "65535", "alice"],
+    ["--max-time", "300", "alice"],
+    ["--max-time", "60", "alice"],
+    ["--min-time", "3600", "alice"],
     ["--repeats", "0", "--linger", "0", "alice"],
     ["--repeats", "65536", "--linger", "32", "alice"],
     ["--linger", "32", "--linger", "1", "--repeats", "1", "alice"],
@@ -421,6 +433,19 @@ def a_service_as_asked(program, _):
             pass
 
 
+def the_greatest_time_alone(program, _):
+    """Who asks for no time is granted the greatest one, where that is below the default."""
+    sip, control, words = service_words(["--max-time", "300", "alice"])
+    with Running(program, words) as service, socket.socket(socket.AF_INET, socket.SOCK_DGRAM) as phone:
+        service.lines_until(b"listening")
+        phone.bind(("127.0.0.1", 0))
+        phone.settimeout(60)
+        phone.sendto(subscribe("alice").replace(b"Expires: 3600\r\n", b""), ("127.0.0.1", sip))
+        same("a grant of 300 seconds", True, b"\r\nExpires: 300\r\n" in phone.recv(65536))
+        same("the answer to CLOSE", b"ok", ask(control, b"CLOSE"))
+        same("the status", 0, service.end().status)
+
+
 def mailboxes_of_a_file(text, count, refusal):
     """A check that the file names so many mailboxes, of which alice is the first, or is refused for a line."""
 
@@ -446,6 +471,7 @@ def serve_checks():
         yield f"serve {words} begins", service_begins(words)
     yield "serve at a port in use", a_port_in_use
     yield "serve as it is asked", a_service_as_asked
+    yield "serve with the greatest time alone", the_greatest_time_alone
     for text, count, refusal in MAILBOX_FILES:
         yield f"a file of mailboxes {text!r}", mailboxes_of_a_file(text, count, refusal)
 

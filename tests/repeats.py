@@ -121,6 +121,91 @@ def are_sends(what, arrivals, moments):
         raise AssertionError(f"{what}: sent after {moments} seconds was wanted, it came after {came}")
 
 
+def answers_noted(operator, count):
+    """Waits until the answers of so many phones were noted: WATCHERS tells the last NOTIFY of each that was answered."""
+    end = time.monotonic() + PATIENCE
+    while sum(row[3] == row[4] for row in rows_told(operator, "WATCHERS")) != int(count):
+        if time.monotonic() > end:
+            raise AssertionError(f"the answers of {count} phones were to be noted")
+        time.sleep(0.01)
+
+
+def are_numbered(what, arrivals, numbers):
+    """Raises AssertionError unless these are NOTIFYs with these numbers, in this order."""
+    same(what, [f"{number} NOTIFY" for number in numbers], [Message(arrival.octets).value("CSeq") for arrival in arrivals])
+
+
+def a_stranger_draws_one(program, folder):
+    """A phone that answers nothing draws the sends of one NOTIFY, however often its mailbox changes: who writes somebody else's address
+    into a SUBSCRIBE draws no more upon that. Once it answers, all that waited comes at once, in order, and from then on nothing
+    waits."""
+    with Service(program, "alice") as service, Observer(service.sip, "alice") as phone, service.operator() as operator:
+        phone.ask("SIP/2.0 200 OK")
+        end = time.monotonic() + MOMENTS[3] + 1
+        for new in range(1, 11):
+            operator.tell(f"MAIL alice voice {new} 0 0 0")
+        came = phone.observe_until(end)
+        are_sends("the one NOTIFY to a phone that doesn't answer", came, MOMENTS[:4])
+        asked = len(phone.request("SUBSCRIBE", "SUBSCRIBEalice", 1, "", ("Event: message-summary", "Expires: 3600")))
+        drawn = sum(len(arrival.octets) for arrival in came)
+        if drawn > len(MOMENTS) * 5 * asked:
+            raise AssertionError(f"{asked} bytes drew {drawn} bytes in {MOMENTS[3]} seconds")
+        same("NOTIFYs that waited", "10", operator.counters()["held"])
+        phone.reply(came[-1])
+        waited = phone.observe(10)
+        are_numbered("what waited", waited, range(2, 12))
+        same("what the last of them tells", "Voice-Message: 10/0 (0/0)", Message(waited[-1].octets).body.splitlines()[-1])
+        for arrival in waited:
+            phone.reply(arrival)
+        phone.hears_nothing()
+        for new in (1, 2):
+            operator.tell(f"MAIL alice voice {new} 0 0 0")
+        both = phone.observe(2)
+        are_numbered("what comes to a phone that answered before", both, (12, 13))
+        for arrival in both:
+            phone.reply(arrival)
+        same("NOTIFYs that were dropped", "0", operator.counters()["held_dropped"])
+        service.close(lambda: phone.accept(14))
+
+
+def an_address_elsewhere_draws_one(program, folder):
+    """The same where a phone that answered goes on from another address: one NOTIFY goes there until that answers."""
+    with Service(program, "alice") as service, service.operator() as operator, Observer(service.sip, "alice") as phone:
+        with Observer(service.sip, "alice") as elsewhere:
+            dialog = phone.ask("SIP/2.0 200 OK")
+            phone.accept(1)
+            answers_noted(operator, "1")
+            elsewhere.dialogs[dialog.call_id] = dialog
+            lines = ("Event: message-summary", "Expires: 3600")
+            elsewhere.send(elsewhere.request("SUBSCRIBE", dialog.call_id, dialog.asked + 1, dialog.tag, lines))
+            same("the answer to the refresh", "SIP/2.0 200 OK", Message(elsewhere.observe(1)[0].octets).first)
+            end = time.monotonic() + MOMENTS[2] + 0.5
+            for new in range(1, 6):
+                operator.tell(f"MAIL alice voice {new} 0 0 0")
+            came = elsewhere.observe_until(end)
+            are_sends("the one NOTIFY to the address elsewhere", came, MOMENTS[:3])
+            phone.hears_nothing(ON_ITS_WAY)
+            elsewhere.reply(came[-1])
+            waited = elsewhere.observe(5)
+            are_numbered("what waited", waited, range(3, 8))
+            for arrival in waited:
+                elsewhere.reply(arrival)
+            service.close(lambda: elsewhere.accept(8))
+
+
+def what_waits_is_given_up_too(program, folder):
+    """What waits for the answer to a NOTIFY is dropped when that is given up, and of one dialog no more than 64 wait."""
+    with Service(program, "alice") as service, Observer(service.sip, "alice") as phone, service.operator() as operator:
+        phone.ask("SIP/2.0 200 OK")
+        end = time.monotonic() + MOMENTS[-1] + QUIET
+        for new in range(1, 71):
+            operator.tell(f"MAIL alice voice {new} 0 0 0")
+        counters_become(operator, lambda: {"held": "64", "held_dropped": "6"})
+        are_sends("the NOTIFY that nobody answers", phone.observe_until(end), MOMENTS)
+        counters_become(operator, lambda: {"live": "0", "given_up": "1", "held_dropped": "70"})
+        service.close()
+
+
 def silence_brings_it_again(program, folder):
     with Service(program, "alice") as service, Observer(service.sip, "alice") as phone, service.operator() as operator:
         phone.ask("SIP/2.0 200 OK")
@@ -146,15 +231,18 @@ def a_provisional_answer_slows_it_down(program, folder):
 
 
 def a_481_ends_all_of_its_dialog(program, folder):
-    """Of two dialogs with three NOTIFYs each one is ended by a 481 to the second; the other goes on."""
+    """Of two dialogs with three unanswered NOTIFYs each one is ended by a 481 to the second of them; the other goes on."""
     with Service(program, "--linger", "0", "alice") as service, service.operator() as operator:
         with Observer(service.sip, "alice") as gone, Observer(service.sip, "alice") as other:
             dialog = gone.ask("SIP/2.0 200 OK")
+            gone.accept(1)
             other.ask("SIP/2.0 200 OK")
-            for new in (1, 2):
+            other.accept(1)
+            answers_noted(operator, "2")
+            for new in (1, 2, 3):
                 operator.tell(f"MAIL alice voice {new} 0 0 0")
-            second = gone.notified(2)
-            gone.notified(3)
+            second = gone.notified(3)
+            gone.notified(4)
             gone.reply(second, GONE)
             gone.observe_until(time.monotonic() + ON_ITS_WAY)
             gone.hears_nothing()
@@ -162,28 +250,31 @@ def a_481_ends_all_of_its_dialog(program, folder):
             for octets in {arrival.octets for arrival in came}:
                 sends = [arrival for arrival in came if arrival.octets == octets]
                 are_sends("a NOTIFY of the other dialog", sends, MOMENTS[:4])
-            operator.tell("MAIL alice voice 3 0 0 0")
-            other.notified(4)
+            operator.tell("MAIL alice voice 4 0 0 0")
+            other.notified(5)
             gone.go_on(dialog, 3600)
             gone.expect(f"SIP/2.0 {GONE}")
             service.close()
 
 
 def a_stale_number_is_done_with(program, folder):
-    """The first NOTIFY was lost, and when it comes again the phone has seen the second: it answers by a 500 (RFC 3261 section
+    """A NOTIFY was lost, and when it comes again the phone has seen the next one: it answers by a 500 (RFC 3261 section
     12.2.2), which is a final answer."""
     with Service(program, "alice") as service, Observer(service.sip, "alice") as phone, service.operator() as operator:
         phone.ask("SIP/2.0 200 OK")
-        first = phone.notified(1)
+        phone.accept(1)
+        answers_noted(operator, "1")
+        operator.tell("MAIL alice voice 1 0 0 0")
+        lost = phone.notified(2)
         operator.tell("MAIL alice voice 2 8 0 2")
-        phone.accept(2, HEARD)
-        again = phone.notified(1)
-        are_sends("the first NOTIFY", [first, again], MOMENTS[:2])
+        phone.accept(3, HEARD)
+        again = phone.notified(2)
+        are_sends("the NOTIFY that was lost", [lost, again], MOMENTS[:2])
         phone.reply(again, "500 Server Internal Error")
         phone.hears_nothing()
         operator.tell("MAIL alice voice 0 10 0 0")
-        phone.accept(3)
-        service.close(lambda: phone.accept(4))
+        phone.accept(4)
+        service.close(lambda: phone.accept(5))
 
 
 def it_is_given_up(program, folder):
@@ -300,25 +391,31 @@ def one_is_repeated_at_a_time(program, folder):
     with Service(program, "--repeats", "1", "alice") as service, Observer(service.sip, "alice") as phone:
         with service.operator() as operator:
             phone.ask("SIP/2.0 200 OK")
-            first = phone.notified(1)
+            phone.accept(1)
+            answers_noted(operator, "1")
             operator.tell("MAIL alice voice 1 0 0 0")
-            phone.notified(2)
-            came = [first, *phone.observe(2)]
+            second = phone.notified(2)
+            operator.tell("MAIL alice voice 2 0 0 0")
+            phone.notified(3)
+            came = [second, *phone.observe(2)]
             are_sends("the NOTIFY that has the room", came, MOMENTS[:3])
             phone.reply(came[-1])
             phone.hears_nothing()
             same("NOTIFYs sent once", "1", operator.counters()["once"])
             operator.tell("MAIL alice voice 2 8 0 2")
-            third = phone.notified(3, HEARD)
-            are_sends("the NOTIFY behind it", [third, *phone.observe(1)], MOMENTS[:2])
-            phone.reply(third)
-            service.close(lambda: phone.accept(4))
+            fourth = phone.notified(4, HEARD)
+            are_sends("the NOTIFY behind it", [fourth, *phone.observe(1)], MOMENTS[:2])
+            phone.reply(fourth)
+            service.close(lambda: phone.accept(5))
 
 
 def checks():
     # The longest stands first, so that others are tried beside it.
     yield "repeats: eleven times at most, and one who answers the fifth is told of the next change", it_is_given_up
     yield "repeats: who answers the eleventh may be given up, and WATCHERS has no such row", the_last_send_is_answered_too_late
+    yield "repeats: what waits for an answer is given up with its NOTIFY", what_waits_is_given_up_too
+    yield "repeats: a phone that answers nothing draws one NOTIFY, and all that waited once it answers", a_stranger_draws_one
+    yield "repeats: an address elsewhere draws one NOTIFY until it answers", an_address_elsewhere_draws_one
     yield "repeats: after 0.5, 1.5, 3.5 and 7.5 seconds, and no more once it is answered", silence_brings_it_again
     yield "repeats: a 100 makes the interval four seconds", a_provisional_answer_slows_it_down
     yield "repeats: a 481 ends all of its dialog, and of no other", a_481_ends_all_of_its_dialog

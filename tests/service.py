@@ -327,7 +327,8 @@ def rows_become(operator, line, *wanted):
 
 
 def who_watches_is_told(program, folder):
-    """A phone that answers, one that doesn't, and one at another mailbox: how far each was told, and how far it answered."""
+    """A phone that answers, one that doesn't, for which a change waits, and one at another mailbox: how far each was told, and how far it
+    answered."""
     with Service(program, *KNOWN, "--workers", "1", "alice", "bob") as service, service.operator() as operator:
         operator.tell("WATCHERS", "ok\n")
         with open_socket(("127.0.0.1", service.sip)) as silent, service.phone("alice") as phone, service.phone("bob") as other:
@@ -341,7 +342,7 @@ def who_watches_is_told(program, folder):
             dialog, away = phone.subscribe(), other.subscribe()
             operator.tell("MAIL alice voice 2 8 0 2")
             phone.expect_notify("active", HEARD)
-            behind, well = ("alice", uri, tag, 2, 0), ("alice", uri, dialog.tag, 2, 2)
+            behind, well = ("alice", uri, tag, 1, 0), ("alice", uri, dialog.tag, 2, 2)
             strange = ("bob", "sip:bob@127.0.0.1", away.tag, 1, 1)
             rows_become(operator, "WATCHERS alice", behind, well)
             rows_become(operator, "WATCHERS bob", strange)

@@ -1,4 +1,4 @@
--- The lines that a 401 and a 403 share.
+-- The lines that a 401, a 403, a 413 and a 503 share.
 use Rattle.std.proofs.Common.{◌≡◌, ℕ, ◌+◌, ◌-◌, ◌<◌, ◌≤◌, get_or, append-nil, List, [], ◌∷◌, ◌++◌, length, map, take, drop, codes, refl, sym, ap, ◌∙◌, append_assoc, arith}
 use Rattle.std.proofs.lemmas.List.{take_at, take_more, drop_at, length-append}
 use Rattle.sip_text.specs.declared.address.Addr.{Addr}
@@ -8,7 +8,7 @@ use Rattle.sip_write.specs.declared.status.Status.TheVariants as status
 use Rattle.sip_write.specs.Answer.{status_line, via_lines, dialog_lines, answer_lines, answer_text}
 use Rattle.sip_write.specs.Lines.{joined, line_end, header}
 use Rattle.sip_write.proofs.Joins.{joined-append}
-use Rattle.admission.specs.Challenge.{forbidden, forbidden_text, challenge_text, unavailable_text}
+use Rattle.admission.specs.Challenge.{forbidden, forbidden_text, challenge_text, large_text, unavailable_text}
 
 -- the lines between the first and the last ones
 abbrev pub inner : Addr → Request → List ℕ → List (List ℕ)
@@ -71,6 +71,18 @@ pub challenge_parts : (source : Addr) (r : Request) (tag : List ℕ) (challenges
 unfolding challenge_text
 challenge_parts source r tag challenges =
     further_parts source r tag (codes "SIP/2.0 401 Unauthorized") (map (header (codes "WWW-Authenticate")) challenges)
+
+none_joined : joined [] ≡ []
+unfolding joined
+none_joined = refl
+
+pub large_parts : (source : Addr) (r : Request) (tag : List ℕ)
+    → large_text source r tag ≡ (codes "SIP/2.0 413 Request Entity Too Large\r\n" ++ joined (inner source r tag)) ++ last
+unfolding large_text
+large_parts source r tag =
+    let front : List ℕ = codes "SIP/2.0 413 Request Entity Too Large\r\n" ++ joined (inner source r tag) in
+    further_parts source r tag (codes "SIP/2.0 413 Request Entity Too Large") []
+    ∙ ap (λ (x : List ℕ). (front ++ x) ++ last) none_joined ∙ ap (λ (x : List ℕ). x ++ last) (append-nil front)
 
 pub unavailable_parts : (source : Addr) (r : Request) (tag : List ℕ)
     → unavailable_text source r tag

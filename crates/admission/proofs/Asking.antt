@@ -26,7 +26,7 @@ pub record IsUser (g : Guard) (i : Inquiry) (user : List ℕ) : Type 0 where
   pub accepted : IsAccepted g (asked i) credentials
   pub name : user ≡ credentials.username
 
-judged_user : (g : Guard) (i : Inquiry) (user : List ℕ) (v : Verdict) → IsJudged g i v → finding.User user ≡ told v → IsUser g i user
+judged_user : (g : Guard) (i : Inquiry) (user : List ℕ) (v : Verdict) (j : IsJudged g i v) → finding.User user ≡ told v j.credentials.username → IsUser g i user
 judged_user g i user (verdict.Accepted own) j e = record {
   credentials = j.credentials;
   shows = j.shows;

@@ -8,3 +8,4 @@ pub mod Lookups
 pub mod Allowances
 pub mod Shares
 pub mod Alone
+pub mod Bars

@@ -1,4 +1,4 @@
--- The 401, the 403 and the 503 (RFC 3261 sections 21.4.2, 21.4.4 and 21.5.4). They have the layout of all answers.
+-- The 401, the 403, the 413 and the 503 (RFC 3261 sections 21.4.2, 21.4.4, 21.4.11 and 21.5.4). They have the layout of all answers.
 use Rattle.std.specs.Prelude.{ℕ, List, [], ◌∷◌, ◌++◌, map, Some, codes}
 use Rattle.sip_text.specs.declared.address.Addr.{Addr}
 use Rattle.sip_read.specs.declared.message.Request.{Request}
@@ -25,6 +25,15 @@ challenge_lines a challenges =
 
 unfoldable pub challenge_text : Addr → Request → List ℕ → List (List ℕ) → List ℕ
 challenge_text source r tag challenges = joined (challenge_lines (forbidden source r tag) challenges)
+
+-- the lines of a 413: those of an answer
+abbrev pub large_lines : AnswerText → List (List ℕ)
+large_lines a =
+    codes "SIP/2.0 413 Request Entity Too Large"
+    ∷ (via_lines a.source a.head.top a.head.vias ++ (dialog_lines a ++ header (codes "Content-Length") (codes "0") ∷ [] ∷ []))
+
+unfoldable pub large_text : Addr → Request → List ℕ → List ℕ
+large_text source r tag = joined (large_lines (forbidden source r tag))
 
 -- the lines of a 503: those of an answer, and for how many seconds not to ask again (RFC 3261 section 20.33)
 abbrev pub unavailable_lines : AnswerText → List (List ℕ)

@@ -38,17 +38,17 @@ asked i = record { method = i.request.method; uri = i.request.uri; source = i.so
 
 -- ---- who asks
 
--- who a guard says that it is
-abbrev pub told : Verdict → Finding
-told (verdict.Accepted user) = finding.User user
-told verdict.ForeignNonce = finding.Nobody cause.Stale
-told verdict.StaleNonce = finding.Nobody cause.Stale
-told verdict.WrongRealm = finding.Nobody cause.Wrong
-told verdict.OtherUri = finding.Nobody cause.Wrong
-told verdict.WrongAlgorithm = finding.Nobody cause.Wrong
-told verdict.OldForm = finding.Nobody cause.Wrong
-told verdict.UnknownUser = finding.Nobody cause.Wrong
-told verdict.BadResponse = finding.Nobody cause.Wrong
+-- who a guard says that it is, of credentials of this user: a wrong password is one of a user that isn't known, or a response that isn't right
+abbrev pub told : Verdict → List ℕ → Finding
+told (verdict.Accepted user) own = finding.User user
+told verdict.ForeignNonce own = finding.Nobody cause.Stale
+told verdict.StaleNonce own = finding.Nobody cause.Stale
+told verdict.WrongRealm own = finding.Nobody cause.Wrong
+told verdict.OtherUri own = finding.Nobody cause.Wrong
+told verdict.WrongAlgorithm own = finding.Nobody cause.Wrong
+told verdict.OldForm own = finding.Nobody cause.Wrong
+told verdict.UnknownUser own = finding.Guess own
+told verdict.BadResponse own = finding.Guess own
 
 -- the guard finds this of the credentials that the request shows
 pub record IsJudged (g : Guard) (i : Inquiry) (v : Verdict) : Type 0 where
@@ -61,7 +61,7 @@ abbrev pub IsFound : Guard → Inquiry → Finding → Type 0
 IsFound g i f =
     ((f ≡ finding.Nobody cause.Absent) × (authorization i.octets ≡ None))
     ⊎ (((f ≡ finding.Nobody cause.Malformed) × IsMalformed i.octets)
-    ⊎ ((v : Verdict) × IsJudged g i v × (f ≡ told v)))
+    ⊎ ((v : Verdict) × (j : IsJudged g i v) × (f ≡ told v j.credentials.username)))
 
 -- ---- whether they may
 
@@ -102,4 +102,5 @@ pub record IsForbidden (k : Authentication) (i : Inquiry) : Type 0 where
 abbrev pub IsConcluded : Authentication → Inquiry → Conclusion → Type 0
 IsConcluded k i conclusion.Admitted = IsAdmitted k i
 IsConcluded k i (conclusion.Challenge c octets) = IsFound k.guard i (finding.Nobody c) × (octets ≡ challenge k i c)
+IsConcluded k i (conclusion.Guess user octets) = IsFound k.guard i (finding.Guess user) × (octets ≡ challenge k i cause.Wrong)
 IsConcluded k i (conclusion.Forbidden octets) = IsForbidden k i × (octets ≡ forbidden_text i.source i.request k.tag)

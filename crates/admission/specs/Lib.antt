@@ -2,7 +2,10 @@ pub mod Networks
 pub mod Authorization
 pub mod Challenge
 pub mod Inquiries
+pub mod Texts
 pub mod Verdicts
 pub mod Buckets
 pub mod Table
+pub mod Guesses
 pub mod Runs
+pub mod Words

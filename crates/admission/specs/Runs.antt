@@ -1,8 +1,11 @@
 -- Whole runs: what is let through of many datagrams.
-use Rattle.std.specs.Prelude.{◌≡◌, ℕ, ◌+◌, ◌-◌, ◌*◌, ◌<◌, ◌≤◌, Bool, true, ◌==◌, if◌then◌else◌, List, [], ◌∷◌, length, map, filter, count_by, slice_index}
+use Rattle.std.specs.Prelude.{◌≡◌, ◌≢◌, ℕ, ◌+◌, ◌-◌, ◌*◌, ◌<◌, ◌≤◌, Bool, true, false, ◌==◌, if◌then◌else◌, List, [], ◌∷◌, length, map, filter, count_by, slice_index}
+use Rattle.std.specs.List.{AllByRecursion}
 use Rattle.admission.specs.declared.bucket.Rate.{Rate}
 use Rattle.admission.specs.declared.table.Rates.{Rates}
+use Rattle.admission.specs.declared.guesses.Guesses.{Guesses}
 use Rattle.admission.specs.Table.{empty, has_room, is_let, after}
+use Rattle.admission.specs.Guesses.{bars, guessed}
 
 -- a datagram of a source, at a moment in milliseconds
 pub record Arrival : Type 0 where
@@ -62,3 +65,28 @@ NoneBelowIsRefused =
     (rate : Rate) (size : ℕ) (arrivals : List Arrival) (source from to : ℕ) → 0 < size → AreBetween from to arrivals
     → HasAlwaysRoom source (empty rate size) arrivals → AreBelow rate (moments source arrivals)
     → filter (is_of source) (let_through (empty rate size) arrivals) ≡ filter (is_of source) arrivals
+
+-- ---- nobody is barred by what others guess
+
+-- a wrong password of a user, from a source, at a moment in thousandths of a minute
+pub record Guess : Type 0 where
+  pub source : ℕ
+  pub user : List ℕ
+  pub moment : ℕ
+
+-- nobody guessed
+abbrev pub none_guessed : Rate → ℕ → Guesses
+none_guessed rate size = record { sources = empty rate size; names = empty rate size }
+
+-- what all of them leave
+abbrev pub all_guessed : Guesses → List Guess → Guesses
+all_guessed g [] = g
+all_guessed g (x ∷ rest) = all_guessed (guessed g x.source x.user x.moment) rest
+
+abbrev pub AreElsewhere : ℕ → List Guess → Type 0
+AreElsewhere source guesses = AllByRecursion (λ (g : Guess). g.source ≢ source) guesses
+
+abbrev pub NoneElseIsBarred : Type 0
+NoneElseIsBarred =
+    (rate : Rate) (size : ℕ) (guesses : List Guess) (source : ℕ) (user : List ℕ) (now : ℕ) → 0 < size → 0 < rate.burst
+    → AreElsewhere source guesses → bars (all_guessed (none_guessed rate size) guesses) source user now ≡ false

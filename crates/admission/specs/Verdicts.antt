@@ -1,11 +1,19 @@
 -- What comes of a datagram.
-use Rattle.std.specs.Prelude.{◌≡◌, ℕ, ◌/◌, Bool, true, false, not, ◌||◌, ◌&&◌, ◌==◌, nat_le, length, is_none, if◌then◌else◌, List, [], Option, Some, None, bytes_eq, codes}
+use Rattle.std.specs.Prelude.{◌≡◌, ◌⊎◌, ℕ, ◌/◌, Bool, true, false, not, ◌||◌, ◌&&◌, ◌==◌, nat_le, length, is_none, if◌then◌else◌, List, [], Option, Some, None, bytes_eq, codes}
 use Rattle.std.specs.List.{list_any, list_all}
 use Rattle.sip_read.specs.declared.message.Request.{Request}
 use Rattle.admission.specs.declared.table.Rates.{Rates}
 use Rattle.admission.specs.Table as rates
+use Rattle.digest.specs.declared.credentials.Credentials.{Credentials}
+use Rattle.admission.specs.declared.guesses.Guesses.{Guesses}
+use Rattle.admission.specs.Guesses.{minute_clock, bars, guessed, half_guessed}
+use Rattle.admission.specs.declared.shown.Shown.{Shown}
+use Rattle.admission.specs.declared.shown.Shown.TheVariants as shown
+use Rattle.admission.specs.Authorization.{Shows}
+use Rattle.admission.specs.Texts.{is_over}
 use Rattle.admission.specs.declared.authentication.Authentication.{Authentication}
 use Rattle.admission.specs.declared.authentication.ChallengeCause.{ChallengeCause}
+use Rattle.admission.specs.declared.authentication.ChallengeCause.TheVariants as cause
 use Rattle.admission.specs.declared.authentication.Finding.TheVariants as finding
 use Rattle.admission.specs.declared.judging.Admission.{Admission}
 use Rattle.admission.specs.declared.judging.Arrival.{Arrival}
@@ -14,16 +22,17 @@ use Rattle.admission.specs.declared.judging.Reading.TheVariants as reading
 use Rattle.admission.specs.declared.judging.Verdict.{Verdict}
 use Rattle.admission.specs.declared.judging.Verdict.TheVariants as verdict
 use Rattle.admission.specs.declared.network.Network.{Network}
-use Rattle.admission.specs.Challenge.{forbidden_text, unavailable_text}
-use Rattle.admission.specs.declared.judging.TheConstants.{CROWD_TAG}
+use Rattle.admission.specs.Challenge.{forbidden_text, large_text, unavailable_text}
+use Rattle.admission.specs.declared.judging.TheConstants.{CROWD_TAG, LARGE_TAG}
 use Rattle.admission.specs.Inquiries.{Inquiry, IsFound, IsAdmitted, IsForbidden, challenge}
 use Rattle.admission.specs.Networks.{number, contains}
 
--- it asks nothing: of no network, of no bucket and of nobody's password, and no source may have too many subscriptions
+-- it asks nothing: of no network, of no bucket and of nobody's password, no request is too large, and no source may have too many subscriptions
 pub record IsOpen (a : Admission) : Type 0 where
   pub anywhere : a.networks.items ≡ []
   pub any_rate : a.rates ≡ None
   pub anyone : a.authentication ≡ None
+  pub any_size : a.max_texts ≡ None
   pub unlimited : a.per_source ≡ None
 
 -- ---- where it comes from
@@ -88,6 +97,58 @@ inquiry x r = record { request = r; octets = x.octets.now; source = x.source; no
 abbrev pub IsAsked : Admission → Arrival → Authentication → Request → Type 0
 IsAsked a x k r = (a.authentication ≡ Some k) × (asked x.reading ≡ Some r)
 
+-- ---- how much a subscription would keep of it
+
+-- the request of which a subscription would keep more than it may, if it is one
+abbrev pub oversized : Option ℕ → Option Request → Option Request
+oversized most None = None
+oversized most (Some r) = if is_over most r then Some r else None
+
+abbrev pub too_large : Admission → Arrival → Option Request
+too_large a x = oversized a.max_texts (asked x.reading)
+
+-- these octets say so
+abbrev pub IsLarge : Admission → Arrival → List ℕ → Type 0
+IsLarge a x octets = (r : Request) × (too_large a x ≡ Some r) × (octets ≡ large_text x.source r LARGE_TAG.now)
+
+-- ---- whose password isn't looked at
+
+abbrev pub bars_user : Option Guesses → Arrival → List ℕ → Bool
+bars_user None x user = false
+bars_user (Some g) x user = bars g (number x.source.ip) user (minute_clock x.moment)
+
+-- the password of this user isn't looked at there
+abbrev pub is_barred : Admission → Arrival → List ℕ → Bool
+is_barred a x user = bars_user a.guesses x user
+
+-- the user whom credentials name
+abbrev pub username : Shown → Option (List ℕ)
+username (shown.Credentials c) = Some c.username
+username shown.Absent = None
+username shown.Malformed = None
+
+abbrev pub barred_user : Admission → Arrival → Option (List ℕ) → Option (List ℕ)
+barred_user a x None = None
+barred_user a x (Some user) = if is_barred a x user then Some user else None
+
+-- it shows credentials of a user who is barred there, and these octets say so
+pub record IsBarred (a : Admission) (x : Arrival) (user octets : List ℕ) : Type 0 where
+  pub authentication : Authentication
+  pub request : Request
+  pub asked : IsAsked a x authentication request
+  pub credentials : Credentials
+  pub shows : Shows x.octets.now credentials
+  pub name : user ≡ credentials.username
+  pub barred : is_barred a x user ≡ true
+  pub says : octets ≡ forbidden_text x.source request authentication.tag
+
+-- nothing is asked, or it shows no credentials of a user who is barred there
+abbrev pub IsUnbarred : Admission → Arrival → Type 0
+IsUnbarred a x =
+    (k : Authentication) (r : Request) (c : Credentials) → IsAsked a x k r → Shows x.octets.now c → is_barred a x c.username ≡ false
+
+-- ---- whether they may
+
 -- nothing is asked, or who asks is admitted
 abbrev pub IsFree : Admission → Arrival → Type 0
 IsFree a x = (k : Authentication) (r : Request) → IsAsked a x k r → IsAdmitted k (inquiry x r)
@@ -99,6 +160,14 @@ pub record IsChallenged (a : Admission) (x : Arrival) (c : ChallengeCause) (octe
   pub asked : IsAsked a x authentication request
   pub found : IsFound authentication.guard (inquiry x request) (finding.Nobody c)
   pub says : octets ≡ challenge authentication (inquiry x request) c
+
+-- it shows a wrong password of this user, and these octets say so
+pub record IsWrong (a : Admission) (x : Arrival) (user octets : List ℕ) : Type 0 where
+  pub authentication : Authentication
+  pub request : Request
+  pub asked : IsAsked a x authentication request
+  pub found : IsFound authentication.guard (inquiry x request) (finding.Guess user)
+  pub says : octets ≡ challenge authentication (inquiry x request) cause.Wrong
 
 -- who asks is known and may not have it, and these octets say so
 pub record IsRefused (a : Admission) (x : Arrival) (octets : List ℕ) : Type 0 where
@@ -137,34 +206,92 @@ IsSeated a x verdict.Allowed = one_more a x ≡ None
 IsSeated a x (verdict.Crowded octets) = IsCrowded a x octets
 IsSeated a x other = ⊥
 
+-- where a source is heard, has a token and sends nothing too large: the verdict
 abbrev pub IsConcluded : Admission → Arrival → Verdict → Type 0
-IsConcluded a x verdict.Allowed = IsFree a x × (one_more a x ≡ None)
-IsConcluded a x (verdict.Crowded octets) = IsFree a x × IsCrowded a x octets
-IsConcluded a x (verdict.Challenge c octets) = IsChallenged a x c octets
-IsConcluded a x (verdict.Forbidden octets) = IsRefused a x octets
+IsConcluded a x verdict.Allowed = IsUnbarred a x × IsFree a x × (one_more a x ≡ None)
+IsConcluded a x (verdict.Crowded octets) = IsUnbarred a x × IsFree a x × IsCrowded a x octets
+IsConcluded a x (verdict.Challenge c octets) = IsUnbarred a x × IsChallenged a x c octets
+IsConcluded a x (verdict.Guess user octets) = IsUnbarred a x × IsWrong a x user octets
+IsConcluded a x (verdict.Forbidden octets) = IsUnbarred a x × IsRefused a x octets
+IsConcluded a x (verdict.Barred user octets) = IsBarred a x user octets
 IsConcluded a x verdict.Foreign = ⊥
 IsConcluded a x verdict.Limited = ⊥
+IsConcluded a x (verdict.Large octets) = ⊥
+
+-- where a source is heard and has a token: the verdict
+abbrev pub IsWeighed : Admission → Arrival → Verdict → Type 0
+IsWeighed a x v =
+    ((octets : List ℕ) × (v ≡ verdict.Large octets) × IsLarge a x octets) ⊎ ((too_large a x ≡ None) × IsConcluded a x v)
 
 -- ---- all of it
 
--- its source is heard, and has a token for it
+-- its source is heard, and has a token for it, and a subscription would keep no more of it than it may
 pub record IsHeard (a : Admission) (x : Arrival) : Type 0 where
   pub near : hears a x.source.ip ≡ true
   pub seldom : lets a x ≡ true
+  pub small : too_large a x ≡ None
 
 -- the verdict: the first of these that is so
 abbrev pub Judges : Admission → Arrival → Verdict → Type 0
 Judges a x verdict.Foreign = hears a x.source.ip ≡ false
 Judges a x verdict.Limited = (hears a x.source.ip ≡ true) × (lets a x ≡ false)
-Judges a x verdict.Allowed = IsHeard a x × IsFree a x × (one_more a x ≡ None)
-Judges a x (verdict.Crowded octets) = IsHeard a x × IsFree a x × IsCrowded a x octets
-Judges a x (verdict.Challenge c octets) = IsHeard a x × IsChallenged a x c octets
-Judges a x (verdict.Forbidden octets) = IsHeard a x × IsRefused a x octets
+Judges a x (verdict.Large octets) = (hears a x.source.ip ≡ true) × (lets a x ≡ true) × IsLarge a x octets
+Judges a x (verdict.Barred user octets) = IsHeard a x × IsBarred a x user octets
+Judges a x verdict.Allowed = IsHeard a x × IsUnbarred a x × IsFree a x × (one_more a x ≡ None)
+Judges a x (verdict.Crowded octets) = IsHeard a x × IsUnbarred a x × IsFree a x × IsCrowded a x octets
+Judges a x (verdict.Challenge c octets) = IsHeard a x × IsUnbarred a x × IsChallenged a x c octets
+Judges a x (verdict.Guess user octets) = IsHeard a x × IsUnbarred a x × IsWrong a x user octets
+Judges a x (verdict.Forbidden octets) = IsHeard a x × IsUnbarred a x × IsRefused a x octets
 
 -- it is to be heard
 abbrev pub IsAllowed : Admission → Arrival → Type 0
-IsAllowed a x = IsHeard a x × IsFree a x × (one_more a x ≡ None)
+IsAllowed a x = IsHeard a x × IsUnbarred a x × IsFree a x × (one_more a x ≡ None)
 
--- a token is taken only of a source that is heard
+-- a token of its rate is taken only of a source that is heard
 abbrev pub after : Admission → Arrival → Admission
 after a x = if hears a x.source.ip then behind a x else a
+
+-- ---- what a wrong password takes
+
+abbrev pub with_guess : Option Guesses → Arrival → List ℕ → Option Guesses
+with_guess None x user = None
+with_guess (Some g) x user = Some (guessed g (number x.source.ip) user (minute_clock x.moment))
+
+-- a token of its source and of the user's name, behind a wrong password alone
+abbrev pub noted : Admission → Arrival → Verdict → Admission
+noted a x (verdict.Guess user octets) = record a { guesses = with_guess a.guesses x user }
+noted a x verdict.Allowed = a
+noted a x verdict.Foreign = a
+noted a x verdict.Limited = a
+noted a x (verdict.Large octets) = a
+noted a x (verdict.Barred user octets) = a
+noted a x (verdict.Challenge c octets) = a
+noted a x (verdict.Forbidden octets) = a
+noted a x (verdict.Crowded octets) = a
+
+abbrev pub is_guess : Verdict → Bool
+is_guess (verdict.Guess user octets) = true
+is_guess verdict.Allowed = false
+is_guess verdict.Foreign = false
+is_guess verdict.Limited = false
+is_guess (verdict.Large octets) = false
+is_guess (verdict.Barred user octets) = false
+is_guess (verdict.Challenge c octets) = false
+is_guess (verdict.Forbidden octets) = false
+is_guess (verdict.Crowded octets) = false
+
+-- what a datagram with this verdict leaves
+abbrev pub judged : Admission → Arrival → Verdict → Admission
+judged a x v = noted (after a x) x v
+
+abbrev pub with_half : Option Guesses → Arrival → Option Guesses
+with_half None x = None
+with_half (Some g) x = Some (half_guessed g (number x.source.ip) (minute_clock x.moment))
+
+-- only the source's was taken
+abbrev pub half_noted : Admission → Arrival → Admission
+half_noted a x = record a { guesses = with_half a.guesses x }
+
+-- what one leaves for which memory was wanting: as before, or without the token of its rate, or without that and its source's for a wrong password
+abbrev pub IsHalfway : Admission → Arrival → Admission → Type 0
+IsHalfway a x b = (b ≡ a) ⊎ ((b ≡ after a x) ⊎ (b ≡ half_noted (after a x) x))

@@ -1,7 +1,7 @@
-//! The 403, the 401 and the 503.
+//! The 403, the 401, the 413 and the 503.
 ghost use Rattle.std.specs.Prelude.{◌≡◌, ◌+◌, ◌-◌, ◌≤◌, ◌++◌, length, take, drop, map, IfOk, OnOk, codes};
 ghost use Rattle.sip_write.specs.Lines.{joined, header};
-ghost use Rattle.admission.specs.Challenge.{forbidden_text, challenge_text, unavailable_text};
+ghost use Rattle.admission.specs.Challenge.{forbidden_text, challenge_text, large_text, unavailable_text};
 
 use sip_read::Request;
 use sip_text::{Addr, NoMemory, Octets, Text};
@@ -47,6 +47,17 @@ impl Reply<'_> {
         let mut octets = Vec::from_slice(alloc, b"SIP/2.0 401 Unauthorized\r\n")?;
         octets.extend_from_slice(inner_lines(forbidden.as_slice()))?;
         append_headers(&mut octets, "WWW-Authenticate", challenges)?;
+        octets.extend_from_slice(b"Content-Length: 0\r\n\r\n")?;
+        Ok(Octets::new(octets))
+    }
+
+    /// The 413. All other lines but the first are those of the 403.
+    pub fn large(&self, alloc: Global) -> Result<Octets, NoMemory>
+        ensures { IfOk result (λ o. o ≡ large_text self.now.source self.now.request.now self.now.tag.now) }
+    {
+        let forbidden = self.forbidden(alloc)?;
+        let mut octets = Vec::from_slice(alloc, b"SIP/2.0 413 Request Entity Too Large\r\n")?;
+        octets.extend_from_slice(inner_lines(forbidden.as_slice()))?;
         octets.extend_from_slice(b"Content-Length: 0\r\n\r\n")?;
         Ok(Octets::new(octets))
     }

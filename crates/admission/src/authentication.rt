@@ -4,12 +4,13 @@ ghost use Rattle.digest.specs.declared.credentials.Credentials.{Credentials as C
 ghost use Rattle.digest.specs.Verdicts.{IsAccepted};
 ghost use Rattle.admission.specs.declared.authentication.Conclusion.TheVariants as conclusion;
 ghost use Rattle.admission.specs.declared.authentication.Finding.TheVariants as finding;
-ghost use Rattle.admission.specs.Authorization.{Shows};
+ghost use Rattle.admission.specs.declared.shown.Shown.TheVariants as shown_is;
+ghost use Rattle.admission.specs.Authorization.{Shows, IsShown};
 ghost use Rattle.admission.specs.Inquiries as spec;
 ghost use Rattle.admission.specs.Inquiries.{inquiry_seen, asked, MayHave, IsFound, IsAdmitted, IsConcluded};
 
 use crate::answer::Reply;
-use crate::shown::{Shown, show};
+use crate::shown::Shown;
 use digest::{Asked, Guard, Verdict as Judged, may_watch};
 use notifier_model::user_part;
 use sip_read::Request;
@@ -45,6 +46,8 @@ pub enum ChallengeCause {
 pub(crate) enum Finding {
     /// This user.
     User(Text),
+    /// Who shows a wrong password of this user: nobody has this name, or the response isn't that of who knows the password.
+    Guess(Text),
     /// Nobody that is known.
     Nobody(ChallengeCause),
 }
@@ -56,6 +59,8 @@ pub(crate) enum Conclusion {
     Admitted,
     /// The 401.
     Challenge(ChallengeCause, Octets),
+    /// The 401 to a wrong password of this user.
+    Guess(Text, Octets),
     /// The 403.
     Forbidden(Octets),
 }
@@ -88,30 +93,30 @@ fn may_have(request: &Request, user: &str, further: &[(Text, Text)]) -> bool
     may_watch(user, user_part(request.uri.as_str()), further)
 }
 
-/// Who the guard says that it is.
-fn told(judged: Judged) -> Finding
-    ensures { result ≡ spec.told judged }
+/// Who the guard says that it is, of credentials of this user.
+fn told(judged: Judged, user: Text) -> Finding
+    ensures { result ≡ spec.told judged user }
 {
     match judged {
         Judged::Accepted(user) => Finding::User(user),
+        Judged::UnknownUser | Judged::BadResponse => Finding::Guess(user),
         Judged::ForeignNonce | Judged::StaleNonce => Finding::Nobody(ChallengeCause::Stale),
-        Judged::WrongRealm
-        | Judged::OtherUri
-        | Judged::WrongAlgorithm
-        | Judged::OldForm
-        | Judged::UnknownUser
-        | Judged::BadResponse => Finding::Nobody(ChallengeCause::Wrong),
+        Judged::WrongRealm | Judged::OtherUri | Judged::WrongAlgorithm | Judged::OldForm => {
+            Finding::Nobody(ChallengeCause::Wrong)
+        }
     }
 }
 
 impl Authentication {
-    /// Who is found to ask. Its only error is out of memory.
-    fn find(&self, alloc: Global, inquiry: Inquiry<'_>) -> Result<Finding, NoMemory>
+    /// Who is found to ask, where the datagram shows this. Its only error is out of memory.
+    fn find(&self, alloc: Global, inquiry: Inquiry<'_>, shown: Shown) -> Result<Finding, NoMemory>
+        requires shown { IsShown inquiry.octets.now shown }
+        requires only { (c : CredentialsSeen) → Shows inquiry.octets.now c → shown ≡ shown_is.Credentials c }
         ensures found { IfOk result (IsFound self.now.guard (inquiry_seen inquiry.entry)) }
         ensures accepts { IfOk result (λ f. (c : CredentialsSeen) → Shows inquiry.entry.octets.now c
             → IsAccepted self.now.guard (asked (inquiry_seen inquiry.entry)) c → f ≡ finding.User c.username) }
     {
-        let credentials = match show(alloc, inquiry.octets)? {
+        let credentials = match shown {
             Shown::Credentials(credentials) => credentials,
             Shown::Absent => return Ok(Finding::Nobody(ChallengeCause::Absent)),
             Shown::Malformed => return Ok(Finding::Nobody(ChallengeCause::Malformed)),
@@ -123,7 +128,7 @@ impl Authentication {
             now: inquiry.now,
         };
         let judged = self.guard.judge(alloc, asked, &credentials)?;
-        Ok(told(judged))
+        Ok(told(judged, credentials.username))
     }
 
     /// The 401 to a request, for this cause.
@@ -142,7 +147,7 @@ impl Authentication {
         self.reply(inquiry).challenge(alloc, &challenges)
     }
 
-    fn reply<'a>(&'a self, inquiry: Inquiry<'a>) -> Reply<'a>
+    pub(crate) fn reply<'a>(&'a self, inquiry: Inquiry<'a>) -> Reply<'a>
         ensures request { result.request.now ≡ inquiry.entry.request.now }
         ensures source { result.source ≡ inquiry.entry.source }
         ensures tag { result.tag.now ≡ self.now.tag }
@@ -154,19 +159,26 @@ impl Authentication {
         }
     }
 
-    /// What comes of the request. Its only error is out of memory.
+    /// What comes of the request, where the datagram shows this. Its only error is out of memory.
     pub(crate) fn conclude(
         &self,
         alloc: Global,
         inquiry: Inquiry<'_>,
+        shown: Shown,
     ) -> Result<Conclusion, NoMemory>
+        requires shown { IsShown inquiry.octets.now shown }
+        requires only { (c : CredentialsSeen) → Shows inquiry.octets.now c → shown ≡ shown_is.Credentials c }
         ensures concluded { IfOk result (IsConcluded self.now (inquiry_seen inquiry.entry)) }
         ensures admits { IfOk result (λ c. IsAdmitted self.now (inquiry_seen inquiry.entry) → c ≡ conclusion.Admitted) }
     {
-        match self.find(alloc, inquiry)? {
+        match self.find(alloc, inquiry, shown)? {
             Finding::Nobody(cause) => {
                 let octets = self.challenge(alloc, inquiry, cause)?;
                 Ok(Conclusion::Challenge(cause, octets))
+            }
+            Finding::Guess(user) => {
+                let octets = self.challenge(alloc, inquiry, ChallengeCause::Wrong)?;
+                Ok(Conclusion::Guess(user, octets))
             }
             Finding::User(user) => {
                 if may_have(inquiry.request, user.as_str(), &self.further) {

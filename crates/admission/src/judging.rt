@@ -2,16 +2,20 @@
 ghost use Rattle.std.specs.Prelude.{◌≡◌, ◌⊎◌, true, option_map, IfOk, OnOk, OnErr};
 ghost use Rattle.admission.specs.declared.judging.Arrival.{Arrival as ArrivalSeen};
 ghost use Rattle.admission.specs.declared.judging.Reading.TheVariants as reading;
+ghost use Rattle.admission.specs.declared.judging.Verdict.{Verdict as VerdictSeen};
 ghost use Rattle.admission.specs.declared.judging.Verdict.TheVariants as verdict;
 ghost use Rattle.admission.specs.Verdicts as spec;
-ghost use Rattle.admission.specs.Verdicts.{Judges, IsFree, IsSeated, behind};
+ghost use Rattle.admission.specs.Verdicts.{Judges, IsUnbarred, IsFree, IsSeated, behind, half_noted};
 
 use crate::answer::Reply;
 use crate::authentication::{Authentication, ChallengeCause, Conclusion, Inquiry};
+use crate::guesses::Guesses;
 use crate::network::{Network, number};
+use crate::shown::{Shown, show};
 use crate::table::Rates;
+use crate::texts::is_over;
 use sip_read::Request;
-use sip_text::{Addr, NoMemory, Octets};
+use sip_text::{Addr, NoMemory, Octets, Text};
 use std::alloc::Global;
 
 /// What a datagram is.
@@ -47,8 +51,15 @@ pub enum Verdict {
     Foreign,
     /// It is dropped: its source sends too much.
     Limited,
+    /// It isn't heard, and this 413 goes to its source: a subscription would keep more of it than it may.
+    Large(Octets),
+    /// It isn't heard, and this 403 goes to its source: too many wrong passwords came from there, or some from there and too many for this
+    /// user. The password isn't looked at.
+    Barred(Text, Octets),
     /// It isn't heard, and this 401 goes to its source.
     Challenge(ChallengeCause, Octets),
+    /// It isn't heard, and this 401 goes to its source: it shows a wrong password of this user.
+    Guess(Text, Octets),
     /// It isn't heard, and this 403 goes to its source: a known user asks for another's mailbox.
     Forbidden(Octets),
     /// It isn't heard, and this 503 goes to its source: it asks for a new subscription, and has as many as it may.
@@ -57,6 +68,9 @@ pub enum Verdict {
 
 /// The tag that a To without one gets in a 503: the same for the same request (RFC 3261 section 8.2.7).
 pub const CROWD_TAG: &str = "crowded";
+
+/// The same of a 413.
+pub const LARGE_TAG: &str = "large";
 
 /// Who is heard.
 #[derive(Drop)]
@@ -67,6 +81,10 @@ pub struct Admission {
     pub rates: Option<Rates>,
     /// Who may subscribe and refer: anyone, where there is none.
     pub authentication: Option<Authentication>,
+    /// How many wrong passwords each source and each user's name may show: as many as they like, where there is none.
+    pub guesses: Option<Guesses>,
+    /// How many octets a subscription may keep of a request: as many as come, where there is none.
+    pub max_texts: Option<u32>,
     /// How many live subscriptions each source may have: as many as it likes, where there is none.
     pub per_source: Option<u32>,
 }
@@ -128,18 +146,30 @@ fn newcomer(reading: Reading<'_>) -> Option<&Request>
     }
 }
 
+/// The user whom credentials name, where the datagram shows some.
+fn username(shown: &Shown) -> Option<&Text>
+    ensures { option_map (λ t. t.now) result ≡ spec.username shown.now }
+{
+    match shown {
+        Shown::Credentials(credentials) => Some(&credentials.username),
+        _ => None,
+    }
+}
+
 impl Admission {
     /// One that hears everything: from anywhere, as much as comes, whoever asks.
     pub fn open(alloc: Global) -> Admission
         // Whatever comes is allowed, and it stays the same.
         ensures open { spec.IsOpen result }
         ensures allows { (x : ArrivalSeen) → spec.IsAllowed result x }
-        ensures stays { (x : ArrivalSeen) → spec.after result x ≡ result }
+        ensures stays { (x : ArrivalSeen) (v : VerdictSeen) → Judges result x v → spec.judged result x v ≡ result }
     {
         Admission {
             networks: Vec::new(alloc),
             rates: None,
             authentication: None,
+            guesses: None,
+            max_texts: None,
             per_source: None,
         }
     }
@@ -198,10 +228,38 @@ impl Admission {
         Ok(Verdict::Crowded(reply.unavailable(alloc)?))
     }
 
-    /// What comes of a datagram of a source that is heard and has a token.
+    /// The request of which a subscription would keep more than it may, if the datagram is one.
+    fn too_large<'a>(&self, arrival: Arrival<'a>) -> Option<&'a Request>
+        ensures { option_map (λ r. r.now) result ≡ spec.too_large self.now arrival.entry }
+    {
+        match asked(arrival.reading) {
+            Some(request) if is_over(self.max_texts, request) => Some(request),
+            _ => None,
+        }
+    }
+
+    /// The user whose password isn't looked at, if what the datagram shows is of one.
+    fn barred<'a>(&self, arrival: Arrival<'_>, shown: &'a Shown) -> Option<&'a Text>
+        ensures { option_map (λ t. t.now) result ≡ spec.barred_user self.now arrival.entry (spec.username shown.now) }
+    {
+        let Some(user) = username(shown) else {
+            return None;
+        };
+        let Some(guesses) = &self.guesses else {
+            return None;
+        };
+        if guesses.bars(number(arrival.source.ip), user.as_str(), arrival.moment) {
+            Some(user)
+        } else {
+            None
+        }
+    }
+
+    /// What comes of a datagram of a source that is heard and has a token, of which a subscription would keep no more than it may.
     fn conclude(&self, alloc: Global, arrival: Arrival<'_>) -> Result<Verdict, NoMemory>
         ensures concluded { IfOk result (spec.IsConcluded self.now arrival.entry) }
-        ensures free { IfOk result (λ v. IsFree self.now arrival.entry → IsSeated self.now arrival.entry verdict.Allowed → v ≡ verdict.Allowed) }
+        ensures free { IfOk result (λ v. IsUnbarred self.now arrival.entry → IsFree self.now arrival.entry
+            → IsSeated self.now arrival.entry verdict.Allowed → v ≡ verdict.Allowed) }
         ensures wanting { OnErr result (self.now.authentication ≡ None → self.now.per_source ≡ None → ⊥) }
         ensures answers { OnErr result (arrival.entry.reading ≡ reading.Response → ⊥) }
     {
@@ -215,22 +273,80 @@ impl Admission {
             source: arrival.source,
             now: arrival.moment / 1000,
         };
-        match authentication.conclude(alloc, inquiry)? {
+        let shown = show(alloc, arrival.octets)?;
+        if let Some(user) = self.barred(arrival, &shown) {
+            let octets = authentication.reply(inquiry).forbidden(alloc)?;
+            return Ok(Verdict::Barred(user.copy(alloc)?, octets));
+        }
+        match authentication.conclude(alloc, inquiry, shown)? {
             Conclusion::Admitted => self.seat(alloc, arrival),
             Conclusion::Challenge(cause, octets) => Ok(Verdict::Challenge(cause, octets)),
+            Conclusion::Guess(user, octets) => Ok(Verdict::Guess(user, octets)),
             Conclusion::Forbidden(octets) => Ok(Verdict::Forbidden(octets)),
         }
     }
 
-    /// What comes of a datagram. It takes a token of its source where it is counted. Its only error is out of memory.
+    /// What comes of a datagram of a source that is heard and has a token.
+    fn weigh(&self, alloc: Global, arrival: Arrival<'_>) -> Result<Verdict, NoMemory>
+        ensures weighed { IfOk result (spec.IsWeighed self.now arrival.entry) }
+        ensures free { IfOk result (λ v. spec.too_large self.now arrival.entry ≡ None → IsUnbarred self.now arrival.entry
+            → IsFree self.now arrival.entry → IsSeated self.now arrival.entry verdict.Allowed → v ≡ verdict.Allowed) }
+        ensures wanting { OnErr result (self.now.authentication ≡ None → self.now.max_texts ≡ None → self.now.per_source ≡ None → ⊥) }
+        ensures answers { OnErr result (arrival.entry.reading ≡ reading.Response → ⊥) }
+    {
+        let Some(request) = self.too_large(arrival) else {
+            return self.conclude(alloc, arrival);
+        };
+        let source = arrival.source;
+        let reply = Reply {
+            request,
+            source,
+            tag: LARGE_TAG,
+        };
+        Ok(Verdict::Large(reply.large(alloc)?))
+    }
+
+    /// Takes the tokens of a wrong password, where the verdict is of one.
+    fn note(&mut self, arrival: Arrival<'_>, verdict: &Verdict) -> Result<(), NoMemory>
+        ensures noted { OnOk result (self.new ≡ spec.noted self.old arrival.entry verdict.now) }
+        ensures err { OnErr result ((self.new ≡ self.old) ⊎ (self.new ≡ half_noted self.old arrival.entry)) }
+        ensures guess { OnErr result (spec.is_guess verdict.now ≡ true) }
+    {
+        let Verdict::Guess(user, _) = verdict else {
+            return Ok(());
+        };
+        match &mut self.guesses {
+            Some(guesses) => guesses.note(number(arrival.source.ip), user.as_str(), arrival.moment),
+            None => Ok(()),
+        }
+    }
+
+    /// The same of one that is heard and has a token. A wrong password takes its tokens.
+    #[tactic(auto, using(crate::proofs::Concluding::guess_wants, crate::proofs::Concluding::guess_asks))]
+    fn decide(&mut self, alloc: Global, arrival: Arrival<'_>) -> Result<Verdict, NoMemory>
+        ensures weighed { IfOk result (spec.IsWeighed self.old arrival.entry) }
+        ensures free { IfOk result (λ v. spec.too_large self.old arrival.entry ≡ None → IsUnbarred self.old arrival.entry
+            → IsFree self.old arrival.entry → IsSeated self.old arrival.entry verdict.Allowed → v ≡ verdict.Allowed) }
+        ensures noted { IfOk result (λ v. self.new ≡ spec.noted self.old arrival.entry v) }
+        ensures err { OnErr result ((self.new ≡ self.old) ⊎ (self.new ≡ half_noted self.old arrival.entry)) }
+        ensures wanting { OnErr result (self.old.authentication ≡ None → self.old.max_texts ≡ None → self.old.per_source ≡ None → ⊥) }
+        ensures answers { OnErr result (arrival.entry.reading ≡ reading.Response → ⊥) }
+    {
+        let verdict = self.weigh(alloc, arrival)?;
+        self.note(arrival, &verdict)?;
+        Ok(verdict)
+    }
+
+    /// What comes of a datagram. It takes a token of its source where it is counted, and those of a wrong password where it shows one. Its only
+    /// error is out of memory.
     pub fn judge(&mut self, alloc: Global, arrival: Arrival<'_>) -> Result<Verdict, NoMemory>
         // The verdict is the definition's.
         ensures judges { IfOk result (Judges self.old arrival.entry) }
         // What is to be heard is.
         ensures allows { IfOk result (λ v. spec.IsAllowed self.old arrival.entry → v ≡ verdict.Allowed) }
         // Only tokens change.
-        ensures behind { OnOk result (self.new ≡ spec.after self.old arrival.entry) }
-        ensures err { OnErr result ((self.new ≡ self.old) ⊎ (self.new ≡ spec.after self.old arrival.entry)) }
+        ensures behind { IfOk result (λ v. self.new ≡ spec.judged self.old arrival.entry v) }
+        ensures err { OnErr result (spec.IsHalfway self.old arrival.entry self.new) }
         // Where it asks nothing it needs no memory.
         ensures wanting { OnErr result (spec.IsOpen self.old → ⊥) }
         // Nor where its source isn't heard, or it is an answer.
@@ -243,6 +359,6 @@ impl Admission {
         if !self.lets(arrival)? {
             return Ok(Verdict::Limited);
         }
-        self.conclude(alloc, arrival)
+        self.decide(alloc, arrival)
     }
 }

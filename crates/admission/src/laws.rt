@@ -1,5 +1,5 @@
 //! Laws of whole runs, over the definitions alone.
-ghost use Rattle.admission.specs.Runs.{AtMostBurstAndRate, NoneBelowIsRefused};
+ghost use Rattle.admission.specs.Runs.{AtMostBurstAndRate, NoneBelowIsRefused, NoneElseIsBarred};
 
 /// Whatever came before, in whatever order and at whatever moments: of datagrams that come in the order of time at most the burst and the rate
 /// times the time that they take are let through of each source.
@@ -11,4 +11,10 @@ pub fn each_source_gets_at_most_its_rate()
 /// while the table has room for it.
 pub fn no_source_below_its_rate_is_refused()
     ensures { NoneBelowIsRefused }
+{}
+
+/// Whatever wrong passwords are shown elsewhere, of whatever users and at whatever moments: a source from which none came is barred with no
+/// user.
+pub fn nobody_is_barred_by_what_others_guess()
+    ensures { NoneElseIsBarred }
 {}

@@ -34,6 +34,20 @@ impl Rates {
         Ok(Rates { rate, buckets })
     }
 
+    /// The bucket of a source, if it has one.
+    pub(crate) fn bucket(&self, source: u32) -> Option<Bucket>
+        ensures { result ≡ spec.bucket self.now source }
+    {
+        self.buckets.peek(&source).copied()
+    }
+
+    /// What a source may use at this moment.
+    pub(crate) fn allowance(&self, source: u32, now: u64) -> u64
+        ensures { result ≡ spec.allowance self.now source now }
+    {
+        self.rate.usable(self.bucket(source), now)
+    }
+
     /// Whether a further source finds a place at this moment: a free one, or that of the source that was heard the longest ago, where its bucket
     /// is full again.
     fn has_place(&self, now: u64) -> bool

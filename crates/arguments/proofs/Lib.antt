@@ -1,6 +1,7 @@
 pub mod Flags
 pub mod Words
 pub mod Values
+pub mod Times
 pub mod Settings
 pub mod Telling
 pub mod Calls

@@ -22,6 +22,7 @@ use Rattle.arguments.specs.declared.flag.AddressFlag.{AddressFlag}
 use Rattle.arguments.specs.declared.flag.AddressFlag.TheVariants as address
 use Rattle.arguments.specs.declared.flag.Flag.{Flag}
 use Rattle.arguments.specs.declared.flag.Flag.TheVariants as flag
+use Rattle.arguments.specs.declared.guesses.Guesses.{Guesses}
 use Rattle.arguments.specs.declared.switch.Switch.{Switch}
 use Rattle.arguments.specs.declared.switch.Switch.TheVariants as switch
 use Rattle.arguments.specs.declared.setting.Setting.{Setting}
@@ -29,8 +30,8 @@ use Rattle.arguments.specs.declared.setting.Setting.TheVariants as setting
 use Rattle.arguments.specs.declared.error.OptionsError.{OptionsError}
 use Rattle.arguments.specs.declared.error.OptionsError.TheVariants as error
 use Rattle.arguments.specs.Flags.{address_flag_text, bound_text, flag_text, switch_text, least, most}
-use Rattle.arguments.specs.Settings.{is_user, has_no_colon, watched_text, IsRateNumber, rate_text, joined, AreOption, IsMailbox, IsSetting, AreSettings, BeginsWrong, AreWrong, Answers}
-use Rattle.arguments.specs.Reading.{flag_named, joined_of, switch_of, or_bad, is_mailbox, is_colon, watch, watch_of, rate_of, sync_of, valued, named, by_switch, by_joined, alone, then_more, by_flag, settings_from, Reads}
+use Rattle.arguments.specs.Settings.{is_user, has_no_colon, watched_text, IsRateNumber, rate_text, guesses_text, joined, AreOption, IsMailbox, IsSetting, AreSettings, BeginsWrong, AreWrong, Answers}
+use Rattle.arguments.specs.Reading.{flag_named, joined_of, switch_of, or_bad, is_mailbox, is_colon, watch, watch_of, pair_of, rate_of, guesses_of, sync_of, valued, named, by_switch, by_joined, alone, then_more, by_flag, settings_from, Reads}
 use Rattle.arguments.specs.Values.{seed_bytes, between}
 use Rattle.arguments.proofs.Values.{between_takes, between_again, seed_takes, seed_again}
 use Rattle.arguments.proofs.Flags.{same_text, flag_takes, flag_again, no_flag, joined_takes, joined_again, no_joined, joined_is_no_flag, switch_takes, switch_again, no_switch, switch_is_no_flag}
@@ -56,34 +57,60 @@ most_is_small bound.ReceiveBuffer = omega arith
 most_is_small bound.NonceTime = omega arith
 most_is_small bound.PerSource = omega arith
 most_is_small bound.JournalBytes = omega arith
+most_is_small bound.MaxTexts = omega arith
 
--- ---- a rate
+-- ---- a rate, and guesses
 
 slash_lacks : (n : ℕ) → n ≤ 65536 → Lacks 47 (decimal n)
 slash_lacks n le = decimal_lacks 47 n refl (omega arith)
 
+abbrev pair_text : ℕ × ℕ → List ℕ
+pair_text p = decimal p.0 ++ 47 ∷ decimal p.1
+
+numbers_take : (w : List ℕ) (p : ℕ × ℕ) → pair_of w ≡ Some p → IsRateNumber p.0 × IsRateNumber p.1 × (w ≡ pair_text p)
+unfolding pair_of
+numbers_take w p e =
+    let a = bind_some (cut_at 47 w) (λ cut. between 1 65536 cut.0 >>= λ n. between 1 65536 cut.1 >>= λ m. Some (n, m)) p e in
+    let b = bind_some (between 1 65536 a.0.0) (λ n. between 1 65536 a.0.1 >>= λ m. Some (n, m)) p a.2 in
+    let c = bind_some (between 1 65536 a.0.1) (λ m. Some (b.0, m)) p b.2 in
+    let cut = cut_takes 47 w a.0.0 a.0.1 a.1 in
+    let n = between_takes 1 65536 a.0.0 b.0 b.1 in
+    let m = between_takes 1 65536 a.0.1 c.0 c.1 in
+    subst (λ (x : ℕ × ℕ). IsRateNumber x.0 × IsRateNumber x.1 × (w ≡ pair_text x)) (some_is {A = ℕ × ℕ} (b.0, c.0) p c.2)
+    ((n.1, n.2), (m.1, m.2), cut.0 ∙ ap (λ (l : List ℕ). l ++ 47 ∷ a.0.1) n.0 ∙ ap (λ (l : List ℕ). decimal b.0 ++ 47 ∷ l) m.0)
+
+numbers_again : (n m : ℕ) → IsRateNumber n → IsRateNumber m → pair_of (pair_text (n, m)) ≡ Some (n, m)
+unfolding pair_of
+numbers_again n m a b =
+    rw (
+      cut_again 47 (decimal n) (decimal m) (slash_lacks n a.1),
+      between_again 1 65536 n a.0 a.1 (omega arith),
+      between_again 1 65536 m b.0 b.1 (omega arith),
+    ) refl
+
 rate_takes : (w : List ℕ) (r : Rate) → rate_of w ≡ Some r → IsRateNumber r.per_second × IsRateNumber r.burst × (w ≡ rate_text r)
 unfolding rate_of
 rate_takes w r e =
-    let a = bind_some (cut_at 47 w) (λ cut. between 1 65536 cut.0 >>= λ n. between 1 65536 cut.1 >>= λ b. Some (the n b)) r e in
-    let b = bind_some (between 1 65536 a.0.0) (λ n. between 1 65536 a.0.1 >>= λ b. Some (the n b)) r a.2 in
-    let c = bind_some (between 1 65536 a.0.1) (λ k. Some (the b.0 k)) r b.2 in
-    let cut = cut_takes 47 w a.0.0 a.0.1 a.1 in
-    let n = between_takes 1 65536 a.0.0 b.0 b.1 in
-    let k = between_takes 1 65536 a.0.1 c.0 c.1 in
-    subst (λ (x : Rate). IsRateNumber x.per_second × IsRateNumber x.burst × (w ≡ rate_text x)) (some_is (the b.0 c.0) r c.2)
-    ((n.1, n.2), (k.1, k.2), cut.0 ∙ ap (λ (l : List ℕ). l ++ 47 ∷ a.0.1) n.0 ∙ ap (λ (l : List ℕ). decimal b.0 ++ 47 ∷ l) k.0) where
-      the : ℕ → ℕ → Rate
-      the n b = record { burst = b; per_second = n }
+    let p = bind_some (pair_of w) (λ p. Some (the p)) r e in
+    subst (λ (x : Rate). IsRateNumber x.per_second × IsRateNumber x.burst × (w ≡ rate_text x)) (some_is (the p.0) r p.2) (numbers_take w p.0 p.1) where
+      the : ℕ × ℕ → Rate
+      the p = record { burst = p.1; per_second = p.0 }
 
 rate_again : (r : Rate) → IsRateNumber r.per_second → IsRateNumber r.burst → rate_of (rate_text r) ≡ Some r
 unfolding rate_of
-rate_again r n b =
-    rw (
-      cut_again 47 (decimal r.per_second) (decimal r.burst) (slash_lacks r.per_second n.1),
-      between_again 1 65536 r.per_second n.0 n.1 (omega arith),
-      between_again 1 65536 r.burst b.0 b.1 (omega arith),
-    ) refl
+rate_again r n b = rw (numbers_again r.per_second r.burst n b) refl
+
+guesses_take : (w : List ℕ) (g : Guesses) → guesses_of w ≡ Some g → IsRateNumber g.burst × IsRateNumber g.per_minute × (w ≡ guesses_text g)
+unfolding guesses_of
+guesses_take w g e =
+    let p = bind_some (pair_of w) (λ p. Some (the p)) g e in
+    subst (λ (x : Guesses). IsRateNumber x.burst × IsRateNumber x.per_minute × (w ≡ guesses_text x)) (some_is (the p.0) g p.2) (numbers_take w p.0 p.1) where
+      the : ℕ × ℕ → Guesses
+      the p = record { burst = p.0; per_minute = p.1 }
+
+guesses_again : (g : Guesses) → IsRateNumber g.burst → IsRateNumber g.per_minute → guesses_of (guesses_text g) ≡ Some g
+unfolding guesses_of
+guesses_again g b n = rw (numbers_again g.burst g.per_minute b n) refl
 
 -- ---- how often a journal is written to the disk
 
@@ -205,6 +232,10 @@ valued_takes flag.Rate words value s are e =
     let p = bind_some (rate_of value) (λ r. Some (setting.Rate r)) s (or_bad_ok flag.Rate (rate_of value >>= λ r. Some (setting.Rate r)) s e) in
     let r = rate_takes value p.0 p.1 in
     subst (IsSetting words) (some_is (setting.Rate p.0) s p.2) (r.0, r.1, subst (AreOption words (codes "--rate")) r.2 are)
+valued_takes flag.Guesses words value s are e =
+    let p = bind_some (guesses_of value) (λ g. Some (setting.Guesses g)) s (or_bad_ok flag.Guesses (guesses_of value >>= λ g. Some (setting.Guesses g)) s e) in
+    let g = guesses_take value p.0 p.1 in
+    subst (IsSetting words) (some_is (setting.Guesses p.0) s p.2) (g.0, g.1, subst (AreOption words (codes "--guesses")) g.2 are)
 valued_takes flag.Allow words value s are e =
     let p = bind_some (network value) (λ n. Some (setting.Allow n)) s (or_bad_ok flag.Allow (network value >>= λ n. Some (setting.Allow n)) s e) in
     subst (IsSetting words) (some_is (setting.Allow p.0) s p.2) (value, are, p.1)
@@ -230,6 +261,7 @@ valued_wrong flag.Sync value e k = or_bad_err flag.Sync (sync_of value >>= λ x.
 valued_wrong flag.PasswordFile value e k = absurd cc
 valued_wrong flag.Watch value e k = or_bad_err flag.Watch (watch_of value >>= λ w. Some (setting.Watch w.0 w.1)) e k
 valued_wrong flag.Rate value e k = or_bad_err flag.Rate (rate_of value >>= λ r. Some (setting.Rate r)) e k
+valued_wrong flag.Guesses value e k = or_bad_err flag.Guesses (guesses_of value >>= λ g. Some (setting.Guesses g)) e k
 valued_wrong flag.Allow value e k = or_bad_err flag.Allow (network value >>= λ n. Some (setting.Allow n)) e k
 valued_wrong flag.ControlAllow value e k = or_bad_err flag.ControlAllow (network value >>= λ n. Some (setting.ControlAllow n)) e k
 valued_wrong flag.Seed value e k = or_bad_err flag.Seed (seed_bytes value >>= λ x. Some (setting.Seed x)) e k
@@ -290,6 +322,7 @@ flag_begins (flag.Number bound.ReceiveBuffer) = refl
 flag_begins (flag.Number bound.NonceTime) = refl
 flag_begins (flag.Number bound.PerSource) = refl
 flag_begins (flag.Number bound.JournalBytes) = refl
+flag_begins (flag.Number bound.MaxTexts) = refl
 flag_begins flag.MailboxFile = refl
 flag_begins flag.StateFile = refl
 flag_begins flag.JournalFolder = refl
@@ -297,6 +330,7 @@ flag_begins flag.Sync = refl
 flag_begins flag.PasswordFile = refl
 flag_begins flag.Watch = refl
 flag_begins flag.Rate = refl
+flag_begins flag.Guesses = refl
 flag_begins flag.Allow = refl
 flag_begins flag.ControlAllow = refl
 flag_begins flag.Seed = refl
@@ -385,6 +419,10 @@ rates_again : (r : Rate) → IsRateNumber r.per_second → IsRateNumber r.burst 
 unfolding valued
 rates_again r n b = rw (rate_again r n b) refl
 
+all_guesses_again : (g : Guesses) → IsRateNumber g.burst → IsRateNumber g.per_minute → valued flag.Guesses (guesses_text g) ≡ Ok (setting.Guesses g)
+unfolding valued
+all_guesses_again g b n = rw (guesses_again g b n) refl
+
 networks_again : (text : List ℕ) (n : Network) → network text ≡ Some n → valued flag.Allow text ≡ Ok (setting.Allow n)
 unfolding valued
 networks_again text n e = rw e refl
@@ -433,6 +471,7 @@ setting_again (setting.PasswordFile path) front rest h = options_again flag.Pass
 setting_again (setting.Watch user mailbox) front rest h =
     options_again flag.Watch (watched_text user mailbox) front rest h.2 ∙ ap (λ r. then_more r (settings_from None rest)) (watches_again user mailbox h.0 h.1)
 setting_again (setting.Rate rate) front rest h = options_again flag.Rate (rate_text rate) front rest h.2 ∙ ap (λ r. then_more r (settings_from None rest)) (rates_again rate h.0 h.1)
+setting_again (setting.Guesses g) front rest h = options_again flag.Guesses (guesses_text g) front rest h.2 ∙ ap (λ r. then_more r (settings_from None rest)) (all_guesses_again g h.0 h.1)
 setting_again (setting.Allow n) front rest h = options_again flag.Allow h.0 front rest h.1 ∙ ap (λ r. then_more r (settings_from None rest)) (networks_again h.0 n h.2)
 setting_again (setting.ControlAllow n) front rest h = options_again flag.ControlAllow h.0 front rest h.1 ∙ ap (λ r. then_more r (settings_from None rest)) (control_networks_again h.0 n h.2)
 setting_again (setting.Seed seed) front rest h = options_again flag.Seed h.0 front rest h.1 ∙ ap (λ r. then_more r (settings_from None rest)) (seeds_again h.0 seed h.2)

@@ -1,6 +1,6 @@
 -- What `notifyd serve` does by its settings. Of the settings of one option the last counts.
-use Rattle.std.specs.Prelude.{ℕ, true, false, List, [], ◌∷◌, ◌++◌, Option, Some, None}
-use Rattle.std.specs.List.{fold}
+use Rattle.std.specs.Prelude.{◌≡◌, ℕ, min, max, ◌≤◌, Bool, true, false, if◌then◌else◌, List, [], ◌∷◌, ◌++◌, Option, Some, None}
+use Rattle.std.specs.List.{fold, list_any}
 use Rattle.sip_text.specs.declared.address.Addr.{Addr}
 use Rattle.admission.specs.declared.network.Network.{Network}
 use Rattle.arguments.specs.declared.flag.AddressFlag.{AddressFlag}
@@ -39,6 +39,7 @@ default_numbers = record {
   nonce_time = None;
   per_source = None;
   journal_bytes = 16777216;
+  max_texts = 2048;
 }
 
 -- what is done where nothing is set
@@ -53,6 +54,7 @@ default_choices = record {
   no_refer = false;
   until_input_ends = false;
   rate = None;
+  guesses = record { burst = 5; per_minute = 20 };
   old_digest = false;
   log_requests = false;
   sync = Some 1;
@@ -77,6 +79,7 @@ with_number bound.ReceiveBuffer n numbers = record numbers { receive_buffer = n 
 with_number bound.NonceTime n numbers = record numbers { nonce_time = Some n }
 with_number bound.PerSource n numbers = record numbers { per_source = Some n }
 with_number bound.JournalBytes n numbers = record numbers { journal_bytes = n }
+with_number bound.MaxTexts n numbers = record numbers { max_texts = n }
 
 abbrev pub with_address : AddressFlag → Addr → Choices → Choices
 with_address address.Listen addr choices = record choices { listen = addr }
@@ -101,14 +104,51 @@ after choices (setting.Sync seconds) = record choices { sync = seconds }
 after choices (setting.PasswordFile path) = choices
 after choices (setting.Watch user mailbox) = choices
 after choices (setting.Rate rate) = record choices { rate = Some rate }
+after choices (setting.Guesses guesses) = record choices { guesses = guesses }
 after choices (setting.Allow network) = choices
 after choices (setting.ControlAllow network) = choices
 after choices (setting.Seed seed) = record choices { seed = Some seed }
 after choices (setting.Switch switch) = with_switch switch choices
 after choices (setting.Mailbox name) = choices
 
+-- what the settings name
+abbrev pub named : List Setting → Choices
+named settings = fold after default_choices settings
+
+-- the setting names the time of who asks for none
+abbrev pub names_default_time : Setting → Bool
+names_default_time (setting.Number bound.DefaultTime n) = true
+names_default_time other = false
+
+-- the setting names the time of a REFER
+abbrev pub names_refer_time : Setting → Bool
+names_refer_time (setting.Number bound.ReferTime n) = true
+names_refer_time other = false
+
+-- a time that is named is as it is, and any other is the nearest to it from the least time to the greatest
+abbrev pub fitting : Numbers → ℕ → Bool → ℕ
+fitting numbers time is_named = if is_named then time else max (min time numbers.max_time) numbers.min_time
+
+abbrev pub fitted : List Setting → Numbers → Numbers
+fitted settings n = record n {
+  default_time = fitting n n.default_time (list_any names_default_time settings);
+  refer_time = fitting n n.refer_time (list_any names_refer_time settings);
+}
+
+abbrev pub with_fitted : List Setting → Choices → Choices
+with_fitted settings choices = record choices { numbers = fitted settings choices.numbers }
+
 abbrev pub choices_of : List Setting → Choices
-choices_of settings = fold after default_choices settings
+choices_of settings = with_fitted settings (named settings)
+
+-- the time is from the least to the greatest, where the least is not above the greatest
+abbrev pub MayBeGranted : Numbers → ℕ → Type 0
+MayBeGranted numbers time = numbers.min_time ≤ numbers.max_time → (numbers.min_time ≤ time) × (time ≤ numbers.max_time)
+
+-- a time that no setting names may be granted
+pub record TimesFit (settings : List Setting) (numbers : Numbers) : Type 0 where
+  pub default_time : list_any names_default_time settings ≡ false → MayBeGranted numbers numbers.default_time
+  pub refer_time : list_any names_refer_time settings ≡ false → MayBeGranted numbers numbers.refer_time
 
 -- the path of a file of MAIL lines, if a setting before this one or this one names it
 abbrev pub with_state : Option (List ℕ) → Setting → Option (List ℕ)
@@ -121,6 +161,7 @@ with_state path (setting.Sync seconds) = path
 with_state path (setting.PasswordFile file) = path
 with_state path (setting.Watch user mailbox) = path
 with_state path (setting.Rate rate) = path
+with_state path (setting.Guesses guesses) = path
 with_state path (setting.Allow network) = path
 with_state path (setting.ControlAllow network) = path
 with_state path (setting.Seed seed) = path
@@ -141,6 +182,7 @@ with_journal path (setting.Sync seconds) = path
 with_journal path (setting.PasswordFile file) = path
 with_journal path (setting.Watch user mailbox) = path
 with_journal path (setting.Rate rate) = path
+with_journal path (setting.Guesses guesses) = path
 with_journal path (setting.Allow network) = path
 with_journal path (setting.ControlAllow network) = path
 with_journal path (setting.Seed seed) = path
@@ -161,6 +203,7 @@ with_passwords path (setting.Sync seconds) = path
 with_passwords path (setting.PasswordFile file) = Some file
 with_passwords path (setting.Watch user mailbox) = path
 with_passwords path (setting.Rate rate) = path
+with_passwords path (setting.Guesses guesses) = path
 with_passwords path (setting.Allow network) = path
 with_passwords path (setting.ControlAllow network) = path
 with_passwords path (setting.Seed seed) = path
@@ -181,6 +224,7 @@ with_watched pairs (setting.Sync seconds) = pairs
 with_watched pairs (setting.PasswordFile path) = pairs
 with_watched pairs (setting.Watch user mailbox) = pairs ++ (user, mailbox) ∷ []
 with_watched pairs (setting.Rate rate) = pairs
+with_watched pairs (setting.Guesses guesses) = pairs
 with_watched pairs (setting.Allow network) = pairs
 with_watched pairs (setting.ControlAllow network) = pairs
 with_watched pairs (setting.Seed seed) = pairs
@@ -201,6 +245,7 @@ with_network networks (setting.Sync seconds) = networks
 with_network networks (setting.PasswordFile path) = networks
 with_network networks (setting.Watch user mailbox) = networks
 with_network networks (setting.Rate rate) = networks
+with_network networks (setting.Guesses guesses) = networks
 with_network networks (setting.Allow network) = networks ++ network ∷ []
 with_network networks (setting.ControlAllow network) = networks
 with_network networks (setting.Seed seed) = networks
@@ -222,6 +267,7 @@ with_control_network networks (setting.Sync seconds) = networks
 with_control_network networks (setting.PasswordFile path) = networks
 with_control_network networks (setting.Watch user mailbox) = networks
 with_control_network networks (setting.Rate rate) = networks
+with_control_network networks (setting.Guesses guesses) = networks
 with_control_network networks (setting.Allow network) = networks
 with_control_network networks (setting.ControlAllow network) = networks ++ network ∷ []
 with_control_network networks (setting.Seed seed) = networks

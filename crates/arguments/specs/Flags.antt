@@ -33,6 +33,7 @@ bound_text bound.ReceiveBuffer = codes "--receive-buffer"
 bound_text bound.NonceTime = codes "--nonce-time"
 bound_text bound.PerSource = codes "--per-source"
 bound_text bound.JournalBytes = codes "--journal-bytes"
+bound_text bound.MaxTexts = codes "--max-texts"
 
 abbrev pub flag_text : Flag → List ℕ
 flag_text (flag.Address which) = address_flag_text which
@@ -44,6 +45,7 @@ flag_text flag.Sync = codes "--sync"
 flag_text flag.PasswordFile = codes "--passwords"
 flag_text flag.Watch = codes "--watch"
 flag_text flag.Rate = codes "--rate"
+flag_text flag.Guesses = codes "--guesses"
 flag_text flag.Allow = codes "--allow"
 flag_text flag.ControlAllow = codes "--control-allow"
 flag_text flag.Seed = codes "--seed"
@@ -61,6 +63,7 @@ abbrev pub least : Bound → ℕ
 least bound.Repeats = 0
 least bound.Linger = 0
 least bound.MaxDatagram = 512
+least bound.MaxTexts = 512
 least bound.ReceiveBuffer = 4096
 least bound.JournalBytes = 65536
 least other = 1
@@ -85,3 +88,4 @@ most bound.ReceiveBuffer = 1073741824
 most bound.NonceTime = 86400
 most bound.PerSource = 65536
 most bound.JournalBytes = 1073741824
+most bound.MaxTexts = 65535

@@ -12,6 +12,7 @@ use Rattle.arguments.specs.declared.flag.Bound.{Bound}
 use Rattle.arguments.specs.declared.flag.Bound.TheVariants as bound
 use Rattle.arguments.specs.declared.flag.Flag.{Flag}
 use Rattle.arguments.specs.declared.flag.Flag.TheVariants as flag
+use Rattle.arguments.specs.declared.guesses.Guesses.{Guesses}
 use Rattle.arguments.specs.declared.switch.Switch.{Switch}
 use Rattle.arguments.specs.declared.switch.Switch.TheVariants as switch
 use Rattle.arguments.specs.declared.setting.Setting.{Setting}
@@ -38,7 +39,7 @@ abbrev pub counts : List Bound
 counts = bound.Workers ∷ bound.MaxCseq ∷ bound.Table ∷ bound.Serials ∷ bound.Kept ∷ bound.Inbox ∷ bound.Outbox ∷ bound.Repeats ∷ bound.PerSource ∷ []
 
 abbrev pub sizes : List Bound
-sizes = bound.MaxDatagram ∷ bound.ReceiveBuffer ∷ bound.JournalBytes ∷ []
+sizes = bound.MaxDatagram ∷ bound.ReceiveBuffer ∷ bound.JournalBytes ∷ bound.MaxTexts ∷ []
 
 unfoldable pub address_flag_of : List ℕ → Option AddressFlag
 address_flag_of word = find_text address_flag_text address_flags word
@@ -69,7 +70,7 @@ number_flag None = None
 -- the options whose value is neither an address nor a number
 abbrev pub specials : List Flag
 specials =
-    flag.MailboxFile ∷ flag.StateFile ∷ flag.JournalFolder ∷ flag.Sync ∷ flag.PasswordFile ∷ flag.Watch ∷ flag.Rate ∷ flag.Allow ∷ flag.ControlAllow ∷ flag.Seed ∷ []
+    flag.MailboxFile ∷ flag.StateFile ∷ flag.JournalFolder ∷ flag.Sync ∷ flag.PasswordFile ∷ flag.Watch ∷ flag.Rate ∷ flag.Guesses ∷ flag.Allow ∷ flag.ControlAllow ∷ flag.Seed ∷ []
 
 unfoldable pub special_of : List ℕ → Option Flag
 special_of word = find_text flag_text specials word
@@ -125,13 +126,25 @@ watch_of value =
     if position_or_len is_colon value == length value then None
     else watch (before_first is_colon value) (after_first is_colon value)
 
+-- a number before a slash, and one behind it
+unfoldable pub pair_of : List ℕ → Option (ℕ × ℕ)
+pair_of value = do
+  cut ← cut_at (byte "/") value
+  n ← between 1 65536 cut.0
+  m ← between 1 65536 cut.1
+  Some (n, m)
+
 -- so many a second before a slash, and so many at once behind it
 unfoldable pub rate_of : List ℕ → Option Rate
 rate_of value = do
-  cut ← cut_at (byte "/") value
-  n ← between 1 65536 cut.0
-  burst ← between 1 65536 cut.1
-  Some (record { burst = burst; per_second = n })
+  pair ← pair_of value
+  Some (record { burst = pair.1; per_second = pair.0 })
+
+-- so many at once before a slash, and so many a minute behind it
+unfoldable pub guesses_of : List ℕ → Option Guesses
+guesses_of value = do
+  pair ← pair_of value
+  Some (record { burst = pair.0; per_minute = pair.1 })
 
 -- so many seconds from 1 to 3600, or never
 unfoldable pub sync_of : List ℕ → Option (Option ℕ)
@@ -147,6 +160,7 @@ valued flag.Sync value = or_bad flag.Sync (sync_of value >>= λ s. Some (setting
 valued flag.PasswordFile value = Ok (setting.PasswordFile value)
 valued flag.Watch value = or_bad flag.Watch (watch_of value >>= λ w. Some (setting.Watch w.0 w.1))
 valued flag.Rate value = or_bad flag.Rate (rate_of value >>= λ r. Some (setting.Rate r))
+valued flag.Guesses value = or_bad flag.Guesses (guesses_of value >>= λ g. Some (setting.Guesses g))
 valued flag.Allow value = or_bad flag.Allow (network value >>= λ n. Some (setting.Allow n))
 valued flag.ControlAllow value = or_bad flag.ControlAllow (network value >>= λ n. Some (setting.ControlAllow n))
 valued flag.Seed value = or_bad flag.Seed (seed_bytes value >>= λ s. Some (setting.Seed s))

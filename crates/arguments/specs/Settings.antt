@@ -4,11 +4,12 @@
 --   setting  = ("--listen" / "--contact" / "--control") address
 --            / ("--workers" / "--min-time" / "--max-time" / "--default-time" / "--refer-time" / "--linger" / "--max-cseq" / "--table"
 --              / "--serials" / "--kept" / "--inbox" / "--outbox" / "--repeats" / "--max-datagram" / "--receive-buffer" / "--nonce-time"
---              / "--per-source" / "--journal-bytes") number
+--              / "--per-source" / "--journal-bytes" / "--max-texts") number
 --            / ("--mailboxes" / "--state" / "--journal" / "--passwords") path
 --            / "--sync" (number / "never")       ; seconds, from 1 to 3600
 --            / "--watch" user ":" mailbox         ; no `:` in the user
 --            / "--rate" number "/" number         ; so many datagrams a second, and so many at once, each from 1 to 65536
+--            / "--guesses" number "/" number      ; so many wrong passwords at once, and so many a minute, each from 1 to 65536
 --            / ("--allow" / "--control-allow") network
 --            / "--seed" digits                    ; 64 hex digits of either case
 --            / "--keep-subscriptions" / "--no-refer" / "--until-input-ends" / "--old-digest" / "--log-requests"
@@ -30,6 +31,7 @@ use Rattle.package.specs.Texts.{is_word}
 use Rattle.admission.specs.declared.bucket.Rate.{Rate}
 use Rattle.admission.specs.Networks.{network}
 use Rattle.arguments.specs.declared.flag.Flag.{Flag}
+use Rattle.arguments.specs.declared.guesses.Guesses.{Guesses}
 use Rattle.arguments.specs.declared.switch.Switch.{Switch}
 use Rattle.arguments.specs.declared.setting.Setting.{Setting}
 use Rattle.arguments.specs.declared.setting.Setting.TheVariants as setting
@@ -55,13 +57,17 @@ has_no_colon user = list_all (λ b. not (b == byte ":")) user
 abbrev pub watched_text : List ℕ → List ℕ → List ℕ
 watched_text user mailbox = user ++ byte ":" ∷ mailbox
 
--- the least and the greatest number of a rate
+-- the least and the greatest number of a rate and of guesses
 abbrev pub IsRateNumber : ℕ → Type 0
 IsRateNumber n = (1 ≤ n) × (n ≤ 65536)
 
 -- so many a second, and so many at once
 abbrev pub rate_text : Rate → List ℕ
 rate_text rate = decimal rate.per_second ++ byte "/" ∷ decimal rate.burst
+
+-- so many at once, and so many a minute
+abbrev pub guesses_text : Guesses → List ℕ
+guesses_text guesses = decimal guesses.burst ++ byte "/" ∷ decimal guesses.per_minute
 
 -- an option and its value as one word
 abbrev pub joined : List ℕ → List ℕ → List ℕ
@@ -85,6 +91,8 @@ IsSetting words (setting.Watch user mailbox) =
     (has_no_colon user ≡ true) × IsMailbox mailbox × AreOption words (codes "--watch") (watched_text user mailbox)
 IsSetting words (setting.Rate rate) =
     IsRateNumber rate.per_second × IsRateNumber rate.burst × AreOption words (codes "--rate") (rate_text rate)
+IsSetting words (setting.Guesses guesses) =
+    IsRateNumber guesses.burst × IsRateNumber guesses.per_minute × AreOption words (codes "--guesses") (guesses_text guesses)
 IsSetting words (setting.Allow n) =
     (text : List ℕ) × AreOption words (codes "--allow") text × (network text ≡ Some n)
 IsSetting words (setting.ControlAllow n) =

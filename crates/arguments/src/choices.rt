@@ -1,9 +1,11 @@
 //! What `notifyd serve` does by its settings.
 ghost use Rattle.std.specs.Prelude.{◌≡◌};
+ghost use Rattle.std.specs.List.{list_any};
 ghost use Rattle.arguments.specs.Choices as spec;
-ghost use Rattle.arguments.specs.Choices.{default_choices, default_numbers, with_number, with_address, with_switch, after};
+ghost use Rattle.arguments.specs.Choices.{default_choices, default_numbers, with_number, with_address, with_switch, after, TimesFit};
 
 use crate::flag::{AddressFlag, Bound};
+use crate::guesses::Guesses;
 use crate::setting::Setting;
 use crate::switch::Switch;
 use admission::Rate;
@@ -16,7 +18,9 @@ pub struct Numbers {
     pub workers: Option<u32>,
     pub min_time: u32,
     pub max_time: u32,
+    /// 3600 where no setting names it, as far as the least and the greatest time allow.
     pub default_time: u32,
+    /// 180 where no setting names it, as far as the least and the greatest time allow.
     pub refer_time: u32,
     pub max_cseq: u32,
     pub table: u32,
@@ -38,6 +42,8 @@ pub struct Numbers {
     pub per_source: Option<u32>,
     /// How many octets a file of the journal has at most before the next one is begun.
     pub journal_bytes: u32,
+    /// How many octets of a request a subscription keeps at most.
+    pub max_texts: u32,
 }
 
 /// What the service does, but for its mailboxes and who is heard.
@@ -60,6 +66,8 @@ pub struct Choices {
     pub until_input_ends: bool,
     /// How much of each source address is heard. None: all.
     pub rate: Option<Rate>,
+    /// How many wrong passwords are looked at, where there is a file of passwords.
+    pub guesses: Guesses,
     /// Whether a response without `qop` is taken, as clients of RFC 2069 make it.
     pub old_digest: bool,
     /// Whether each request that is answered is told on standard error.
@@ -76,6 +84,34 @@ const fn loopback(port: u16) -> Addr
         ip: [127, 0, 0, 1],
         port,
     }
+}
+
+/// Whether a setting names the time that is granted to who asks for none.
+fn names_default_time(setting: &Setting) -> bool
+    ensures { result ≡ spec.names_default_time setting.now }
+{
+    matches!(setting, Setting::Number(Bound::DefaultTime, _))
+}
+
+/// Whether a setting names the time that is granted to a REFER.
+fn names_refer_time(setting: &Setting) -> bool
+    ensures { result ≡ spec.names_refer_time setting.now }
+{
+    matches!(setting, Setting::Number(Bound::ReferTime, _))
+}
+
+/// Whether one of the settings names the time that is granted to who asks for none.
+fn default_time_is_named(settings: &[Setting]) -> bool
+    ensures { result ≡ list_any spec.names_default_time settings.now }
+{
+    settings.iter().any(|setting| names_default_time(setting))
+}
+
+/// Whether one of the settings names the time that is granted to a REFER.
+fn refer_time_is_named(settings: &[Setting]) -> bool
+    ensures { result ≡ list_any spec.names_refer_time settings.now }
+{
+    settings.iter().any(|setting| names_refer_time(setting))
 }
 
 impl Numbers {
@@ -102,6 +138,7 @@ impl Numbers {
             nonce_time: None,
             per_source: None,
             journal_bytes: 16777216,
+            max_texts: 2048,
         }
     }
 
@@ -127,6 +164,31 @@ impl Numbers {
             Bound::NonceTime => self.nonce_time = Some(number),
             Bound::PerSource => self.per_source = Some(number),
             Bound::JournalBytes => self.journal_bytes = number,
+            Bound::MaxTexts => self.max_texts = number,
+        }
+    }
+
+    /// A time that is named as it is, and any other as the nearest to it that may be granted.
+    fn fitting(&self, time: u32, is_named: bool) -> u32
+        ensures { result ≡ spec.fitting self.now time is_named }
+    {
+        if is_named {
+            time
+        } else {
+            time.min(self.max_time).max(self.min_time)
+        }
+    }
+
+    /// With times that these settings don't name as they may be granted.
+    fn fitted(self, settings: &[Setting]) -> Numbers
+        ensures { result ≡ spec.fitted settings.now self }
+    {
+        let default_named = default_time_is_named(settings);
+        let refer_named = refer_time_is_named(settings);
+        Numbers {
+            default_time: self.fitting(self.default_time, default_named),
+            refer_time: self.fitting(self.refer_time, refer_named),
+            ..self
         }
     }
 }
@@ -146,6 +208,10 @@ impl Choices {
             no_refer: false,
             until_input_ends: false,
             rate: None,
+            guesses: Guesses {
+                burst: 5,
+                per_minute: 20,
+            },
             old_digest: false,
             log_requests: false,
             sync: Some(1),
@@ -183,6 +249,7 @@ impl Choices {
             Setting::Seed(seed) => self.seed = Some(*seed),
             Setting::Switch(switch) => self.set_switch(*switch),
             Setting::Rate(rate) => self.rate = Some(*rate),
+            Setting::Guesses(guesses) => self.guesses = *guesses,
             Setting::Sync(seconds) => self.sync = *seconds,
             Setting::MailboxFile(_)
             | Setting::StateFile(_)
@@ -195,14 +262,27 @@ impl Choices {
         }
     }
 
-    /// What the settings ask for; the last of one option counts.
-    pub fn of(settings: &[Setting]) -> Choices
-        ensures { result ≡ spec.choices_of settings.now }
+    /// What the settings name; the last of one option counts.
+    fn named(settings: &[Setting]) -> Choices
+        ensures { result ≡ spec.named settings.now }
     {
         let mut choices = Choices::defaults();
         for setting in settings {
             choices.set(setting);
         }
+        choices
+    }
+
+    /// What the settings ask for; the last of one option counts. The times that are granted to who asks for none and to a REFER follow
+    /// the least and the greatest time where no setting names them.
+    #[tactic(auto, using(crate::proofs::Times::times_fit))]
+    pub fn of(settings: &[Setting]) -> Choices
+        ensures choices { result ≡ spec.choices_of settings.now }
+        // So the greatest time is enough by itself.
+        ensures times { TimesFit settings.now result.numbers }
+    {
+        let mut choices = Choices::named(settings);
+        choices.numbers = choices.numbers.fitted(settings);
         choices
     }
 }

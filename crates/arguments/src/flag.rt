@@ -40,6 +40,7 @@ pub enum Bound {
     NonceTime,
     PerSource,
     JournalBytes,
+    MaxTexts,
 }
 
 /// An option that has a value.
@@ -61,6 +62,8 @@ pub enum Flag {
     Watch,
     /// `--rate`: how much of each source address is heard.
     Rate,
+    /// `--guesses`: how many wrong passwords are looked at.
+    Guesses,
     /// `--allow`: a network from which SIP is heard.
     Allow,
     /// `--control-allow`: a network from which control lines are heard.
@@ -106,6 +109,7 @@ impl Bound {
             Bound::NonceTime => "--nonce-time",
             Bound::PerSource => "--per-source",
             Bound::JournalBytes => "--journal-bytes",
+            Bound::MaxTexts => "--max-texts",
         }
     }
 
@@ -115,7 +119,7 @@ impl Bound {
     {
         match self {
             Bound::Repeats | Bound::Linger => 0,
-            Bound::MaxDatagram => 512,
+            Bound::MaxDatagram | Bound::MaxTexts => 512,
             Bound::ReceiveBuffer => 4096,
             Bound::JournalBytes => 65536,
             _ => 1,
@@ -135,6 +139,7 @@ impl Bound {
             Bound::Kept => 4096,
             Bound::Linger => 32,
             Bound::MaxDatagram => 65507,
+            Bound::MaxTexts => 65535,
             Bound::ReceiveBuffer | Bound::JournalBytes => 1073741824,
             Bound::NonceTime => 86400,
             Bound::MaxTime | Bound::DefaultTime | Bound::ReferTime | Bound::Serials => u32::MAX,
@@ -157,6 +162,7 @@ impl Flag {
             Flag::PasswordFile => "--passwords",
             Flag::Watch => "--watch",
             Flag::Rate => "--rate",
+            Flag::Guesses => "--guesses",
             Flag::Allow => "--allow",
             Flag::ControlAllow => "--control-allow",
             Flag::Seed => "--seed",
@@ -181,6 +187,7 @@ impl Display for Flag {
             Flag::Sync => write!(f, "{text} <1 to 3600, or never>"),
             Flag::Watch => write!(f, "{text} <user:mailbox>"),
             Flag::Rate => write!(f, "{text} <a second>/<at once>, each 1 to 65536"),
+            Flag::Guesses => write!(f, "{text} <at once>/<a minute>, each 1 to 65536"),
             Flag::Allow | Flag::ControlAllow => write!(f, "{text} <a.b.c.d/bits>"),
             Flag::Seed => write!(f, "{text} <64 hex digits>"),
         }
@@ -263,6 +270,8 @@ fn size_flag(word: &str) -> Option<Bound>
         Some(Bound::ReceiveBuffer)
     } else if word == "--journal-bytes" {
         Some(Bound::JournalBytes)
+    } else if word == "--max-texts" {
+        Some(Bound::MaxTexts)
     } else {
         None
     }
@@ -308,6 +317,8 @@ fn special_flag(word: &str) -> Option<Flag>
         Some(Flag::Watch)
     } else if word == "--rate" {
         Some(Flag::Rate)
+    } else if word == "--guesses" {
+        Some(Flag::Guesses)
     } else if word == "--allow" {
         Some(Flag::Allow)
     } else if word == "--control-allow" {

@@ -16,6 +16,7 @@ pub mod choices;
 pub mod error;
 pub mod exit_status;
 pub mod flag;
+pub mod guesses;
 pub mod heard;
 pub mod lines_call;
 pub mod mailbox_file;
@@ -34,6 +35,7 @@ pub use choices::{Choices, Numbers};
 pub use error::OptionsError;
 pub use exit_status::ExitStatus;
 pub use flag::{AddressFlag, Bound, Flag};
+pub use guesses::Guesses;
 pub use heard::{
     allowed_networks, control_networks, further_mailboxes, journal_folder, password_file,
 };

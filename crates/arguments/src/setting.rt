@@ -5,11 +5,12 @@ ghost use Rattle.arguments.specs.declared.setting.Setting.{Setting};
 ghost use Rattle.arguments.specs.declared.setting.Setting.TheVariants as setting;
 ghost use Rattle.arguments.specs.Settings.{is_user, IsMailbox, AreSettings, AreWrong, Answers};
 ghost use Rattle.arguments.specs.Reading as spec;
-ghost use Rattle.arguments.specs.Reading.{watch_of, rate_of, sync_of, valued, named, alone, Reads};
+ghost use Rattle.arguments.specs.Reading.{watch_of, pair_of, rate_of, guesses_of, sync_of, valued, named, alone, Reads};
 ghost use Rattle.sip_text.specs.Reading.{begins};
 
 use crate::error::OptionsError;
 use crate::flag::{AddressFlag, Bound, Flag, flag_named, joined_option};
+use crate::guesses::Guesses;
 use crate::switch::{Switch, switch_named};
 use crate::value::{between, seed_bytes};
 use admission::{Network, Rate};
@@ -38,6 +39,8 @@ pub enum Setting {
     Watch(Text, Text),
     /// `--rate` with how much of each source address is heard.
     Rate(Rate),
+    /// `--guesses` with how many wrong passwords are looked at.
+    Guesses(Guesses),
     /// `--allow` with a network that is let in.
     Allow(Network),
     /// `--control-allow` with a network whose control lines are heard.
@@ -50,15 +53,33 @@ pub enum Setting {
     Mailbox(Text),
 }
 
-/// How many datagrams a second, and how many at once: `n/burst`, each from 1 to 65536.
+/// Two numbers with a slash between, each from 1 to 65536.
+#[tactic(auto, unfolding(crate::specs::Reading::pair_of))]
+fn read_pair(value: &[u8]) -> Option<(u32, u32)>
+    ensures { Finds (λ x. x) result (pair_of value.now) }
+{
+    let (first, rest) = cut_at(b'/', value)?;
+    let first = between(1, 65536, first)?;
+    let second = between(1, 65536, rest)?;
+    Some((first, second))
+}
+
+/// How many datagrams a second, and how many at once: `n/burst`.
 #[tactic(auto, unfolding(crate::specs::Reading::rate_of))]
 fn read_rate(value: &[u8]) -> Option<Rate>
     ensures { Finds (λ x. x) result (rate_of value.now) }
 {
-    let (per_second, rest) = cut_at(b'/', value)?;
-    let per_second = between(1, 65536, per_second)?;
-    let burst = between(1, 65536, rest)?;
+    let (per_second, burst) = read_pair(value)?;
     Some(Rate { burst, per_second })
+}
+
+/// How many wrong passwords at once, and how many a minute: `burst/n`.
+#[tactic(auto, unfolding(crate::specs::Reading::guesses_of))]
+fn read_guesses(value: &[u8]) -> Option<Guesses>
+    ensures { Finds (λ x. x) result (guesses_of value.now) }
+{
+    let (burst, per_minute) = read_pair(value)?;
+    Some(Guesses { burst, per_minute })
 }
 
 /// Seconds from 1 to 3600, or none where it says `never`.
@@ -95,40 +116,43 @@ fn watched(alloc: Global, user: &str, mailbox: &str) -> Result<Setting, NoMemory
     Ok(Setting::Watch(user, mailbox))
 }
 
+/// What an option says whose value says this, if it says anything.
+fn or_bad(flag: Flag, said: Option<Setting>) -> Result<Setting, OptionsError>
+    ensures { Reads (λ x. x) result (spec.or_bad flag said) }
+{
+    said.ok_or(OptionsError::Bad(flag))
+}
+
 /// What an option with this value says.
 #[tactic(auto, unfolding(crate::specs::Reading::valued))]
 fn valued(alloc: Global, flag: Flag, value: &str) -> Result<Setting, OptionsError>
     ensures { Reads (λ x. x) result (valued flag value.now) }
 {
-    let setting = match flag {
-        Flag::Address(which) => Addr::of(value.as_bytes()).map(|addr| Setting::Address(
-            which, addr,
-        )),
+    let bytes = value.as_bytes();
+    match flag {
+        Flag::Address(which) => {
+            let addr = Addr::of(bytes);
+            or_bad(flag, addr.map(|addr| Setting::Address(which, addr)))
+        }
         Flag::Number(bound) => {
-            let number = between(bound.least(), bound.most(), value.as_bytes());
-            number.map(|number| Setting::Number(bound, number))
+            let number = between(bound.least(), bound.most(), bytes);
+            or_bad(flag, number.map(|number| Setting::Number(bound, number)))
         }
-        Flag::MailboxFile => Some(Setting::MailboxFile(Text::of(alloc, value)?)),
-        Flag::StateFile => Some(Setting::StateFile(Text::of(alloc, value)?)),
-        Flag::JournalFolder => Some(Setting::JournalFolder(Text::of(alloc, value)?)),
-        Flag::Sync => read_sync(value).map(Setting::Sync),
-        Flag::PasswordFile => Some(Setting::PasswordFile(Text::of(alloc, value)?)),
+        Flag::MailboxFile => Ok(Setting::MailboxFile(Text::of(alloc, value)?)),
+        Flag::StateFile => Ok(Setting::StateFile(Text::of(alloc, value)?)),
+        Flag::JournalFolder => Ok(Setting::JournalFolder(Text::of(alloc, value)?)),
+        Flag::Sync => or_bad(flag, read_sync(value).map(Setting::Sync)),
+        Flag::PasswordFile => Ok(Setting::PasswordFile(Text::of(alloc, value)?)),
         Flag::Watch => match read_watch(value) {
-            Some((user, mailbox)) => Some(watched(alloc, user, mailbox)?),
-            None => None,
+            Some((user, mailbox)) => Ok(watched(alloc, user, mailbox)?),
+            None => Err(OptionsError::Bad(flag)),
         },
-        Flag::Rate => read_rate(value.as_bytes()).map(Setting::Rate),
-        Flag::Allow => {
-            let network = Network::of(value.as_bytes());
-            network.map(|network| Setting::Allow(network))
-        }
-        Flag::ControlAllow => {
-            let network = Network::of(value.as_bytes());
-            network.map(|network| Setting::ControlAllow(network))
-        }
-        Flag::Seed => seed_bytes(value).map(Setting::Seed),
-    };
-    setting.ok_or(OptionsError::Bad(flag))
+        Flag::Rate => or_bad(flag, read_rate(bytes).map(Setting::Rate)),
+        Flag::Guesses => or_bad(flag, read_guesses(bytes).map(Setting::Guesses)),
+        Flag::Allow => or_bad(flag, Network::of(bytes).map(Setting::Allow)),
+        Flag::ControlAllow => or_bad(flag, Network::of(bytes).map(Setting::ControlAllow)),
+        Flag::Seed => or_bad(flag, seed_bytes(value).map(Setting::Seed)),
+    }
 }
 
 /// Whether it has `-` in front.

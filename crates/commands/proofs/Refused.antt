@@ -1,5 +1,6 @@
 -- Why a service is refused.
 use Rattle.std.proofs.Common.{◌≡◌, ◌<◌, ◌≤◌, ◌⊎◌, inl, inr, ⊎_elim, Bool, true, [], ◌∷◌, length, get_or, sym, ap, ◌∙◌, subst, arith}
+use Rattle.std.proofs.lemmas.List.{nil_from_length}
 use Rattle.std.specs.Prelude.{IfOk, IfErr, IfSome, Result, Ok, Err, Option, Some, None, ℕ, List, false, slice_get}
 use Rattle.arguments.specs.declared.flag.AddressFlag.{AddressFlag}
 use Rattle.arguments.specs.declared.setting.Setting.{Setting}
@@ -85,6 +86,7 @@ memory_of_setting (setting.Sync seconds) e is = is
 memory_of_setting (setting.PasswordFile path) e is = is
 memory_of_setting (setting.Watch user mailbox) e is = is
 memory_of_setting (setting.Rate rate) e is = is
+memory_of_setting (setting.Guesses guesses) e is = is
 memory_of_setting (setting.Allow network) e is = is
 memory_of_setting (setting.ControlAllow network) e is = is
 memory_of_setting (setting.Seed seed) e is = is
@@ -126,6 +128,7 @@ of_setting_is words settings k (setting.Sync seconds) e are at is = no_memory_is
 of_setting_is words settings k (setting.PasswordFile path) e are at is = no_memory_is words e is
 of_setting_is words settings k (setting.Watch user mailbox) e are at is = no_memory_is words e is
 of_setting_is words settings k (setting.Rate rate) e are at is = no_memory_is words e is
+of_setting_is words settings k (setting.Guesses guesses) e are at is = no_memory_is words e is
 of_setting_is words settings k (setting.Allow network) e are at is = no_memory_is words e is
 of_setting_is words settings k (setting.ControlAllow network) e are at is = no_memory_is words e is
 of_setting_is words settings k (setting.Seed seed) e are at is = no_memory_is words e is
@@ -275,3 +278,8 @@ alone_asks words word alone asked = subst (λ (w : List ℕ). asks_for_text w �
 
 pub one_long : (words : List (List ℕ)) → AskForText words → length words ≡ 1
 one_long words asked = ap length asked.1
+
+-- words that name no mailbox are read all the same
+pub none_read : (words : List (List ℕ)) (choices : Choices) (mailboxes : List (List ℕ)) → AreRead words choices mailboxes → length mailboxes ≡ 0
+    → (x : Choices) × AreRead words x []
+none_read words choices mailboxes read none = (choices, subst (λ l. AreRead words choices l) (nil_from_length mailboxes none) read)

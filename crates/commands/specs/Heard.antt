@@ -8,8 +8,10 @@ use Rattle.digest.specs.Passwords.{known, Takes}
 use Rattle.admission.specs.declared.bucket.Rate.{Rate}
 use Rattle.admission.specs.declared.table.Rates.{Rates}
 use Rattle.admission.specs.Table.{empty}
+use Rattle.admission.specs.declared.guesses.Guesses.{Guesses}
 use Rattle.admission.specs.declared.authentication.Authentication.{Authentication}
 use Rattle.admission.specs.declared.judging.Admission.{Admission}
+use Rattle.arguments.specs.declared.guesses.Guesses.{Guesses as Asked}
 use Rattle.arguments.specs.declared.choices.Choices.{Choices}
 use Rattle.arguments.specs.declared.setting.Setting.{Setting}
 use Rattle.arguments.specs.Choices.{choices_of, allowed_networks, password_file, further_mailboxes}
@@ -79,10 +81,20 @@ abbrev pub rates_of : Option Rate → Option Rates
 rates_of None = None
 rates_of (Some rate) = Some (empty rate 16384)
 
--- the networks that are let in, how much each source may send, who may subscribe and refer, and how many live subscriptions each
--- source may have
+-- the buckets of wrong passwords: the rate of these counts minutes
+abbrev pub guess_rate : Asked → Rate
+guess_rate asked = record { burst = asked.burst; per_second = asked.per_minute }
+
+-- one for each of 16,384 source addresses and 16,384 names at most
+abbrev pub guesses_of : Asked → Guesses
+guesses_of asked = record { sources = empty (guess_rate asked) 16384; names = empty (guess_rate asked) 16384 }
+
+-- the networks that are let in, how much each source may send, who may subscribe and refer, how many wrong passwords are looked at, how much a
+-- subscription may keep of a request, and how many live subscriptions each source may have
 pub record IsAdmission (settings : List Setting) (a : Admission) : Type 0 where
   pub networks : a.networks.items ≡ allowed_networks settings
   pub rates : a.rates ≡ rates_of (choices_of settings).rate
   pub authentication : Asks (password_file settings) (choices_of settings) (further_mailboxes settings) a.authentication
+  pub guesses : a.guesses ≡ Some (guesses_of (choices_of settings).guesses)
+  pub max_texts : a.max_texts ≡ Some (choices_of settings).numbers.max_texts
   pub per_source : a.per_source ≡ (choices_of settings).numbers.per_source

@@ -9,7 +9,7 @@ ghost use Rattle.commands.specs.Refused.{IsOfWatched, IsOfAdmission};
 
 use crate::error::ServeError;
 use crate::passwords::file_users;
-use admission::{Admission, Authentication, Rate, Rates};
+use admission::{Admission, Authentication, Guesses, Rate, Rates};
 use arguments::{Choices, Setting, allowed_networks, further_mailboxes, password_file};
 use digest::{Algorithm, Guard, Nonces, Passwords};
 use sip_text::{NoMemory, Text};
@@ -64,6 +64,27 @@ where
     };
     let keys = hash_keys(rt)?;
     Ok(Some(Rates::new(rt.alloc(), rate, size, keys)?))
+}
+
+/// The buckets of a service that looks at so many wrong passwords.
+fn new_guesses<R>(rt: &R, asked: arguments::Guesses) -> Result<Guesses, ServeError>
+where
+    R: RandomSource + AllocGlobal,
+    ensures guesses { IfOk result (λ guesses. guesses ≡ spec.guesses_of asked) }
+    ensures refused { IfErr result (λ e. (e ≡ error.System) ⊎ (e ≡ error.NoMemory)) }
+{
+    let Some(size) = NonZeroUsize::new(SOURCES) else {
+        unreachable!();
+    };
+    let rate = Rate {
+        burst: asked.burst,
+        per_second: asked.per_minute,
+    };
+    let keys = hash_keys(rt)?;
+    let sources = Rates::new(rt.alloc(), rate, size, keys)?;
+    let keys = hash_keys(rt)?;
+    let names = Rates::new(rt.alloc(), rate, size, keys)?;
+    Ok(Guesses { sources, names })
 }
 
 /// The tag of refusals: as that of a worker, but with a number that none has.
@@ -164,10 +185,13 @@ where
     let networks = allowed_networks(alloc, settings)?;
     let rates = source_rates(rt, choices.rate)?;
     let authentication = new_authentication(rt, settings)?;
+    let guesses = new_guesses(rt, choices.guesses)?;
     Ok(Admission {
         networks,
         rates,
         authentication,
+        guesses: Some(guesses),
+        max_texts: Some(choices.numbers.max_texts),
         per_source: choices.numbers.per_source,
     })
 }

@@ -31,6 +31,7 @@ usage: notifyd serve [options] [<mailbox>...]      (also --option=value)
   --control-allow <a.b.c.d/bits>  control lines are heard from here and from
                              this machine alone (repeatable)
   --rate <a second>/<at once>     what is heard of each source address (all)
+  --guesses <at once>/<a minute>  wrong passwords of a source or user (5/20)
   --per-source <1 to 65536>  live subscriptions of a source address (any number)
   --seed <64 hex digits>     for local tags (the system's randomness)
   --keep-subscriptions       no farewell at the end
@@ -50,6 +51,7 @@ usage: notifyd serve [options] [<mailbox>...]      (also --option=value)
   --repeats <0 to 65536>     unanswered NOTIFYs that are sent again (16384)
   --linger <0 to 32>         seconds that a stop waits for answers (2)
   --max-datagram <octets>    the longest SIP datagram that is read (8192)
+  --max-texts <octets>       what a subscription keeps of a request (2048)
   --receive-buffer <octets>  room asked for datagrams that wait (4194304)
 
 Lines for tell: MAIL, PROGRESS, STATUS, SHOW, DUMP, WATCHERS, CLOSE. With - the

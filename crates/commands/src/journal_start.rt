@@ -164,12 +164,13 @@ impl Order<'_> {
         }
     }
 
-    /// How its journal is kept in this folder.
-    fn upkeep(&self, alloc: Global, folder: &Folder) -> Result<Upkeep, NoMemory> {
+    /// How its journal is kept in this folder, where it goes on in a file that was the current one for so many seconds.
+    fn upkeep(&self, alloc: Global, folder: &Folder, been: u64) -> Result<Upkeep, NoMemory> {
         Ok(Upkeep {
             folder: folder.path.copy(alloc)?,
             limit: u64::from(self.plan.choices.numbers.journal_bytes),
             age: SETTLED,
+            been,
             sync: self.plan.choices.sync,
         })
     }
@@ -345,7 +346,7 @@ where
     let volume = new_volume(rt, opened, &order.header, &mut keeper, desks.as_slice())?;
     let begins = begin_with(alloc, desks.as_slice(), first)?;
     let changes = told_changes(alloc, &keeper, order.plan.workers)?;
-    let upkeep = order.upkeep(alloc, &opened.folder)?;
+    let upkeep = order.upkeep(alloc, &opened.folder, 0)?;
     let journal = match volume {
         Some(volume) => Some(Journal::new(alloc, keeper, order.header, volume, upkeep)?),
         None => None,
@@ -359,12 +360,23 @@ where
     })
 }
 
-/// A service whose desks stand where they stood, and which goes on in the file with this number.
+/// Where the newest file of a journal stands.
+#[derive(Clone, Copy)]
+struct Newest {
+    /// Its number.
+    number: u64,
+    /// The second of the notifier in which its books were written.
+    begun: u64,
+    /// Where its whole records end.
+    whole: u64,
+}
+
+/// A service whose desks stand where they stood, and which goes on in this file.
 fn go_straight<R, P>(
     rt: &R,
     order: Order<'_>,
     opened: &Opened,
-    end: (u64, u64),
+    newest: Newest,
     replayed: Replayed<P>,
 ) -> Result<Started<P>, Halt>
 where
@@ -372,7 +384,6 @@ where
     P: Package,
 {
     let alloc = rt.alloc();
-    let (number, whole) = end;
     let Replayed {
         desks,
         unanswered,
@@ -380,8 +391,9 @@ where
     } = replayed;
     let begins = begin_with(alloc, desks.as_slice(), unanswered)?;
     let changes = told_changes(alloc, &keeper, order.plan.workers)?;
-    let upkeep = order.upkeep(alloc, &opened.folder)?;
-    let journal = match old_volume(rt, opened, number, whole, &mut keeper)? {
+    let been = begins.tick.saturating_sub(newest.begun);
+    let upkeep = order.upkeep(alloc, &opened.folder, been)?;
+    let journal = match old_volume(rt, opened, newest, &mut keeper)? {
         Some(volume) => Some(Journal::new(alloc, keeper, order.header, volume, upkeep)?),
         None => None,
     };
@@ -405,18 +417,18 @@ fn spare_numbers(alloc: Global, numbers: &[u64], number: u64) -> Result<Vec<u64>
     Ok(spare)
 }
 
-/// The file with this number, to be gone on in behind so many bytes, with what waits in the keeper: the lines that are handled now. None where it can't be
-/// written; then nobody goes on from it any more.
+/// This file, to be gone on in behind its whole records, with what waits in the keeper: the lines that are handled now. None where it can't be written;
+/// then nobody goes on from it any more.
 fn old_volume<R>(
     rt: &R,
     opened: &Opened,
-    number: u64,
-    whole: u64,
+    newest: Newest,
     keeper: &mut Keeper,
 ) -> Result<Option<Volume>, Halt>
 where
     R: Files<File = File> + AllocGlobal,
 {
+    let Newest { number, whole, .. } = newest;
     let numbers = opened.numbers.as_slice();
     let spare = spare_numbers(rt.alloc(), numbers, number)?;
     opened.folder.remove(rt, spare.as_slice())?;
@@ -453,14 +465,20 @@ where
     let worked = order.worked(&found);
     let Found {
         generation,
+        begun,
         whole,
         ..
     } = found;
+    let newest = Newest {
+        number,
+        begun,
+        whole,
+    };
     let Generation { accounts, .. } = generation;
     let replayed = replay(alloc, &worked, accounts.into_vec(), make)?;
     say_course(rt, &opened.folder.path, course);
     match course {
-        Course::Straight => go_straight(rt, order, opened, (number, whole), replayed),
+        Course::Straight => go_straight(rt, order, opened, newest, replayed),
         Course::Renewed { is_lost } => {
             let renewed = renew(alloc, &order.wish(), replayed, is_lost, make)?;
             begin_file(rt, order, opened, renewed)

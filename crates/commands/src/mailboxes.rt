@@ -66,6 +66,7 @@ fn setting_names<R: Files + AllocGlobal>(rt: &R, setting: &Setting) -> Result<Ve
         | Setting::PasswordFile(_)
         | Setting::Watch(..)
         | Setting::Rate(_)
+        | Setting::Guesses(_)
         | Setting::Allow(..)
         | Setting::ControlAllow(..)
         | Setting::Seed(_)

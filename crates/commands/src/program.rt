@@ -119,7 +119,7 @@ fn keep_journal<R: Eprint>(rt: &R, plan: &Plan, shared: &Shared, journal: Option
         (Some(journal), _) => shared.keep_journal(journal),
         (None, Some(folder)) => {
             say_journal(rt, folder, "can't be written, so nothing is kept");
-            shared.count_unwritten();
+            shared.count_unwritten(1);
         }
         (None, None) => {}
     }

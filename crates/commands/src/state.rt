@@ -93,6 +93,7 @@ fn add_path(alloc: Global, path: &mut Option<Text>, setting: &Setting) -> Result
         | Setting::PasswordFile(_)
         | Setting::Watch(..)
         | Setting::Rate(_)
+        | Setting::Guesses(_)
         | Setting::Allow(..)
         | Setting::ControlAllow(..)
         | Setting::Seed(_)

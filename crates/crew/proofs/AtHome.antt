@@ -1,18 +1,22 @@
 -- That each event a port sent to a worker has its home there.
-use Rattle.std.proofs.Common.{◌≡◌, ◌⊎◌, ⊎_elim, ℕ, zero, suc, ◌<◌, Bool, true, false, ◌||◌, eq-eqb, List, [], ◌∷◌, length, map, get_or, set, Some, refl, ap, sym, ◌∙◌, subst, arith}
-use Rattle.std.specs.Prelude.{slice_get, ◌==◌}
+use Rattle.std.proofs.Common.{◌≡◌, ◌⊎◌, ⊎_elim, ℕ, zero, suc, ◌<◌, Bool, true, false, ◌||◌, eq-eqb, List, [], ◌∷◌, ◌++◌, length, map, get_or, set, reverse, Some, refl, ap, sym, ◌∙◌, subst, arith, inr}
+use Rattle.std.specs.Prelude.{slice_get, ◌==◌, not}
 use Rattle.std.specs.List.{All}
-use Rattle.std.proofs.lemmas.List.{get_or-set_other, get_or-set_same, length-set, get_or-map, length-map}
-use Rattle.std.proofs.lemmas.List.Elements.{All-nil, All-push}
+use Rattle.std.proofs.lemmas.List.{append-nil, get_or-set_other, get_or-set_same, length-set, get_or-map, length-map, nil_from_length}
+use Rattle.std.proofs.lemmas.List.Elements.{All-nil, All-cons, All-head, All-tail, All-append, All-push}
 use Rattle.std.proofs.lemmas.Bool.Decides.{eqb_tells}
 use Rattle.std.proofs.lemmas.Option.{get_or_from_slice_get, slice_get-get_or, slice_get_within}
+use Rattle.queues.specs.declared.items.Item.{Item}
 use Rattle.queues.specs.Values.{values, value_item, end_item}
 use Rattle.notifier_model.specs.declared.event.Event.{Event}
 use Rattle.notifier_model.specs.Home.{home, is_for_all, comes_to}
 use Rattle.queues.specs.InboxSeats.{Inbox, SenderSeat, with_sent}
 use Rattle.crew.proofs.Folds.{values_value, values_end}
-use Rattle.crew.specs.Ports.{PortSeats, new_seat, port_of, sent_first, sends_first, Closes, ClosesSome, SendsTo}
-use Rattle.crew.specs.AtHome.{AreAtHome, NewLaw, SendLaw, TickLaw, CloseLaw}
+use Rattle.crew.specs.Ports.{PortSeats, new_seat, port_of, AreUnused, sent_first, sends_first, Closes, ClosesSome, SendsAt, SendsTo}
+use Rattle.crew.specs.AtHome.{AreAtHome, SentHome, NewLaw, SendLaw, TickLaw, CloseLaw}
+use Rattle.crew.specs.Calls.{call_event}
+use Rattle.crew.specs.declared.port.Call.{Call}
+use Rattle.crew.specs.declared.port.Call.TheVariants as call
 
 -- all that a seat sent comes to worker w of n
 abbrev Comes : ℕ → ℕ → SenderSeat → Type 0
@@ -142,3 +146,85 @@ close_home old new n was closes w s low =
 
 pub close_law : CloseLaw
 close_law old new n was closes = at_home_all n new.seats (close_home old new n (at_home_each n old.seats was) closes)
+
+-- ---- what a port keeps of that
+
+-- (`senders` are the seats of an open port, `sents` those of a closed one from the last on: one of both lists is empty)
+
+pub unused_home : (n : ℕ) (seats : List SenderSeat) → AreUnused seats → AreAtHome n seats
+unused_home n seats none w s is =
+    let P : Event → Type 0 = λ e. comes_to n w e ≡ true in
+    let same : get_or seats w s ≡ s = get_or_from_slice_get seats w s s is in
+    let unsent : s.sent ≡ [] = subst (λ (x : SenderSeat). x.sent ≡ []) same (none w s (slice_get_within seats w s is)) in
+    subst (λ (l : List (Item Event)). All P (values l)) (sym unsent) (All-nil P)
+
+pub none_home : (senders sents : List SenderSeat) → senders ≡ [] → sents ≡ [] → SentHome (senders ++ reverse sents)
+none_home senders sents none none' =
+    let is : senders ++ reverse sents ≡ [] = ap (λ l. l ++ reverse sents) none ∙ ap reverse none' in
+    subst SentHome (sym is) (λ w s at. absurd (let l = slice_get_within [] w s at in omega arith))
+
+both_unused : (xs ys : List SenderSeat) → AreUnused (xs ++ ys) → AreUnused xs × AreUnused ys
+both_unused [] ys all = (All-nil (λ (s : SenderSeat). s.sent ≡ []), all)
+both_unused (x ∷ xs) ys all =
+    let P : SenderSeat → Type 0 = λ s. s.sent ≡ [] in
+    let rest = both_unused xs ys (All-tail P x (xs ++ ys) all) in
+    (All-cons P x xs (All-head P x (xs ++ ys) all) rest.0, rest.1)
+
+pub same_home : (senders sents senders' sents' : List SenderSeat) → senders' ≡ senders → sents' ≡ sents → SentHome (senders ++ reverse sents) → SentHome (senders' ++ reverse sents')
+same_home senders sents senders' sents' same same' was =
+    let is : senders' ++ reverse sents' ≡ senders ++ reverse sents = λ i. same i ++ reverse (same' i) in
+    subst SentHome (sym is) was
+
+-- with one seat more, where nothing was sent
+pub seated_home : (senders sents senders' sents' : List SenderSeat) (s : SenderSeat) → AreUnused (senders ++ reverse sents) → s.sent ≡ [] → senders' ≡ senders ++ s ∷ [] → sents' ≡ sents → SentHome (senders' ++ reverse sents')
+seated_home senders sents senders' sents' s unused new more same =
+    let P : SenderSeat → Type 0 = λ x. x.sent ≡ [] in
+    let parts = both_unused senders (reverse sents) unused in
+    let seats : List SenderSeat = (senders ++ s ∷ []) ++ reverse sents in
+    let is : senders' ++ reverse sents' ≡ seats = λ i. more i ++ reverse (same i) in
+    subst SentHome (sym is) (unused_home (length seats) seats (All-append P (senders ++ s ∷ []) (reverse sents) (All-push P senders s parts.0 new) parts.1))
+
+-- nothing stands behind the senders of an open port
+alone : (senders sents : List SenderSeat) → length sents ≡ 0 → senders ++ reverse sents ≡ senders
+alone senders sents none = ap (λ l. senders ++ reverse l) (nil_from_length sents none) ∙ append-nil senders
+
+pub sent_home : (senders sents senders' : List SenderSeat) (at : ℕ) (e : Event) → length sents ≡ 0 → at ≡ home e (length senders) → SentHome (senders ++ reverse sents) → SendsAt senders at e senders' → SentHome (senders' ++ reverse sents)
+sent_home senders sents senders' at e none there was sends =
+    let n : ℕ = length senders in
+    let old : PortSeats = record { is_open = true; seats = senders; missed = 0 } in
+    let new : PortSeats = record { is_open = true; seats = senders'; missed = 0 } in
+    let before : AreAtHome n senders = subst SentHome (alone senders sents none) was in
+    let sent : SendsTo old at e new = record { seat = sends.seat; stood = sends.stood; stands = ap (λ (l : List SenderSeat). let p : PortSeats = record { is_open = true; seats = l; missed = 0 } in p) sends.stands } in
+    let after : AreAtHome n senders' = send_law old new n e before (subst (λ (k : ℕ). SendsTo old k e new) there sent) in
+    let size : length senders' ≡ n = ap length sends.stands ∙ length-set senders at (with_sent sends.seat (value_item sends.seat.number e)) in
+    subst SentHome (sym (alone senders' sents none)) (subst (λ (m : ℕ). AreAtHome m senders') (sym size) after)
+
+pub opened : (b : Bool) → false ≡ not b → b ≡ true
+opened true e = refl
+opened false e = absurd cc
+
+call_all : (c : Call) → is_for_all (call_event c) ≡ true
+call_all (call.Tick now) = refl
+call_all call.Shut = refl
+
+pub called_home : (senders sents senders' : List SenderSeat) (i : ℕ) (c : Call) → length sents ≡ 0 → SentHome (senders ++ reverse sents) → senders' ≡ sent_first i (call_event c) senders → SentHome (senders' ++ reverse sents)
+called_home senders sents senders' i c none was is =
+    let n : ℕ = length senders in
+    let old : PortSeats = record { is_open = true; seats = senders; missed = 0 } in
+    let before : AreAtHome n senders = subst SentHome (alone senders sents none) was in
+    let after : AreAtHome n senders' = subst (AreAtHome n) (sym is) (tick_law old n i (call_event c) (call_all c) before) in
+    let size : length senders' ≡ n = ap length is ∙ len_first i (call_event c) senders in
+    subst SentHome (sym (alone senders' sents none)) (subst (λ (m : ℕ). AreAtHome m senders') (sym size) after)
+
+some_len : (old new : List SenderSeat) → ClosesSome old new → length new ≡ length old
+some_len [] new none = ap length none
+some_len (s ∷ old) new (t, rest, is, told, more) = ap length is ∙ ap suc (some_len old rest more)
+
+pub closed_home : (all olds senders senders' sents : List SenderSeat) → SentHome all → all ≡ senders ++ olds → senders ≡ [] → senders' ≡ [] → ClosesSome olds (reverse sents) → SentHome (senders' ++ reverse sents)
+closed_home all olds senders senders' sents was whole none none' closes =
+    let n : ℕ = length olds in
+    let old : PortSeats = record { is_open = true; seats = olds; missed = 0 } in
+    let new : PortSeats = record { is_open = false; seats = reverse sents; missed = 0 } in
+    let before : SentHome olds = subst SentHome (whole ∙ ap (λ l. l ++ olds) none) was in
+    let after : AreAtHome n (reverse sents) = close_law old new n before (inr closes) in
+    subst SentHome (sym (ap (λ l. l ++ reverse sents) none')) (subst (λ (m : ℕ). AreAtHome m (reverse sents)) (sym (some_len olds (reverse sents) closes)) after)

@@ -26,7 +26,7 @@ use Rattle.crew.proofs.Zipped.{zip_len, zip_get}
 use Rattle.crew.specs.declared.report.WorkerReport.{WorkerReport}
 use Rattle.life.proofs.Homes.{nowhere_else_law}
 use Rattle.notifier_model.specs.declared.event.Out.{Out}
-use Rattle.crew.specs.Elsewhere.{HaveAllSeats, AllAtHome, events_taken, EveryPortLaw, NowhereElseLaw}
+use Rattle.crew.specs.Elsewhere.{HaveAllSeats, events_taken, EveryPortLaw, NowhereElseLaw}
 
 -- ---- lists
 
@@ -120,9 +120,9 @@ every_port stands n crew dealt ports taker is all =
 
 -- each event that a worker took comes to it
 pub all_come : (crew : List Hired) (ports : List PortSeats) (got : List (Item Out)) (reports : List WorkerReport) (w : ℕ) (h : Hired) (r : WorkerReport)
-    → IsJoined crew ports got reports → HaveAllSeats crew ports → AllAtHome crew ports → slice_get crew w ≡ Some h → slice_get reports w ≡ Some r
+    → IsJoined crew ports got reports → HaveAllSeats crew ports → slice_get crew w ≡ Some h → slice_get reports w ≡ Some r
     → All (λ e. comes_to (length crew) w e ≡ true) (events_taken h r)
-all_come crew ports got reports w h r joined seats home here there =
+all_come crew ports got reports w h r joined seats here there =
     let n : ℕ = length crew in
     let P : Event → Type 0 = λ e. comes_to n w e ≡ true in
     let told : Reported h got r = zip_get (λ (x : Hired) (y : WorkerReport). Reported x got y) crew reports joined.reported w h r here there in
@@ -132,13 +132,13 @@ all_come crew ports got reports w h r joined seats home here there =
     let seat : SenderSeat = at.1 in
     let all = All-contains (λ (x : PortSeats). AllZip IsHeard reports x.seats) ports q joined.heard at.2 in
     let heard : IsHeard r seat = zip_get IsHeard reports q.seats all w r seat there at.3 in
-    let home_here : AreAtHome n q.seats = All-contains (λ (x : PortSeats). AreAtHome n x.seats) ports q home at.2 in
+    let home_here : AreAtHome n q.seats = All-contains (λ (x : PortSeats). AreAtHome n x.seats) ports q joined.home at.2 in
     subst (λ (j : ℕ). All P (values (items_of j r.receiver.taken))) at.4
     (all_that_came P seat.sent (items_of seat.number r.receiver.taken) heard.came.0 (home_here w seat at.3)) in
     all_events n w h.reads.ports h.stands.place.stop r.receiver.taken
     (all_of_each P h.reads.ports r.receiver.taken told.among came)
 
 pub nowhere_else_joined : NowhereElseLaw
-nowhere_else_joined crew ports got reports start serial other source x past h r joined seats home born elsewhere here there =
+nowhere_else_joined crew ports got reports start serial other source x past h r joined seats born elsewhere here there =
     nowhere_else_law (length crew) serial other start source x past (events_taken h r) born elsewhere
-    (all_come crew ports got reports other h r joined seats home here there)
+    (all_come crew ports got reports other h r joined seats here there)

@@ -19,6 +19,7 @@ use Rattle.queues.specs.declared.outbox.Posted.TheVariants as posted
 use Rattle.crew.specs.Ports.{PortSeats, new_seat, Closes, ClosesSome, OneStays, IsLeftByClose, SendsTo, sends_first}
 use Rattle.crew.specs.PortErrors.{GivesBack, TicksFirst}
 use Rattle.crew.specs.declared.errors.SendError.{SendError}
+use Rattle.crew.specs.declared.errors.SendError.TheVariants as send
 use Rattle.crew.specs.declared.errors.TickError.{TickError}
 use Rattle.crew.specs.declared.errors.TickError.TheVariants as tick
 use Rattle.crew.specs.Kept.{emptied, SameSeats, AllClosed}
@@ -161,10 +162,14 @@ first_keep (suc i) event (s ∷ seats) = ap (λ l. emptied s ∷ l) (first_keep 
 pub tick_keeps : (i : ℕ) (event : Event) (old : PortSeats) → SameSeats old (sends_first i event old)
 tick_keeps i event old = first_keep i event old.seats
 
+given_back : (old new : PortSeats) (e : Event) (error : SendError) → GivesBack old e new error → SameSeats old new
+given_back old new e (send.Closed back) k = ap (λ (p : PortSeats). map emptied p.seats) k.1
+given_back old new e (send.Gone back) k = ap (λ (p : PortSeats). map emptied p.seats) k.1
+
 -- whatever a port's calls answer
-pub sent_keeps : (r : Result (Unit {0}) SendError) (old new : PortSeats) (w : ℕ) (e : Event) → MatchResult r (λ _. (old.is_open ≡ true) × SendsTo old w e new) (λ error. (new ≡ old) × GivesBack old e error) → SameSeats old new
+pub sent_keeps : (r : Result (Unit {0}) SendError) (old new : PortSeats) (w : ℕ) (e : Event) → MatchResult r (λ _. (old.is_open ≡ true) × SendsTo old w e new) (λ error. GivesBack old e new error) → SameSeats old new
 sent_keeps (Ok x) old new w e k = send_keeps old w e new k.1
-sent_keeps (Err x) old new w e k = ap (λ (p : PortSeats). map emptied p.seats) k.0
+sent_keeps (Err x) old new w e k = given_back old new e x k
 
 ticked_less : (old new : PortSeats) (e : Event) (error : TickError) → TicksFirst old e new error → SameSeats old new
 ticked_less old new e tick.Closed k = ap (λ (p : PortSeats). map emptied p.seats) k.0

@@ -22,7 +22,7 @@ use Rattle.life.specs.Own.{born_of}
 use Rattle.life.proofs.Deeds.{lived_is}
 use Rattle.life.proofs.Homes.{nowhere_else_law}
 use Rattle.life.proofs.NextLives.{After, birth_of_some, each_life}
-use Rattle.crew.specs.Elsewhere.{HaveAllSeats, AllAtHome, events_taken}
+use Rattle.crew.specs.Elsewhere.{HaveAllSeats, events_taken}
 use Rattle.crew.specs.Laws.{its_tag}
 use Rattle.crew.specs.GoesOn.{standing_after, OneHomeGoesOnLaw}
 use Rattle.crew.specs.OneHome.{OneHomeLaw}
@@ -78,18 +78,18 @@ at_home n w source x h = grind (arith, nat_tests)
 -- of workers whose places are those of these starts, whatever their books
 one_home_from : (start : ℕ → Start) (stands : ℕ → Standing) (before : List Event) (crew : List Hired) (got : List (Item Out)) (reports : List WorkerReport)
     (w v serial : ℕ) (x : Request) (h g : Hired) (r s : WorkerReport) (run : IsCrewRunFrom start stands crew got reports) →
-    (stands w).place ≡ (start w).place → HaveAllSeats crew run.ports → AllAtHome crew run.ports → All (λ e. comes_to (length crew) w e ≡ true) before → (v ≡ w → ⊥) →
+    (stands w).place ≡ (start w).place → HaveAllSeats crew run.ports → All (λ e. comes_to (length crew) w e ≡ true) before → (v ≡ w → ⊥) →
     slice_get crew w ≡ Some h → slice_get reports w ≡ Some r → slice_get crew v ≡ Some g → slice_get reports v ≡ Some s →
     born_of (start w) serial (newest_first (before ++ events_taken h r)) ≡ Some x →
     All (λ e. concerns (its_tag h serial) x e ≡ true → is_for_all e ≡ true) (events_taken g s)
-one_home_from start stands before crew got reports w v serial x h g r s run place seats home first elsewhere here there here' there' born =
+one_home_from start stands before crew got reports w v serial x h g r s run place seats first elsewhere here there here' there' born =
     let n : ℕ = length crew in
     let P : Event → Type 0 = λ e. comes_to n w e ≡ true in
     let inside : w < n = slice_get_within crew w h here in
     let hired : get_or crew w h ≡ h = get_or_from_slice_get crew w h h here in
     let taken : List Event = events_taken h r in
     let past : List Event = newest_first (before ++ taken) in
-    let all : All P past = all_onto P [] (before ++ taken) (All-nil P) (All-append P before taken first (all_come crew run.ports got reports w h r run.joined seats home here there)) in
+    let all : All P past = all_onto P [] (before ++ taken) (All-nil P) (All-append P before taken first (all_come crew run.ports got reports w h r run.joined seats here there)) in
     let came_from = born_came P (start w) serial past x all born in
     let begins : h.stands ≡ stands w = ap (λ (y : Hired). y.stands) (sym hired) ∙ (let is = run.started.each w h inside in is.begins) in
     let number : (start w).place.worker ≡ w = run.starts.numbers w inside in
@@ -99,12 +99,12 @@ one_home_from start stands before crew got reports w v serial x h g r s run plac
     (nowhere_else_law n serial v (start w) came_from.0 x past (events_taken g s)
     (record { below = (let is = number in omega arith); few = few; born = born; home = at_home n w came_from.0 x came_from.1 ∙ sym number })
     (λ same. elsewhere (same ∙ number))
-    (all_come crew run.ports got reports v g s run.joined seats home here' there'))
+    (all_come crew run.ports got reports v g s run.joined seats here' there'))
 
 pub one_home_goes_on_law : OneHomeGoesOnLaw
-one_home_goes_on_law start before crew got reports w v serial x h g r s run seats home first elsewhere here there here' there' born =
-    one_home_from start (λ k. standing_after (start k) (before k)) (before w) crew got reports w v serial x h g r s run refl seats home first elsewhere here there here' there' born
+one_home_goes_on_law start before crew got reports w v serial x h g r s run seats first elsewhere here there here' there' born =
+    one_home_from start (λ k. standing_after (start k) (before k)) (before w) crew got reports w v serial x h g r s run refl seats first elsewhere here there here' there' born
 
 pub one_home_law : OneHomeLaw
-one_home_law start crew got reports w v serial x h g r s run seats home elsewhere here there here' there' born =
-    one_home_from start (λ k. first_standing (start k)) [] crew got reports w v serial x h g r s run refl seats home (All-nil (λ e. comes_to (length crew) w e ≡ true)) elsewhere here there here' there' born
+one_home_law start crew got reports w v serial x h g r s run seats elsewhere here there here' there' born =
+    one_home_from start (λ k. first_standing (start k)) [] crew got reports w v serial x h g r s run refl seats (All-nil (λ e. comes_to (length crew) w e ≡ true)) elsewhere here there here' there' born

@@ -15,6 +15,7 @@ use Rattle.crew.specs.Worked.{IsWorked}
 use Rattle.crew.specs.Ports.{PortSeats}
 use Rattle.crew.specs.Started.{Hired}
 use Rattle.crew.specs.Joined.{HasEndOf, IsSeatOf, IsPortOf, Reported, Arrived, IsHeard, IsJoined}
+use Rattle.crew.specs.AtHome.{AreAtHome, SentHome}
 use Rattle.crew.specs.Settled.{AreSeatsOf, HaveCome}
 use Rattle.crew.specs.declared.report.WorkerReport.{WorkerReport}
 use Rattle.crew.specs.declared.end.Done.{Done}
@@ -137,8 +138,10 @@ module _ {crew : List Hired} {got : List (Item Out)} {reports : List WorkerRepor
   }
 
   pub joined : (ports : List PortSeats) → ((p : ℕ) (q : PortSeats) → p < length ports → IsPortOf crew (get_or ports p q))
-      → ((p : ℕ) (q : PortSeats) → p < length ports → HaveCome reports (get_or ports p q).seats (length reports)) → IsJoined crew ports got reports
-  joined ports are came = let len = all.len in record {
+      → ((p : ℕ) (q : PortSeats) → p < length ports → HaveCome reports (get_or ports p q).seats (length reports))
+      → ((p : ℕ) (q : PortSeats) → p < length ports → SentHome (get_or ports p q).seats) → IsJoined crew ports got reports
+  joined ports are came home = let len = all.len in record {
+    home = λ p q among. subst (λ (n : ℕ). AreAtHome n (get_or ports p q).seats) (zip_len IsSeatOf crew (get_or ports p q).seats (are p q among).seats) (home p q among);
     reported = zipped (λ (h : Hired) (r : WorkerReport). Reported h got r) crew reports len all.told;
     heard = λ p q among.
         let seats : List SenderSeat = (get_or ports p q).seats in

@@ -2,9 +2,10 @@
 use Rattle.std.proofs.Common.{◌≡◌, ℕ, zero, suc, ◌+◌, ◌<◌, false, true, nat_lt, List, [], ◌∷◌, ◌++◌, length, map, get_or, refl, ap, sym, ◌∙◌, subst, arith, below_more, length-append}
 use Rattle.std.proofs.lemmas.Bool.{lt-ltb, ltb-false}
 use Rattle.std.proofs.lemmas.List.{get_or_append_left, length-map, map-append}
+use Rattle.std.proofs.lemmas.List.Elements.{All-nil, All-cons}
 use Rattle.std.proofs.Math.Seq.{get_or-append_seam}
 use Rattle.queues.specs.InboxSeats.{Inbox, SenderSeat, new_senders}
-use Rattle.crew.specs.Ports.{PortSeats, seated, new_seat, port_of, AreDealt, NoneWasClosed, HaveRoom, TakeSeats}
+use Rattle.crew.specs.Ports.{PortSeats, seated, new_seat, port_of, AreDealt, AreUnused, NoneHasSent, NoneWasClosed, HaveRoom, TakeSeats}
 
 pub new_senders-length : (inbox : Inbox) (n : ℕ) → length (new_senders inbox n) ≡ n
 new_senders-length inbox zero = refl
@@ -47,6 +48,7 @@ dealt_more old new inboxes inbox n size was taken = record {
       ∙ (λ i. record {
         is_open = sym (open_more inboxes inbox) i;
         seats = sym (map-append (λ b. new_seat b s) inboxes (inbox ∷ [])) i;
+        missed = 0;
       });
 }
 
@@ -67,3 +69,16 @@ dealt_room ports inboxes n few dealt k d low =
     let within : k < n = let e = dealt.len in omega arith in
     let size = length-map inboxes (λ i. new_seat i k) in
     subst P (sym (dealt.each k d within)) (let e = size in omega arith)
+
+-- nothing was sent by them, nor by new senders
+new_unused : (inboxes : List Inbox) (number : ℕ) → AreUnused (map (λ i. new_seat i number) inboxes)
+new_unused [] number = All-nil (λ (s : SenderSeat). s.sent ≡ [])
+new_unused (i ∷ inboxes) number = All-cons (λ (s : SenderSeat). s.sent ≡ []) (new_seat i number) (map (λ j. new_seat j number) inboxes) refl (new_unused inboxes number)
+
+pub dealt_unused : (ports : List PortSeats) (inboxes : List Inbox) (n : ℕ) → AreDealt ports inboxes n → NoneHasSent ports
+dealt_unused ports inboxes n dealt k d low =
+    let within : k < n = let e = dealt.len in omega arith in
+    subst (λ (p : PortSeats). AreUnused p.seats) (sym (dealt.each k d within)) (new_unused inboxes k)
+
+pub new_senders-unused : (inbox : Inbox) (n : ℕ) (senders : List SenderSeat) → senders ≡ new_senders inbox n → AreUnused senders
+new_senders-unused inbox n senders is = subst AreUnused (sym is) (λ k d low. ap (λ (s : SenderSeat). s.sent) (new_senders-at inbox n k d (let l = new_senders-length inbox n in omega arith)))

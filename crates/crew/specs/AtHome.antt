@@ -1,5 +1,5 @@
 -- That each event a port sent to a worker has its home there, ticks and stops apart.
-use Rattle.std.specs.Prelude.{◌≡◌, ◌⊎◌, ℕ, true, List, slice_get, Some}
+use Rattle.std.specs.Prelude.{◌≡◌, ◌⊎◌, ℕ, true, List, length, slice_get, Some}
 use Rattle.std.specs.List.{All}
 use Rattle.queues.specs.Values.{values}
 use Rattle.notifier_model.specs.declared.event.Event.{Event}
@@ -10,6 +10,10 @@ use Rattle.crew.specs.Ports.{PortSeats, port_of, SendsTo, sends_first, Closes, C
 -- each event that worker w of n got from these seats goes to w, or to all
 abbrev pub AreAtHome : ℕ → List SenderSeat → Type 0
 AreAtHome n seats = (w : ℕ) (s : SenderSeat) → slice_get seats w ≡ Some s → All (λ e. comes_to n w e ≡ true) (values s.sent)
+
+-- each event that a port with these seats sent went to its home, or to all
+abbrev pub SentHome : List SenderSeat → Type 0
+SentHome seats = AreAtHome (length seats) seats
 
 -- a new port has sent nothing
 abbrev pub NewLaw : Type 0

@@ -11,7 +11,6 @@ use Rattle.notifier_model.specs.Start.{Start, tag_of}
 use Rattle.queues.specs.InboxEvents.{events_of}
 use Rattle.queues.specs.InboxSeats.{SenderSeat}
 use Rattle.queues.specs.OutboxSeats.{TakerSeat}
-use Rattle.crew.specs.AtHome.{AreAtHome}
 use Rattle.crew.specs.Joined.{IsJoined}
 use Rattle.crew.specs.Kept.{AllClosed}
 use Rattle.crew.specs.Ports.{PortSeats}
@@ -27,10 +26,6 @@ pub record HaveAllSeats (crew : List Hired) (ports : List PortSeats) : Type 0 wh
   pub each : (w k : ℕ) (h : Hired) → slice_get crew w ≡ Some h → k < h.reads.ports
       → (q : PortSeats) × (s : SenderSeat) × Contains ports q × (slice_get q.seats w ≡ Some s) × (s.number ≡ k)
 
--- each port sent events to their homes, and to all what goes to all
-abbrev pub AllAtHome : List Hired → List PortSeats → Type 0
-AllAtHome crew ports = All (λ (q : PortSeats). AreAtHome (length crew) q.seats) ports
-
 -- all events that the worker took from its inbox, and the planned stop where there is one
 abbrev pub events_taken : Hired → WorkerReport → List Event
 events_taken h report = events_of h.stands.place.stop h.reads.ports report.receiver.taken
@@ -40,12 +35,12 @@ abbrev pub EveryPortLaw : Type 0
 EveryPortLaw = (stands : ℕ → Standing) (n : ℕ) (crew : List Hired) (dealt ports : List PortSeats) (taker : TakerSeat) →
     HaveBegun stands (length crew) n crew dealt taker → AllClosed dealt ports → HaveAllSeats crew ports
 
--- Where the ports that were handed to `join` have all seats and sent events to their homes, a worker other than the one that a
+-- Where the ports that were handed to `join` have all seats, a worker other than the one that a
 -- subscription has its home at took nothing that concerns it, but what goes to all.
 abbrev pub NowhereElseLaw : Type 0
 NowhereElseLaw = (crew : List Hired) (ports : List PortSeats) (got : List (Item Out)) (reports : List WorkerReport)
     (start : Start) (serial other : ℕ) (source : Addr) (x : Request) (past : List Event) (h : Hired) (r : WorkerReport) →
-    IsJoined crew ports got reports → HaveAllSeats crew ports → AllAtHome crew ports →
+    IsJoined crew ports got reports → HaveAllSeats crew ports →
     IsBornAtHome (length crew) start serial source x past → (other ≡ start.place.worker → ⊥) →
     slice_get crew other ≡ Some h → slice_get reports other ≡ Some r →
     All (λ e. concerns (tag_of start.place serial) x e ≡ true → is_for_all e ≡ true) (events_taken h r)

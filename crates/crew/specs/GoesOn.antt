@@ -17,7 +17,7 @@ use Rattle.notifier_model.specs.Out.{Notification}
 use Rattle.notifier_model.specs.Run.{run}
 use Rattle.notifier_model.specs.Start.{Start}
 use Rattle.notifier.specs.Standing.{Standing}
-use Rattle.crew.specs.Elsewhere.{HaveAllSeats, AllAtHome, events_taken}
+use Rattle.crew.specs.Elsewhere.{HaveAllSeats, events_taken}
 use Rattle.crew.specs.Joined.{Reported}
 use Rattle.crew.specs.Laws.{events_handled, its_tag}
 use Rattle.crew.specs.Started.{Hired}
@@ -101,7 +101,7 @@ RisingGoesOnLaw = (start : ℕ → Start) (before : ℕ → List Event) (crew : 
 abbrev pub OneHomeGoesOnLaw : Type 0
 OneHomeGoesOnLaw = (start : ℕ → Start) (before : ℕ → List Event) (crew : List Hired) (got : List (Item Out)) (reports : List WorkerReport)
     (w v serial : ℕ) (x : Request) (h g : Hired) (r s : WorkerReport) (run : WentOn start before crew got reports) →
-    HaveAllSeats crew run.ports → AllAtHome crew run.ports → All (λ e. comes_to (length crew) w e ≡ true) (before w) →
+    HaveAllSeats crew run.ports → All (λ e. comes_to (length crew) w e ≡ true) (before w) →
     (v ≡ w → ⊥) →
     slice_get crew w ≡ Some h → slice_get reports w ≡ Some r →
     slice_get crew v ≡ Some g → slice_get reports v ≡ Some s →

@@ -8,6 +8,7 @@ use Rattle.notifier_model.specs.declared.event.Event.{Event}
 use Rattle.notifier_model.specs.declared.event.Out.{Out}
 use Rattle.queues.specs.InboxSeats.{SenderSeat}
 use Rattle.queues.specs.OutboxSeats.{TakerSeat}
+use Rattle.crew.specs.AtHome.{AreAtHome}
 use Rattle.crew.specs.Worked.{AllFrom, Ends, handled_of, outs_for}
 use Rattle.crew.specs.Ports.{PortSeats}
 use Rattle.crew.specs.Started.{Hired}
@@ -54,7 +55,9 @@ pub record IsHeard (report : WorkerReport) (seat : SenderSeat) : Type 0 where
   pub arrived : Arrived report.end seat.sent (items_of seat.number report.receiver.taken)
   pub came : TookInOrder seat.number report.receiver.taken seat.sent
 
--- a report for each worker, in their order, which tells of the worker, and of each port's seat of its inbox
+-- a report for each worker, in their order, which tells of the worker, and of each port's seat of its inbox; each port sent events to
+-- their homes, and to all what goes to all
 pub record IsJoined (crew : List Hired) (ports : List PortSeats) (got : List (Item Out)) (reports : List WorkerReport) : Type 0 where
   pub reported : AllZip (λ (h : Hired) (r : WorkerReport). Reported h got r) crew reports
   pub heard : All (λ (q : PortSeats). AllZip IsHeard reports q.seats) ports
+  pub home : All (λ (q : PortSeats). AreAtHome (length crew) q.seats) ports

@@ -6,7 +6,7 @@ use Rattle.queues.specs.declared.items.Item.{Item}
 use Rattle.notifier_model.specs.declared.event.Out.{Out}
 use Rattle.notifier_model.specs.Home.{is_for_all}
 use Rattle.notifier_model.specs.Start.{Start}
-use Rattle.crew.specs.Elsewhere.{HaveAllSeats, AllAtHome, events_taken}
+use Rattle.crew.specs.Elsewhere.{HaveAllSeats, events_taken}
 use Rattle.crew.specs.Laws.{its_tag}
 use Rattle.crew.specs.Started.{Hired}
 use Rattle.crew.specs.Whole.{IsCrewRun}
@@ -15,12 +15,12 @@ use Rattle.life.specs.Lives.{concerns}
 use Rattle.life.specs.Notices.{newest_first}
 use Rattle.life.specs.Own.{born_of}
 
--- Where the ports that were handed to `join` have all seats and sent events to their homes, and a subscription was born of what
+-- Where the ports that were handed to `join` have all seats, and a subscription was born of what
 -- worker w took, no other worker took anything that concerns it, but what goes to all: ticks, and the planned stop.
 abbrev pub OneHomeLaw : Type 0
 OneHomeLaw = (start : ℕ → Start) (crew : List Hired) (got : List (Item Out)) (reports : List WorkerReport)
     (w v serial : ℕ) (x : Request) (h g : Hired) (r s : WorkerReport) (run : IsCrewRun start crew got reports) →
-    HaveAllSeats crew run.ports → AllAtHome crew run.ports → (v ≡ w → ⊥) →
+    HaveAllSeats crew run.ports → (v ≡ w → ⊥) →
     slice_get crew w ≡ Some h → slice_get reports w ≡ Some r →
     slice_get crew v ≡ Some g → slice_get reports v ≡ Some s →
     born_of (start w) serial (newest_first (events_taken h r)) ≡ Some x →

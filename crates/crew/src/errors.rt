@@ -58,7 +58,7 @@ impl From<StartError> for GoOnError {
     }
 }
 
-/// Why a port sends no event. It comes back, and the port is as it was.
+/// Why a port sends no event. It comes back. The port is as it was, but that it counts a worker that is gone.
 #[derive(Debug, Drop, Error)]
 pub enum SendError {
     /// The port was closed.
@@ -87,7 +87,7 @@ pub enum TickError {
     /// The port was closed, and is as it was.
     #[error("the port is closed")]
     Closed,
-    /// A worker is gone. So many inboxes took it before, and no other did.
+    /// A worker is gone, which the port counts. So many inboxes took it before, and no other did.
     #[error("the worker after {0} others is gone")]
     Gone(u32),
 }

@@ -4,6 +4,7 @@ ghost use Rattle.queues.specs.Items.{TookInOrder};
 ghost use Rattle.crew.specs.Ports.{PortSeats};
 ghost use Rattle.crew.specs.Started.{Hired, hired};
 ghost use Rattle.crew.specs.Joined.{HasEndOf, IsPortOf, Reported, IsJoined};
+ghost use Rattle.crew.specs.AtHome.{SentHome};
 ghost use Rattle.crew.specs.Settled.{AreSeatsOf, HaveCome};
 
 use crate::end::Done;
@@ -94,6 +95,8 @@ fn settle_all(reports: &mut [WorkerReport], ports: Vec<Port>)
     ensures same { reports.new ≡ reports.old }
     ensures came { (k : ℕ) (p : PortSeats) → k < vec_len ports
         → HaveCome reports.old (get_or ports.items k p).seats (length reports.old) }
+    ensures home { (k : ℕ) (p : PortSeats) → k < vec_len ports
+        → SentHome (get_or ports.items k p).seats }
 {
     for port in ports {
         settle_port(reports, port.into_sents());

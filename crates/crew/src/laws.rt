@@ -81,8 +81,7 @@ pub fn alone()
 {}
 
 /// No other worker took anything that concerns a subscription but ticks and the planned stop, where it was born at the home of its
-/// request, every port of the crew was handed to `Crew::join`, and each sent events to their homes: whatever the number of workers,
-/// it is told by one.
+/// request, and every port of the crew was handed to `Crew::join`: whatever the number of workers, it is told by one.
 pub fn nowhere_else()
     ensures { NowhereElseLaw }
 {}

@@ -2,10 +2,12 @@
 ghost use Rattle.std.specs.Prelude.{◌≡◌, ◌<◌, ◌≤◌, [], true, false, not, length, reverse, OnOk, OnErr, MatchResult, vec_len};
 ghost use Rattle.notifier_model.specs.declared.event.Event.TheVariants as event;
 ghost use Rattle.notifier_model.specs.Home as spec;
-ghost use Rattle.crew.specs.Ports.{no_seats, seated, NoneWasClosed, HaveRoom, TakeSeats, Closes, ClosesSome, OneStays, SendsTo, SendsAt, sent_first, sends_first};
+ghost use Rattle.crew.specs.Ports.{no_seats, seated, AreUnused, NoneHasSent, NoneWasClosed, HaveRoom, TakeSeats, Closes, ClosesSome, OneStays, SendsTo, SendsAt, sent_first, sends_first};
 ghost use Rattle.crew.specs.PortErrors.{GivesBack, TicksFirst};
+ghost use Rattle.crew.specs.AtHome.{SentHome};
 ghost use Rattle.crew.specs.Calls.{call_event};
 
+use crate::counting::count_up;
 use crate::errors::{SendError, TickError};
 use notifier_model::Event;
 use notifier_model::homes::home;
@@ -17,11 +19,14 @@ use std::marker::Model;
 use std::sync::Wait;
 
 /// A port of a crew: its seat in each worker's inbox. Contracts see the seats in the order of the workers, each with what it
-/// has sent, and whether the port is open.
+/// has sent, whether the port is open, and how many calls found a worker gone. Each event that it sent has its home there, or goes
+/// to all.
 pub struct Port {
     senders: Vec<Sender>,
     // Of a closed port, from the last worker's on. It has room for all, so that closing takes no memory.
     sents: Vec<Sent>,
+    // How many calls to send something found a worker gone.
+    missed: u64,
 }
 
 /// By hand, so that all that drops one calls this one function, and none proves the ways through each field.
@@ -30,19 +35,21 @@ impl Drop for Port {
         let Port {
             senders: _,
             sents: _,
+            missed: _,
         } = self;
     }
 }
 
 impl Model for Port {
     ghost use Rattle.std.specs.Prelude.{◌++◌, ◌≡◌, ◌<◌, ◌≤◌, ◌+◌, nat_lt, length, reverse, vec_len, vec_capacity};
+    ghost use Rattle.crew.specs.AtHome.{SentHome};
     ghost use Rattle.crew.specs.Ports.{PortSeats};
 
     ghost Value = { PortSeats };
 
-    ghost view = { λ p. record { is_open = nat_lt 0 (vec_len p.senders); seats = p.senders.items ++ reverse p.sents.items } };
+    ghost view = { λ p. record { is_open = nat_lt 0 (vec_len p.senders); seats = p.senders.items ++ reverse p.sents.items; missed = p.missed } };
 
-    ghost invariant = { λ p. (vec_len p.senders + vec_len p.sents ≤ vec_capacity p.sents) × (0 < vec_len p.senders → vec_len p.sents ≡ 0) × (vec_len p.senders ≤ 256) };
+    ghost invariant = { λ p. (vec_len p.senders + vec_len p.sents ≤ vec_capacity p.sents) × (0 < vec_len p.senders → vec_len p.sents ≡ 0) × (vec_len p.senders ≤ 256) × SentHome (p.senders.items ++ reverse p.sents.items) };
 }
 
 impl Port {
@@ -53,6 +60,7 @@ impl Port {
         Port {
             senders: Vec::new(alloc),
             sents: Vec::new(alloc),
+            missed: 0,
         }
     }
 
@@ -60,6 +68,8 @@ impl Port {
     pub(crate) fn seat(&mut self, sender: Sender) -> Result<(), NoMemory>
         requires unclosed { self.old.is_open ≡ false → self.old.seats ≡ [] }
         requires room { length self.old.seats < 256 }
+        requires unsent { AreUnused self.old.seats }
+        requires new { sender.sent ≡ [] }
         ensures { OnOk result (self.new ≡ seated self.old sender) }
     {
         self.sents.try_reserve(self.senders.len() + 1)?;
@@ -70,9 +80,14 @@ impl Port {
     /// The seats of a closed port, from the last worker's on.
     pub(crate) fn into_sents(self) -> Vec<Sent>
         requires { self.is_open ≡ false }
-        ensures { reverse result.items ≡ self.seats }
+        ensures seats { reverse result.items ≡ self.seats }
+        ensures home { SentHome self.seats }
     {
-        let Port { senders: _, sents } = self;
+        let Port {
+            senders: _,
+            sents,
+            missed: _,
+        } = self;
         sents
     }
 
@@ -81,6 +96,13 @@ impl Port {
         ensures { result ≡ not self.now.is_open }
     {
         self.senders.is_empty()
+    }
+
+    /// How many calls of [`Port::send`], [`Port::tick`] and [`Port::shut`] found a worker gone.
+    pub fn missed(&self) -> u64
+        ensures { result ≡ self.now.missed }
+    {
+        self.missed
     }
 }
 
@@ -92,6 +114,7 @@ impl Port {
         ensures ends { MatchResult result (λ _. Closes self.old self.new)
             (λ _. ClosesSome self.old.seats self.new.seats) }
         ensures left { OnErr result (OneStays self.old.seats self.new.seats) }
+        ensures missed { self.new.missed ≡ self.old.missed }
         ensures again { self.old.is_open ≡ false → (result ≡ Ok tt) × (self.new ≡ self.old) }
     {
         let mut all_there = true;
@@ -156,12 +179,12 @@ fn call_all<R: Wait>(rt: &R, senders: &mut [Sender], call: Call) -> Result<(), u
 
 impl Port {
     /// Sends an event to its home, and waits while that inbox is full. Where the port is closed or the worker gone the event
-    /// comes back. A tick has no home, and goes by [`Port::tick`]; nor has the planned stop, which goes by [`Port::shut`].
+    /// comes back, and a worker that is gone is counted. A tick has no home, and goes by [`Port::tick`]; nor has the planned stop, which goes by [`Port::shut`].
     pub fn send<R: Wait>(&mut self, rt: &R, event: Event) -> Result<(), SendError>
         requires told { spec.is_for_all event ≡ false }
         ensures { MatchResult result
             (λ _. (self.old.is_open ≡ true) × SendsTo self.old (spec.home event (length self.old.seats)) event self.new)
-            (λ error. (self.new ≡ self.old) × GivesBack self.old event error) }
+            (λ error. GivesBack self.old event self.new error) }
     {
         let count = self.senders.len();
         if count == 0 {
@@ -170,7 +193,10 @@ impl Port {
         let at = home(&event, count as u32);
         match send_to(rt, self.senders.as_mut_slice(), at as usize, event) {
             Ok(()) => Ok(()),
-            Err(back) => Err(SendError::Gone(back)),
+            Err(back) => {
+                self.missed = count_up(rt, self.missed, 1);
+                Err(SendError::Gone(back))
+            }
         }
     }
 
@@ -204,7 +230,10 @@ impl Port {
         }
         match call_all(rt, self.senders.as_mut_slice(), call) {
             Ok(()) => Ok(()),
-            Err(count) => Err(TickError::Gone(count)),
+            Err(count) => {
+                self.missed = count_up(rt, self.missed, 1);
+                Err(TickError::Gone(count))
+            }
         }
     }
 }
@@ -214,6 +243,8 @@ pub(crate) fn deal_out(ports: &mut [Port], senders: Vec<Sender>) -> Result<(), N
     requires len { vec_len senders ≡ length ports.old }
     requires unclosed { NoneWasClosed ports.old }
     requires room { HaveRoom ports.old }
+    requires unsent { NoneHasSent ports.old }
+    requires new { AreUnused senders.items }
     ensures { OnOk result (TakeSeats ports.old ports.new senders.items (length ports.old)) }
 {
     let mut at = 0;

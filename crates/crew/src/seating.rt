@@ -1,7 +1,7 @@
 //! What the workers of a crew are launched with.
 ghost use Rattle.std.specs.Prelude.{◌≡◌, ◌<◌, ◌≤◌, ℕ, [], length, map, get_or, vec_len, Some, IfOk};
 ghost use Rattle.queues.specs.OutboxSeats.{PosterSeat};
-ghost use Rattle.crew.specs.Ports.{AreDealt, NoneWasClosed, HaveRoom, TakeSeats};
+ghost use Rattle.crew.specs.Ports.{AreDealt, NoneHasSent, NoneWasClosed, HaveRoom, TakeSeats};
 ghost use Rattle.queues.specs.InboxSeats.{new_senders, new_receiver};
 ghost use Rattle.notifier.specs.Held.{seen_by};
 ghost use Rattle.notifier.specs.Standing.{Standing, first_standing};
@@ -44,6 +44,7 @@ fn open_inbox(alloc: Global, limits: &Limits, ports: &mut [Port]) -> Result<Rece
     requires few { length ports.old ≤ 256 }
     requires unclosed { NoneWasClosed ports.old }
     requires room { HaveRoom ports.old }
+    requires unsent { NoneHasSent ports.old }
     ensures new { IfOk result (λ r. r ≡ new_receiver r.inbox (length ports.old)) }
     ensures holds { IfOk result (λ r. r.inbox.capacity ≡ limits.now.inbox) }
     ensures dealt { IfOk result (λ r. TakeSeats ports.old ports.new
@@ -65,6 +66,7 @@ fn new_worker<P: Package>(
     requires few { length ports.old ≤ 256 }
     requires unclosed { NoneWasClosed ports.old }
     requires room { HaveRoom ports.old }
+    requires unsent { NoneHasSent ports.old }
     ensures ready { IfOk result (λ s. (stands : Standing) → seen_by P.seen desk ≡ Some stands
         → IsReady stands (length ports.old) poster (new_worker_seen P.seen s)) }
     ensures dealt { IfOk result (λ s. TakeSeats ports.old ports.new

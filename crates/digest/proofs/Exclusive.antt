@@ -36,12 +36,13 @@ module _ (g : Guard) (r : Request) (c : Credentials) (h : IsAccepted g r c) wher
   only_accepted verdict.OtherUri j = absurd (j.1 h.right.for_us.uri)
   only_accepted verdict.WrongAlgorithm j = let no = j.2 h.algorithm h.right.for_us.algorithm in let yes = h.right.for_us.offered in absurd cc
   only_accepted verdict.OldForm j = let no = j.3 in let yes = h.right.for_us.form in absurd cc
-  only_accepted verdict.ForeignNonce j = absurd (j.5 (h.moment, h.right.nonce))
-  only_accepted verdict.UnknownUser j = let yes = secret_is j.0 j.1.algorithm in let no = j.2 in absurd cc
+  only_accepted verdict.ForeignNonce j = absurd (j.1 (h.moment, h.right.nonce))
+  only_accepted verdict.UnknownUser j = let k = j.1 in let yes = secret_is k.0 k.1.algorithm in let no = k.2 in absurd cc
   only_accepted verdict.BadResponse j =
-      let same : h.secret ≡ j.1 = some_is h.secret j.1 (sym (secret_is j.0 j.2.algorithm) ∙ j.3) in
-      let right : c.response ≡ response j.0 h.secret c r.method = subst (λ (b : Algorithm). c.response ≡ response b h.secret c r.method) (one_algorithm j.0 j.2.algorithm) h.right.response in
-      absurd (j.4 (right ∙ ap (λ (s : List ℕ). response j.0 s c r.method) same))
+      let k = j.1 in
+      let same : h.secret ≡ k.1 = some_is h.secret k.1 (sym (secret_is k.0 k.2.algorithm) ∙ k.3) in
+      let right : c.response ≡ response k.0 h.secret c r.method = subst (λ (b : Algorithm). c.response ≡ response b h.secret c r.method) (one_algorithm k.0 k.2.algorithm) h.right.response in
+      absurd (k.4 (right ∙ ap (λ (s : List ℕ). response k.0 s c r.method) same))
   only_accepted verdict.StaleNonce j =
       let same = one_moment g.nonces.secret r.source c.nonce h.moment j.1 h.right.nonce j.3.nonce in
       absurd (j.4 (subst (λ (m : ℕ). IsYoung g.nonces.time r.now m) same h.young))

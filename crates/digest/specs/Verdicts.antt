@@ -66,13 +66,12 @@ Judges g r c verdict.WrongAlgorithm =
 Judges g r c verdict.OldForm =
     (g.passwords.realm ≡ Some c.realm) × (c.uri ≡ r.uri)
     × ((a : Algorithm) × (c.algorithm ≡ Some a) × (offers g.passwords a ≡ true)) × (takes g.old_digest c.protection ≡ false)
+Judges g r c verdict.ForeignNonce = ((a : Algorithm) × IsForUs g r c a) × ¬ (HasOurNonce g r c)
 Judges g r c verdict.UnknownUser =
-    (a : Algorithm) × IsForUs g r c a × (known g.passwords a c.username ≡ None)
+    HasOurNonce g r c × ((a : Algorithm) × IsForUs g r c a × (known g.passwords a c.username ≡ None))
 Judges g r c verdict.BadResponse =
-    (a : Algorithm) × (secret : List ℕ) × IsForUs g r c a × (known g.passwords a c.username ≡ Some secret)
-    × (c.response ≢ response a secret c r.method)
-Judges g r c verdict.ForeignNonce =
-    (a : Algorithm) × (secret : List ℕ) × IsForUs g r c a × (known g.passwords a c.username ≡ Some secret)
-    × (c.response ≡ response a secret c r.method) × ¬ (HasOurNonce g r c)
+    HasOurNonce g r c
+    × ((a : Algorithm) × (secret : List ℕ) × IsForUs g r c a × (known g.passwords a c.username ≡ Some secret)
+    × (c.response ≢ response a secret c r.method))
 Judges g r c verdict.StaleNonce =
     (a : Algorithm) × (moment : ℕ) × (secret : List ℕ) × IsRight g r c a moment secret × ¬ (IsYoung g.nonces.time r.now moment)

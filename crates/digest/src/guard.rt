@@ -38,15 +38,15 @@ pub enum Verdict {
     WrongAlgorithm,
     /// The response is made without `qop`, and such aren't taken.
     OldForm,
+    /// The nonce wasn't made here, or for another source: before a restart, say, or behind a NAT that changed the port. A challenge says
+    /// `stale=true` (RFC 7616 section 3.3), so that no phone takes its password for wrong. User and response aren't looked at: so who forges
+    /// a source, and sees no challenge to it, can't try passwords there.
+    ForeignNonce,
     /// No password is known of the user, by this algorithm.
     UnknownUser,
     /// The response isn't the one that who knows the password makes.
     BadResponse,
-    /// All is right but the nonce, which wasn't made here, or for another source: before a restart, say, or behind a NAT that changed the
-    /// port. Only who knows the password is told so: a challenge says `stale=true` (RFC 7616 section 3.3), so that no phone takes its
-    /// password for wrong.
-    ForeignNonce,
-    /// The same of a nonce that is too old, or from later than now.
+    /// All is right but the nonce, which is too old, or from later than now. Only who knows the password is told so, by `stale=true`.
     StaleNonce,
 }
 
@@ -118,6 +118,11 @@ impl Guard {
             Ok(algorithm) => algorithm,
             Err(verdict) => return Ok(verdict),
         };
+        let nonce = credentials.nonce.as_str();
+        let freshness = self.nonces.judge(alloc, nonce, asked.source, asked.now)?;
+        if matches!(freshness, Freshness::Foreign) {
+            return Ok(Verdict::ForeignNonce);
+        }
         let Some(secret) = self
             .passwords
             .hash(algorithm, credentials.username.as_str())
@@ -131,8 +136,7 @@ impl Guard {
         ) {
             return Ok(Verdict::BadResponse);
         }
-        let nonce = credentials.nonce.as_str();
-        match self.nonces.judge(alloc, nonce, asked.source, asked.now)? {
+        match freshness {
             Freshness::Fresh => Ok(Verdict::Accepted(credentials.username.copy(alloc)?)),
             Freshness::Stale => Ok(Verdict::StaleNonce),
             Freshness::Foreign => Ok(Verdict::ForeignNonce),

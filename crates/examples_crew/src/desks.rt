@@ -8,6 +8,7 @@
 use crate::boxes::{Boxes, Manner, Props, mailboxes_of};
 use crate::error::RunError;
 use crate::events::{mail, subscribe};
+use crate::gates::Stage;
 use crate::names::Names;
 use crate::page::Page;
 use crate::running::{Plan, setup_of};
@@ -29,15 +30,41 @@ pub(crate) enum News {
     Voice,
 }
 
-/// A desk with alice's mailbox, for two threads.
-fn shared_desk(
+/// In which order a desk is told the news.
+#[derive(Clone, Copy)]
+struct Order {
+    name: &'static str,
+    first: News,
+    second: News,
+}
+
+impl Order {
+    const SUBSCRIPTION_FIRST: Order = Order {
+        name: "the SUBSCRIBE first: ",
+        first: News::Subscription,
+        second: News::Voice,
+    };
+
+    const CHANGE_FIRST: Order = Order {
+        name: "the change first: ",
+        first: News::Voice,
+        second: News::Subscription,
+    };
+}
+
+/// The mailbox of alice.
+fn alice(alloc: Global, manner: Manner, props: &Props) -> Result<Boxes, RunError> {
+    mailboxes_of(alloc, (Names::One("alice"), manner), props)
+}
+
+/// A desk with this package, for two threads.
+fn shared_desk<P: Package>(
     alloc: Global,
-    manner: Manner,
-    props: &Props,
-) -> Result<Arc<SharedDesk<Boxes>, Global>, RunError> {
+    package: P,
+) -> Result<Arc<SharedDesk<P>, Global>, RunError> {
     let setup = setup_of(Plan::USUAL)?;
     let mut held = Vec::new(alloc);
-    held.push(mailboxes_of(alloc, (Names::One("alice"), manner), props)?)?;
+    held.push(package)?;
     let desk = Desk::new(alloc, &setup, 0, held)?;
     Ok(Arc::new(alloc, SharedDesk::new(Replay::new(alloc, desk)))?)
 }
@@ -80,35 +107,34 @@ where
     Ok((here_outs?, there_outs?))
 }
 
-/// Tells a desk the one and then the other, and what it gave for the SUBSCRIBE and for the change.
-fn show_in_turn<R: Wait>(
+/// Tells a desk with this package the one and then the other, and what it gave for the SUBSCRIBE and for the change.
+fn show_in_turn<R: Wait, P: Package>(
     rt: &R,
     alloc: Global,
-    order: &str,
-    news: (News, News),
+    package: P,
+    order: Order,
     page: &mut Page,
 ) -> Result<(), RunError> {
-    let props = Props::new(alloc, false)?;
-    let desk = shared_desk(alloc, Manner::Plain, &props)?;
-    let first = hear(rt, alloc, &*desk, news.0)? as u64;
-    let second = hear(rt, alloc, &*desk, news.1)? as u64;
-    let (asked, changed) = match news.0 {
+    let desk = shared_desk(alloc, package)?;
+    let first = hear(rt, alloc, &*desk, order.first)? as u64;
+    let second = hear(rt, alloc, &*desk, order.second)? as u64;
+    let (asked, changed) = match order.first {
         News::Subscription => (first, second),
         News::Voice => (second, first),
     };
-    page.tell(alloc, order, asked);
+    page.tell(alloc, order.name, asked);
     page.tell(alloc, " outs of the SUBSCRIBE, ", changed);
     page.say(" of the change\n");
     Ok(())
 }
 
-/// Two threads at one desk, told alike for both orders.
-fn show_both<R>(rt: R, alloc: Global, page: &mut Page) -> Result<(), RunError>
+/// Two threads at one desk with this package, told alike for both orders.
+fn show_both<R, P>(rt: R, alloc: Global, package: P, page: &mut Page) -> Result<(), RunError>
 where
     R: Threads + Wait + Copy + Send + 'static,
+    P: Package + 'static,
 {
-    let props = Props::new(alloc, false)?;
-    let desk = shared_desk(alloc, Manner::Plain, &props)?;
+    let desk = shared_desk(alloc, package)?;
     let there = Arc::try_clone(&desk)?;
     let news = (News::Subscription, News::Voice);
     let (asked, changed) = hear_both(rt, alloc, (&*desk, there), news)?;
@@ -122,30 +148,40 @@ where
     Ok(())
 }
 
-/// Two threads at two desks: the box of each holds its change until the other's has one.
-fn show_meeting<R>(rt: R, alloc: Global, page: &mut Page) -> Result<(), RunError>
+/// Two threads at two desks: the package of each holds its change until the other's has one.
+fn show_meeting<R, P>(
+    rt: R,
+    alloc: Global,
+    packages: (P, P),
+    stage: &Stage,
+    page: &mut Page,
+) -> Result<(), RunError>
 where
     R: Threads + Wait + Copy + Send + 'static,
+    P: Package + 'static,
 {
-    let props = Props::new(alloc, false)?;
-    let here = shared_desk(alloc, Manner::MeetsFirst, &props)?;
-    let there = shared_desk(alloc, Manner::MeetsSecond, &props)?;
+    let here = shared_desk(alloc, packages.0)?;
+    let there = shared_desk(alloc, packages.1)?;
     let outs = hear_both(rt, alloc, (&*here, there), (News::Voice, News::Voice))?;
     page.say("desks meet: ");
-    tell_meeting(outs == (0, 0) && props.stage.was_kept(), page);
+    tell_meeting(outs == (0, 0) && stage.was_kept(), page);
     Ok(())
 }
 
-/// Alice subscribes and her mailbox changes: in either order, at one desk from two threads at once, and the change alone at two
-/// desks that wait for one another.
+/// Alice subscribes and her mailbox changes, each package in a box: in either order, at one desk from two threads at once, and the
+/// change alone at two desks that wait for one another.
 pub(crate) fn shared_desks<R>(rt: R, alloc: Global, page: &mut Page) -> Result<(), RunError>
 where
     R: Threads + Wait + Copy + Send + 'static,
 {
-    let news = (News::Subscription, News::Voice);
-    show_in_turn(&rt, alloc, "the SUBSCRIBE first: ", news, page)?;
-    let news = (News::Voice, News::Subscription);
-    show_in_turn(&rt, alloc, "the change first: ", news, page)?;
-    show_both(rt, alloc, page)?;
-    show_meeting(rt, alloc, page)
+    let props = Props::new(alloc, false)?;
+    let package: Box<dyn Package> = Box::new(alloc, alice(alloc, Manner::Plain, &props)?)?;
+    show_in_turn(&rt, alloc, package, Order::SUBSCRIPTION_FIRST, page)?;
+    let package: Box<dyn Package> = Box::new(alloc, alice(alloc, Manner::Plain, &props)?)?;
+    show_in_turn(&rt, alloc, package, Order::CHANGE_FIRST, page)?;
+    let package: Box<dyn Package> = Box::new(alloc, alice(alloc, Manner::Plain, &props)?)?;
+    show_both(rt, alloc, package, page)?;
+    let first: Box<dyn Package> = Box::new(alloc, alice(alloc, Manner::MeetsFirst, &props)?)?;
+    let second: Box<dyn Package> = Box::new(alloc, alice(alloc, Manner::MeetsSecond, &props)?)?;
+    show_meeting(rt, alloc, (first, second), &props.stage, page)
 }

@@ -1,8 +1,6 @@
 //! Places where threads wait for one another, and the gate of all crews here.
 
 use crew::{End, Gate, Report, WorkerReport};
-use notifier_model::{Event, Out};
-use std::sync::Wait;
 use std::sync::atomic::{AtomicBool, AtomicU64, Ordering};
 use std::thread;
 
@@ -17,14 +15,10 @@ const WORKERS: usize = 4;
 struct Passes {
     /// How often the worker passed, which is the index of the event before which it passes next.
     count: AtomicU64,
-    /// Whether it passed with another index than that, posted something before it passed, or told of an event behind what it posted of it.
+    /// Whether it passed with another index than that, or posted something before it passed.
     were_wrong: AtomicBool,
     /// Whether it posted something before it passed, as a worker does that ends without an event.
     has_begun: AtomicBool,
-    /// Of how many events it told that it handled them.
-    told: AtomicU64,
-    /// Whether it posted something since it passed last.
-    has_posted: AtomicBool,
 }
 
 impl Passes {
@@ -33,8 +27,6 @@ impl Passes {
             count: AtomicU64::new(0),
             were_wrong: AtomicBool::new(false),
             has_begun: AtomicBool::new(false),
-            told: AtomicU64::new(0),
-            has_posted: AtomicBool::new(false),
         }
     }
 
@@ -44,28 +36,16 @@ impl Passes {
             self.were_wrong.store(true, Ordering::SeqCst);
         }
         self.count.store(index.saturating_add(1), Ordering::SeqCst);
-        self.has_posted.store(false, Ordering::SeqCst);
-    }
-
-    /// The worker handled the event before which it passed last. Who keeps a journal must know of it before anything of it can be sent.
-    fn tell(&self) {
-        if self.has_posted.load(Ordering::SeqCst) {
-            self.were_wrong.store(true, Ordering::SeqCst);
-        }
-        let told = self.told.load(Ordering::SeqCst);
-        self.told.store(told.saturating_add(1), Ordering::SeqCst);
     }
 
     /// The worker posted something.
-    fn post(&self) {
-        self.has_posted.store(true, Ordering::SeqCst);
+    fn begin(&self) {
         if self.count.load(Ordering::SeqCst) == 0 {
             self.has_begun.store(true, Ordering::SeqCst);
         }
     }
 
-    /// Whether the worker passed once before each event that it handled, in order, and before the one for which memory ran out, and told of
-    /// each that it handled before it posted anything of it.
+    /// Whether the worker passed once before each event that it handled, in order, and before the one for which memory ran out.
     fn were_of(&self, worker: &WorkerReport) -> bool {
         let refused = match worker.end {
             End::Closed | End::Abandoned(false) => 0,
@@ -73,8 +53,7 @@ impl Passes {
         };
         let is_complete = self.count.load(Ordering::SeqCst)
             == worker.handled.saturating_add(refused);
-        let were_told = self.told.load(Ordering::SeqCst) == worker.handled;
-        is_complete && were_told && !self.were_wrong.load(Ordering::SeqCst)
+        is_complete && !self.were_wrong.load(Ordering::SeqCst)
     }
 }
 
@@ -120,7 +99,7 @@ impl Stage {
         self.was_met.load(Ordering::SeqCst) && !self.was_missed.load(Ordering::SeqCst)
     }
 
-    /// Whether each worker of this report passed the gate once before each event, in order, and told of each before what it posted of it.
+    /// Whether each worker of this report passed the gate once before each event, in order.
     pub(crate) fn was_passed(&self, report: &Report) -> bool {
         let mut was_passed = true;
         for (passes, worker) in self.passes.iter().zip(report.workers.iter()) {
@@ -148,15 +127,9 @@ impl Gate for Stage {
         }
     }
 
-    fn handled<R: Wait>(&self, _rt: &R, worker: u32, _event: &Event, _outs: &[Out]) {
-        if let Some(passes) = self.passes.get(worker as usize) {
-            passes.tell();
-        }
-    }
-
     fn posted(&self, worker: u32) {
         if let Some(passes) = self.passes.get(worker as usize) {
-            passes.post();
+            passes.begin();
         }
     }
 }

@@ -8,8 +8,8 @@
 //!
 //! There is nothing here that others build on. Begin with `scenes`, crews by a table, then `running`, which starts a crew, takes
 //! what it posts, and joins it; `feeding` feeds each of its ports from a thread of its own. The `trials` are starts that are
-//! refused, a crew that stops and another that starts anew, and a crew to which allocations are refused. `over_wires` feeds a
-//! crew from wires in memory and from sockets. `desks` needs no crew, and `queues` is of the queues alone.
+//! refused, a crew that stops and another that starts anew, and a crew to which allocations are refused. `handed` gives its ports to
+//! `join`. `over_wires` feeds a crew from wires in memory and from sockets. `desks` needs no crew, and `queues` is of the queues alone.
 #![tactic(auto)]
 
 mod boxes;
@@ -19,6 +19,7 @@ mod events;
 mod feeding;
 mod gates;
 mod gathering;
+mod handed;
 mod names;
 mod over_wires;
 mod page;
@@ -30,6 +31,7 @@ mod vectors;
 
 use crate::desks::shared_desks;
 use crate::error::RunError;
+use crate::handed::handed_ports;
 use crate::over_wires::{
     SECOND_SEND_FAILS, TRANSFERS_START, WRITER_FAILS, emit_items, feed_two, loopback,
 };
@@ -46,8 +48,9 @@ use std::sync::Wait;
 use std::thread::Threads;
 
 /// The runs, each with how many times it is run where all are.
-const RUNS: [(&str, u32); 23] = [
+const RUNS: [(&str, u32); 24] = [
     ("two_workers", 3),
+    ("handed_ports", 3),
     ("mail_through_one_place", 3),
     ("many_mails", 1),
     ("time_for_all", 3),
@@ -81,6 +84,7 @@ where
     R: Threads + Wait + Net + Clock + Copy + Send + Sync + 'static,
 {
     match name {
+        "handed_ports" => handed_ports(rt, alloc, page),
         "refused_starts" => refused_starts(rt, alloc, page),
         "shared_desks" => shared_desks(rt, alloc, page),
         "restart" => restart(rt, alloc, page),

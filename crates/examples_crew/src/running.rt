@@ -65,9 +65,9 @@ pub(crate) fn setup_of(plan: Plan) -> Result<Setup, RunError> {
 /// A crew that may start.
 #[derive(Drop)]
 pub(crate) struct Ready {
-    setup: Setup,
-    crowd: Crowd,
-    gate: Arc<Stage, Global>,
+    pub(crate) setup: Setup,
+    pub(crate) crowd: Crowd,
+    pub(crate) gate: Arc<Stage, Global>,
 }
 
 /// Makes a crew of these workers ready.

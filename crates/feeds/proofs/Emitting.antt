@@ -20,9 +20,9 @@ use Rattle.queues.specs.declared.outbox.Posted.TheVariants as posted
 use Rattle.transport.specs.declared.datagram.Datagram.{Datagram}
 use Rattle.transport.specs.Wires.{Grows}
 use Rattle.feeds.specs.declared.sending.Fate.{Fate}
-use Rattle.feeds.specs.declared.sending.Fate.TheVariants.{Sent, Started, Failed}
+use Rattle.feeds.specs.declared.sending.Fate.TheVariants.{Sent, Started, Failed, Held}
 use Rattle.feeds.specs.declared.sending.EmitReport.{EmitReport}
-use Rattle.feeds.specs.Emitted.{Fates, MayMeet, Writes, WritesAll, line_of, counted, is_start, datagram_sent, sent_datagrams, lines, is_sent, is_started, is_failed, fails_to_start, fails_to_send, count, AllMeet, IsCounted, WireSeen, WriterSeen, AreMet}
+use Rattle.feeds.specs.Emitted.{Fates, MayMeet, Writes, WritesAll, line_of, counted, is_start, datagram_sent, sent_datagrams, lines, is_sent, is_started, is_failed, is_held, fails_to_start, fails_to_send, count, AllMeet, IsCounted, WireSeen, WriterSeen, AreMet}
 use Rattle.feeds.proofs.Telling.{grows_none, grows_more, grows_same}
 
 abbrev pub one : Out → Fate → Fates
@@ -50,34 +50,64 @@ counted_more log o Sent r was =
     let sent : count (λ p g. is_sent g) (log ++ one o Sent) ≡ count (λ p g. is_sent g) log + 1 = count_more (λ p g. is_sent g) log (one o Sent) in
     let started : count (λ p g. is_started g) (log ++ one o Sent) ≡ count (λ p g. is_started g) log + 0 = count_more (λ p g. is_started g) log (one o Sent) in
     let failed : count (λ p g. is_failed g) (log ++ one o Sent) ≡ count (λ p g. is_failed g) log + 0 = count_more (λ p g. is_failed g) log (one o Sent) in
+    let held : count (λ p g. is_held g) (log ++ one o Sent) ≡ count (λ p g. is_held g) log + 0 = count_more (λ p g. is_held g) log (one o Sent) in
     record {
       total = (let t = was.total in omega arith);
       sent = (let w = was.sent in omega arith);
       starts = (let w = was.starts in omega arith);
       failed = (let w = was.failed in omega arith);
+      held = (let w = was.held in omega arith);
     }
 counted_more log o Started r was =
     let l : length (log ++ one o Started) ≡ length log + 1 = length-append log (one o Started) in
     let sent : count (λ p g. is_sent g) (log ++ one o Started) ≡ count (λ p g. is_sent g) log + 0 = count_more (λ p g. is_sent g) log (one o Started) in
     let started : count (λ p g. is_started g) (log ++ one o Started) ≡ count (λ p g. is_started g) log + 1 = count_more (λ p g. is_started g) log (one o Started) in
     let failed : count (λ p g. is_failed g) (log ++ one o Started) ≡ count (λ p g. is_failed g) log + 0 = count_more (λ p g. is_failed g) log (one o Started) in
+    let held : count (λ p g. is_held g) (log ++ one o Started) ≡ count (λ p g. is_held g) log + 0 = count_more (λ p g. is_held g) log (one o Started) in
     record {
       total = (let t = was.total in omega arith);
       sent = (let w = was.sent in omega arith);
       starts = (let w = was.starts in omega arith);
       failed = (let w = was.failed in omega arith);
+      held = (let w = was.held in omega arith);
     }
 counted_more log o Failed r was =
     let l : length (log ++ one o Failed) ≡ length log + 1 = length-append log (one o Failed) in
     let sent : count (λ p g. is_sent g) (log ++ one o Failed) ≡ count (λ p g. is_sent g) log + 0 = count_more (λ p g. is_sent g) log (one o Failed) in
     let started : count (λ p g. is_started g) (log ++ one o Failed) ≡ count (λ p g. is_started g) log + 0 = count_more (λ p g. is_started g) log (one o Failed) in
     let failed : count (λ p g. is_failed g) (log ++ one o Failed) ≡ count (λ p g. is_failed g) log + 1 = count_more (λ p g. is_failed g) log (one o Failed) in
+    let held : count (λ p g. is_held g) (log ++ one o Failed) ≡ count (λ p g. is_held g) log + 0 = count_more (λ p g. is_held g) log (one o Failed) in
     record {
       total = (let t = was.total in omega arith);
       sent = (let w = was.sent in omega arith);
       starts = (let w = was.starts in omega arith);
       failed = (let w = was.failed in omega arith);
+      held = (let w = was.held in omega arith);
     }
+counted_more log o Held r was =
+    let l : length (log ++ one o Held) ≡ length log + 1 = length-append log (one o Held) in
+    let sent : count (λ p g. is_sent g) (log ++ one o Held) ≡ count (λ p g. is_sent g) log + 0 = count_more (λ p g. is_sent g) log (one o Held) in
+    let started : count (λ p g. is_started g) (log ++ one o Held) ≡ count (λ p g. is_started g) log + 0 = count_more (λ p g. is_started g) log (one o Held) in
+    let failed : count (λ p g. is_failed g) (log ++ one o Held) ≡ count (λ p g. is_failed g) log + 0 = count_more (λ p g. is_failed g) log (one o Held) in
+    let held : count (λ p g. is_held g) (log ++ one o Held) ≡ count (λ p g. is_held g) log + 1 = count_more (λ p g. is_held g) log (one o Held) in
+    record {
+      total = (let t = was.total in omega arith);
+      sent = (let w = was.sent in omega arith);
+      starts = (let w = was.starts in omega arith);
+      failed = (let w = was.failed in omega arith);
+      held = (let w = was.held in omega arith);
+    }
+
+-- ---- none is held
+
+held_one : (o : Out) (f : Fate) → is_held f ≡ false → count (λ p g. is_held g) (one o f) ≡ 0
+held_one o Sent none = refl
+held_one o Started none = refl
+held_one o Failed none = refl
+held_one o Held none = absurd (cc)
+
+pub none_held_more : (log : Fates) (o : Out) (f : Fate) → count (λ p g. is_held g) log ≡ 0 → is_held f ≡ false → count (λ p g. is_held g) (log ++ one o f) ≡ 0
+none_held_more log o f was none = let e = count_more (λ p g. is_held g) log (one o f) in let here = held_one o f none in omega arith
 
 -- ---- the lines
 
@@ -91,6 +121,7 @@ wrote old new (out.Notify to number terminated tag note octets) f w none = same_
 wrote old new (out.Start tag refer_to) Sent w none = absurd w
 wrote old new (out.Start tag refer_to) Started w none = w
 wrote old new (out.Start tag refer_to) Failed w none = absurd (omega arith)
+wrote old new (out.Start tag refer_to) Held w none = absurd w
 
 -- and of each out before it what that is
 writes_more : (a b c : Option (List ℕ)) (log : Fates) (o : Out) (f : Fate) → WritesAll a log b → Writes b c o f → WritesAll a (log ++ one o f) c
@@ -128,15 +159,19 @@ module _ {S : Type 0} (flushed : S → Bool) where
   flushed_more first old new (out.Notify to number terminated tag note octets) Sent log may was written stays none =
       kept first old new (stays refl) (was (none_before log (out.Notify to number terminated tag note octets) Sent none))
   flushed_more first old new (out.Start tag refer_to) Sent log may was written stays none = absurd may
+  flushed_more first old new (out.Answer to octets) Held log may was written stays none = absurd may
+  flushed_more first old new (out.Notify to number terminated tag note octets) Held log may was written stays none =
+      kept first old new (stays refl) (was (none_before log (out.Notify to number terminated tag note octets) Held none))
+  flushed_more first old new (out.Start tag refer_to) Held log may was written stays none = absurd may
 
 -- ---- the loop
 
 pub meeting_none : (workers : ℕ) (got : List (Item Out)) (writer : WriterSeen)
-    → AreMet workers [] got got writer writer (record { sent = 0; starts = 0; failed = 0 })
+    → AreMet workers [] got got writer writer (record { sent = 0; starts = 0; failed = 0; held = 0 })
 meeting_none workers got writer = record {
   outs = ([], sym (append-nil got), refl, All-nil (λ (x : Item Out). x.from < workers));
   meet = tt;
-  counts = record { total = refl; sent = refl; starts = refl; failed = refl };
+  counts = record { total = refl; sent = refl; starts = refl; failed = refl; held = refl };
   writer_failures = refl;
   wrote = refl;
   written = λ none. appends_none writer.contents;
@@ -223,7 +258,7 @@ pub record Running (log : Fates) (t0 t : TakerSeat) (left : ℕ) (told told' : O
   pub met : AreMet t0.workers log t0.got t.got writer writer' report
 
 pub running_first : (t : TakerSeat) (left : ℕ) (told : Option (List Datagram)) (writer : WriterSeen)
-    → left ≡ t.workers → count_ended t.workers t.got ≡ 0 → Running [] t t left told told writer writer (record { sent = 0; starts = 0; failed = 0 })
+    → left ≡ t.workers → count_ended t.workers t.got ≡ 0 → Running [] t t left told told writer writer (record { sent = 0; starts = 0; failed = 0; held = 0 })
 running_first t left told writer all none = record {
   outbox = refl;
   workers = refl;

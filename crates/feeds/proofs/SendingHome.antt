@@ -30,6 +30,7 @@ none_for n w = refl
 pub sends_none : (p : PortSeats) → Sends p [] p
 sends_none p = record {
   still_open = refl;
+  missed = refl;
   len = refl;
   each = λ w s stood. stood ∙ ap Some (kept s ∙ ap (with_events s) (sym (none_for (length p.seats) w)));
 }
@@ -47,6 +48,7 @@ with_more s es fs =
 pub sends_more : (old mid new : PortSeats) (es fs : List Event) → Sends old es mid → Sends mid fs new → Sends old (es ++ fs) new
 sends_more old mid new es fs a b = record {
   still_open = b.still_open ∙ a.still_open;
+  missed = b.missed ∙ a.missed;
   len = b.len ∙ a.len;
   each = λ w s stood.
       let n : ℕ = length old.seats in
@@ -86,6 +88,7 @@ send_one old new e single sent =
     let comes : (w : ℕ) (b : Bool) → eqb v w ≡ b → events_for n w (e ∷ []) ≡ cond b (e ∷ []) [] =
     λ w b is. chosen n w e b (ap (λ t. t || eqb v w) single ∙ is) in record {
       still_open = ap (λ (p : PortSeats). p.is_open) sent.stands;
+      missed = ap (λ (p : PortSeats). p.missed) sent.stands;
       len = ap length seats ∙ length-set old.seats v u;
       each = λ w s stood.
           ⊎_elim
@@ -111,6 +114,7 @@ pub tick_one : (old new : PortSeats) (e : Event) → is_for_all e ≡ true → n
 tick_one old new e all is =
     let n : ℕ = length old.seats in record {
       still_open = ap (λ (p : PortSeats). p.is_open) is;
+      missed = ap (λ (p : PortSeats). p.missed) is;
       len = ap (λ (p : PortSeats). length p.seats) is ∙ len_first n e old.seats;
       each = λ w s stood.
           ap (λ (p : PortSeats). slice_get p.seats w) is ∙ first_at n w e old.seats s (fits old.seats w s stood) stood
@@ -119,22 +123,23 @@ tick_one old new e all is =
 
 -- ---- what a port's calls answer
 
-missed_send : (old new : PortSeats) (e : Event) (error : SendError) → old.is_open ≡ true → new ≡ old → GivesBack old e error → Misses old e new
-missed_send old new e (send.Closed back) opened same k = absurd (let f = k.1 in cc)
-missed_send old new e (send.Gone back) opened same k = record { reached = 0; few = λ _. k.2; single = λ _. refl; stands = same }
+missed_send : (old new : PortSeats) (e : Event) (error : SendError) → old.is_open ≡ true → GivesBack old e new error → Misses old e new
+missed_send old new e (send.Closed back) opened k = absurd (let f = k.2 in cc)
+missed_send old new e (send.Gone back) opened k = record { reached = 0; few = λ _. k.3; single = λ _. refl; stands = k.1 }
 
 pub sent_law : (r : Result (Unit {0}) SendError) (old new : PortSeats) (e : Event) → is_for_all e ≡ false → old.is_open ≡ true
-    → MatchResult r (λ _. (old.is_open ≡ true) × SendsTo old (home e (length old.seats)) e new) (λ error. (new ≡ old) × GivesBack old e error)
+    → MatchResult r (λ _. (old.is_open ≡ true) × SendsTo old (home e (length old.seats)) e new) (λ error. GivesBack old e new error)
     → MatchBool (is_ok r) (Sends old (e ∷ []) new) (Misses old e new)
 sent_law (Ok x) old new e single opened k = send_one old new e single k.1
-sent_law (Err x) old new e single opened k = missed_send old new e x opened k.0 k.1
+sent_law (Err x) old new e single opened k = missed_send old new e x opened k
 
-missed_tick : (old new : PortSeats) (t : ℕ) (error : TickError) → old.is_open ≡ true → TicksFirst old (event.Tick t) new error → Misses old (event.Tick t) new
-missed_tick old new t tick.Closed opened k = absurd (let e = k.1 in cc)
-missed_tick old new t (tick.Gone i) opened k = record { reached = i; few = λ _. k.2; single = λ e. absurd cc; stands = k.0 }
+missed_call : (old new : PortSeats) (e : Event) (error : TickError) → is_for_all e ≡ true → old.is_open ≡ true → TicksFirst old e new error → Misses old e new
+missed_call old new e tick.Closed all opened k = absurd (let f = k.1 in cc)
+missed_call old new e (tick.Gone i) all opened k = record { reached = i; few = λ _. k.2; single = λ f. absurd cc; stands = k.0 }
 
-pub ticked_law : (r : Result (Unit {0}) TickError) (old new : PortSeats) (t : ℕ) → old.is_open ≡ true
-    → MatchResult r (λ _. (old.is_open ≡ true) × (new ≡ sends_first (length old.seats) (event.Tick t) old)) (λ error. TicksFirst old (event.Tick t) new error)
-    → MatchBool (is_ok r) (Sends old (event.Tick t ∷ []) new) (Misses old (event.Tick t) new)
-ticked_law (Ok x) old new t opened k = tick_one old new (event.Tick t) refl k.1
-ticked_law (Err x) old new t opened k = missed_tick old new t x opened k
+-- of what goes to all workers
+pub called_law : (r : Result (Unit {0}) TickError) (old new : PortSeats) (e : Event) → is_for_all e ≡ true → old.is_open ≡ true
+    → MatchResult r (λ _. (old.is_open ≡ true) × (new ≡ sends_first (length old.seats) e old)) (λ error. TicksFirst old e new error)
+    → MatchBool (is_ok r) (Sends old (e ∷ []) new) (Misses old e new)
+called_law (Ok x) old new e all opened k = tick_one old new e all k.1
+called_law (Err x) old new e all opened k = missed_call old new e x all opened k

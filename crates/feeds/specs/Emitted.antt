@@ -10,24 +10,27 @@ use Rattle.notifier_model.specs.declared.event.Out.{Out}
 use Rattle.notifier_model.specs.declared.event.Out.TheVariants as out
 use Rattle.transport.specs.declared.datagram.Datagram.{Datagram}
 use Rattle.feeds.specs.declared.sending.Fate.{Fate}
-use Rattle.feeds.specs.declared.sending.Fate.TheVariants.{Sent, Started, Failed}
+use Rattle.feeds.specs.declared.sending.Fate.TheVariants.{Sent, Started, Failed, Held}
 use Rattle.feeds.specs.declared.sending.EmitReport.{EmitReport}
 use Rattle.transport.specs.Wires.{datagram, Grows}
 use Rattle.crew.specs.Whole.{AllBy}
 
 -- ---- one out
 
--- an answer or a NOTIFY is sent, the start of a transfer is written, and either may fail
+-- an answer or a NOTIFY is sent, the start of a transfer is written, and either may fail; a NOTIFY may be held back
 abbrev pub MayMeet : Out → Fate → Type 0
 MayMeet (out.Answer to octets) Sent = Unit {0}
 MayMeet (out.Answer to octets) Started = ⊥
 MayMeet (out.Answer to octets) Failed = Unit {0}
+MayMeet (out.Answer to octets) Held = ⊥
 MayMeet (out.Notify to number terminated tag note octets) Sent = Unit {0}
 MayMeet (out.Notify to number terminated tag note octets) Started = ⊥
 MayMeet (out.Notify to number terminated tag note octets) Failed = Unit {0}
+MayMeet (out.Notify to number terminated tag note octets) Held = Unit {0}
 MayMeet (out.Start tag refer_to) Sent = ⊥
 MayMeet (out.Start tag refer_to) Started = Unit {0}
 MayMeet (out.Start tag refer_to) Failed = Unit {0}
+MayMeet (out.Start tag refer_to) Held = ⊥
 
 -- the datagram that is sent
 abbrev pub datagram_of : Out → Option Datagram
@@ -53,6 +56,7 @@ Writes old new (out.Notify to number terminated tag note octets) fate = new ≡ 
 Writes old new (out.Start tag refer_to) Sent = ⊥
 Writes old new (out.Start tag refer_to) Started = Appends old new (start_text tag refer_to)
 Writes old new (out.Start tag refer_to) Failed = AppendsFront old new (start_text tag refer_to)
+Writes old new (out.Start tag refer_to) Held = ⊥
 
 -- what the writer took of each out, one after the other
 abbrev pub WritesAll : Option (List ℕ) → List (Out × Fate) → Option (List ℕ) → Type 0
@@ -64,6 +68,7 @@ abbrev pub counted : EmitReport → Fate → EmitReport
 counted r Sent = record r { sent = r.sent + 1 }
 counted r Started = record r { starts = r.starts + 1 }
 counted r Failed = record r { failed = r.failed + 1 }
+counted r Held = record r { held = r.held + 1 }
 
 -- ---- all of them
 
@@ -75,6 +80,7 @@ abbrev pub datagram_sent : Out → Fate → Option Datagram
 datagram_sent o Sent = datagram_of o
 datagram_sent o Started = None
 datagram_sent o Failed = None
+datagram_sent o Held = None
 
 -- the datagrams that were sent, in order
 abbrev pub sent_datagrams : Fates → List Datagram
@@ -87,28 +93,39 @@ abbrev pub is_sent : Fate → Bool
 is_sent Sent = true
 is_sent Started = false
 is_sent Failed = false
+is_sent Held = false
 
 abbrev pub is_started : Fate → Bool
 is_started Sent = false
 is_started Started = true
 is_started Failed = false
+is_started Held = false
 
 abbrev pub is_failed : Fate → Bool
 is_failed Sent = false
 is_failed Started = false
 is_failed Failed = true
+is_failed Held = false
+
+abbrev pub is_held : Fate → Bool
+is_held Sent = false
+is_held Started = false
+is_held Failed = false
+is_held Held = true
 
 -- did the wire fail at it?
 abbrev pub fails_to_send : Out → Fate → Bool
 fails_to_send o Sent = false
 fails_to_send o Started = false
 fails_to_send o Failed = not (is_start o)
+fails_to_send o Held = false
 
 -- did the writer?
 abbrev pub fails_to_start : Out → Fate → Bool
 fails_to_start o Sent = false
 fails_to_start o Started = false
 fails_to_start o Failed = is_start o
+fails_to_start o Held = false
 
 abbrev pub count : (Out → Fate → Bool) → Fates → ℕ
 count is log = length (filter (λ (x : Out × Fate). is x.0 x.1) log)
@@ -123,10 +140,11 @@ AreGot workers log old new =
 
 -- each out is counted once, by what became of it
 pub record IsCounted (log : Fates) (report : EmitReport) : Type 0 where
-  pub total : report.sent + report.starts + report.failed ≡ length log
+  pub total : report.sent + report.starts + report.failed + report.held ≡ length log
   pub sent : report.sent ≡ count (λ o fate. is_sent fate) log
   pub starts : report.starts ≡ count (λ o fate. is_started fate) log
   pub failed : report.failed ≡ count (λ o fate. is_failed fate) log
+  pub held : report.held ≡ count (λ o fate. is_held fate) log
 
 -- ---- what was got, sent and written
 
@@ -156,8 +174,9 @@ pub record AreMet (workers : ℕ) (log : Fates) (got got' : List (Item Out)) (wr
   pub wrote : WritesAll writer.contents log writer'.contents
   pub written : count fails_to_start log ≡ 0 → Appends writer.contents writer'.contents (lines log)
 
--- they did, and the wire took, in order, just the datagrams that were sent, and failed at the others
+-- they did, none was held back, and the wire took, in order, just the datagrams that were sent, and failed at the others
 pub record IsEmitted (workers : ℕ) (log : Fates) (got got' : List (Item Out)) (wire wire' : WireSeen) (writer writer' : WriterSeen) (report : EmitReport) : Type 0 where
   pub met : AreMet workers log got got' writer writer' report
+  pub none_held : count (λ o fate. is_held fate) log ≡ 0
   pub taken : Grows wire.taken wire'.taken (sent_datagrams log)
   pub wire_failures : wire'.failures ≡ rises (count fails_to_send log) wire.failures

@@ -5,7 +5,7 @@ use Rattle.queues.specs.Values.{values_by}
 use Rattle.notifier_model.specs.declared.event.Event.{Event}
 use Rattle.notifier_model.specs.Home.{is_for_all, events_for}
 use Rattle.queues.specs.InboxSeats.{SenderSeat}
-use Rattle.crew.specs.Ports.{PortSeats, sends_first}
+use Rattle.crew.specs.Ports.{PortSeats, missed_once, sends_first}
 use Rattle.transport.specs.Devices.{one_more}
 use Rattle.transport.specs.declared.datagram.Datagram.{Datagram}
 use Rattle.feeds.specs.declared.hearing.Heard.{Heard}
@@ -24,19 +24,21 @@ use Rattle.feeds.specs.Heard.{Says}
 abbrev pub with_events : SenderSeat → List Event → SenderSeat
 with_events s es = record s { sent = s.sent ++ values_by s.number es }
 
--- each worker's seat has sent those of these events that come to the worker, in order, and nothing else
+-- each worker's seat has sent those of these events that come to the worker, in order, and nothing else. No call found a worker gone
 pub record Sends (old : PortSeats) (es : List Event) (new : PortSeats) : Type 0 where
   pub still_open : new.is_open ≡ old.is_open
+  pub missed : new.missed ≡ old.missed
   pub len : length new.seats ≡ length old.seats
   pub each : (w : ℕ) (s : SenderSeat) → slice_get old.seats w ≡ Some s
       → slice_get new.seats w ≡ Some (with_events s (events_for (length old.seats) w es))
 
--- a worker of the event is gone: of all workers only the first ones were reached, and none where the event has one home
+-- One call of the port found a worker of the event gone, as the port counts. Of all workers only the first ones were reached, and none where
+-- the event has one home
 pub record Misses (old : PortSeats) (e : Event) (new : PortSeats) : Type 0 where
   pub reached : ℕ
   pub few : 0 < length old.seats → reached < length old.seats
   pub single : is_for_all e ≡ false → reached ≡ 0
-  pub stands : new ≡ sends_first reached e old
+  pub stands : new ≡ missed_once (sends_first reached e old)
 
 -- ---- what was heard
 

@@ -7,7 +7,6 @@ ghost use Rattle.feeds.specs.Fed.{Sends, Misses, IsPassedOn, Log, datagrams, IsF
 use crate::hearing::{Heard, Language, hear};
 use crew::Port;
 use notifier_model::Event;
-use notifier_model::homes::is_for_all;
 use std::alloc::Global;
 use std::sync::Wait;
 use transport::Wire;
@@ -69,9 +68,8 @@ pub enum Told {
     Gone,
 }
 
-/// Sends an event to its home, or a tick to all workers, and waits while an inbox is full. False where a worker is gone: an
-/// event with a home has gone to none then, and a tick to the workers before that one. A stop is no port's to send: false, and
-/// nothing is sent.
+/// Sends an event to its home, or a tick or the planned stop to all workers, and waits while an inbox is full. False where the port
+/// found a worker gone: an event with a home has gone to none then, and one for all to the workers before that one.
 pub fn send_event<R: Wait>(rt: &R, port: &mut Port, happened: Event) -> bool
     requires still_open { port.old.is_open ≡ true }
     ensures sent { MatchBool result (Sends port.old (happened ∷ []) port.new) (Misses port.old happened port.new) }
@@ -80,12 +78,8 @@ pub fn send_event<R: Wait>(rt: &R, port: &mut Port, happened: Event) -> bool
     match happened {
         // `..`: the event is looked at, and dropped as one
         Event::Tick(now, ..) => port.tick(rt, now).is_ok(),
-        other => {
-            if is_for_all(&other) {
-                return false;
-            }
-            port.send(rt, other).is_ok()
-        }
+        Event::Shut { .. } => port.shut(rt).is_ok(),
+        other => port.send(rt, other).is_ok(),
     }
 }
 

@@ -3,7 +3,7 @@ ghost use Rattle.std.specs.Prelude.{◌≡◌, ◌⊎◌, ◌∷◌, [], true, f
 ghost use Rattle.queues.specs.Ended.{count_ended, AllEnded};
 ghost use Rattle.transport.specs.Devices.{rises};
 ghost use Rattle.transport.specs.Wires.{Grows};
-ghost use Rattle.feeds.specs.Emitted.{wire_seen, writer_seen, Fates, IsEmitted, MayMeet, Writes, counted, is_start, sent_datagrams, count, fails_to_send, fails_to_start};
+ghost use Rattle.feeds.specs.Emitted.{wire_seen, writer_seen, Fates, IsEmitted, MayMeet, Writes, counted, is_start, is_held, sent_datagrams, count, fails_to_send, fails_to_start};
 
 use crate::waiting::{Idle, Next, next_out};
 use crate::writing::write_start;
@@ -29,6 +29,8 @@ pub enum Fate {
     Started,
     /// The wire or the writer failed at it.
     Failed,
+    /// It is a NOTIFY, and was not sent when it was taken: it waits for the answer to another one. No function here holds one back.
+    Held,
 }
 
 /// What became of all outs.
@@ -40,6 +42,8 @@ pub struct EmitReport {
     pub starts: u64,
     /// At how many outs the wire or the writer failed.
     pub failed: u64,
+    /// How many NOTIFYs were not sent when they were taken.
+    pub held: u64,
 }
 
 /// Sends an answer or a NOTIFY, or writes the line of a transfer that starts and flushes it. It takes no memory.
@@ -50,6 +54,7 @@ pub fn put_out<R: Wait, W: Wire, F: Write>(
     out: &Out,
 ) -> Fate
     ensures fate { MayMeet out.now result }
+    ensures not_held { is_held result ≡ false }
     ensures given { Grows (W.given wire.old) (W.given wire.new) [] }
     ensures taken { Grows (W.taken wire.old) (W.taken wire.new) (sent_datagrams ((out.now, result) ∷ [])) }
     ensures wire_failures { W.failures wire.new
@@ -85,6 +90,7 @@ impl EmitReport {
             Fate::Sent => self.sent = count_up(rt, self.sent, 1),
             Fate::Started => self.starts = count_up(rt, self.starts, 1),
             Fate::Failed => self.failed = count_up(rt, self.failed, 1),
+            Fate::Held => self.held = count_up(rt, self.held, 1),
         }
     }
 }
@@ -115,6 +121,7 @@ pub fn emit<R: Wait + Clock, W: Wire, F: Write>(
         sent: 0,
         starts: 0,
         failed: 0,
+        held: 0,
     };
     let mut left = workers;
     let mut idle = Idle::new();

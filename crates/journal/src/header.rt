@@ -56,7 +56,7 @@ impl Form for Header {
     fn put(&self, alloc: Global, out: &mut Vec<u8>) -> Result<(), NoMemory> {
         self.version.put(alloc, out)?;
         self.workers.put(alloc, out)?;
-        put_bytes(alloc, &self.seed, out)?;
+        put_bytes(&self.seed, out)?;
         self.listen.put(alloc, out)?;
         self.contact.put(alloc, out)?;
         self.boot.put(alloc, out)?;

@@ -3,3 +3,4 @@ pub mod Lists
 pub mod Calls
 pub mod Saying
 pub mod Following
+pub mod Same

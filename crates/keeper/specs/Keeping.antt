@@ -1,6 +1,6 @@
 -- What is kept of all workers, and the bytes that wait to be written: those of the current file, and those of the next one while it is
 -- being begun.
-use Rattle.std.specs.Prelude.{ℕ, ◌+◌, Bool, true, false, not, List, [], ◌++◌, map, length, set, replicate, slice_get, Option, Some, None, option_map, unwrap_or, if◌then◌else◌}
+use Rattle.std.specs.Prelude.{◌≡◌, ℕ, ◌+◌, Bool, true, false, not, List, [], ◌++◌, map, length, set, replicate, slice_get, Option, Some, None, option_map, unwrap_or, if◌then◌else◌}
 use Rattle.std.specs.List.{list_all}
 use Rattle.std.specs.Option.{option_map_or}
 use Rattle.package.specs.Values.{MailChange}
@@ -93,6 +93,22 @@ with_book w saved s k = record s {
 
 abbrev pub after_book : ℕ → Saved → State → State
 after_book w saved s = at_worker w (with_book w saved s) s
+
+-- a record that was made beside the keeper: of which worker, what that was told by then, and the bytes
+pub record Made : Type 0 where
+  pub worker : ℕ
+  pub told : Told
+  pub bytes : List ℕ
+
+-- it is that of this book
+pub record IsBookOf (w : ℕ) (told : Told) (saved : Saved) (made : Made) : Type 0 where
+  pub of_worker : made.worker ≡ w
+  pub by_then : made.told ≡ told
+  pub record_is : made.bytes ≡ written (book_record w told saved)
+
+-- the worker was told more or less by now
+abbrev pub IsOutdated : Made → List Kept → Type 0
+IsOutdated made workers = (k : Kept) → slice_get workers made.worker ≡ Some k → told_of k ≡ made.told → ⊥
 
 abbrev pub itself : Bool → Bool
 itself b = b

@@ -9,7 +9,7 @@ use Rattle.journal.specs.declared.writing.Unwritten.{Unwritten}
 use Rattle.journal.specs.declared.writing.Unwritten.TheVariants.{TooLong, Unsound, NoMemory as NoRoom}
 use Rattle.journal.specs.Records.{record_text, record_is_sound}
 use Rattle.keeper.specs.declared.error.Unkept.{Unkept}
-use Rattle.keeper.specs.declared.error.Unkept.TheVariants.{Unwritten as NotWritten, NoMemory, NoSuchWorker, NotBegun, Spent}
+use Rattle.keeper.specs.declared.error.Unkept.TheVariants.{Unwritten as NotWritten, NoMemory, NoSuchWorker, NotBegun, Outdated, Spent}
 use Rattle.keeper.specs.Told.{Kept}
 
 -- one of its counts is the last that 64 bits hold
@@ -25,6 +25,7 @@ CountFails k (NotWritten why) = ⊥
 CountFails k NoMemory = Unit {0}
 CountFails k NoSuchWorker = ⊥
 CountFails k NotBegun = ⊥
+CountFails k Outdated = ⊥
 CountFails k Spent = IsSpent k
 
 -- nothing is counted for the worker with this number
@@ -33,6 +34,7 @@ WorkerFails workers w (NotWritten why) = ⊥
 WorkerFails workers w NoMemory = Unit {0}
 WorkerFails workers w NoSuchWorker = length workers ≤ w
 WorkerFails workers w NotBegun = ⊥
+WorkerFails workers w Outdated = ⊥
 WorkerFails workers w Spent = HasSpent workers w
 
 -- a record isn't written
@@ -47,6 +49,7 @@ PutFails r (NotWritten why) = WriteFails r why
 PutFails r NoMemory = Unit {0}
 PutFails r NoSuchWorker = ⊥
 PutFails r NotBegun = ⊥
+PutFails r Outdated = ⊥
 PutFails r Spent = ⊥
 
 -- a record isn't kept for the worker with this number
@@ -55,4 +58,5 @@ KeepFails r workers w (NotWritten why) = WriteFails r why
 KeepFails r workers w NoMemory = Unit {0}
 KeepFails r workers w NoSuchWorker = length workers ≤ w
 KeepFails r workers w NotBegun = ⊥
+KeepFails r workers w Outdated = ⊥
 KeepFails r workers w Spent = HasSpent workers w

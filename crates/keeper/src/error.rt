@@ -20,6 +20,9 @@ pub enum Unkept {
     /// No next file is begun that a book could stand in.
     #[error("no next journal is begun")]
     NotBegun,
+    /// The worker was told something since the book was made, or the book is not its own.
+    #[error("the book of a worker is outdated")]
+    Outdated,
     /// 2^64 - 1 were counted.
     #[error("the counts of a worker are spent")]
     Spent,

@@ -9,12 +9,13 @@ ghost use Rattle.keeper.specs.Told as kept;
 ghost use Rattle.keeper.specs.Keeping as spec;
 ghost use Rattle.keeper.specs.Refusing.{WorkerFails, PutFails, KeepFails};
 ghost use Rattle.keeper.specs.declared.error.Unkept.TheVariants as unkept;
-ghost use Rattle.keeper.specs.Keeping.{first, after_handled, after_answered, after_passed, after_counted, after_clock, after_begin, after_book, after_catching_up, turned, without_next, cleared, has_book, next_line};
+ghost use Rattle.keeper.specs.Keeping.{first, after_handled, after_answered, after_passed, after_counted, after_clock, after_begin, after_book, IsBookOf, IsOutdated, after_catching_up, turned, without_next, cleared, has_book, next_line};
 
 use crate::error::Unkept;
 use crate::kept::Kept;
+use crate::made_book::MadeBook;
 use crate::waiting::Waiting;
-use journal::{Clock, Header, Line, Record, Told, put_book, put_handled, put_line, put_record};
+use journal::{Clock, Header, Line, Record, Told, put_handled, put_line, put_record};
 use notifier_model::Event;
 use package::MailChange;
 use sip_text::NoMemory;
@@ -241,14 +242,33 @@ impl Keeper {
         ensures not_begun { result ≡ Err unkept.NotBegun → is_some self.old.booked ≡ false }
         ensures unchanged { OnErr result (self.new ≡ self.old) }
     {
+        let told = self.told(worker)?;
+        let made = MadeBook::new(self.alloc, worker, told, desk)?;
+        self.put(made)
+    }
+
+    /// The next file gets the book of a worker whose record was made before. Outdated exactly where the worker was told more since, or less.
+    pub fn put(&mut self, made: MadeBook) -> Result<(), Unkept>
+        ensures kept { (saved : Saved) → IsBookOf made.worker made.told saved made
+            → OnOk result (self.new ≡ after_book made.worker saved self.old) }
+        ensures is_worker { OnOk result (made.worker < length self.old.workers) }
+        ensures in_time { (k : kept.Kept) → slice_get self.old.workers made.worker ≡ Some k → OnOk result (kept.told_of k ≡ made.told) }
+        ensures begun { OnOk result (is_some self.old.booked ≡ true) }
+        ensures not_begun { result ≡ Err unkept.NotBegun → is_some self.old.booked ≡ false }
+        ensures outdated { result ≡ Err unkept.Outdated → IsOutdated made self.old.workers }
+        ensures unchanged { OnErr result (self.new ≡ self.old) }
+    {
+        let worker = made.worker();
         let Some(booked) = &mut self.booked else {
             return Err(Unkept::NotBegun);
         };
         let Some(place) = booked.get_mut(worker as usize) else {
             return Err(Unkept::NoSuchWorker);
         };
-        let told = find(self.workers.as_slice(), worker)?.told(self.alloc)?;
-        put_book(self.alloc, worker, &told, desk, &mut self.waiting.next)?;
+        if !find(self.workers.as_slice(), worker)?.is_told(made.told()) {
+            return Err(Unkept::Outdated);
+        }
+        self.waiting.put_next(made.into_bytes())?;
         *place = true;
         Ok(())
     }

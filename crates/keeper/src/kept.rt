@@ -1,10 +1,11 @@
 //! What is kept of one worker.
-ghost use Rattle.std.specs.Prelude.{◌≡◌, ◌+◌, ◌≤◌, ◌^◌, OnOk, OnErr, IfOk, IfErr};
+ghost use Rattle.std.specs.Prelude.{◌≡◌, ◌↔◌, ◌+◌, ◌≤◌, ◌^◌, OnOk, OnErr, IfOk, IfErr, IsTrue};
 ghost use Rattle.keeper.specs.Told as spec;
 ghost use Rattle.keeper.specs.Told.{kept_from, told_of, told_event};
 ghost use Rattle.keeper.specs.Refusing.{CountFails};
 ghost use Rattle.keeper.specs.declared.error.Unkept.TheVariants as unkept;
 
+use crate::comparison::are_steps;
 use crate::error::Unkept;
 use crate::mailboxes::Mailboxes;
 use crate::steps::{copy_steps, take_step};
@@ -82,6 +83,20 @@ impl Kept {
             mail: Values::new(mail),
             progress: Values::new(progress),
         })
+    }
+
+    /// Whether this is what it was told so far.
+    #[tactic(auto, using(crate::proofs::Same::same_told))]
+    pub(crate) fn is_told(&self, told: &Told) -> bool
+        ensures { IsTrue result ↔ (told_of self.now ≡ told.now) }
+    {
+        if self.events != told.events || self.mails != told.mails {
+            return false;
+        }
+        if !are_steps(self.steps.as_slice(), told.progress.as_slice()) {
+            return false;
+        }
+        self.boxes.are_last(told.mail.as_slice())
     }
 
     /// It handled a change of a mailbox.

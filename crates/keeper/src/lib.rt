@@ -6,14 +6,17 @@
 //! `specs/Keeping`. [`laws`] says what the files say of each worker, whatever calls came.
 #![tactic(auto)]
 
+mod comparison;
 mod error;
 mod keeper;
 mod kept;
 pub mod laws;
+mod made_book;
 mod mailboxes;
 mod steps;
 mod waiting;
 
 pub use error::Unkept;
 pub use keeper::Keeper;
+pub use made_book::MadeBook;
 pub use sip_text::NoMemory;

@@ -1,8 +1,10 @@
 //! The mailboxes of a worker, each with the last counts that it was told.
-ghost use Rattle.std.specs.Prelude.{◌≡◌, ◌≤◌, ◌++◌, [], not, filter, length, option_map, slice_get, vec_len, vec_capacity, OnOk, OnErr, IfOk};
+ghost use Rattle.std.specs.Prelude.{◌≡◌, ◌↔◌, ◌≤◌, ◌++◌, List, [], not, filter, length, option_map, slice_get, vec_len, vec_capacity, OnOk, OnErr, IfOk, IsTrue, MatchOption};
+ghost use Rattle.package.specs.Values as values;
 ghost use Rattle.keeper.specs.Told as spec;
 ghost use Rattle.keeper.specs.Told.{rows_in, rows_of, last_changes};
 
+use crate::comparison::changes_behind;
 use indexmap::IndexMap;
 use package::MailChange;
 use sip_text::NoMemory;
@@ -61,6 +63,14 @@ impl LastChanges {
             unreachable!()
         };
         Ok(())
+    }
+
+    /// What stands behind them, where these begin with them.
+    fn behind<'a>(&self, changes: &'a [MailChange]) -> Option<&'a [MailChange]>
+        ensures { MatchOption result ((rest : List values.MailChange) → changes.now ≡ self.now ++ rest → ⊥)
+            (λ rest. changes.now ≡ self.now ++ rest.now) }
+    {
+        changes_behind(self.changes.as_slice(), changes)
     }
 
     /// Appends copies of them.
@@ -176,5 +186,22 @@ impl Mailboxes {
             last.copy_to(alloc, &mut all)?;
         }
         Ok(all)
+    }
+
+    /// Whether these are the last changes of all.
+    pub(crate) fn are_last(&self, changes: &[MailChange]) -> bool
+        ensures { IsTrue result ↔ (last_changes self.now ≡ changes.now) }
+    {
+        let mut rest = changes;
+        for place in 0..self.len() {
+            let Some((_name, last)) = self.get(place) else {
+                return rest.is_empty();
+            };
+            let Some(behind) = last.behind(rest) else {
+                return false;
+            };
+            rest = behind;
+        }
+        rest.is_empty()
     }
 }

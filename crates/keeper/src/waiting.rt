@@ -1,5 +1,5 @@
 //! Bytes that wait to be written.
-ghost use Rattle.std.specs.Prelude.{◌≡◌, ◌+◌, ◌≤◌, ◌++◌, [], true, length, if◌then◌else◌, vec_len, vec_capacity, OnOk};
+ghost use Rattle.std.specs.Prelude.{◌≡◌, ◌+◌, ◌≤◌, ◌++◌, [], true, length, if◌then◌else◌, vec_len, vec_capacity, OnOk, OnErr};
 
 use sip_text::NoMemory;
 use std::alloc::Global;
@@ -58,6 +58,20 @@ impl Waiting {
         if both {
             append(&mut self.next, record);
         }
+    }
+
+    /// Appends a record to the next file. Where nothing waits there it isn't copied.
+    pub(crate) fn put_next(&mut self, record: Vec<u8>) -> Result<(), NoMemory>
+        ensures current { self.new.current.items ≡ self.old.current.items }
+        ensures next { OnOk result (self.new.next.items ≡ self.old.next.items ++ record.items) }
+        ensures unchanged { OnErr result (self.new.next.items ≡ self.old.next.items) }
+    {
+        if self.next.is_empty() {
+            self.next = record;
+            return Ok(());
+        }
+        self.next.extend_from_slice(record.as_slice())?;
+        Ok(())
     }
 
     /// The next file is the current one, and none is next.

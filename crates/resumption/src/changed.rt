@@ -238,6 +238,46 @@ fn first_of(unanswered: Vec<Out>, is_lost: bool) -> Vec<Out>
     first
 }
 
+/// The desks of all workers go on as they are wished. A keeper knows what they were told, and whether the end of what they handled may be lost is said beside it.
+fn renew_all<P, M>(
+    alloc: Global,
+    wish: &Wish<'_>,
+    desks: Vec<Desk<P>>,
+    known: (&Keeper, bool),
+    make: &M,
+) -> Result<Renewed<P>, Halt>
+where
+    P: Package,
+    M: Fn(Wanted) -> Result<P, NoMemory>,
+    requires callable { M.IsAlwaysCallable make.now }
+    requires gives { Gives P.seen (M.post make.now) }
+    requires some { 0 < wish.now.workers }
+    ensures stands { IfOk result (λ r. map (seen_by P.seen) r.desks.items
+        ≡ spec.all_carried wish.now known.entry.1 (map (seen_by P.seen) desks.items) known.entry.0.now.workers) }
+    ensures first { IfOk result (λ r. r.first.items
+        ≡ spec.all_carried_outs wish.now known.entry.1 (map (seen_by P.seen) desks.items) known.entry.0.now.workers) }
+    ensures told { IfOk result (λ r. r.told.items ≡ spec.all_told_since wish.now (length desks.items) known.entry.0.now.workers) }
+{
+    let (keeper, is_lost) = known;
+    let mut renewed = Renewed {
+        desks: Vec::new(alloc),
+        first: Vec::new(alloc),
+        told: Vec::new(alloc),
+    };
+    for desk in desks {
+        let worker = worker_number(renewed.desks.len())?;
+        let told = keeper.told(worker)?;
+        let was = Was {
+            worker,
+            desk,
+            told,
+            is_lost,
+        };
+        renewed.add(alloc, wish, was, make)?;
+    }
+    Ok(renewed)
+}
+
 /// The desks that a journal had go on as they are wished from now on.
 pub fn renew<P, M>(
     alloc: Global,
@@ -252,28 +292,18 @@ where
     requires callable { M.IsAlwaysCallable make.now }
     requires gives { Gives P.seen (M.post make.now) }
     requires some { 0 < wish.now.workers }
+    ensures stands { IfOk result (λ r. map (seen_by P.seen) r.desks.items
+        ≡ spec.all_carried wish.now is_lost (map (seen_by P.seen) replayed.desks.items) replayed.keeper.workers) }
+    ensures first { IfOk result (λ r. r.first.items ≡ (if is_lost then [] else replayed.unanswered.items)
+        ++ spec.all_carried_outs wish.now is_lost (map (seen_by P.seen) replayed.desks.items) replayed.keeper.workers) }
+    ensures told { IfOk result (λ r. r.told.items
+        ≡ spec.all_told_since wish.now (length replayed.desks.items) replayed.keeper.workers) }
 {
-    let Replayed {
-        desks,
-        unanswered,
-        keeper,
-    } = replayed;
-    let mut renewed = Renewed {
-        desks: Vec::new(alloc),
-        first: first_of(unanswered, is_lost),
-        told: Vec::new(alloc),
-    };
-    for desk in desks {
-        let worker = worker_number(renewed.desks.len())?;
-        let told = keeper.told(worker)?;
-        let was = Was {
-            worker,
-            desk,
-            told,
-            is_lost,
-        };
-        renewed.add(alloc, wish, was, make)?;
-    }
+    let desks = replayed.desks;
+    let mut renewed = renew_all(alloc, wish, desks, (&replayed.keeper, is_lost), make)?;
+    let mut first = first_of(replayed.unanswered, is_lost);
+    first.append(&mut renewed.first)?;
+    renewed.first = first;
     Ok(renewed)
 }
 

@@ -8,12 +8,17 @@ use std::alloc::Global;
 /// More workers than a number of four bytes counts are in no file.
 const MOST_WORKERS: usize = 4_294_967_295;
 
+/// How many bytes at the front of a file are read for its header, which has some hundred.
+const FRONT: usize = 4_096;
+
 /// What a file of a journal says, with the one before.
 #[derive(Drop)]
 pub struct Found {
     pub generation: Generation,
     /// Under what its desks worked.
     pub terms: Terms,
+    /// The second of the notifier in which its books were written.
+    pub begun: u64,
     /// Where its whole records end.
     pub whole: u64,
     /// Whether something stands behind them: then what was written last may be lost.
@@ -31,7 +36,7 @@ pub enum Reading {
     },
 }
 
-/// What it begins with.
+/// What a file begins with.
 fn first_header(found: &Contents) -> Option<&Header> {
     match found.records.as_slice().first() {
         Some(Record::Header(header)) => Some(header),
@@ -53,39 +58,73 @@ fn said(alloc: Global, version: &Text, records: Values<Record>) -> Option<Genera
     read_generation(alloc, version.as_str(), records).ok()
 }
 
-/// What two files say together, where the newer one follows the older: each worker goes on from its older book, and lines of both are looked at. The older
-/// one has these records before the newer one's, and is read once more to be looked at alone.
+/// Whether what an older file holds belongs before a file that begins with this header. Its first bytes tell, so no more are read.
+fn is_before(alloc: Global, header: &Header, older: &[u8]) -> Result<bool, NoMemory> {
+    let front = older.len().min(FRONT);
+    let (front, _behind) = older.split_at(front);
+    let contents = records(alloc, front)?;
+    match first_header(&contents) {
+        Some(older) => Ok(is_same(header, older)),
+        None => Ok(false),
+    }
+}
+
+/// The control lines among these records, and the others, each in their order.
+fn without_lines(
+    alloc: Global,
+    records: Vec<Record>,
+) -> Result<(Vec<Record>, Vec<Record>), NoMemory> {
+    let mut lines = Vec::new(alloc);
+    let mut others = Vec::new(alloc);
+    for entry in records {
+        if matches!(&entry, Record::Line(_)) {
+            lines.push(entry)?;
+        } else {
+            others.push(entry)?;
+        }
+    }
+    Ok((lines, others))
+}
+
+/// The records of a file, with these behind its header.
+fn behind_header(
+    alloc: Global,
+    records: Vec<Record>,
+    lines: Vec<Record>,
+) -> Result<Vec<Record>, NoMemory> {
+    let mut all = Vec::new(alloc);
+    let mut lines = lines;
+    let mut rest = records.into_iter();
+    if let Some(header) = rest.next() {
+        all.push(header)?;
+    }
+    all.append(&mut lines)?;
+    for entry in rest {
+        all.push(entry)?;
+    }
+    Ok(all)
+}
+
+/// What two files say together, where the newer one follows the older: each worker goes on from its older book, and lines of both are looked at. Only the
+/// newer file tells which lines were handled, so those of the older one are read with it, as if they stood before its books.
 fn together(
     alloc: Global,
     version: &Text,
-    before: Vec<Record>,
+    older: Vec<Record>,
     newer: Vec<Record>,
-    older: &[u8],
 ) -> Result<Option<Generation>, NoMemory> {
-    let mut both = before;
-    let mut behind = newer;
-    both.append(&mut behind)?;
-    let Some(newer) = said(alloc, version, Values::new(both)) else {
+    let (lines, older) = without_lines(alloc, older)?;
+    let newer = behind_header(alloc, newer, lines)?;
+    let Some(newer) = said(alloc, version, Values::new(newer)) else {
         return Ok(None);
     };
-    let Some(older) = said(alloc, version, records(alloc, older)?.records) else {
+    let Some(older) = said(alloc, version, Values::new(older)) else {
         return Ok(None);
     };
     if older.accounts.as_slice().len() > MOST_WORKERS {
         return Ok(None);
     }
-    match chained(alloc, older, newer) {
-        Ok(generation) => Ok(Some(generation)),
-        Err(_) => Ok(None),
-    }
-}
-
-/// Whether what an older file holds belongs before a file that begins with this header.
-fn is_before(header: &Header, before: &Contents) -> bool {
-    match first_header(before) {
-        Some(older) => is_same(header, older),
-        None => false,
-    }
+    Ok(chained(alloc, older, newer).ok())
 }
 
 /// What a file says: by itself, or with the one before where it follows that.
@@ -96,17 +135,16 @@ fn both(
     newer: &[u8],
     older: &[u8],
 ) -> Result<Option<Generation>, NoMemory> {
-    let before = records(alloc, older)?;
     let belongs = match first_header(&contents) {
-        Some(header) => is_before(header, &before),
+        Some(header) => is_before(alloc, header, older)?,
         None => false,
     };
     let found = contents.records;
     if !belongs {
         return Ok(said(alloc, version, found));
     }
-    let (before, found) = (before.records.into_vec(), found.into_vec());
-    if let Some(generation) = together(alloc, version, before, found, older)? {
+    let before = records(alloc, older)?.records.into_vec();
+    if let Some(generation) = together(alloc, version, before, found.into_vec())? {
         return Ok(Some(generation));
     }
     Ok(said(alloc, version, records(alloc, newer)?.records))
@@ -127,6 +165,17 @@ fn written_under(
     }
 }
 
+/// The greatest second of the books among these records.
+fn second_of_books(records: &[Record]) -> u64 {
+    let mut second = 0u64;
+    for entry in records {
+        if let Record::Book(book) = entry {
+            second = second.max(book.saved.clock);
+        }
+    }
+    second
+}
+
 /// What a file says, with the one before where it follows that.
 pub fn read_files(
     alloc: Global,
@@ -136,6 +185,7 @@ pub fn read_files(
 ) -> Result<Reading, NoMemory> {
     let contents = records(alloc, newer)?;
     let whole = contents.whole;
+    let begun = second_of_books(contents.records.as_slice());
     let is_torn = whole < newer.len();
     let Some((written, terms)) = written_under(alloc, version, &contents)? else {
         return Ok(Reading::Nothing { is_torn });
@@ -146,6 +196,7 @@ pub fn read_files(
     Ok(Reading::Found(Found {
         generation,
         terms,
+        begun,
         whole: whole as u64,
         is_torn,
     }))

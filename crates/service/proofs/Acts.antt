@@ -1,6 +1,6 @@
 -- What the thread that sends did so far.
 use Rattle.std.proofs.Common.{◌≡◌, ℕ, ◌+◌, Bool, true, false, List, [], ◌∷◌, ◌++◌, length, map, Option, Some, None, refl, ap, sym, ◌∙◌, ◌⊎◌, subst, length-append, arith}
-use Rattle.std.specs.Prelude.{option_to_list, option_and_then}
+use Rattle.std.specs.Prelude.{option_to_list, option_and_then, is_some}
 use Rattle.std.specs.List.{filter, cons_option}
 use Rattle.std.proofs.lemmas.List.{append-nil, map-append}
 use Rattle.std.proofs.lemmas.List.Elements.{filter-append, filter_map-append}
@@ -14,18 +14,20 @@ use Rattle.transport.specs.declared.datagram.Datagram.{Datagram}
 use Rattle.transport.specs.Wires.{datagram, Grows}
 use Rattle.feeds.specs.declared.sending.Fate.{Fate}
 use Rattle.feeds.specs.declared.sending.Fate.TheVariants.{Sent, Started, Failed}
+use Rattle.feeds.specs.declared.sending.Fate.TheVariants as became
 use Rattle.feeds.specs.declared.sending.EmitReport.{EmitReport}
-use Rattle.feeds.specs.Emitted.{Fates, WireSeen, WriterSeen, MayMeet, Writes, count, counted, datagram_sent, sent_datagrams, fails_to_send, fails_to_start, is_start}
+use Rattle.feeds.specs.Emitted.{Fates, WireSeen, WriterSeen, MayMeet, Writes, count, counted, datagram_sent, sent_datagrams, fails_to_send, fails_to_start, is_start, is_held}
 use Rattle.feeds.proofs.Emitting.{Running, one, running_out, rises_more, flushed_more}
 use Rattle.feeds.proofs.Telling.{grows_none, grows_more, grows_same}
 use Rattle.transactions.specs.declared.open.Open.{Open}
 use Rattle.transactions.specs.Timers.{is_over}
 use Rattle.transactions.specs.Machine.{State, answer, due, turn}
 use Rattle.transactions.specs.Runs.{Call, after, state_after, repeated, unless_over}
+use Rattle.first_contact.specs.Steps.{notice_of}
 use Rattle.service.specs.declared.post.Note.{Note}
 use Rattle.service.specs.Noted.{answer_of}
 use Rattle.service.specs.Taken.{failures_then}
-use Rattle.service.specs.Sending.{Act, Put, Noted, Repeated, GaveUp, fate_of, fates, sent_by, sent_again, datagrams, fails_at, failures, call_of, calls, kept_after, AreAsked, Does, IsSentOut, WithoutRepeatsLaw}
+use Rattle.service.specs.Sending.{Act, Put, Held, Released, Noted, Repeated, GaveUp, fate_of, fates, sent_by, sent_again, datagrams, fails_at, failures, call_of, calls, kept_after, taking, AreAsked, Does, IsSentOut, WithoutRepeatsLaw}
 
 -- ---- two parts of what it did
 
@@ -104,6 +106,7 @@ none_more a b none none' = filter_map-append fate_of a b ∙ ap (λ l. l ++ fate
 put_failures : (now : ℕ) (o : Out) (f : Fate) → failures (Put now o f ∷ []) ≡ count fails_to_send (one o f)
 put_failures now o Sent = refl
 put_failures now o Started = refl
+put_failures now o became.Held = refl
 put_failures now (out.Answer to octets) Failed = refl
 put_failures now (out.Notify to number terminated tag note octets) Failed = refl
 put_failures now (out.Start tag refer_to) Failed = refl
@@ -116,6 +119,58 @@ does_put now o f s t v w taken failed is = record {
   asked = (tt, tt);
   open_now = is ∙ sym (state_first (call_of (Put now o f)) [] s);
 }
+
+-- ---- an out that is held back, and one that had waited
+
+pub taken_fates : (now : ℕ) (o : Out) (f : Fate) → fates (taking now o f ∷ []) ≡ one o f
+taken_fates now o Sent = refl
+taken_fates now o Started = refl
+taken_fates now o Failed = refl
+taken_fates now o became.Held = refl
+
+pub taken_put : (now : ℕ) (o : Out) (f : Fate) → is_held f ≡ false → taking now o f ≡ Put now o f
+taken_put now o Sent none = refl
+taken_put now o Started none = refl
+taken_put now o Failed none = refl
+taken_put now o became.Held none = absurd (cc)
+
+put_state : (now : ℕ) (o : Out) (f : Fate) (s t : State) → t ≡ state_after (calls (Put now o f ∷ [])) s → t ≡ kept_after now o s
+put_state now o f s t is = is ∙ state_first (call_of (Put now o f)) [] s
+
+pub does_taking : (now : ℕ) (o : Out) (f : Fate) (s t : State) (v w : WireSeen) → Grows v.taken w.taken (sent_datagrams (one o f))
+    → w.failures ≡ rises (count fails_to_send (one o f)) v.failures → t ≡ state_after (calls (taking now o f ∷ [])) s → Does (taking now o f ∷ []) s t v w
+does_taking now o Sent s t v w taken failed is = does_put now o Sent s t v w taken failed (put_state now o Sent s t is)
+does_taking now o Started s t v w taken failed is = does_put now o Started s t v w taken failed (put_state now o Started s t is)
+does_taking now o Failed s t v w taken failed is = does_put now o Failed s t v w taken failed (put_state now o Failed s t is)
+does_taking now o became.Held s t v w taken failed is = record { taken = taken; failed = failed; asked = (tt, tt); open_now = is }
+
+late_failures : (now : ℕ) (o : Out) (f : Fate) → failures (Released now o f ∷ []) ≡ count fails_to_send (one o f)
+late_failures now o Sent = refl
+late_failures now o Started = refl
+late_failures now o became.Held = refl
+late_failures now (out.Answer to octets) Failed = refl
+late_failures now (out.Notify to number terminated tag note octets) Failed = refl
+late_failures now (out.Start tag refer_to) Failed = refl
+
+pub does_late : (now : ℕ) (o : Out) (f : Fate) (s t : State) (v w : WireSeen) → Grows v.taken w.taken (sent_datagrams (one o f))
+    → w.failures ≡ rises (count fails_to_send (one o f)) v.failures → t ≡ kept_after now o s → Does (Released now o f ∷ []) s t v w
+does_late now o f s t v w taken failed is = record {
+  taken = taken;
+  failed = failed ∙ ap (λ n. rises n v.failures) (sym (late_failures now o f));
+  asked = (tt, tt);
+  open_now = is ∙ sym (state_first (call_of (Released now o f)) [] s);
+}
+
+-- only a NOTIFY is held back
+pub held_may : (o : Out) → is_some (notice_of o) ≡ true → MayMeet o became.Held
+held_may (out.Answer to octets) is = absurd (cc)
+held_may (out.Notify to number terminated tag note octets) is = tt
+held_may (out.Start tag refer_to) is = absurd (cc)
+
+pub held_writes : (o : Out) (c : Option (List ℕ)) → is_some (notice_of o) ≡ true → Writes c c o became.Held
+held_writes (out.Answer to octets) c is = absurd (cc)
+held_writes (out.Notify to number terminated tag note octets) c is = refl
+held_writes (out.Start tag refer_to) c is = absurd (cc)
 
 -- ---- what is due
 
@@ -153,14 +208,14 @@ module _ (acts : List Act) {t0 t : TakerSeat} {left : ℕ} {told told' : Option 
         met = was.met;
       })
 
-  pub running_put : (now : ℕ) (u : TakerSeat) (w : ℕ) (o : Out) (f : Fate) (told'' : Option (List Datagram)) (after' : WriterSeen)
+  pub running_taking : (now : ℕ) (u : TakerSeat) (w : ℕ) (o : Out) (f : Fate) (told'' : Option (List Datagram)) (after' : WriterSeen)
       → Took t (posted.Out w o) u → MayMeet o f → Grows told' told'' []
       → after'.failures ≡ rises (count fails_to_start (one o f)) writer'.failures
       → Writes writer'.contents after'.contents o f
-      → Running (fates (acts ++ Put now o f ∷ [])) t0 u left told told'' writer after' (counted report f)
-  running_put now u w o f told'' after' took may none failed wrote =
+      → Running (fates (acts ++ taking now o f ∷ [])) t0 u left told told'' writer after' (counted report f)
+  running_taking now u w o f told'' after' took may none failed wrote =
       let P : Fates → Type 0 = λ l. Running l t0 u left told told'' writer after' (counted report f) in
-      subst P (sym (filter_map-append fate_of acts (Put now o f ∷ [])))
+      subst P (sym (filter_map-append fate_of acts (taking now o f ∷ []) ∙ ap (λ l. fates acts ++ l) (taken_fates now o f)))
       (running_out was u w o f told'' after' took may none failed wrote)
 
 -- ---- what was flushed
@@ -171,11 +226,12 @@ module _ {S : Type 0} (flushed : S → Bool) (first old : S) (acts : List Act) (
       let P : Fates → Type 0 = λ l. count fails_to_start l ≡ 0 → (old ≡ first) ⊎ (flushed old ≡ true) in
       subst P (sym (filter_map-append fate_of acts more ∙ ap (λ l. fates acts ++ l) none ∙ append-nil (fates acts))) was
 
-  pub flushed_put : (new : S) (now : ℕ) (o : Out) (f : Fate) → MayMeet o f → (f ≡ Started → flushed new ≡ true) → (is_start o ≡ false → new ≡ old)
-      → count fails_to_start (fates (acts ++ Put now o f ∷ [])) ≡ 0 → (new ≡ first) ⊎ (flushed new ≡ true)
-  flushed_put new now o f may written stays =
+  pub flushed_taking : (new : S) (now : ℕ) (o : Out) (f : Fate) → MayMeet o f → (f ≡ Started → flushed new ≡ true) → (is_start o ≡ false → new ≡ old)
+      → count fails_to_start (fates (acts ++ taking now o f ∷ [])) ≡ 0 → (new ≡ first) ⊎ (flushed new ≡ true)
+  flushed_taking new now o f may written stays =
       let P : Fates → Type 0 = λ l. count fails_to_start l ≡ 0 → (new ≡ first) ⊎ (flushed new ≡ true) in
-      subst P (sym (filter_map-append fate_of acts (Put now o f ∷ []))) (flushed_more flushed first old new o f (fates acts) may was written stays)
+      subst P (sym (filter_map-append fate_of acts (taking now o f ∷ []) ∙ ap (λ l. fates acts ++ l) (taken_fates now o f)))
+      (flushed_more flushed first old new o f (fates acts) may was written stays)
 
 -- ---- all of it
 
@@ -192,6 +248,8 @@ sent_out running did = record {
 pub without_repeats : WithoutRepeatsLaw
 without_repeats [] = refl
 without_repeats (Put now o fate ∷ acts) = ap (cons_option (datagram_sent o fate)) (without_repeats acts)
+without_repeats (Held now o ∷ acts) = without_repeats acts
+without_repeats (Released now o fate ∷ acts) = without_repeats acts
 without_repeats (Noted tag number status ∷ acts) = without_repeats acts
 without_repeats (Repeated now sent fails ∷ acts) = without_repeats acts
 without_repeats (GaveUp now ∷ acts) = without_repeats acts

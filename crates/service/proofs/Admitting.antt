@@ -6,7 +6,6 @@ use Rattle.sip_text.specs.declared.address.Addr.{Addr}
 use Rattle.sip_read.specs.declared.message.Message.{Message}
 use Rattle.sip_read.specs.declared.message.Message.TheVariants as message
 use Rattle.sip_read.specs.declared.message.Request.{Request}
-use Rattle.notifier_model.specs.declared.event.Event.{Event}
 use Rattle.notifier_model.specs.declared.event.Event.TheVariants as event
 use Rattle.feeds.specs.declared.hearing.Heard.{Heard}
 use Rattle.feeds.specs.declared.hearing.Heard.TheVariants as heard
@@ -20,19 +19,22 @@ use Rattle.admission.specs.declared.judging.Reading.TheVariants as reading
 use Rattle.admission.specs.declared.judging.Verdict.{Verdict}
 use Rattle.admission.specs.declared.judging.Verdict.TheVariants as verdict
 use Rattle.admission.specs.Inquiries.{IsAdmitted}
-use Rattle.admission.specs.Verdicts.{IsOpen, hears, behind, is_asked, asked, IsFree, after}
-use Rattle.admission.proofs.Concluding.{behind_same}
-use Rattle.admission.proofs.Open.{open_stays, open_allowed}
+use Rattle.admission.specs.Verdicts.{IsOpen, hears, behind, is_asked, asked, IsFree, after, half_noted}
+use Rattle.admission.proofs.Concluding.{behind_same, noted_same}
+use Rattle.admission.proofs.Open.{open_allowed, open_judged}
 use Rattle.service.specs.Admitted.{Case, IsRequest, IsRead, Meets, IsJudged, AreJudged, arrived, is_allowed, admitted, refusals, unsent, IsVouched, EachIsVouched, OpenHearsAll}
 
 -- ---- one that is heard
 
 free : (a : Admission) (x : Arrival) (v : Option Verdict) (b : Admission) → is_allowed v ≡ true → Meets a x v b → IsFree a x
 free a x None b is m = absurd cc
-free a x (Some verdict.Allowed) b is m = m.0.1
+free a x (Some verdict.Allowed) b is m = m.0.2
 free a x (Some verdict.Foreign) b is m = absurd cc
 free a x (Some verdict.Limited) b is m = absurd cc
+free a x (Some (verdict.Large octets)) b is m = absurd cc
+free a x (Some (verdict.Barred user octets)) b is m = absurd cc
 free a x (Some (verdict.Challenge c octets)) b is m = absurd cc
+free a x (Some (verdict.Guess user octets)) b is m = absurd cc
 free a x (Some (verdict.Forbidden octets)) b is m = absurd cc
 free a x (Some (verdict.Crowded octets)) b is m = absurd cc
 
@@ -72,8 +74,11 @@ after_same a x =
 next_same : (a : Admission) (x : Arrival) (v : Option Verdict) (b : Admission) → Meets a x v b → b.authentication ≡ a.authentication
 next_same a x None b m =
     let P : Admission → Type 0 = λ d. d.authentication ≡ a.authentication in
-    ⊎_elim (λ (e : b ≡ a). subst P (sym e) refl) (λ (e : b ≡ after a x). subst P (sym e) (after_same a x)) m.1
-next_same a x (Some v) b m = let P : Admission → Type 0 = λ d. d.authentication ≡ a.authentication in subst P (sym m.1) (after_same a x)
+    ⊎_elim (λ (e : b ≡ a). subst P (sym e) refl) (λ more. ⊎_elim (λ (e : b ≡ after a x). subst P (sym e) (after_same a x))
+    (λ (e : b ≡ half_noted (after a x) x). subst P (sym e) (after_same a x)) more) m.1
+next_same a x (Some v) b m =
+    let P : Admission → Type 0 = λ d. d.authentication ≡ a.authentication in
+    subst P (sym m.1) (noted_same (after a x) x v ∙ after_same a x)
 
 -- ---- all of them
 
@@ -101,7 +106,7 @@ allowed a x (Some v) b is m = ap Some (open_allowed a is x v m.0)
 
 stays : (a : Admission) (x : Arrival) (v : Option Verdict) (b : Admission) → IsOpen a → Meets a x v b → b ≡ a
 stays a x None b is m = absurd (m.0.0 is)
-stays a x (Some v) b is m = m.1 ∙ open_stays a is x
+stays a x (Some v) b is m = m.1 ∙ open_judged a is x v m.0
 
 pub record All (cases : List Case) : Type 0 where
   pub sent : datagrams (admitted cases) ≡ arrived cases

@@ -1,6 +1,6 @@
 -- Who was judged, and what came of it, one datagram after the other.
-use Rattle.std.proofs.Common.{◌≡◌, ◌⊎◌, ⊎_elim, ℕ, ◌≤◌, ◌+◌, Bool, true, false, List, [], ◌∷◌, ◌++◌, length, Option, Some, None, refl, ap, sym, ◌∙◌, subst, arith, length-append}
-use Rattle.std.specs.List.{filter, filter_map}
+use Rattle.std.proofs.Common.{◌≡◌, ⊎_elim, ℕ, ◌≤◌, ◌+◌, Bool, true, false, List, [], ◌∷◌, ◌++◌, length, Option, Some, None, refl, ap, sym, ◌∙◌, subst, arith, length-append}
+use Rattle.std.specs.List.{filter}
 use Rattle.std.proofs.lemmas.List.{append-nil, map-append}
 use Rattle.std.proofs.lemmas.List.Elements.{filter-append, filter_map-append}
 use Rattle.sip_text.specs.declared.address.Addr.{Addr}
@@ -87,7 +87,10 @@ pub not_refused : (to : Addr) (v : Verdict) → allows v ≡ true → (taken : O
 not_refused to verdict.Allowed is taken failures = (grows_none taken, refl)
 not_refused to verdict.Foreign is taken failures = (grows_none taken, refl)
 not_refused to verdict.Limited is taken failures = (grows_none taken, refl)
+not_refused to (verdict.Large octets) is taken failures = absurd cc
+not_refused to (verdict.Barred user octets) is taken failures = absurd cc
 not_refused to (verdict.Challenge cause octets) is taken failures = absurd cc
+not_refused to (verdict.Guess user octets) is taken failures = absurd cc
 not_refused to (verdict.Forbidden octets) is taken failures = absurd cc
 not_refused to (verdict.Crowded octets) is taken failures = absurd cc
 
@@ -99,7 +102,10 @@ module _ (d : Datagram) (h : Heard) (moment : ℕ) (old new : Option (List Datag
   one_refused (Some verdict.Allowed) is = (false, is.0, is.1)
   one_refused (Some verdict.Foreign) is = (false, is.0, is.1)
   one_refused (Some verdict.Limited) is = (false, is.0, is.1)
+  one_refused (Some (verdict.Large octets)) is = ⊎_elim (λ a. (false, a.0, a.1)) (λ a. (true, a.0, a.1)) is
+  one_refused (Some (verdict.Barred user octets)) is = ⊎_elim (λ a. (false, a.0, a.1)) (λ a. (true, a.0, a.1)) is
   one_refused (Some (verdict.Challenge cause octets)) is = ⊎_elim (λ a. (false, a.0, a.1)) (λ a. (true, a.0, a.1)) is
+  one_refused (Some (verdict.Guess user octets)) is = ⊎_elim (λ a. (false, a.0, a.1)) (λ a. (true, a.0, a.1)) is
   one_refused (Some (verdict.Forbidden octets)) is = ⊎_elim (λ a. (false, a.0, a.1)) (λ a. (true, a.0, a.1)) is
   one_refused (Some (verdict.Crowded octets)) is = ⊎_elim (λ a. (false, a.0, a.1)) (λ a. (true, a.0, a.1)) is
 
@@ -116,6 +122,10 @@ judged_is a earlier d h x v b speaks later octets source reads meets failed = re
   told = record { octets = octets; source = source; moment = refl; reads = reads };
   meets = meets;
 }
+
+pub not_true : (b : Bool) → not b ≡ true → b ≡ false
+not_true true e = absurd cc
+not_true false e = refl
 
 -- ---- what the port is sent of one
 

@@ -5,6 +5,7 @@ pub mod Acts
 pub mod Repeats
 pub mod Rowing
 pub mod Keeping
+pub mod Letting
 pub mod Ran
 pub mod Faults
 pub mod Deafness

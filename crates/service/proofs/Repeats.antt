@@ -1,5 +1,5 @@
 -- What is sent again is of a NOTIFY that was put.
-use Rattle.std.proofs.Common.{◌≡◌, ◌≤◌, ℕ, zero, suc, ◌+◌, Bool, false, List, [], ◌∷◌, ◌++◌, Option, Some, None, refl, ap, sym, ◌∙◌, subst, arith, append_assoc}
+use Rattle.std.proofs.Common.{◌≡◌, ◌≤◌, ℕ, zero, suc, Bool, true, false, List, [], ◌∷◌, ◌++◌, Option, Some, None, refl, ap, sym, ◌∙◌, subst, arith, append_assoc}
 use Rattle.std.specs.Prelude.{option_to_list}
 use Rattle.std.specs.List.{AllByRecursion, cons_option}
 use Rattle.notifier_model.specs.declared.event.Note.{Note as KnownNote}
@@ -11,7 +11,7 @@ use Rattle.transactions.specs.declared.open.Open.{Open}
 use Rattle.transactions.specs.Machine.{State, empty}
 use Rattle.transactions.specs.Runs.{Call, state_after, is_end, earliest, keeping, times}
 use Rattle.transactions.proofs.Histories.{each_repeat}
-use Rattle.service.specs.Sending.{Act, Put, Noted, Repeated, GaveUp, kept_by, call_of, calls, went_out, AreAsked, ends_it, IsOfNotify, EachRepeatIsOfANotify}
+use Rattle.service.specs.Sending.{Act, Put, Held, Released, Noted, Repeated, GaveUp, met, kept_by, call_of, calls, went_out, AreAsked, ends_it, IsOfNotify, EachRepeatIsOfANotify}
 use Rattle.service.proofs.Acts.{state_first}
 
 -- what was asked for behind a part
@@ -60,12 +60,16 @@ found [] [] call since e = absurd cc
 found [] (c ∷ earlier) call since e = absurd cc
 found (act ∷ acts) earlier call since e = found_at act acts (call_of act) refl earlier call since e (λ rest p. found acts rest call since p)
 
--- a NOTIFY that is kept was put
+-- a NOTIFY that is kept was put, or had waited
 put_is : (act : Act) (t : Open) → call_of act ≡ Some (keeping t)
-    → (terminated : Bool) × (note : KnownNote) × (fate : Fate) × (act ≡ Put t.first (out.Notify t.to t.number terminated t.tag note t.bytes) fate)
+    → (terminated : Bool) × (note : KnownNote) × (fate : Fate) × (late : Bool) × (act ≡ met late t.first (out.Notify t.to t.number terminated t.tag note t.bytes) fate)
 put_is (Put now (out.Answer to octets) fate) t e = absurd cc
-put_is (Put now (out.Notify to number terminated tag note octets) fate) t e = (terminated, note, fate, cc)
+put_is (Put now (out.Notify to number terminated tag note octets) fate) t e = (terminated, note, fate, false, cc)
 put_is (Put now (out.Start tag refer_to) fate) t e = absurd cc
+put_is (Held now o) t e = absurd cc
+put_is (Released now (out.Answer to octets) fate) t e = absurd cc
+put_is (Released now (out.Notify to number terminated tag note octets) fate) t e = (terminated, note, fate, true, cc)
+put_is (Released now (out.Start tag refer_to) fate) t e = absurd cc
 put_is (Noted tag number status) t e = absurd cc
 put_is (Repeated now sent fails) t e = absurd cc
 put_is (GaveUp now) t e = absurd cc
@@ -77,6 +81,10 @@ unended tag number [] none = tt
 unended tag number (Put now (out.Answer to octets) fate ∷ acts) none = (refl, unended tag number acts none)
 unended tag number (Put now (out.Notify to n terminated other note octets) fate ∷ acts) none = (refl, unended tag number acts none.1)
 unended tag number (Put now (out.Start other refer_to) fate ∷ acts) none = (refl, unended tag number acts none)
+unended tag number (Held now o ∷ acts) none = (refl, unended tag number acts none)
+unended tag number (Released now (out.Answer to octets) fate ∷ acts) none = (refl, unended tag number acts none)
+unended tag number (Released now (out.Notify to n terminated other note octets) fate ∷ acts) none = (refl, unended tag number acts none.1)
+unended tag number (Released now (out.Start other refer_to) fate ∷ acts) none = (refl, unended tag number acts none)
 unended tag number (Noted other n status ∷ acts) none = (none.0, unended tag number acts none.1)
 unended tag number (Repeated now sent fails ∷ acts) none = (refl, unended tag number acts none.1)
 unended tag number (GaveUp now ∷ acts) none = (refl, unended tag number acts none.1)
@@ -97,7 +105,7 @@ each_put limit before after now sent fails asked =
     let order = each_repeat limit (calls before) now t here.0.1 in
     let f = found before order.earlier (keeping t) order.since order.split in
     let put = put_is f.act t f.is in
-    let P : Datagram → Type 0 = λ d. before ≡ f.before ++ Put t.first (out.Notify d.peer t.number put.0 t.tag put.1 d.octets) put.2 ∷ f.after in
+    let P : Datagram → Type 0 = λ d. before ≡ f.before ++ met put.3 t.first (out.Notify d.peer t.number put.0 t.tag put.1 d.octets) put.2 ∷ f.after in
     let C : List Call → Type 0 = λ l. AllByRecursion (λ call. is_end t.tag t.number call ≡ false) l in
     let long = half_a_second (times t.tag t.number order.since (state_after (order.earlier ++ keeping t ∷ []) (empty limit))) in
     let waited = order.waited in record {
@@ -109,7 +117,8 @@ each_put limit before after now sent fails asked =
       terminated = put.0;
       note = put.1;
       fate = put.2;
-      split = subst P (sym here.0.2) (f.split ∙ ap (λ act. f.before ++ act ∷ f.after) put.3);
+      had_waited = put.3;
+      split = subst P (sym here.0.2) (f.split ∙ ap (λ act. f.before ++ act ∷ f.after) put.4);
       unanswered = unended t.tag t.number f.after (subst C (sym f.rest) order.unanswered);
       waited = omega (arith, long, waited);
       in_time = order.in_time;

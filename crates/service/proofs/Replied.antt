@@ -12,7 +12,8 @@ use Rattle.admission.specs.declared.judging.Reading.TheVariants as reading
 use Rattle.admission.specs.declared.judging.Verdict.{Verdict}
 use Rattle.admission.specs.declared.judging.Verdict.TheVariants as verdict
 use Rattle.admission.specs.declared.table.Rates.{Rates}
-use Rattle.admission.specs.Verdicts.{has_none, is_one_of, hears, is_counted, counting, lets_one, lets, with_rates, behind, asked, newcomer, is_full, one_more, after}
+use Rattle.admission.specs.Verdicts.{has_none, is_one_of, hears, is_counted, counting, lets_one, lets, with_rates, behind, asked, oversized, too_large, newcomer, is_full, one_more, after, half_noted}
+use Rattle.admission.proofs.Concluding.{noted_networks}
 use Rattle.service.specs.Admitted.{Case, IsRead, Meets, IsJudged, AreJudged, is_allowed, IsSentOn, EachAnswerIsSentOn}
 
 -- ---- one answer
@@ -33,16 +34,24 @@ answer_none a x is = ap (λ (y : Reading). if is_full a x.live then newcomer y e
 unasked : (x : Arrival) (r : Request) → x.reading ≡ reading.Response → asked x.reading ≡ Some r → ⊥
 unasked x r is asks = let none : None ≡ Some r = sym (ap (λ (y : Reading). asked y) is) ∙ asks in cc
 
+-- nor is it too large
+answer_small : (a : Admission) (x : Arrival) → x.reading ≡ reading.Response → too_large a x ≡ None
+answer_small a x is = ap (λ (y : Reading). oversized a.max_texts (asked y)) is
+
 answer_allowed : (a : Admission) (x : Arrival) (v : Option Verdict) (b : Admission) → x.reading ≡ reading.Response → hears a x.source.ip ≡ true → Meets a x v b
     → is_allowed v ≡ true
 answer_allowed a x None b is near m = absurd (m.0.2 is)
 answer_allowed a x (Some verdict.Allowed) b is near m = refl
 answer_allowed a x (Some verdict.Foreign) b is near m = absurd (true≢false (sym near ∙ m.0))
 answer_allowed a x (Some verdict.Limited) b is near m = absurd (true≢false (sym (answer_lets a x is) ∙ m.0.1))
-answer_allowed a x (Some (verdict.Challenge c octets)) b is near m = absurd (unasked x m.0.1.request is m.0.1.asked.1)
-answer_allowed a x (Some (verdict.Forbidden octets)) b is near m = absurd (unasked x m.0.1.request is m.0.1.asked.1)
+answer_allowed a x (Some (verdict.Large octets)) b is near m =
+    let none : None ≡ Some m.0.2.0 = sym (answer_small a x is) ∙ m.0.2.1 in absurd (cc)
+answer_allowed a x (Some (verdict.Barred user octets)) b is near m = absurd (unasked x m.0.1.request is m.0.1.asked.1)
+answer_allowed a x (Some (verdict.Challenge c octets)) b is near m = absurd (unasked x m.0.2.request is m.0.2.asked.1)
+answer_allowed a x (Some (verdict.Guess user octets)) b is near m = absurd (unasked x m.0.2.request is m.0.2.asked.1)
+answer_allowed a x (Some (verdict.Forbidden octets)) b is near m = absurd (unasked x m.0.2.request is m.0.2.asked.1)
 answer_allowed a x (Some (verdict.Crowded octets)) b is near m =
-    let none : None ≡ Some m.0.2.0 = sym (answer_none a x is) ∙ m.0.2.1 in absurd (cc)
+    let none : None ≡ Some m.0.3.0 = sym (answer_none a x is) ∙ m.0.3.1 in absurd (cc)
 
 -- ---- the networks stay
 
@@ -58,8 +67,11 @@ networks_after a x =
 networks_next : (a : Admission) (x : Arrival) (v : Option Verdict) (b : Admission) → Meets a x v b → b.networks ≡ a.networks
 networks_next a x None b m =
     let P : Admission → Type 0 = λ d. d.networks ≡ a.networks in
-    ⊎_elim (λ (e : b ≡ a). subst P (sym e) refl) (λ (e : b ≡ after a x). subst P (sym e) (networks_after a x)) m.1
-networks_next a x (Some v) b m = let P : Admission → Type 0 = λ d. d.networks ≡ a.networks in subst P (sym m.1) (networks_after a x)
+    ⊎_elim (λ (e : b ≡ a). subst P (sym e) refl) (λ more. ⊎_elim (λ (e : b ≡ after a x). subst P (sym e) (networks_after a x))
+    (λ (e : b ≡ half_noted (after a x) x). subst P (sym e) (networks_after a x)) more) m.1
+networks_next a x (Some v) b m =
+    let P : Admission → Type 0 = λ d. d.networks ≡ a.networks in
+    subst P (sym m.1) (noted_networks (after a x) x v ∙ networks_after a x)
 
 hears_alike : (a b : Admission) (ip : List ℕ) → b.networks ≡ a.networks → hears b ip ≡ hears a ip
 hears_alike a b ip same = ap (λ n. has_none n.items || is_one_of n.items ip) same

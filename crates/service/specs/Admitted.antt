@@ -25,7 +25,7 @@ use Rattle.admission.specs.declared.judging.Reading.TheVariants as reading
 use Rattle.admission.specs.declared.judging.Verdict.{Verdict}
 use Rattle.admission.specs.declared.judging.Verdict.TheVariants as verdict
 use Rattle.admission.specs.Inquiries.{IsAdmitted}
-use Rattle.admission.specs.Verdicts.{IsOpen, hears, is_asked, Judges, after}
+use Rattle.admission.specs.Verdicts.{IsOpen, hears, is_asked, Judges, judged, IsHalfway}
 use Rattle.service.specs.Served.{is_gone as worker_gone, AreServed}
 
 -- a datagram, what it says, when it was judged, and the verdict: none where memory was wanting. Did the wire fail at the refusal of it?
@@ -51,7 +51,7 @@ IsEvent (event.Progress p) x = x ≡ reading.Unread
 IsEvent (event.Tick n) x = x ≡ reading.Unread
 IsEvent event.Shut x = x ≡ reading.Unread
 
--- this is what was read: a request, a response, or nothing
+-- this is what was read: a request, a response, or nothing, as of a datagram whose source isn't heard
 abbrev pub IsRead : Heard → Reading → Type 0
 IsRead (heard.Event e) x = IsEvent e x
 IsRead heard.Unread x = x ≡ reading.Unread
@@ -72,8 +72,8 @@ MayWant a x = (IsOpen a → ⊥) × (hears a x.source.ip ≡ true) × (x.reading
 
 -- it is the definition's, and only tokens change. None is found where memory is wanting
 abbrev pub Meets : Admission → Arrival → Option Verdict → Admission → Type 0
-Meets a x (Some v) b = Judges a x v × (b ≡ after a x)
-Meets a x None b = MayWant a x × ((b ≡ a) ⊎ (b ≡ after a x))
+Meets a x (Some v) b = Judges a x v × (b ≡ judged a x v)
+Meets a x None b = MayWant a x × IsHalfway a x b
 
 pub record IsJudged (a : Admission) (earlier : ℕ) (c : Case) (b : Admission) : Type 0 where
   pub speaks : SipSays c.came.peer c.came.octets c.says
@@ -96,7 +96,10 @@ abbrev pub allows : Verdict → Bool
 allows verdict.Allowed = true
 allows verdict.Foreign = false
 allows verdict.Limited = false
+allows (verdict.Large octets) = false
+allows (verdict.Barred user octets) = false
 allows (verdict.Challenge cause octets) = false
+allows (verdict.Guess user octets) = false
 allows (verdict.Forbidden octets) = false
 allows (verdict.Crowded octets) = false
 
@@ -133,11 +136,14 @@ abbrev pub refusal : Verdict → Option (List ℕ)
 refusal verdict.Allowed = None
 refusal verdict.Foreign = None
 refusal verdict.Limited = None
+refusal (verdict.Large octets) = Some octets
+refusal (verdict.Barred user octets) = Some octets
 refusal (verdict.Challenge cause octets) = Some octets
+refusal (verdict.Guess user octets) = Some octets
 refusal (verdict.Forbidden octets) = Some octets
 refusal (verdict.Crowded octets) = Some octets
 
--- the 401, the 403 or the 503 that the verdict is
+-- the 401, the 403, the 413 or the 503 that the verdict is
 abbrev pub refusal_in : Option Verdict → Option (List ℕ)
 refusal_in None = None
 refusal_in (Some v) = refusal v

@@ -1,5 +1,6 @@
--- What the thread that sends does: it sends, writes or fails at each out that the workers post, takes notes of answers to NOTIFYs,
--- and sends a NOTIFY again whose time has come, or gives it up (RFC 3261 section 17.1.2). Moments are milliseconds.
+-- What the thread that sends does: it sends, writes or fails at each out that the workers post, or holds a NOTIFY back, takes notes of
+-- answers to NOTIFYs, sends what waited for them, and sends a NOTIFY again whose time has come, or gives it up (RFC 3261 section 17.1.2).
+-- Moments are milliseconds.
 use Rattle.std.specs.Prelude.{◌≡◌, ◌<◌, ◌≤◌, ◌+◌, ℕ, Bool, true, false, not, List, [], ◌∷◌, ◌++◌, length, map, Option, Some, None, option_map, option_to_list, if◌then◌else◌}
 use Rattle.std.specs.List.{filter, filter_map, AllByRecursion}
 use Rattle.queues.specs.declared.items.Item.{Item}
@@ -13,6 +14,7 @@ use Rattle.transport.specs.declared.datagram.Datagram.{Datagram}
 use Rattle.transport.specs.Wires.{datagram, Grows}
 use Rattle.feeds.specs.declared.sending.Fate.{Fate}
 use Rattle.feeds.specs.declared.sending.Fate.TheVariants.{Sent}
+use Rattle.feeds.specs.declared.sending.Fate.TheVariants as became
 use Rattle.feeds.specs.declared.sending.EmitReport.{EmitReport}
 use Rattle.feeds.specs.Emitted.{Fates, WireSeen, WriterSeen, wire_seen, writer_seen, AreMet, datagram_sent, sent_datagrams, fails_to_send}
 use Rattle.service.specs.declared.outs.Exit.{Exit}
@@ -25,6 +27,10 @@ use Rattle.transactions.specs.Runs.{Call, Keep, Answer, Turn, state_after, repea
 pub data Act : Type 0 where
   -- at this moment this became of an out
   Put : (now : ℕ) (o : Out) (fate : Fate) → Act
+  -- at this moment it took an out and did not send it: it waits for the answer to another NOTIFY, or is dropped
+  Held : (now : ℕ) (o : Out) → Act
+  -- at this moment this became of one that had waited
+  Released : (now : ℕ) (o : Out) (fate : Fate) → Act
   -- it took the note of this answer to a NOTIFY
   Noted : (tag : List ℕ) (number status : ℕ) → Act
   -- at this moment it sent this again, or the wire failed at it
@@ -36,11 +42,13 @@ pub data Act : Type 0 where
 
 abbrev pub fate_of : Act → Option (Out × Fate)
 fate_of (Put now o fate) = Some (o, fate)
+fate_of (Held now o) = Some (o, became.Held)
+fate_of (Released now o fate) = None
 fate_of (Noted tag number status) = None
 fate_of (Repeated now sent fails) = None
 fate_of (GaveUp now) = None
 
--- what became of the outs
+-- what became of the outs when they were taken
 abbrev pub fates : List Act → Fates
 fates acts = filter_map fate_of acts
 
@@ -48,6 +56,8 @@ fates acts = filter_map fate_of acts
 
 abbrev pub sent_by : Act → Option Datagram
 sent_by (Put now o fate) = datagram_sent o fate
+sent_by (Held now o) = None
+sent_by (Released now o fate) = datagram_sent o fate
 sent_by (Noted tag number status) = None
 sent_by (Repeated now sent fails) = if fails then None else Some sent
 sent_by (GaveUp now) = None
@@ -58,6 +68,8 @@ datagrams acts = filter_map sent_by acts
 
 abbrev pub fails_at : Act → Bool
 fails_at (Put now o fate) = fails_to_send o fate
+fails_at (Held now o) = false
+fails_at (Released now o fate) = fails_to_send o fate
 fails_at (Noted tag number status) = false
 fails_at (Repeated now sent fails) = fails
 fails_at (GaveUp now) = false
@@ -83,12 +95,21 @@ kept_by now o = option_map (keeping now) (notify_of o)
 -- what it is to the open transactions of NOTIFYs
 abbrev pub call_of : Act → Option Call
 call_of (Put now o fate) = kept_by now o
+call_of (Held now o) = None
+call_of (Released now o fate) = kept_by now o
 call_of (Noted tag number status) = Some (Answer tag number status)
 call_of (Repeated now sent fails) = Some (Turn now)
 call_of (GaveUp now) = Some (Turn now)
 
 abbrev pub calls : List Act → List Call
 calls acts = filter_map call_of acts
+
+-- what is done with an out that is taken at this moment and meets this fate
+abbrev pub taking : ℕ → Out → Fate → Act
+taking now o became.Sent = Put now o became.Sent
+taking now o became.Started = Put now o became.Started
+taking now o became.Failed = Put now o became.Failed
+taking now o became.Held = Held now o
 
 -- the open transactions after a NOTIFY was put, or another out
 abbrev pub kept_after : ℕ → Out → State → State
@@ -97,6 +118,8 @@ kept_after now o s = state_after (option_to_list (kept_by now o)) s
 -- the transactions ask for it
 abbrev pub IsAsked : State → Act → Type 0
 IsAsked s (Put now o fate) = Unit {0}
+IsAsked s (Held now o) = Unit {0}
+IsAsked s (Released now o fate) = Unit {0}
 IsAsked s (Noted tag number status) = Unit {0}
 IsAsked s (Repeated now sent fails) = (t : Open) × (repeated s now ≡ Some t) × (sent ≡ datagram t.to t.bytes)
 IsAsked s (GaveUp now) = (t : Open) × (due s now ≡ Some t) × (is_over now t ≡ true)
@@ -148,28 +171,37 @@ pub record IsSentOut (first : State) (workers : ℕ) (acts : List Act) (got got'
   pub met : AreMet workers (fates acts) got got' flow.writer flow.writer' report
   pub does : Does acts first (state_after (calls acts) first) flow.wire flow.wire'
 
--- ---- what is sent but for repeats
+-- ---- what is sent but for repeats, and for what had waited
 
-abbrev pub is_repeat : Act → Bool
-is_repeat (Put now o fate) = false
-is_repeat (Noted tag number status) = false
-is_repeat (Repeated now sent fails) = true
-is_repeat (GaveUp now) = false
+abbrev pub is_late : Act → Bool
+is_late (Put now o fate) = false
+is_late (Held now o) = false
+is_late (Released now o fate) = true
+is_late (Noted tag number status) = false
+is_late (Repeated now sent fails) = true
+is_late (GaveUp now) = false
 
 -- without them just the datagrams of the outs are sent, in order
 abbrev pub WithoutRepeatsLaw : Type 0
-WithoutRepeatsLaw = (acts : List Act) → datagrams (filter (λ act. not (is_repeat act)) acts) ≡ sent_datagrams (fates acts)
+WithoutRepeatsLaw = (acts : List Act) → datagrams (filter (λ act. not (is_late act)) acts) ≡ sent_datagrams (fates acts)
 
 -- ---- what that says of each repeat
 
 -- it is the note of an answer that ends the NOTIFY with this tag and this number
 abbrev pub ends_it : List ℕ → ℕ → Act → Bool
 ends_it tag number (Put now o fate) = false
+ends_it tag number (Held now o) = false
+ends_it tag number (Released now o fate) = false
 ends_it tag number (Noted other n status) = is_end tag number (Answer other n status)
 ends_it tag number (Repeated now sent fails) = false
 ends_it tag number (GaveUp now) = false
 
--- it is the datagram of a NOTIFY that was put before, from 500 milliseconds after that on and before 32 seconds have passed, and
+-- this became of an out at this moment: when it was taken, or after it had waited
+abbrev pub met : Bool → ℕ → Out → Fate → Act
+met false now o fate = Put now o fate
+met true now o fate = Released now o fate
+
+-- it is the datagram of a NOTIFY that was put before, or had waited and was sent then, from 500 milliseconds after that on and before 32 seconds have passed, and
 -- no final answer to it was noted since
 pub record IsOfNotify (before : List Act) (now : ℕ) (sent : Datagram) : Type 0 where
   pub earlier : List Act
@@ -180,7 +212,8 @@ pub record IsOfNotify (before : List Act) (now : ℕ) (sent : Datagram) : Type 0
   pub terminated : Bool
   pub note : KnownNote
   pub fate : Fate
-  pub split : before ≡ earlier ++ Put first (out.Notify sent.peer number terminated tag note sent.octets) fate ∷ since
+  pub had_waited : Bool
+  pub split : before ≡ earlier ++ met had_waited first (out.Notify sent.peer number terminated tag note sent.octets) fate ∷ since
   pub unanswered : AllByRecursion (λ act. ends_it tag number act ≡ false) since
   pub waited : first + 500 ≤ now
   pub in_time : now < first + 32000

@@ -11,7 +11,7 @@ use Rattle.watchers.specs.Notifies.{Known}
 use Rattle.watchers.specs.Rows.{Row, begins, after_notify, without, answered_rows}
 use Rattle.watchers.specs.Pages.{page, page_text}
 use Rattle.service.specs.declared.post.Note.{Note}
-use Rattle.service.specs.Sending.{Act, Put, Noted, Repeated, GaveUp, call_of}
+use Rattle.service.specs.Sending.{Act, Put, Held, Released, Noted, Repeated, GaveUp, call_of}
 
 -- ---- what one act makes of the rows
 
@@ -45,6 +45,8 @@ doubted now (Some t) rows = if is_doubtful now t then without t.tag rows else ro
 -- the act makes these rows of those, where these transactions are open
 abbrev pub IsRowed : State → Act → List Row → List Row → Type 0
 IsRowed s (Put now o fate) rows rows' = IsSeen now o rows rows'
+IsRowed s (Held now o) rows rows' = rows' ≡ rows
+IsRowed s (Released now o fate) rows rows' = IsSeen now o rows rows'
 IsRowed s (Noted tag number status) rows rows' = rows' ≡ answered_rows tag number status rows
 IsRowed s (Repeated now sent fails) rows rows' = rows' ≡ doubted now (due s now) rows
 IsRowed s (GaveUp now) rows rows' = rows' ≡ given_up (due s now) rows

@@ -13,6 +13,7 @@ ghost use Rattle.service.specs.Listening.{IsDeafAsTold};
 ghost use Rattle.service.specs.Served.{is_short};
 ghost use Rattle.transport.specs.declared.datagram.Datagram.{Datagram};
 
+use crate::barred::log_barred;
 use crate::listening::{Came, Listening, ROOM};
 use crate::request_log::log_answer;
 use crate::shared::{Counter, Shared};
@@ -45,9 +46,27 @@ fn count_verdict(shared: &Shared, verdict: &Verdict) {
         Verdict::Allowed => {}
         Verdict::Foreign => shared.count(Counter::Foreign),
         Verdict::Limited => shared.count(Counter::Limited),
+        Verdict::Large(_) => shared.count(Counter::Large),
+        Verdict::Barred(..) => shared.count(Counter::Barred),
         Verdict::Challenge(cause, _) => count_challenge(shared, *cause),
+        Verdict::Guess(..) => count_challenge(shared, ChallengeCause::Wrong),
         Verdict::Forbidden(_) => shared.count(Counter::Forbidden),
         Verdict::Crowded(_) => shared.count(Counter::Crowded),
+    }
+}
+
+/// Says on standard error whose password isn't looked at, and where from: once a minute of each source.
+fn tell_barred<R: Wait + Eprint>(
+    rt: &R,
+    alloc: Global,
+    shared: &Shared,
+    verdict: &Verdict,
+    arrival: Arrival<'_>,
+) {
+    if let Verdict::Barred(user, _) = verdict {
+        if shared.is_barred_anew(rt, arrival.source, arrival.moment) {
+            log_barred(rt, alloc, user, arrival.source);
+        }
     }
 }
 
@@ -63,9 +82,11 @@ fn refusal(verdict: Verdict) -> Option<Octets>
     ensures { result ≡ spec.refusal verdict }
 {
     match verdict {
-        Verdict::Challenge(_, octets) | Verdict::Forbidden(octets) | Verdict::Crowded(octets) => {
-            Some(octets)
-        }
+        Verdict::Barred(_user, octets) | Verdict::Guess(_user, octets) => Some(octets),
+        Verdict::Large(octets)
+        | Verdict::Challenge(_, octets)
+        | Verdict::Forbidden(octets)
+        | Verdict::Crowded(octets) => Some(octets),
         Verdict::Allowed | Verdict::Foreign | Verdict::Limited => None,
     }
 }
@@ -175,6 +196,17 @@ impl<W: Ear> SipDesk<W> {
         is_short
     }
 
+    /// Whether the source of a datagram is of none of the networks. Such a datagram is counted.
+    fn is_foreign(&self, shared: &Shared, source: Addr) -> bool
+        ensures { result ≡ not (hears self.now.admission source.ip) }
+    {
+        let is_near = self.admission.hears(source.ip);
+        if !is_near {
+            shared.count(Counter::Foreign);
+        }
+        !is_near
+    }
+
     /// How many live subscriptions the source of a request outside a dialog has, where it may have so many only. 0 of any other: nobody
     /// asks.
     fn live_from<R: Wait>(
@@ -216,12 +248,14 @@ impl<W: Ear> SipDesk<W> {
             return true;
         }
         count_verdict(shared, &verdict);
+        tell_barred(rt, alloc, shared, &verdict, arrival);
         let refusal = refusal(verdict);
         refuse(rt, &mut self.going, shared, arrival.source, refusal);
         false
     }
 
-    /// Takes a datagram that came at this moment: an event goes to its worker where its source is heard. False where that worker is gone.
+    /// Takes a datagram that came at this moment: an event goes to its worker where its source is heard. One whose source is of none of the
+    /// networks isn't read. False where that worker is gone.
     fn take_one<R: Wait + Eprint>(
         &mut self,
         rt: &R,
@@ -241,6 +275,9 @@ impl<W: Ear> SipDesk<W> {
         ensures longest { self.new.longest ≡ self.old.longest }
         ensures seats { SameSeats port.old port.new }
     {
+        if self.is_foreign(shared, source) {
+            return true;
+        }
         let message = read(alloc, octets);
         match message {
             Err(error) => {
@@ -271,8 +308,9 @@ impl<W: Ear> SipDesk<W> {
     }
 
     /// Sends what SIP datagrams say whose sources are heard, until the service closes, the wire is deaf or a worker is gone. Who isn't
-    /// heard for a reason that may be told gets a refusal (RFC 3261 sections 21.4.2, 21.4.4 and 21.5.4). What can't be read, or is too long, is
-    /// counted and dropped. Of an answer to a NOTIFY a note is put first, for the thread that sends NOTIFYs again. The port isn't closed.
+    /// heard for a reason that may be told gets a refusal (RFC 3261 sections 21.4.2, 21.4.4, 21.4.11 and 21.5.4). What comes from none of the
+    /// networks isn't read. That, what can't be read, and what is too long, is counted and dropped. Of an answer to a NOTIFY a note is put
+    /// first, for the thread that sends NOTIFYs again. The port isn't closed.
     pub fn hear_datagrams<R: Wait + Clock + Eprint>(
         &mut self,
         rt: &R,

@@ -16,11 +16,20 @@ pub(crate) struct Put {
     ghost in_range: { now < 2 ^ 63 },
 }
 
+/// An out that is to be sent or written at this moment.
+#[derive(Drop)]
+pub(crate) struct Timed {
+    pub(crate) now: u64,
+    pub(crate) out: Out,
+    ghost in_range: { now < 2 ^ 63 },
+}
+
 /// What an out counts as.
 fn counter(out: &Out, fate: Fate) -> Counter {
     match fate {
         Fate::Failed => Counter::Failed,
         Fate::Started => Counter::Start,
+        Fate::Held => Counter::Held,
         Fate::Sent => match out {
             Out::Notify { .. } => Counter::Notify,
             Out::Answer { .. } | Out::Start { .. } => Counter::Answer,

@@ -1,12 +1,15 @@
 //! The journal of a service: what each worker handled is written before anything of it is sent, and a line before it is answered `ok`.
 //!
+//! A worker hands over the record of an event before it posts what comes of it. The thread that sends writes all records that wait, at once,
+//! before it sends what it took: so many events that come together cost one write.
+//!
 //! So a service that is killed goes on where it was: who reads the journal plays the events again. What is written is in the system's
 //! hands then, which outlives the process. What it brings to the disk, and when, is said by [`Upkeep::sync`].
 
 use crate::shelf::{Chore, Limits, Loss, Shelf};
 use crate::volume::Volume;
 use journal::Header;
-use keeper::Keeper;
+use keeper::{Keeper, MadeBook, Unkept};
 use notifier_model::Event;
 use package::MailChange;
 use sip_text::{NoMemory, Text};
@@ -33,6 +36,8 @@ pub struct Upkeep {
     pub limit: u64,
     /// For how many seconds a file is the current one at least: [`SETTLED`], and fewer where one tries what happens between two files.
     pub age: u64,
+    /// For how many seconds the file in which a service goes on was the current one before. 0: it is new.
+    pub been: u64,
     /// Every how many seconds the system brings to the disk what was written. None: when it likes.
     pub sync: Option<u32>,
 }
@@ -48,6 +53,8 @@ pub struct Journal {
     wanted: Vec<AtomicBool>,
     /// How many bytes the current file has.
     bytes: AtomicU64,
+    /// Whether records wait to be written.
+    waits: AtomicBool,
     /// The number of the system's error at the last record that wasn't written, or NO_ERROR.
     error: AtomicU32,
     /// The second of the last sync.
@@ -75,13 +82,15 @@ impl Journal {
     ) -> Result<Journal, NoMemory> {
         let wanted = no_books(alloc, header.workers)?;
         let bytes = AtomicU64::new(current.length());
+        let shelf = Shelf::new(keeper, current, upkeep.been);
         Ok(Journal {
             alloc,
             header,
             upkeep,
-            shelf: Mutex::new(Shelf::new(keeper, current)),
+            shelf: Mutex::new(shelf),
             wanted,
             bytes,
+            waits: AtomicBool::new(false),
             error: AtomicU32::new(NO_ERROR),
             synced: AtomicU64::new(0),
         })
@@ -107,38 +116,44 @@ impl Journal {
         }
     }
 
-    /// Notes what came of a record. Tells whether it is written.
-    fn note(&self, shelf: &Shelf, written: Result<(), Loss>) -> bool {
+    /// Notes how the files stand. How many records were not written since the last time.
+    fn note(&self, shelf: &mut Shelf) -> u64 {
         self.bytes.store(shelf.current().length(), Ordering::SeqCst);
-        match written {
-            Ok(()) => true,
-            Err(Loss::Refused(number)) => {
-                self.note_error(number);
-                false
-            }
-            Err(Loss::Behind | Loss::Unmade) => false,
+        self.note_error(shelf.refusal());
+        shelf.take_lost()
+    }
+
+    /// A worker handled an event, and nothing of it was posted yet: its record waits to be written. How many records are lost.
+    pub(crate) fn handled<R: Wait>(&self, rt: &R, worker: u32, event: &Event) -> u64 {
+        let mut shelf = self.shelf.lock(rt);
+        let _ = shelf.handled(worker, event);
+        self.waits.store(true, Ordering::SeqCst);
+        self.note(&mut shelf)
+    }
+
+    /// Writes the records that wait: what the workers posted may be sent behind that. How many are lost.
+    pub(crate) fn flush<R: Wait>(&self, rt: &R) -> u64 {
+        if !self.waits.load(Ordering::SeqCst) {
+            return 0;
         }
+        let mut shelf = self.shelf.lock(rt);
+        self.waits.store(false, Ordering::SeqCst);
+        let _ = shelf.flush();
+        self.note(&mut shelf)
     }
 
-    /// A worker handled an event, and nothing of it was posted yet. Tells whether that is written.
-    pub(crate) fn handled<R: Wait>(&self, rt: &R, worker: u32, event: &Event) -> bool {
+    /// A control line that changes a mailbox of this worker is about to be answered `ok`: that is written. How many records are lost.
+    pub(crate) fn answered<R: Wait>(&self, rt: &R, worker: u32, change: &MailChange) -> u64 {
         let mut shelf = self.shelf.lock(rt);
-        let written = shelf.handled(worker, event);
-        self.note(&shelf, written)
+        let _ = shelf.answered(worker, change);
+        self.note(&mut shelf)
     }
 
-    /// A control line that changes a mailbox of this worker is about to be answered `ok`. Tells whether that is written.
-    pub(crate) fn answered<R: Wait>(&self, rt: &R, worker: u32, change: &MailChange) -> bool {
+    /// A control line is about to be answered `ok` that is unknown for want of memory. Nothing more is written then. How many records are lost.
+    pub(crate) fn lose_count<R: Wait>(&self, rt: &R) -> u64 {
         let mut shelf = self.shelf.lock(rt);
-        let written = shelf.answered(worker, change);
-        self.note(&shelf, written)
-    }
-
-    /// A control line is about to be answered `ok` that is unknown for want of memory. Nothing more is written then.
-    pub(crate) fn lose_count<R: Wait>(&self, rt: &R) {
-        let mut shelf = self.shelf.lock(rt);
-        let written = shelf.lose_count();
-        self.note(&shelf, written);
+        let _ = shelf.lose_count();
+        self.note(&mut shelf)
     }
 
     /// Whether the book of this worker is wanted. It is asked behind each event, so it takes no lock.
@@ -149,14 +164,32 @@ impl Journal {
         }
     }
 
-    /// The book of this worker after all that it handled.
-    pub(crate) fn book<R: Wait>(&self, rt: &R, worker: u32, written: &[u8]) {
+    /// The record of this worker's book, where the next file waits for it.
+    fn made_book<R: Wait>(
+        &self,
+        rt: &R,
+        worker: u32,
+        written: &[u8],
+    ) -> Option<Result<MadeBook, Unkept>> {
+        let told = self.shelf.lock(rt).told(worker)?;
+        match told {
+            Ok(told) => Some(MadeBook::new(self.alloc, worker, told, written)),
+            Err(error) => Some(Err(error)),
+        }
+    }
+
+    /// The book of this worker after all that it handled. How many records are lost. All workers wait for the shelf, and a book is long: so its
+    /// record is made between two locks. Nobody but the worker, who waits here, has it told anything meanwhile.
+    pub(crate) fn book<R: Wait>(&self, rt: &R, worker: u32, written: &[u8]) -> u64 {
         if let Some(wanted) = self.wanted.get(worker as usize) {
             wanted.store(false, Ordering::SeqCst);
         }
+        let Some(made) = self.made_book(rt, worker, written) else {
+            return 0;
+        };
         let mut shelf = self.shelf.lock(rt);
-        shelf.book(worker, written);
-        self.note(&shelf, Ok(()));
+        shelf.book(worker, made);
+        self.note(&mut shelf)
     }
 
     /// Opens the file with this number, in place of one that was begun and not kept.

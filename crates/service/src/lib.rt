@@ -25,6 +25,7 @@
 //! `specs/Admitted`, `specs/Taken` and `specs/Running`.
 #![tactic(auto)]
 
+mod barred;
 mod begins;
 mod clock;
 mod complaints;

@@ -1,13 +1,18 @@
 //! What the workers post, sent out, and each NOTIFY again that nobody answers.
-ghost use Rattle.std.specs.Prelude.{◌≡◌, ◌⊎◌, List, [], true};
+ghost use Rattle.std.specs.Prelude.{◌≡◌, ◌⊎◌, List, [], ◌∷◌, ◌++◌, true, false};
+ghost use Rattle.transport.specs.Devices.{rises};
+ghost use Rattle.transactions.specs.Machine.{State};
+ghost use Rattle.watchers.specs.Rows.{Row};
 ghost use Rattle.queues.specs.Ended.{AllEnded};
 ghost use Rattle.transport.specs.Wires.{Grows};
 ghost use Rattle.feeds.specs.declared.sending.EmitReport.{EmitReport};
 ghost use Rattle.feeds.specs.Emitted as spec;
-ghost use Rattle.service.specs.Sending.{Act, IsSentOut, fates, outflow};
+ghost use Rattle.feeds.specs.Emitted.{MayMeet, Writes, sent_datagrams, fails_to_send, is_start};
+ghost use Rattle.service.specs.Keeping.{AreKept};
+ghost use Rattle.service.specs.Sending.{Act, IsSentOut, fates, outflow, taking};
 ghost use Rattle.service.specs.Watched.{AreRowed};
 
-use crate::fates::Put;
+use crate::fates::{Put, Timed};
 use crate::sending::{Waiting, Watch};
 use crate::shared::{Counter, Shared};
 use crew::Gate;
@@ -42,7 +47,7 @@ fn note_error<W: Wire>(shared: &Shared, wire: &W, out: &Out, fate: Fate) {
     }
 }
 
-/// Writes the journal of what workers handle, wakes the thread that sends when one posts, and closes the service where one runs out of memory:
+/// Hands over to the journal what workers handle, wakes the thread that sends when one posts, and closes the service where one runs out of memory:
 /// what is sent to that worker nobody would handle any more.
 #[derive(Drop)]
 pub(crate) struct Waker {
@@ -68,7 +73,7 @@ impl Gate for Waker {
     fn pass(&self, _worker: u32, _index: u64) {}
 
     fn handled<R: Wait>(&self, rt: &R, worker: u32, event: &Event, _outs: &[Out]) {
-        self.shared.write_handled(rt, worker, event);
+        self.shared.note_handled(rt, worker, event);
     }
 
     fn posted(&self, _worker: u32) {
@@ -126,8 +131,40 @@ impl Outgoing {
     }
 }
 
+/// Sends or writes an out that was taken, unless it is a NOTIFY that waits. What became of it.
+fn send_on<R: Wait + Eprint, W: Wire, F: Write>(
+    rt: &R,
+    exit: &mut Exit<W, F>,
+    waiting: &mut Waiting,
+    timed: Timed,
+    shared: &Shared,
+) -> Fate
+    ensures fate { MayMeet timed.out result }
+    ensures taken { Grows (W.taken exit.old.wire) (W.taken exit.new.wire) (sent_datagrams ((timed.out, result) ∷ [])) }
+    ensures wire_failures { W.failures exit.new.wire
+        ≡ rises (spec.count fails_to_send ((timed.out, result) ∷ [])) (W.failures exit.old.wire) }
+    ensures given { Grows (W.given exit.old.wire) (W.given exit.new.wire) [] }
+    ensures failures { exit.new.sink.failures
+        ≡ rises (spec.count spec.fails_to_start ((timed.out, result) ∷ [])) exit.old.sink.failures }
+    ensures writes { Writes (F.contents exit.old.sink.writer) (F.contents exit.new.sink.writer) timed.out result }
+    ensures flushed { result ≡ Fate.Started → exit.new.sink.is_flushed ≡ true }
+    ensures stays { is_start timed.out ≡ false → exit.new.sink ≡ exit.old.sink }
+    ensures kept { (s : State) (rows : List Row) (acts : List Act) → AreKept s rows acts waiting.old
+        → AreKept s rows (acts ++ taking timed.now timed.out result ∷ []) waiting.new }
+{
+    let Timed { now, out } = timed;
+    let Some(out) = waiting.let_through(rt, out, shared) else {
+        return Fate::Held;
+    };
+    let fate = put_out(rt, &mut exit.wire, &mut exit.sink, &out);
+    note_error(shared, &exit.wire, &out, fate);
+    waiting.put(rt, Put { now, out, fate }, shared);
+    fate
+}
+
 /// Sends out what the workers post, in the order in which it is taken, until each has ended: answers and NOTIFYs by the wire,
-/// and a line for each transfer that starts. What fails is counted, and the rest goes on. Between them it takes notes of answers, and
+/// and a line for each transfer that starts. What fails is counted, and the rest goes on. A NOTIFY to an address that has not answered one
+/// of its dialog waits behind the first one. Between them it takes notes of answers, and sends what waited for them, and
 /// sends a NOTIFY again whose time has come; where all workers have ended it waits a while for the answers to the last ones. No
 /// worker's end mark was taken yet.
 pub(crate) fn send_outs<R: Wait + Clock + Files<File = File> + Eprint, W: Wire, F: Write>(
@@ -139,8 +176,8 @@ pub(crate) fn send_outs<R: Wait + Clock + Files<File = File> + Eprint, W: Wire, 
     requires workers { outgoing.old.workers ≡ outgoing.old.taker.workers }
     requires none { outgoing.old.taker.got ≡ [] }
     requires none_put { outgoing.old.waiting.burst.items ≡ [] }
-    // Each out that was taken is sent, written or failed, in order, and nothing else is sent or written but NOTIFYs again, as
-    // their transactions ask for it. Where the writer never failed, what it took is flushed. The rows of live subscriptions are what
+    // Each out that was taken is sent, written, failed or held back, in order, and nothing else is sent or written but what was held
+    // back, and NOTIFYs again, as their transactions ask for it. Where the writer never failed, what it took is flushed. The rows of live subscriptions are what
     // was sent and noted makes of them.
     ensures sent { (acts : List Act) × (report : EmitReport)
         × IsSentOut outgoing.old.waiting.transactions outgoing.old.taker.workers acts outgoing.old.taker.got outgoing.new.taker.got
@@ -160,6 +197,7 @@ pub(crate) fn send_outs<R: Wait + Clock + Files<File = File> + Eprint, W: Wire, 
             outgoing.waiting.settle(rt, shared);
             outgoing.waiting.given_up.tell_others(rt);
             shared.count_lost(outgoing.waiting.len());
+            shared.write_journal(rt);
             return;
         }
         let has_more = outgoing
@@ -167,10 +205,9 @@ pub(crate) fn send_outs<R: Wait + Clock + Files<File = File> + Eprint, W: Wire, 
             .tend(rt, &mut exit.wire, &mut watch, shared);
         match next_out(rt, &mut outgoing.taker, &mut left) {
             Next::Out(out) => {
-                let fate = put_out(rt, &mut exit.wire, &mut exit.sink, &out);
-                note_error(shared, &exit.wire, &out, fate);
+                shared.write_journal(rt);
                 let now = watch.now();
-                outgoing.waiting.put(rt, Put { now, out, fate }, shared);
+                send_on(rt, exit, &mut outgoing.waiting, Timed { now, out }, shared);
                 watch.count_out();
             }
             Next::Ended => shared.count(Counter::WorkerEnded),

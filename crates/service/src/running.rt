@@ -25,6 +25,7 @@ use crate::sending::Waiting;
 use crate::shared::Shared;
 use crew::{Crew, Port, Report};
 use feeds::FeedEnd;
+use first_contact::Contacts;
 use notifier::Desk;
 use notifier_model::Setup;
 use package::Package;
@@ -362,8 +363,9 @@ fn new_waiting(
     ensures none_put { IfOk result (λ w. w.burst.items ≡ []) }
 {
     let transactions = Transactions::new(alloc, repeats)?;
+    let contacts = Contacts::new(alloc, rows.saturating_add(repeats), repeats);
     let rows = Watchers::new(alloc, rows);
-    Waiting::new(alloc, transactions, rows, repeats, per_source)
+    Waiting::new(alloc, transactions, rows, contacts, per_source)
 }
 
 /// What the ports of a service with so many workers are fed from, which goes on from this second. It took no line yet, and hears none

@@ -1,26 +1,30 @@
 //! The NOTIFYs that nobody has answered yet, sent again (RFC 3261 section 17.1.2).
-ghost use Rattle.std.specs.Prelude.{◌≡◌, ◌<◌, ◌^◌, List, [], ◌∷◌, ◌++◌, map, true, IfOk};
+ghost use Rattle.std.specs.Prelude.{◌≡◌, ◌<◌, ◌^◌, ℕ, List, [], ◌∷◌, ◌++◌, map, true, is_some, IfOk, IfSome, IfNone, OnSome};
 ghost use Rattle.service.specs.Watched.{IsSeen, AreRowed, noted_rows};
 ghost use Rattle.service.specs.Watched.{is_doubtful as doubtful};
 ghost use Rattle.watchers.specs.Rows.{without};
 ghost use Rattle.transport.specs.Wires.{Grows};
-ghost use Rattle.feeds.specs.Emitted.{wire_seen};
+ghost use Rattle.transport.specs.Devices.{rises};
+ghost use Rattle.feeds.specs.Emitted.{wire_seen, sent_datagrams, count, fails_to_send};
+ghost use Rattle.first_contact.specs.Steps.{notice_of};
 ghost use Rattle.transactions.specs.Machine.{State};
-ghost use Rattle.transactions.specs.Runs.{state_after};
-ghost use Rattle.watchers.specs.Rows.{Row};
+ghost use Rattle.transactions.specs.Runs.{after, state_after};
+ghost use Rattle.watchers.specs.Rows.{Row, answered_rows};
 ghost use Rattle.service.specs.Keeping.{act_of, AreKept, GoesOnBy};
-ghost use Rattle.service.specs.Sending.{Act, Does, fates, kept_after, sent_again};
+ghost use Rattle.service.specs.Sending.{Act, Held, Does, fates, kept_after, sent_again};
+ghost use Rattle.service.specs.Sending as act;
 ghost use Rattle.service.specs.Taken.{failures_then};
 ghost use Rattle.service.specs.Noted.{answer_of};
 ghost use Rattle.service.specs.declared.post.Note.{Note};
 
-use crate::fates::{Put, tell_fate};
+use crate::fates::{Put, Timed, tell_fate};
 use crate::given_up::GivenUp;
 use crate::post::Note;
 use crate::request_log::{Unanswered, log_unanswered};
 use crate::shared::{Counter, LAST_MOMENT, Shared};
 use circular_buffer::HeapCircularBuffer;
-use feeds::Idle;
+use feeds::{Fate, Idle};
+use first_contact::{Contacts, Notice, Offered};
 use notifier_model::{NotifyOut, Out};
 use sip_text::NoMemory;
 use std::alloc::Global;
@@ -44,6 +48,9 @@ const DOUBT: u64 = 31_000;
 /// How many NOTIFYs are sent again within a millisecond at most: so the answers to many of them don't overflow the buffer of the
 /// socket by which they come, and what the workers post never waits behind them.
 const PACE: u32 = 8;
+
+/// Where this thread comes late, what it didn't send again meanwhile is sent again at once: that of so many milliseconds at most.
+const CATCH_UP: u64 = 8;
 
 /// How many outs that follow one another are sent between two looks at the clock.
 const OUTS_A_LOOK: u32 = 16;
@@ -137,8 +144,9 @@ impl Watch {
                     shared.look_at_drops(rt);
                     shared.look_at_journal(rt, moment / SECOND);
                 }
+                let passed = moment.saturating_sub(self.moment).min(CATCH_UP);
+                self.repeats = PACE.saturating_mul(passed as u32);
                 self.moment = moment;
-                self.repeats = PACE;
             }
             Some(_) => {}
             None => self.until = Some(0),
@@ -226,10 +234,56 @@ fn end_row(watchers: &mut Watchers, tag: &str) -> Option<u32>
     source
 }
 
+/// Sends a NOTIFY that waited. What became of it.
+fn send_late<R: Wait, W: Wire>(rt: &R, wire: &mut W, out: &Out, shared: &Shared) -> Fate
+    ensures taken { Grows (W.taken wire.old) (W.taken wire.new) (sent_datagrams ((out.now, result) ∷ [])) }
+    ensures failures { W.failures wire.new ≡ rises (count fails_to_send ((out.now, result) ∷ [])) (W.failures wire.old) }
+    ensures given { Grows (W.given wire.old) (W.given wire.new) [] }
+{
+    match out {
+        Out::Notify { to, bytes, .. } | Out::Answer { to, bytes } => {
+            match wire.send(rt, *to, bytes.as_slice()) {
+                Ok(()) => Fate::Sent,
+                Err(_) => {
+                    shared.note_send_error(wire.send_error());
+                    Fate::Failed
+                }
+            }
+        }
+        // No START waits.
+        Out::Start { .. } => Fate::Failed,
+    }
+}
+
+/// What waited for the answer to a NOTIFY that is given up is dropped.
+fn drop_held(contacts: &mut Contacts, due: &Open, shared: &Shared) {
+    let lost = contacts.give_up(due.tag.as_str(), due.number);
+    shared.count_held_dropped(lost);
+}
+
+/// What became of the notes that were taken.
+#[derive(Drop)]
+struct Taken {
+    /// Whether more notes may wait.
+    has_more: bool,
+    /// The NOTIFYs that waited for the last one of them, in order.
+    through: Vec<Notice>,
+}
+
+/// NOTIFYs that waited until this moment, in order.
+#[derive(Drop)]
+struct Late {
+    now: u64,
+    through: Vec<Notice>,
+}
+
 /// The NOTIFYs that wait for their answers, and the subscriptions of which they tell.
 #[derive(Drop)]
 pub(crate) struct Waiting {
+    alloc: Global,
     pub(crate) transactions: Transactions,
+    /// Which addresses have answered, and the NOTIFYs that wait for that.
+    pub(crate) contacts: Contacts,
     pub(crate) watchers: Watchers,
     /// The last outs, which are still to be kept.
     pub(crate) burst: HeapCircularBuffer<Put>,
@@ -241,13 +295,13 @@ pub(crate) struct Waiting {
 }
 
 impl Waiting {
-    /// None, with room for so many. Where there is room for none each NOTIFY is sent once. Where each source may have so many subscriptions
-    /// only, it is told how many it has.
+    /// None, with the room of the contacts. Where there is room for none each NOTIFY is sent once. Where each source may have so many
+    /// subscriptions only, it is told how many it has.
     pub(crate) fn new(
         alloc: Global,
         transactions: Transactions,
         watchers: Watchers,
-        room: u32,
+        contacts: Contacts,
         per_source: Option<u32>,
     ) -> Result<Waiting, NoMemory>
         ensures transactions { IfOk result (λ w. w.transactions ≡ transactions) }
@@ -255,18 +309,74 @@ impl Waiting {
     {
         let burst = HeapCircularBuffer::with_capacity(alloc, OUTS_AT_ONCE as usize)?;
         Ok(Waiting {
+            alloc,
             transactions,
             watchers,
             burst,
-            is_off: room == 0,
+            is_off: contacts.places() == 0,
+            contacts,
             counts_sources: per_source.is_some(),
             given_up: GivenUp::new(),
         })
     }
 
-    /// How many there are at most.
-    pub(crate) fn len(&self) -> usize {
+    /// How many were sent and wait for their answers at most.
+    fn sent(&self) -> usize {
         self.transactions.len().saturating_add(self.burst.len())
+    }
+
+    /// How many there are at most, those too that weren't sent yet.
+    pub(crate) fn len(&self) -> usize {
+        self.sent().saturating_add(self.contacts.waiting())
+    }
+
+    /// Whether a NOTIFY that is sent now is kept, so that its answer is told, or its giving up.
+    fn has_room<R: Wait + Eprint>(&mut self, rt: &R, shared: &Shared) -> bool
+        ensures kept { (s : State) (rows : List Row) (acts : List Act) → AreKept s rows acts self.old → AreKept s rows acts self.new }
+    {
+        let room = self.contacts.places() as usize;
+        if self.sent() < room {
+            return true;
+        }
+        self.settle(rt, shared);
+        self.sent() < room
+    }
+
+    /// The out, where it goes out now. A NOTIFY to an address that has not answered one of its dialog waits behind the first one, and is
+    /// dropped where there is no room for it, or no memory.
+    pub(crate) fn let_through<R: Wait + Eprint>(
+        &mut self,
+        rt: &R,
+        out: Out,
+        shared: &Shared,
+    ) -> Option<Out>
+        ensures itself { IfSome result (λ o. o ≡ out) }
+        ensures notify { IfNone result (is_some (notice_of out) ≡ true) }
+        ensures through { OnSome result ((s : State) (rows : List Row) (acts : List Act)
+            → AreKept s rows acts self.old → AreKept s rows acts self.new) }
+        ensures held { IfNone result ((s : State) (rows : List Row) (acts : List Act) (now : ℕ)
+            → AreKept s rows acts self.old → AreKept s rows (acts ++ Held now out ∷ []) self.new) }
+    {
+        if self.is_off {
+            return Some(out);
+        }
+        let notice = match Notice::new(out) {
+            Ok(notice) => notice,
+            Err(out) => return Some(out),
+        };
+        let may_begin = self.has_room(rt, shared);
+        match self.contacts.offer(may_begin, notice) {
+            Ok(Offered::Through { notice, lost }) => {
+                shared.count_held_dropped(lost);
+                let Notice { out, .. } = notice;
+                return Some(out);
+            }
+            Ok(Offered::Waits) => shared.count(Counter::Held),
+            Ok(Offered::Lost) => shared.count_held_dropped(1),
+            Err(_) => shared.count_held_dropped(1),
+        }
+        self.settle(rt, shared);
+        None
     }
 
     /// Whose subscription an out tells, if that has a row and is counted.
@@ -409,8 +519,30 @@ impl Waiting {
         }
     }
 
-    /// Takes notes of answers, a few at a time, and counts those that say that a subscription is gone. True where more may wait.
-    fn take_notes<R: Wait>(&mut self, rt: &R, shared: &Shared) -> bool
+    /// Takes the note of an answer. What waited for it.
+    fn take_note<R: Wait>(&mut self, rt: &R, note: &Note, shared: &Shared) -> Vec<Notice>
+        ensures transactions { self.new.transactions ≡ after (answer_of note.now) self.old.transactions }
+        ensures rows { self.new.watchers.rows ≡ answered_rows note.now.tag note.now.number note.now.status self.old.watchers.rows }
+        ensures burst { self.new.burst ≡ self.old.burst }
+    {
+        if note.status == GONE {
+            shared.count(Counter::Gone);
+        }
+        let gone = self.gone_source(note);
+        self.transactions
+            .answer(note.tag.as_str(), note.number, note.status);
+        self.watchers
+            .answer(note.tag.as_str(), note.number, note.status);
+        self.tell_source(rt, shared, gone);
+        let passed = self
+            .contacts
+            .answer(note.tag.as_str(), note.number, note.status);
+        shared.count_held_dropped(passed.lost);
+        passed.through
+    }
+
+    /// Takes notes of answers, a few at a time. Behind one for which NOTIFYs waited it takes no further one.
+    fn take_notes<R: Wait>(&mut self, rt: &R, shared: &Shared) -> Taken
         ensures noted { (taken : List Note)
             × (self.new.transactions ≡ state_after (map answer_of taken) self.old.transactions)
             × (self.new.watchers.rows ≡ noted_rows taken self.old.watchers.rows) }
@@ -418,19 +550,65 @@ impl Waiting {
     {
         for _ in 0..NOTES_AT_ONCE {
             let Some(note) = shared.notes.take(rt) else {
-                return false;
+                return Taken {
+                    has_more: false,
+                    through: Vec::new(self.alloc),
+                };
             };
-            if note.status == GONE {
-                shared.count(Counter::Gone);
+            let through = self.take_note(rt, &note, shared);
+            if !through.is_empty() {
+                return Taken {
+                    has_more: true,
+                    through,
+                };
             }
-            let gone = self.gone_source(&note);
-            self.transactions
-                .answer(note.tag.as_str(), note.number, note.status);
-            self.watchers
-                .answer(note.tag.as_str(), note.number, note.status);
-            self.tell_source(rt, shared, gone);
         }
-        true
+        Taken {
+            has_more: true,
+            through: Vec::new(self.alloc),
+        }
+    }
+
+    /// Sends a NOTIFY that waited until now. It is kept from this moment on.
+    fn release<R: Wait + Eprint, W: Wire>(
+        &mut self,
+        rt: &R,
+        wire: &mut W,
+        timed: Timed,
+        shared: &Shared,
+    )
+        ensures does { (fate : Fate) × Does (act.Released timed.now timed.out fate ∷ []) self.old.transactions self.new.transactions
+            (wire_seen W.taken W.failures wire.old) (wire_seen W.taken W.failures wire.new) }
+        ensures seen { IsSeen timed.now timed.out self.old.watchers.rows self.new.watchers.rows }
+        ensures given { Grows (W.given wire.old) (W.given wire.new) [] }
+        ensures burst { self.new.burst ≡ self.old.burst }
+    {
+        let Timed { now, out } = timed;
+        let fate = send_late(rt, wire, &out, shared);
+        self.keep(rt, Put { now, out, fate }, shared);
+    }
+
+    /// Sends the NOTIFYs that waited until now, in order.
+    fn release_all<R: Wait + Eprint, W: Wire>(
+        &mut self,
+        rt: &R,
+        wire: &mut W,
+        late: Late,
+        shared: &Shared,
+    )
+        requires in_range { late.now < 2 ^ 63 }
+        ensures does { (acts : List Act) × (fates acts ≡ [])
+            × Does acts self.old.transactions self.new.transactions
+            (wire_seen W.taken W.failures wire.old) (wire_seen W.taken W.failures wire.new)
+            × AreRowed self.old.transactions acts self.old.watchers.rows self.new.watchers.rows }
+        ensures given { Grows (W.given wire.old) (W.given wire.new) [] }
+        ensures burst { self.new.burst ≡ self.old.burst }
+    {
+        let Late { now, through } = late;
+        for notice in through {
+            let Notice { out, .. } = notice;
+            self.release(rt, wire, Timed { now, out }, shared);
+        }
     }
 
     /// Sends the NOTIFY again that is due at this moment, or gives it up. Its row goes too where its worker may have given it up: it comes
@@ -458,6 +636,7 @@ impl Waiting {
         count_doubtful(rt, &mut self.given_up, now, unanswered, shared);
         if due.is_over(now) {
             let source = end_row(&mut self.watchers, due.tag.as_str());
+            drop_held(&mut self.contacts, due, shared);
             self.transactions.turn(now);
             self.tell_source(rt, shared, source);
             return true;
@@ -473,8 +652,8 @@ impl Waiting {
         true
     }
 
-    /// Takes notes of answers, and, once none waits, sends a NOTIFY again that is due, or gives it up. Nothing of that while only what is
-    /// posted counts. True where more may be done at once: notes wait, or another NOTIFY may be due and sent again in this moment.
+    /// Takes notes of answers, and sends what waited for them; once none waits, it sends a NOTIFY again that is due, or gives it up. Nothing
+    /// of that while only what is posted counts. True where more may be done at once: notes wait, or another NOTIFY may be due and sent again in this moment.
     pub(crate) fn tend<R: Wait + Eprint, W: Wire>(
         &mut self,
         rt: &R,
@@ -491,7 +670,13 @@ impl Waiting {
         }
         watch.begin_look();
         self.settle(rt, shared);
-        if self.take_notes(rt, shared) {
+        let taken = self.take_notes(rt, shared);
+        let late = Late {
+            now: watch.now(),
+            through: taken.through,
+        };
+        self.release_all(rt, wire, late, shared);
+        if taken.has_more {
             return true;
         }
         self.given_up.look(rt, watch.now());

@@ -1,6 +1,7 @@
 //! What the threads of a service share: how far it is, what they counted, and the notes of answers to NOTIFYs.
 ghost use Rattle.std.specs.Prelude.{◌<◌, ◌^◌, IfSome};
 
+use crate::barred::Barred;
 use crate::complaints::Complaints;
 use crate::drops::kernel_drops;
 use crate::journaling::Journal;
@@ -51,6 +52,7 @@ pub struct Shared {
     /// How many live subscriptions each source has, as the thread that sends told it last.
     sources: Mutex<Counts>,
     complaints: Mutex<Complaints>,
+    barred_lately: Mutex<Barred>,
     live: AtomicU64,
     datagrams: AtomicU64,
     unread: [AtomicU64; 7],
@@ -65,6 +67,8 @@ pub struct Shared {
     repeats: AtomicU64,
     given_up: AtomicU64,
     once: AtomicU64,
+    held: AtomicU64,
+    held_dropped: AtomicU64,
     lost: AtomicU64,
     gone_by_481: AtomicU64,
     failed_receives: AtomicU64,
@@ -75,6 +79,8 @@ pub struct Shared {
     wrong: AtomicU64,
     stale: AtomicU64,
     forbidden: AtomicU64,
+    barred: AtomicU64,
+    large: AtomicU64,
     control_lines: AtomicU64,
     workers: AtomicU64,
     workers_ended: AtomicU64,
@@ -100,7 +106,7 @@ const CAUSES: [&str; 7] = [
 ];
 
 /// Of how many things an operator hears once a minute and at the end.
-pub(crate) const COMPLAINTS: usize = 18;
+pub(crate) const COMPLAINTS: usize = 20;
 
 /// What is counted, each by one.
 #[derive(Clone, Copy)]
@@ -123,6 +129,8 @@ pub enum Counter {
     GivenUp,
     /// A NOTIFY is not sent again, since as many others wait for their answers as may.
     Once,
+    /// A NOTIFY waits for the answer to another one of its dialog: its address has not answered yet.
+    Held,
     /// A NOTIFY was answered by 481: its subscription is gone (RFC 6665 section 4.2.2).
     Gone,
     /// A receive failed.
@@ -141,6 +149,11 @@ pub enum Counter {
     Stale,
     /// A request was refused since its user may not have the mailbox.
     Forbidden,
+    /// A request was refused without a look at its password: too many wrong ones came from its source, or some from there and too many for
+    /// its user.
+    Barred,
+    /// A request was refused since a subscription would keep more of it than it may.
+    Large,
     /// A control line came.
     ControlLine,
     /// A worker has ended.
@@ -195,6 +208,7 @@ impl Shared {
         let window = Window::new(alloc)?;
         let sources = Mutex::new(Counts::new(alloc));
         let complaints = Mutex::new(Complaints::new());
+        let barred_lately = Mutex::new(Barred::new());
         Ok(Shared {
             began,
             alloc,
@@ -209,6 +223,7 @@ impl Shared {
             journal: OnceLock::new(),
             sources,
             complaints,
+            barred_lately,
             live: AtomicU64::new(0),
             datagrams: AtomicU64::new(0),
             unread: no_causes(),
@@ -223,6 +238,8 @@ impl Shared {
             repeats: AtomicU64::new(0),
             given_up: AtomicU64::new(0),
             once: AtomicU64::new(0),
+            held: AtomicU64::new(0),
+            held_dropped: AtomicU64::new(0),
             lost: AtomicU64::new(0),
             gone_by_481: AtomicU64::new(0),
             failed_receives: AtomicU64::new(0),
@@ -233,6 +250,8 @@ impl Shared {
             wrong: AtomicU64::new(0),
             stale: AtomicU64::new(0),
             forbidden: AtomicU64::new(0),
+            barred: AtomicU64::new(0),
+            large: AtomicU64::new(0),
             control_lines: AtomicU64::new(0),
             workers: AtomicU64::new(0),
             workers_ended: AtomicU64::new(0),
@@ -325,6 +344,7 @@ impl Shared {
             Counter::Repeat => &self.repeats,
             Counter::GivenUp => &self.given_up,
             Counter::Once => &self.once,
+            Counter::Held => &self.held,
             Counter::Gone => &self.gone_by_481,
             Counter::FailedReceive => &self.failed_receives,
             Counter::TooLong => &self.too_long,
@@ -334,6 +354,8 @@ impl Shared {
             Counter::Wrong => &self.wrong,
             Counter::Stale => &self.stale,
             Counter::Forbidden => &self.forbidden,
+            Counter::Barred => &self.barred,
+            Counter::Large => &self.large,
             Counter::ControlLine => &self.control_lines,
             Counter::WorkerEnded => &self.workers_ended,
             Counter::ForeignLine => &self.control_foreign,
@@ -355,9 +377,11 @@ impl Shared {
         self.journal.get().is_some()
     }
 
-    /// Counts a record of the journal that was not written.
-    pub fn count_unwritten(&self) {
-        self.journal_lost.fetch_add(1, Ordering::SeqCst);
+    /// Counts records of the journal that were not written.
+    pub fn count_unwritten(&self, lost: u64) {
+        if lost > 0 {
+            self.journal_lost.fetch_add(lost, Ordering::SeqCst);
+        }
     }
 
     /// How many were not.
@@ -370,29 +394,32 @@ impl Shared {
         self.journal.get()?.error()
     }
 
-    /// A worker handled an event, and nothing of it was posted yet: that is written, where a journal is kept.
-    pub(crate) fn write_handled<R: Wait>(&self, rt: &R, worker: u32, event: &Event) {
-        if let Some(journal) = self.journal.get()
-            && !journal.handled(rt, worker, event)
-        {
-            self.count_unwritten();
+    /// A worker handled an event, and nothing of it was posted yet: its record waits to be written, where a journal is kept.
+    pub(crate) fn note_handled<R: Wait>(&self, rt: &R, worker: u32, event: &Event) {
+        if let Some(journal) = self.journal.get() {
+            self.count_unwritten(journal.handled(rt, worker, event));
+        }
+    }
+
+    /// Writes the records that wait, where a journal is kept. What was taken of the outbox before may be sent behind that: its events were
+    /// noted before it was posted.
+    pub(crate) fn write_journal<R: Wait>(&self, rt: &R) {
+        if let Some(journal) = self.journal.get() {
+            self.count_unwritten(journal.flush(rt));
         }
     }
 
     /// A control line that changes a mailbox of this worker is about to be answered `ok`: that is written, where a journal is kept.
     pub(crate) fn write_answered<R: Wait>(&self, rt: &R, worker: u32, change: &MailChange) {
-        if let Some(journal) = self.journal.get()
-            && !journal.answered(rt, worker, change)
-        {
-            self.count_unwritten();
+        if let Some(journal) = self.journal.get() {
+            self.count_unwritten(journal.answered(rt, worker, change));
         }
     }
 
     /// A control line that changes a mailbox is about to be answered `ok`, but it can't be read again for want of memory.
     pub(crate) fn lose_line<R: Wait>(&self, rt: &R) {
         if let Some(journal) = self.journal.get() {
-            journal.lose_count(rt);
-            self.count_unwritten();
+            self.count_unwritten(journal.lose_count(rt));
         }
     }
 
@@ -407,13 +434,15 @@ impl Shared {
     /// The book of this worker after all that it handled, for the journal.
     pub(crate) fn write_book<R: Wait>(&self, rt: &R, worker: u32, written: &[u8]) {
         if let Some(journal) = self.journal.get() {
-            journal.book(rt, worker, written);
+            self.count_unwritten(journal.book(rt, worker, written));
         }
     }
 
-    /// Begins a next file of the journal where one is due, and removes one that is not needed any more. It is asked once a second.
+    /// Writes what waits for the journal, begins a next file of it where one is due, and removes one that is not needed any more. It is asked
+    /// once a second.
     pub(crate) fn look_at_journal<R: Wait + Files<File = File>>(&self, rt: &R, now: u64) {
         if let Some(journal) = self.journal.get() {
+            self.count_unwritten(journal.flush(rt));
             journal.look(rt, now);
         }
     }
@@ -520,6 +549,8 @@ impl Shared {
                 "requests were answered 403",
                 told(&self.forbidden).saturating_add(self.statuses.sent("403")),
             ),
+            ("passwords were more than --guesses", told(&self.barred)),
+            ("requests were more than --max-texts", told(&self.large)),
             (
                 "requests were more than --per-source",
                 told(&self.per_source),
@@ -538,6 +569,11 @@ impl Shared {
         ]
     }
 
+    /// Whether a source whose user is barred is to be told on standard error at this moment, in milliseconds.
+    pub(crate) fn is_barred_anew<R: Wait>(&self, rt: &R, source: Addr, moment: u64) -> bool {
+        self.barred_lately.lock(rt).is_news(source.ip, moment)
+    }
+
     /// Says on standard error once a minute what went wrong in it.
     pub(crate) fn complain<R: Wait + Eprint>(&self, rt: &R, now: u64) {
         self.complaints.lock(rt).look(rt, self, now);
@@ -551,6 +587,11 @@ impl Shared {
     /// Counts the NOTIFYs that nobody had answered when the service ended.
     pub(crate) fn count_lost(&self, count: usize) {
         self.lost.fetch_add(count as u64, Ordering::SeqCst);
+    }
+
+    /// Counts NOTIFYs that waited, or were to wait, for the answer to another one, and are never sent.
+    pub(crate) fn count_held_dropped(&self, count: usize) {
+        self.held_dropped.fetch_add(count as u64, Ordering::SeqCst);
     }
 
     /// How many NOTIFYs were given up.
@@ -591,6 +632,8 @@ impl Shared {
             ("wrong", &self.wrong),
             ("stale", &self.stale),
             ("forbidden", &self.forbidden),
+            ("barred", &self.barred),
+            ("large", &self.large),
             ("control_lines", &self.control_lines),
             ("workers", &self.workers),
             ("workers_ended", &self.workers_ended),
@@ -598,6 +641,8 @@ impl Shared {
             ("starts_dropped", &self.starts_dropped),
             ("per_source", &self.per_source),
             ("journal_lost", &self.journal_lost),
+            ("held", &self.held),
+            ("held_dropped", &self.held_dropped),
         ];
         for (name, counted) in named {
             add_line(alloc, text, name, counted)?;

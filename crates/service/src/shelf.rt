@@ -5,8 +5,8 @@ ghost use Rattle.service.specs.Shelved.{Writes};
 ghost use Rattle.service.specs.declared.shelf.Chore.TheVariants as chore;
 
 use crate::volume::Volume;
-use journal::Header;
-use keeper::{Keeper, Unkept};
+use journal::{Header, Told};
+use keeper::{Keeper, MadeBook, Unkept};
 use notifier_model::Event;
 use package::MailChange;
 
@@ -85,15 +85,23 @@ pub(crate) struct Shelf {
     books: u64,
     /// Since which second it is the current one, as the first look at it found.
     since: Option<u64>,
+    /// For how many seconds it was the current one before that, under a service that was killed. So a file ends though no service lives long.
+    been: u64,
     /// In which second it was tried last to begin a next one.
     tried: u64,
     /// The number of the oldest file that may be there.
     oldest: u64,
+    /// How many records wait to be written.
+    waits: u64,
+    /// How many records were not written, since it was asked last.
+    lost: u64,
+    /// The number that the system told as it refused a record last.
+    refusal: Option<i32>,
 }
 
 impl Shelf {
-    /// One that goes on in this file.
-    pub(crate) fn new(keeper: Keeper, current: Volume) -> Shelf
+    /// One that goes on in this file, which was the current one for so many seconds before.
+    pub(crate) fn new(keeper: Keeper, current: Volume, been: u64) -> Shelf
         ensures { result.is_behind ≡ false }
     {
         let oldest = current.number().saturating_sub(1);
@@ -105,8 +113,12 @@ impl Shelf {
             is_over: false,
             books: 0,
             since: None,
+            been,
             tried: 0,
             oldest,
+            waits: 0,
+            lost: 0,
+            refusal: None,
         }
     }
 
@@ -168,6 +180,20 @@ impl Shelf {
         }
     }
 
+    /// Counts the records that waited, where they were not written.
+    fn count(&mut self, written: Result<(), Loss>)
+        ensures current { self.new.current ≡ self.old.current }
+        ensures behind { self.new.is_behind ≡ self.old.is_behind }
+    {
+        if let Err(loss) = written {
+            self.lost = self.lost.saturating_add(self.waits);
+            if let Loss::Refused(number) = loss {
+                self.refusal = number;
+            }
+        }
+        self.waits = 0;
+    }
+
     /// Writes what waits for each file.
     fn write(&mut self, is_made: bool) -> Result<(), Loss>
         ensures { Writes self.old self.new result }
@@ -175,7 +201,37 @@ impl Shelf {
         let written = self.write_current(is_made);
         self.write_next(is_made);
         self.keeper.clear();
+        self.count(written);
         written
+    }
+
+    /// Writes the records that wait.
+    pub(crate) fn flush(&mut self) -> Result<(), Loss>
+        ensures { Writes self.old self.new result }
+    {
+        self.write(true)
+    }
+
+    /// A record could not be made. Those that wait are written; the current file misses this one.
+    fn lose(&mut self) -> Result<(), Loss>
+        ensures { Writes self.old self.new result }
+    {
+        self.waits = self.waits.saturating_add(1);
+        self.flush()?;
+        self.waits = 1;
+        self.write(false)
+    }
+
+    /// How many records were not written since it was asked last.
+    pub(crate) fn take_lost(&mut self) -> u64 {
+        let lost = self.lost;
+        self.lost = 0;
+        lost
+    }
+
+    /// The number that the system told as it refused a record last, if it told one.
+    pub(crate) fn refusal(&self) -> Option<i32> {
+        self.refusal
     }
 
     /// The keeper counted something whose record it could not make, or lost count of it.
@@ -188,28 +244,33 @@ impl Shelf {
         }
     }
 
-    /// A worker handled an event.
+    /// A worker handled an event: its record waits to be written, unless the current file misses one.
     pub(crate) fn handled(&mut self, worker: u32, event: &Event) -> Result<(), Loss>
         ensures { Writes self.old self.new result }
     {
-        let is_made = self.keeper.handled(worker, event).is_ok();
-        if !is_made {
+        if self.keeper.handled(worker, event).is_err() {
             let passed = self.keeper.passed(worker, event);
             self.miss(passed);
+            return self.lose();
         }
-        self.write(is_made)
+        self.waits = self.waits.saturating_add(1);
+        if !self.is_behind {
+            return Ok(());
+        }
+        self.flush()
     }
 
     /// A control line that changes a mailbox of a worker is about to be answered `ok`.
     pub(crate) fn answered(&mut self, worker: u32, change: &MailChange) -> Result<(), Loss>
         ensures { Writes self.old self.new result }
     {
-        let is_made = self.keeper.answered(worker, change).is_ok();
-        if !is_made {
-            let counted = self.keeper.counted(worker);
-            self.miss(counted);
+        if self.keeper.answered(worker, change).is_ok() {
+            self.waits = self.waits.saturating_add(1);
+            return self.flush();
         }
-        self.write(is_made)
+        let counted = self.keeper.counted(worker);
+        self.miss(counted);
+        self.lose()
     }
 
     /// A line is about to be answered `ok` that is unknown for want of memory: so it isn't known either which lines wait.
@@ -217,11 +278,12 @@ impl Shelf {
         ensures { Writes self.old self.new result }
     {
         self.is_over = true;
-        self.write(false)
+        self.lose()
     }
 
     /// Begins this next file. False where it can't be.
     pub(crate) fn begin(&mut self, next: Volume, header: &Header) -> bool {
+        let _ = self.flush();
         if self.keeper.begin_next(header).is_err() {
             return false;
         }
@@ -231,14 +293,27 @@ impl Shelf {
         self.next.is_some()
     }
 
+    /// What a worker was told so far, where the next file waits for its book.
+    pub(crate) fn told(&self, worker: u32) -> Option<Result<Told, Unkept>> {
+        if self.keeper.wants_book(worker) {
+            Some(self.keeper.told(worker))
+        } else {
+            None
+        }
+    }
+
     /// Puts the book of a worker into the next file, unless that was given up meanwhile. Where it was the last that was wanted this file is
     /// the current one from now on.
-    pub(crate) fn book(&mut self, worker: u32, written: &[u8]) {
+    pub(crate) fn book(&mut self, worker: u32, made: Result<MadeBook, Unkept>) {
         if !self.keeper.wants_book(worker) {
             return;
         }
-        let made = self.keeper.book(worker, written);
-        self.write_next(made.is_ok());
+        let _ = self.flush();
+        let put = match made {
+            Ok(made) => self.keeper.put(made),
+            Err(error) => Err(error),
+        };
+        self.write_next(put.is_ok());
         self.keeper.clear();
         if self.keeper.is_next_whole() {
             self.turn();
@@ -255,6 +330,7 @@ impl Shelf {
         self.is_behind = false;
         self.books = self.current.length();
         self.since = None;
+        self.been = 0;
     }
 
     /// How the files stand in this second.
@@ -276,7 +352,7 @@ impl Shelf {
             is_behind: self.is_behind,
             books: self.books,
             rest: length.saturating_sub(self.books),
-            age: now.saturating_sub(since),
+            age: now.saturating_sub(since).saturating_add(self.been),
             pause: now.saturating_sub(self.tried),
         }
     }

@@ -47,8 +47,8 @@ impl Form for Octets {
         let _length = octets.len();
     }
 
-    fn put(&self, alloc: Global, out: &mut Vec<u8>) -> Result<(), NoMemory> {
-        put_bytes(alloc, self.as_slice(), out)
+    fn put(&self, _alloc: Global, out: &mut Vec<u8>) -> Result<(), NoMemory> {
+        put_bytes(self.as_slice(), out)
     }
 
     fn cut(alloc: Global, bytes: &[u8]) -> Result<Option<(Octets, &[u8])>, NoMemory> {

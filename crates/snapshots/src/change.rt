@@ -135,7 +135,7 @@ impl Form for MailChange {
     }
 
     fn put(&self, alloc: Global, out: &mut Vec<u8>) -> Result<(), NoMemory> {
-        put_bytes(alloc, self.mailbox().as_bytes(), out)?;
+        put_bytes(self.mailbox().as_bytes(), out)?;
         self.class().put(alloc, out)?;
         self.counts().put(alloc, out)
     }
@@ -177,9 +177,9 @@ impl Form for Progress {
     }
 
     fn put(&self, alloc: Global, out: &mut Vec<u8>) -> Result<(), NoMemory> {
-        put_bytes(alloc, self.tag().as_bytes(), out)?;
+        put_bytes(self.tag().as_bytes(), out)?;
         self.code().put(alloc, out)?;
-        put_bytes(alloc, self.reason().as_bytes(), out)
+        put_bytes(self.reason().as_bytes(), out)
     }
 
     #[tactic(auto, unfolding(crate::specs::Changes::progress_at))]

@@ -83,9 +83,9 @@ impl Form for Range {
         let _length = sub.len();
     }
 
-    fn put(&self, alloc: Global, out: &mut Vec<u8>) -> Result<(), NoMemory> {
-        put_bytes(alloc, self.main().as_bytes(), out)?;
-        put_bytes(alloc, self.sub().as_bytes(), out)
+    fn put(&self, _alloc: Global, out: &mut Vec<u8>) -> Result<(), NoMemory> {
+        put_bytes(self.main().as_bytes(), out)?;
+        put_bytes(self.sub().as_bytes(), out)
     }
 
     #[tactic(auto, unfolding(crate::specs::Fields::range_at))]

@@ -5,6 +5,7 @@ ghost use Rattle.sip_text.specs.Addresses.{IsAddr};
 ghost use Rattle.sip_text.specs.Bytes.{Finds, Gives};
 ghost use Rattle.snapshots.specs.Forms.{IsNumber, IsCount, IsShort, IsText, IsOption, AreAll, number_text, bytes_text, address_text, option_text, list_text, number_at, count_at, short_at, taken_at, bytes_at, text_at, address_at, option_at, both_at, times_at, list_at};
 
+use itoa::Buffer;
 use sip_text::{Addr, NoMemory, Text, Values, count_of, cut_at, plain_number, short_of, text_of};
 use std::alloc::Global;
 
@@ -74,25 +75,26 @@ fn cut_address(bytes: &[u8]) -> Option<(Addr, &[u8])>
 }
 
 /// Appends a number.
-fn put_number(alloc: Global, number: u64, out: &mut Vec<u8>) -> Result<(), NoMemory>
+fn put_number(number: u64, out: &mut Vec<u8>) -> Result<(), NoMemory>
     ensures { OnOk result (out.new.items ≡ out.old.items ++ number_text number) }
 {
-    let text = format!(in alloc; "{number} ")?;
-    out.extend_from_slice(text.as_bytes())?;
+    let mut buffer = Buffer::new();
+    out.extend_from_slice(buffer.format(number).as_bytes())?;
+    out.push(b' ')?;
     Ok(())
 }
 
 /// Appends bytes behind their number.
-pub fn put_bytes(alloc: Global, bytes: &[u8], out: &mut Vec<u8>) -> Result<(), NoMemory>
+pub fn put_bytes(bytes: &[u8], out: &mut Vec<u8>) -> Result<(), NoMemory>
     ensures { OnOk result (out.new.items ≡ out.old.items ++ bytes_text bytes.now) }
 {
-    put_number(alloc, bytes.len() as u64, out)?;
+    put_number(bytes.len() as u64, out)?;
     out.extend_from_slice(bytes)?;
     Ok(())
 }
 
 /// Appends a text that may be absent.
-pub fn put_option(alloc: Global, text: Option<&str>, out: &mut Vec<u8>) -> Result<(), NoMemory>
+pub fn put_option(text: Option<&str>, out: &mut Vec<u8>) -> Result<(), NoMemory>
     ensures { OnOk result (out.new.items ≡ out.old.items ++ option_text (option_map (λ t. t.now) text.entry)) }
 {
     match text {
@@ -102,7 +104,7 @@ pub fn put_option(alloc: Global, text: Option<&str>, out: &mut Vec<u8>) -> Resul
         }
         Some(text) => {
             out.push(b'+')?;
-            put_bytes(alloc, text.as_bytes(), out)
+            put_bytes(text.as_bytes(), out)
         }
     }
 }
@@ -143,8 +145,8 @@ impl Form for u16 {
         let _short = *self;
     }
 
-    fn put(&self, alloc: Global, out: &mut Vec<u8>) -> Result<(), NoMemory> {
-        put_number(alloc, u64::from(*self), out)
+    fn put(&self, _alloc: Global, out: &mut Vec<u8>) -> Result<(), NoMemory> {
+        put_number(u64::from(*self), out)
     }
 
     fn cut(_alloc: Global, bytes: &[u8]) -> Result<Option<(u16, &[u8])>, NoMemory> {
@@ -163,8 +165,8 @@ impl Form for u32 {
         let _count = *self;
     }
 
-    fn put(&self, alloc: Global, out: &mut Vec<u8>) -> Result<(), NoMemory> {
-        put_number(alloc, u64::from(*self), out)
+    fn put(&self, _alloc: Global, out: &mut Vec<u8>) -> Result<(), NoMemory> {
+        put_number(u64::from(*self), out)
     }
 
     fn cut(_alloc: Global, bytes: &[u8]) -> Result<Option<(u32, &[u8])>, NoMemory> {
@@ -183,8 +185,8 @@ impl Form for u64 {
         let _number = *self;
     }
 
-    fn put(&self, alloc: Global, out: &mut Vec<u8>) -> Result<(), NoMemory> {
-        put_number(alloc, *self, out)
+    fn put(&self, _alloc: Global, out: &mut Vec<u8>) -> Result<(), NoMemory> {
+        put_number(*self, out)
     }
 
     fn cut(_alloc: Global, bytes: &[u8]) -> Result<Option<(u64, &[u8])>, NoMemory> {
@@ -228,8 +230,8 @@ impl Form for Text {
         let _length = text.len();
     }
 
-    fn put(&self, alloc: Global, out: &mut Vec<u8>) -> Result<(), NoMemory> {
-        put_bytes(alloc, self.as_str().as_bytes(), out)
+    fn put(&self, _alloc: Global, out: &mut Vec<u8>) -> Result<(), NoMemory> {
+        put_bytes(self.as_str().as_bytes(), out)
     }
 
     fn cut(alloc: Global, bytes: &[u8]) -> Result<Option<(Text, &[u8])>, NoMemory> {
@@ -254,10 +256,10 @@ impl Form for Option<Text> {
         }
     }
 
-    fn put(&self, alloc: Global, out: &mut Vec<u8>) -> Result<(), NoMemory> {
+    fn put(&self, _alloc: Global, out: &mut Vec<u8>) -> Result<(), NoMemory> {
         match self {
-            None => put_option(alloc, None, out),
-            Some(text) => put_option(alloc, Some(text.as_str()), out),
+            None => put_option(None, out),
+            Some(text) => put_option(Some(text.as_str()), out),
         }
     }
 
@@ -362,7 +364,7 @@ impl<T: Form> Form for Values<T> {
 
     fn put(&self, alloc: Global, out: &mut Vec<u8>) -> Result<(), NoMemory> {
         let elements = self.as_slice();
-        put_number(alloc, elements.len() as u64, out)?;
+        put_number(elements.len() as u64, out)?;
         put_each(alloc, elements, out)
     }
 

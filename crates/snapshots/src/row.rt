@@ -109,9 +109,9 @@ impl Form for EventValue {
         are_tokens(self);
     }
 
-    fn put(&self, alloc: Global, out: &mut Vec<u8>) -> Result<(), NoMemory> {
-        put_bytes(alloc, self.package().as_bytes(), out)?;
-        put_option(alloc, self.id(), out)
+    fn put(&self, _alloc: Global, out: &mut Vec<u8>) -> Result<(), NoMemory> {
+        put_bytes(self.package().as_bytes(), out)?;
+        put_option(self.id(), out)
     }
 
     #[tactic(auto, unfolding(crate::specs::Rows::event_at))]

@@ -3,9 +3,8 @@ ghost use Rattle.std.specs.Prelude.{◌≡◌, ◌<◌, ◌==◌, ℕ, [], if◌
 ghost use Rattle.watchers.specs.Notifies as spec;
 ghost use Rattle.watchers.specs.Tallies.{tally};
 
-use crate::watchers::Full;
 use indexmap::IndexMap;
-use sip_text::Addr;
+use sip_text::{Addr, NoMemory};
 use std::alloc::Global;
 use std::marker::Model;
 
@@ -52,7 +51,7 @@ impl Counts {
     }
 
     /// This source has so much now. An error where there is no memory for one that had none: nothing changes then.
-    pub fn set(&mut self, source: u32, count: usize) -> Result<(), Full>
+    pub fn set(&mut self, source: u32, count: usize) -> Result<(), NoMemory>
         ensures set { OnOk result ((k : ℕ) → tally self.new k ≡ (if source == k then count else tally self.old k)) }
         ensures unchanged { OnErr result (self.new ≡ self.old) }
         ensures succeeds { 0 < tally self.old source → IsOk result }
@@ -65,7 +64,7 @@ impl Counts {
         }
         match self.counts.insert(source, count) {
             Ok(_) => Ok(()),
-            Err(_) => Err(Full),
+            Err(_) => Err(NoMemory),
         }
     }
 }

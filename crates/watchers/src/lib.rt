@@ -23,4 +23,4 @@ pub use counts::{Counts, source};
 pub use inquiry::Inquiry;
 pub use notify::Known;
 pub use row::Watcher;
-pub use watchers::{Full, Watchers};
+pub use watchers::{NoRow, Watchers};

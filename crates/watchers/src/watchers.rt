@@ -1,5 +1,5 @@
 //! The rows of the live subscriptions, each found by its tag.
-ghost use Rattle.std.specs.Prelude.{◌≡◌, ◌<◌, ◌^◌, ℕ, true, false, [], ◌∷◌, ◌++◌, nat_lt, not, is_some, length, option_map, string_bytes, if◌then◌else◌, OnOk, OnErr, IsErr, slice_get};
+ghost use Rattle.std.specs.Prelude.{◌≡◌, ◌↔◌, ◌<◌, ◌^◌, ℕ, true, false, [], ◌∷◌, ◌++◌, nat_lt, not, is_some, length, option_map, string_bytes, if◌then◌else◌, OnOk, OnErr, IsErr, Err, slice_get};
 ghost use Rattle.watchers.specs.Rows as spec;
 ghost use Rattle.watchers.specs.Notifies.{first_row};
 ghost use Rattle.watchers.specs.Rows.{rows_in};
@@ -9,7 +9,7 @@ use crate::counts::Counts;
 use crate::notify::{Known, first_row, until};
 use crate::row::Watcher;
 use indexmap::IndexMap;
-use sip_text::Addr;
+use sip_text::{Addr, NoMemory};
 use std::alloc::Global;
 use std::marker::Model;
 use thiserror::Error;
@@ -20,10 +20,16 @@ pub const GONE: u16 = 481;
 /// The least status of a final answer (RFC 3261 section 7.2).
 pub const FINAL: u16 = 200;
 
-/// There is no room or no memory for one more row.
+/// Why a subscription gets no row.
 #[derive(Clone, Copy, Debug, PartialEq, Eq, Error)]
-#[error("no room for another watcher")]
-pub struct Full;
+pub enum NoRow {
+    /// There are as many rows as there may be.
+    #[error("no room for another watcher")]
+    Full,
+    /// An allocation failed.
+    #[error("out of memory")]
+    NoMemory,
+}
 
 /// Whether there is a row with this tag.
 #[tactic(auto, using(crate::proofs::Rows::found_lookup))]
@@ -90,7 +96,7 @@ fn add_row(
     counts: &mut Counts,
     tag: String,
     watcher: Watcher,
-) -> Result<(), Full>
+) -> Result<(), NoMemory>
     requires new { spec.has (string_bytes tag) (rows_in rows.old.entries) ≡ false }
     requires room { length (rows_in rows.old.entries) < usize.MAX }
     requires counted { AreCounted (rows_in rows.old.entries) counts.old }
@@ -108,7 +114,7 @@ fn add_row(
             let Ok(()) = counts.set(source, count) else {
                 unreachable!()
             };
-            Err(Full)
+            Err(NoMemory)
         }
     }
 }
@@ -223,7 +229,7 @@ impl Watchers {
         number: u32,
         to: Addr,
         known: Known<'_>,
-    ) -> Result<(), Full>
+    ) -> Result<(), NoRow>
         requires in_range { now < 2 ^ 63 }
         requires new { spec.has tag.now self.old.rows ≡ false }
         ensures begun { OnOk result (self.new.rows ≡ self.old.rows ++ (
@@ -233,23 +239,26 @@ impl Watchers {
         ) ∷ []) }
         ensures unchanged { OnErr result (self.new ≡ self.old) }
         ensures limit { self.new.limit ≡ self.old.limit }
-        ensures full { nat_lt (length self.old.rows) self.old.limit ≡ false → IsErr result }
+        ensures full { result ≡ Err NoRow.Full ↔ nat_lt (length self.old.rows) self.old.limit ≡ false }
     {
         if self.rows.len() >= self.limit {
-            return Err(Full);
+            return Err(NoRow::Full);
         }
         let Ok(watcher) = first_row(self.alloc, now, number, to, known) else {
-            return Err(Full);
+            return Err(NoRow::NoMemory);
         };
         let Ok(tag) = String::from_str(self.alloc, tag) else {
-            return Err(Full);
+            return Err(NoRow::NoMemory);
         };
-        add_row(&mut self.rows, &mut self.counts, tag, watcher)
+        match add_row(&mut self.rows, &mut self.counts, tag, watcher) {
+            Ok(()) => Ok(()),
+            Err(NoMemory) => Err(NoRow::NoMemory),
+        }
     }
 
     /// A NOTIFY with this tag and this number, with which this is known, went out to this address at this moment, and its subscription goes on.
     /// Where it has no row one begins with it: at its first NOTIFY, or where an earlier one was given up. An error where there is no room
-    /// or no memory for that: nothing changes then, and it stays without a row.
+    /// for that, and only then [`NoRow::Full`], or no memory: nothing changes then, and it stays without a row.
     pub fn renew(
         &mut self,
         now: u64,
@@ -257,14 +266,14 @@ impl Watchers {
         number: u32,
         to: Addr,
         known: Known<'_>,
-    ) -> Result<(), Full>
+    ) -> Result<(), NoRow>
         requires in_range { now < 2 ^ 63 }
         ensures renewed { OnOk result (self.new.rows ≡ spec.after_notify now tag.now number to
             (record { watcher = known.entry.watcher.now; resource = known.entry.resource.now; seconds = known.entry.seconds }) self.old.rows) }
         ensures unchanged { OnErr result (self.new ≡ self.old) }
         ensures refused { IsErr result → spec.begins tag.now self.old.rows ≡ true }
-        ensures full { spec.begins tag.now self.old.rows ≡ true
-            → nat_lt (length self.old.rows) self.old.limit ≡ false → IsErr result }
+        ensures full { result ≡ Err NoRow.Full
+            ↔ (spec.begins tag.now self.old.rows ≡ true) × (nat_lt (length self.old.rows) self.old.limit ≡ false) }
         ensures limit { self.new.limit ≡ self.old.limit }
     {
         if !has_row(&self.rows, tag) {

@@ -238,6 +238,9 @@ fn name(verdict: &Verdict) -> &'static str {
         Verdict::Challenge(ChallengeCause::Malformed, _) => "401, malformed credentials",
         Verdict::Challenge(ChallengeCause::Wrong, _) => "401, wrong credentials",
         Verdict::Challenge(ChallengeCause::Stale, _) => "401, stale",
+        Verdict::Guess(..) => "401, wrong password",
+        Verdict::Large(_) => "413",
+        Verdict::Barred(..) => "403, barred",
         Verdict::Forbidden(_) => "403",
         Verdict::Crowded(_) => "503",
     }
@@ -246,9 +249,12 @@ fn name(verdict: &Verdict) -> &'static str {
 /// The bytes that go back, as a text.
 fn answer(verdict: &Verdict) -> &str {
     let octets = match verdict {
-        Verdict::Challenge(_, octets) | Verdict::Forbidden(octets) | Verdict::Crowded(octets) => {
-            octets.as_slice()
-        }
+        Verdict::Large(octets)
+        | Verdict::Barred(_, octets)
+        | Verdict::Challenge(_, octets)
+        | Verdict::Guess(_, octets)
+        | Verdict::Forbidden(octets)
+        | Verdict::Crowded(octets) => octets.as_slice(),
         Verdict::Allowed | Verdict::Foreign | Verdict::Limited => &[],
     };
     str::from_utf8(octets).unwrap_or("")

@@ -57,6 +57,8 @@ pub(crate) fn admission(alloc: Global, keys: RandomState) -> Result<Admission, N
         networks,
         rates,
         authentication: Some(authentication(alloc)?),
+        guesses: None,
+        max_texts: None,
         per_source: None,
     })
 }

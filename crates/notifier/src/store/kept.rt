@@ -68,7 +68,7 @@ impl KeptAnswer {
         ensures text { OnOk result (out.new.items ≡ out.old.items ++ kept_text self.now) }
         ensures fits { OnOk result (IsKept self.now) }
     {
-        self.transaction.write(alloc, out)?;
+        self.transaction.write(out)?;
         self.bytes.fits();
         self.bytes.put(alloc, out)
     }

@@ -112,15 +112,15 @@ impl Transaction {
     }
 
     /// Appends the texts of its key.
-    pub fn write(&self, alloc: Global, out: &mut Vec<u8>) -> Result<(), NoMemory>
+    pub fn write(&self, out: &mut Vec<u8>) -> Result<(), NoMemory>
         ensures text { OnOk result (out.new.items ≡ out.old.items
             ++ key_text (parted self.now.branch self.now.sent_by (string_bytes self.now.texts))) }
         ensures fits { IsKey (parted self.now.branch self.now.sent_by (string_bytes self.now.texts)) }
     {
         let (branch, sent_by, method) = self.parts();
-        put_bytes(alloc, branch, out)?;
-        put_bytes(alloc, sent_by, out)?;
-        put_bytes(alloc, method, out)?;
+        put_bytes(branch, out)?;
+        put_bytes(sent_by, out)?;
+        put_bytes(method, out)?;
         Ok(())
     }
 }

@@ -7,7 +7,7 @@ use Rattle.commands.proofs.admitting.new_authentication.Goals as goal
 
 pub returns-clause-asks : goal.returns-clause-asks
 returns-clause-asks g c =
-    let chosen = c.of-choices.ensures in let further = c.in_ok-further.ensures in
+    let chosen = c.of-choices.ensures.choices in let further = c.in_ok-further.ensures in
     asks_some c.args.settings.now c.in-Some.path _ (sym c.in_ok-path.ensures ∙ c.in-Some.is) (record {
       users = c.in_ok-passwords.ensures.users;
       further = further;

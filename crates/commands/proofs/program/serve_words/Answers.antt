@@ -44,3 +44,8 @@ pub returns-in_err-watch-clause-refused : goal.returns-in_err-watch-clause-refus
 returns-in_err-watch-clause-refused g c =
     let p = err_from_is_err_and c.from_residual-in_err-watch.result c.from_residual-in_err-watch.ensures.1 in
     rw (p.1, p.2) (other_is c.args.words.now _ c.in_err-watch.ensures.refused)
+
+pub returns-in_err-desks-clause-refused : goal.returns-in_err-desks-clause-refused
+returns-in_err-desks-clause-refused g c =
+    let p = err_from_is_err_and c.from_residual-in_err-desks.result c.from_residual-in_err-desks.ensures.1 in
+    rw (p.1, p.2) (other_is c.args.words.now _ c.in_err-desks.ensures.refused)

@@ -8,7 +8,7 @@ use Rattle.crew.specs.declared.launching.NewWorker.{NewWorker}
 use Rattle.crew.specs.Ports.{AreDealt, TakeSeats}
 use Rattle.crew.specs.Ready.{new_worker_seen, IsReady}
 use Rattle.crew.proofs.Dealing.{head_is, left_is}
-use Rattle.crew.proofs.SeatRows.{each_more, dealt_more, dealt_unclosed, dealt_room}
+use Rattle.crew.proofs.SeatRows.{each_more, dealt_more, dealt_unclosed, dealt_unused, dealt_room}
 use Rattle.crew.proofs.seating.new_workers.Goals as goal
 
 pub loop-desk-preserved : goal.loop-desk-preserved
@@ -41,6 +41,9 @@ loop-desk-preserved g c =
 
 pub new_worker-requires-clause-unclosed : goal.new_worker-requires-clause-unclosed
 new_worker-requires-clause-unclosed g c κs within = dealt_unclosed c.loop-desk.ports _ _ c.loop-desk.invariant.dealt
+
+pub new_worker-requires-clause-unsent : goal.new_worker-requires-clause-unsent
+new_worker-requires-clause-unsent g c κs within = dealt_unused c.loop-desk.ports _ _ c.loop-desk.invariant.dealt
 
 pub new_worker-requires-clause-room : goal.new_worker-requires-clause-room
 new_worker-requires-clause-room g c κs within =

@@ -2,16 +2,16 @@ use Rattle.std.proofs.Common.{[], ◌++◌, ◌∷◌, map, refl, ap, sym, inl}
 use Rattle.queues.proofs.Ended.{ended_none}
 use Rattle.feeds.specs.Emitted.{writer_seen, counted}
 use Rattle.feeds.proofs.Emitting.{running_first, running_as, running_end, running_done}
-use Rattle.service.specs.Sending.{Put}
-use Rattle.service.proofs.Acts.{does_none, does_more, does_put, running_on, running_put, sent_out, flushed_on, flushed_put}
+use Rattle.service.specs.Sending.{taking}
+use Rattle.service.proofs.Acts.{does_none, does_more, does_taking, running_on, running_taking, sent_out, flushed_on, flushed_taking}
 use Rattle.service.specs.Keeping.{act_of}
-use Rattle.service.proofs.Keeping.{state_put, settled_rows, does_behind}
+use Rattle.service.proofs.Keeping.{state_more, settled_rows, does_behind}
 use Rattle.service.proofs.outs.send_outs.Goals as goal
 
 pub loop-init : goal.loop-init
 loop-init g c = record {
   acts = [];
-  report = record { sent = 0; starts = 0; failed = 0 };
+  report = record { sent = 0; starts = 0; failed = 0; held = 0 };
   running = running_first c.args.outgoing.now.taker c.args.outgoing.now.workers _ _ c.requires.workers (ended_none _ _ c.requires.none);
   does = does_none c.args.outgoing.now.waiting.transactions _;
   flushed = λ none. inl refl;
@@ -45,18 +45,18 @@ loop-preserved-in-Ended g c =
 pub loop-preserved-in-Out : goal.loop-preserved-in-Out
 loop-preserved-in-Out g c =
     let was = c.loop.invariant in let at = c.in-Out in let tended = c.tend-has_more.ensures in let more = tended.does in
-    let put = c.put_out-fate.ensures in let fate = c.put_out-fate.result in let now = c.now-now.result in record {
-      acts = (was.acts ++ more.0) ++ Put now at.out fate ∷ [];
+    let sent = c.send_on.ensures in let fate = c.send_on.result in let now = c.now-now.result in record {
+      acts = (was.acts ++ more.0) ++ taking now at.out fate ∷ [];
       report = counted was.report fate;
-      running = running_put (was.acts ++ more.0) (running_as (running_on was.acts was.running more.0 _ more.1.no_outs tended.given) c.loop.outgoing.taker c.next_out.new.left refl at.ensures.2) now c.next_out.new.taker at.ensures.0 at.out fate
-          (g.W.Wire.given c.put_out-fate.new.wire)
-          (writer_seen g.F.Write.contents c.put_out-fate.new.sink)
-          at.ensures.1 put.fate put.given put.failures put.writes;
+      running = running_taking (was.acts ++ more.0) (running_as (running_on was.acts was.running more.0 _ more.1.no_outs tended.given) c.loop.outgoing.taker c.next_out.new.left refl at.ensures.2) now c.next_out.new.taker at.ensures.0 at.out fate
+          (g.W.Wire.given c.send_on.new.exit.wire)
+          (writer_seen g.F.Write.contents c.send_on.new.exit.sink)
+          at.ensures.1 sent.fate sent.given sent.failures sent.writes;
       does = does_more (does_more was.does (does_behind was.kept more.1.does))
-          (does_put now at.out fate _ _ _ _ put.taken put.wire_failures (state_put (was.acts ++ more.0) now at.out fate _));
-      flushed = flushed_put (λ s. s.is_flushed) _ _ (was.acts ++ more.0) (flushed_on (λ s. s.is_flushed) _ _ was.acts was.flushed more.0 more.1.no_outs)
-          c.put_out-fate.new.sink now at.out fate put.fate put.flushed put.stays;
-      kept = c.put.ensures.put _ _ (was.acts ++ more.0) (more.1.kept _ _ was.acts was.kept);
+          (does_taking now at.out fate _ _ _ _ sent.taken sent.wire_failures (state_more (was.acts ++ more.0) (taking now at.out fate ∷ []) _));
+      flushed = flushed_taking (λ s. s.is_flushed) _ _ (was.acts ++ more.0) (flushed_on (λ s. s.is_flushed) _ _ was.acts was.flushed more.0 more.1.no_outs)
+          c.send_on.new.exit.sink now at.out fate sent.fate sent.flushed sent.stays;
+      kept = sent.kept _ _ (was.acts ++ more.0) (more.1.kept _ _ was.acts was.kept);
     }
 
 pub loop-preserved : goal.loop-preserved

@@ -22,6 +22,10 @@ pub returns-in_ok-octets-in-Nobody-clause-admits :
 returns-in_ok-octets-in-Nobody-clause-admits c = λ admitted.
     (let h = c.in_ok-cause.ensures.accepts admitted.credentials admitted.shows admitted.accepted in let k = c.in-Nobody.is in cc)
 
+pub returns-in_ok-octets-in-Guess-clause-admits : goal.returns-in_ok-octets-in-Guess-clause-admits
+returns-in_ok-octets-in-Guess-clause-admits c = λ admitted.
+    (let h = c.in_ok-cause.ensures.accepts admitted.credentials admitted.shows admitted.accepted in let k = c.in-Guess.is in cc)
+
 pub returns-in_ok-octets-in-User-clause-admits : goal.returns-in_ok-octets-in-User-clause-admits
 returns-in_ok-octets-in-User-clause-admits c = λ admitted.
     let h : c.in_ok-cause.field-0 ≡ finding.User admitted.credentials.username = c.in_ok-cause.ensures.accepts admitted.credentials admitted.shows admitted.accepted in
@@ -34,3 +38,24 @@ returns-in_ok-octets-in-User-clause-admits c = λ admitted.
     let yes : c.may_have.result ≡ true = c.may_have.ensures.1 may in
     let no = c.if-may_have.false in
     cc
+
+pub returns-in_ok-octets-in-Guess-clause-concluded : goal.returns-in_ok-octets-in-Guess-clause-concluded
+returns-in_ok-octets-in-Guess-clause-concluded c =
+    let found : IsFound c.args.self.now.guard (inquiry_seen c.args.inquiry) (finding.Guess c.in-Guess.user) = rw c.in-Guess.is at c.in_ok-cause.ensures.found in
+    (found, c.in_ok-octets-in-Guess.ensures)
+
+pub returns-in_ok-octets-in-User-clause-concluded : goal.returns-in_ok-octets-in-User-clause-concluded
+returns-in_ok-octets-in-User-clause-concluded c =
+    let found : IsFound c.args.self.now.guard (inquiry_seen c.args.inquiry) (finding.User c.in-User.user) = rw c.in-User.is at c.in_ok-cause.ensures.found in
+    let k : IsUser c.args.self.now.guard (inquiry_seen c.args.inquiry) c.in-User.user = user_found c.args.self.now.guard (inquiry_seen c.args.inquiry) c.in-User.user found in
+    let name : c.in-User.user ≡ k.credentials.username = k.name in
+    let e : k.credentials.username ≡ c.as_str.result.now = (let own = c.as_str.ensures in cc) in (
+      record {
+        credentials = k.credentials;
+        shows = k.shows;
+        accepted = k.accepted;
+        may_not = λ may. (let here = have_same c.args.inquiry.request.now k.credentials.username c.as_str.result.now c.args.self.now.further.items c.deref.result.now e (sym c.deref.ensures.value) may in
+            let yes : c.may_have.result ≡ true = c.may_have.ensures.1 here in let no = c.if-may_have.false in absurd cc);
+      },
+      (let o = c.in_ok-octets-in-User.ensures in let r = c.reply.ensures.request in let s = c.reply.ensures.source in let t = c.reply.ensures.tag in rw (r, s, t) at o),
+    )

@@ -1,41 +1,58 @@
-use Rattle.std.proofs.Common.{rules, ◌≡◌, true, None, sym, ap, ◌∙◌}
+use Rattle.std.proofs.Common.{rules, ◌≡◌, ◌⊎◌, ⊎_elim, inl, inr, true, sym, ◌∙◌, subst}
 use Rattle.std.proofs.lemmas.Grind.{common_steps}
 use Rattle.admission.specs.declared.judging.Admission.{Admission}
+use Rattle.admission.specs.declared.judging.Verdict.{Verdict}
 use Rattle.admission.specs.declared.judging.Verdict.TheVariants as verdict
-use Rattle.admission.specs.Verdicts.{IsOpen, hears, lets, IsHeard, IsFree, IsSeated, IsAllowed, IsConcluded, Judges}
-use Rattle.admission.proofs.Concluding.{behind_same, behind_limit, free_as, seated_as, concluded, if_ok, if_err}
+use Rattle.std.specs.Prelude.{IfOk, None}
+use Rattle.admission.specs.Verdicts.{IsOpen, hears, lets, counting, with_rates, too_large, IsUnbarred, IsFree, one_more, IsAllowed, IsWeighed, IsHalfway, Judges, noted, half_noted, judged, after}
+use Rattle.admission.proofs.Concluding.{weighed_before, allowed_before, open_before, judged_weighed, behind_near, if_ok, if_err}
 use Rattle.admission.proofs.judging.Admission.judge.Goals as goal
 
 pub returns-clause-judges : goal.returns-clause-judges
 returns-clause-judges c =
+    let a = c.args.self.now in let x = c.args.arrival in
     let h = c.hears.ensures in
     let k = c.if-not-hears.false in
-    let near : hears c.args.self.now c.args.arrival.source.ip ≡ true = first_of (cc, grind common_steps, search rules) in
+    let near : hears a x.source.ip ≡ true = first_of (cc, grind common_steps, search rules) in
     let l = c.in_ok-lets.ensures.lets in
     let m = c.if-not-branch.false in
-    let seldom : lets c.args.self.now c.args.arrival ≡ true = first_of (cc, grind common_steps, search rules) in
-    let same : c.lets.new.self.authentication ≡ c.args.self.now.authentication =
-    ap (λ (a : Admission). a.authentication) c.in_ok-lets.ensures.behind ∙ behind_same c.args.self.now c.args.arrival in
-    let limit : c.lets.new.self.per_source ≡ c.args.self.now.per_source =
-    ap (λ (a : Admission). a.per_source) c.in_ok-lets.ensures.behind ∙ behind_limit c.args.self.now c.args.arrival in
-    let heard : IsHeard c.args.self.now c.args.arrival = record { near = near; seldom = seldom } in
-    if_ok c.conclude.result (IsConcluded c.lets.new.self c.args.arrival) (Judges c.args.self.now c.args.arrival)
-    (λ v one. concluded c.args.self.now c.lets.new.self c.args.arrival v same limit heard one) c.conclude.ensures.concluded
-
-pub returns-clause-wanting : goal.returns-clause-wanting
-returns-clause-wanting c =
-    let same : c.lets.new.self.authentication ≡ c.args.self.now.authentication =
-    ap (λ (a : Admission). a.authentication) c.in_ok-lets.ensures.behind ∙ behind_same c.args.self.now c.args.arrival in
-    let limit : c.lets.new.self.per_source ≡ c.args.self.now.per_source =
-    ap (λ (a : Admission). a.per_source) c.in_ok-lets.ensures.behind ∙ behind_limit c.args.self.now c.args.arrival in
-    if_err c.conclude.result (c.lets.new.self.authentication ≡ None → c.lets.new.self.per_source ≡ None → ⊥) (IsOpen c.args.self.now → ⊥)
-    (λ no is. no (same ∙ is.anyone) (limit ∙ is.unlimited)) c.conclude.ensures.wanting
+    let seldom : lets a x ≡ true = first_of (cc, grind common_steps, search rules) in
+    if_ok c.decide.result (IsWeighed c.lets.new.self x) (Judges a x)
+    (λ v one. (let P : Admission → Type 0 = λ b. IsWeighed b x v in
+    judged_weighed a x near seldom v (weighed_before a x (counting a x) v (subst P c.in_ok-lets.ensures.behind one)))) c.decide.ensures.weighed
 
 pub returns-clause-allows : goal.returns-clause-allows
 returns-clause-allows c =
-    let old = c.args.self.now in let new = c.lets.new.self in
-    let same : new.authentication ≡ old.authentication = ap (λ (a : Admission). a.authentication) c.in_ok-lets.ensures.behind ∙ behind_same old c.args.arrival in
-    let limit : new.per_source ≡ old.per_source = ap (λ (a : Admission). a.per_source) c.in_ok-lets.ensures.behind ∙ behind_limit old c.args.arrival in
-    if_ok c.conclude.result (λ v. IsFree new c.args.arrival → IsSeated new c.args.arrival verdict.Allowed → v ≡ verdict.Allowed)
-    (λ v. IsAllowed old c.args.arrival → v ≡ verdict.Allowed)
-    (λ v one is. one (free_as new old c.args.arrival (sym same) is.1) (seated_as new old c.args.arrival None (sym limit) is.2)) c.conclude.ensures.free
+    let a = c.args.self.now in let x = c.args.arrival in
+    if_ok c.decide.result
+    (λ v. too_large c.lets.new.self x ≡ None → IsUnbarred c.lets.new.self x → IsFree c.lets.new.self x → one_more c.lets.new.self x ≡ None → v ≡ verdict.Allowed)
+    (λ v. IsAllowed a x → v ≡ verdict.Allowed)
+    (λ v one. (let P : Admission → Type 0 = λ b. too_large b x ≡ None → IsUnbarred b x → IsFree b x → one_more b x ≡ None → v ≡ verdict.Allowed in
+    allowed_before a x (counting a x) (v ≡ verdict.Allowed) (subst P c.in_ok-lets.ensures.behind one))) c.decide.ensures.free
+
+pub returns-clause-behind : goal.returns-clause-behind
+returns-clause-behind c =
+    let a = c.args.self.now in let x = c.args.arrival in
+    let h = c.hears.ensures in
+    let k = c.if-not-hears.false in
+    let near : hears a x.source.ip ≡ true = first_of (cc, grind common_steps, search rules) in
+    let e : c.lets.new.self ≡ after a x = c.in_ok-lets.ensures.behind ∙ sym (behind_near a x near) in
+    if_ok c.decide.result (λ v. c.decide.new.self ≡ noted c.lets.new.self x v) (λ v. c.decide.new.self ≡ judged a x v)
+    (λ v one. (let P : Admission → Type 0 = λ b. c.decide.new.self ≡ noted b x v in subst P e one)) c.decide.ensures.noted
+
+pub returns-clause-err : goal.returns-clause-err
+returns-clause-err c =
+    let a = c.args.self.now in let x = c.args.arrival in
+    let h = c.hears.ensures in
+    let k = c.if-not-hears.false in
+    let near : hears a x.source.ip ≡ true = first_of (cc, grind common_steps, search rules) in
+    let e : c.lets.new.self ≡ after a x = c.in_ok-lets.ensures.behind ∙ sym (behind_near a x near) in
+    let P : Admission → Type 0 = λ b. (c.decide.new.self ≡ b) ⊎ (c.decide.new.self ≡ half_noted b x) in
+    if_err c.decide.result (P c.lets.new.self) (IsHalfway a x c.decide.new.self) (λ one. inr (subst P e one)) c.decide.ensures.err
+
+pub returns-clause-wanting : goal.returns-clause-wanting
+returns-clause-wanting c =
+    let a = c.args.self.now in let x = c.args.arrival in
+    let P : Admission → Type 0 = λ b. b.authentication ≡ None → b.max_texts ≡ None → b.per_source ≡ None → ⊥ in
+    if_err c.decide.result (P c.lets.new.self) (IsOpen a → ⊥)
+    (λ no. open_before a x (counting a x) ⊥ (subst P c.in_ok-lets.ensures.behind no)) c.decide.ensures.wanting

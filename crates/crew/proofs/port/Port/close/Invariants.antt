@@ -11,6 +11,7 @@ invariant-loop-sender g l = record {
   some : (olds : List SenderSeat) × (l.fn.self.seats ≡ l.self-inside.senders.items ++ olds) × ClosesSome olds (reverse l.self-inside.sents.items)
       × (l.all_there ≡ true → l.fn.self.is_open ≡ true → reverse l.self-inside.sents.items ≡ map (λ s. with_sent s (end_item s.number)) olds)
       × (l.all_there ≡ false → OneStays olds (reverse l.self-inside.sents.items));
+  missed : l.self-inside.missed ≡ l.fn.self.missed;
   none : l.fn.self.is_open ≡ false → (l.self-inside.sents.items ≡ l.initial.self-inside.sents.items) × (vec_len l.self-inside.senders ≡ 0) × (l.all_there ≡ true);
 }
 

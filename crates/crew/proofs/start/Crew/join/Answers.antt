@@ -40,4 +40,5 @@ returns g c =
     let came : Q reports.items = subst Q value c.settle_all.ensures.came in
     let P : List WorkerReport → Type 0 = λ l. IsJoined c.args.self ports c.args.taker.got l in
     subst P (sym (back ∙ now))
-    (joined all ports (λ p q low. c.requires.ports p q (subst (λ n. p < n) (sym c.args.ports.ok.0) low)) (λ p q low. came p q (subst (λ n. p < n) (sym c.args.ports.ok.0) low)))
+    (joined all ports (λ p q low. c.requires.ports p q (subst (λ n. p < n) (sym c.args.ports.ok.0) low)) (λ p q low. came p q (subst (λ n. p < n) (sym c.args.ports.ok.0) low))
+    (λ p q low. c.settle_all.ensures.home p q (subst (λ n. p < n) (sym c.args.ports.ok.0) low)))

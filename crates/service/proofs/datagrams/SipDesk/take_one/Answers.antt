@@ -1,12 +1,36 @@
-use Rattle.std.proofs.Common.{◌∙◌, Ok, refl, sym, ap, subst}
+use Rattle.std.proofs.Common.{◌≡◌, ◌∙◌, Bool, false, Ok, Some, refl, sym, ap, subst}
+use Rattle.std.specs.Prelude.{if◌then◌else◌}
+use Rattle.admission.specs.declared.judging.Reading.TheVariants as reading
+use Rattle.admission.specs.declared.judging.Verdict.TheVariants as verdict
+use Rattle.admission.specs.Verdicts.{hears, behind}
+use Rattle.sip_read.specs.declared.error.ReadError.TheVariants as errors
+use Rattle.feeds.proofs.Telling.{grows_none}
 use Rattle.admission.specs.declared.judging.Arrival.{Arrival}
 use Rattle.sip_read.specs.Message.{IsReading}
 use Rattle.service.specs.Admitted.{IsRequest, Refuses, refusal_in}
 use Rattle.notifier_model.specs.declared.event.Event.TheVariants as event
 use Rattle.feeds.specs.declared.hearing.Heard.TheVariants as heard
 use Rattle.sip_read.specs.declared.message.Message.TheVariants as message
-use Rattle.service.proofs.Judging.{passes_none, passes_sent}
+use Rattle.service.proofs.Judging.{not_true, passes_none, passes_sent}
 use Rattle.service.proofs.datagrams.SipDesk.take_one.Goals as goal
+
+pub returns-then-is_foreign-clause-taken : goal.returns-then-is_foreign-clause-taken
+returns-then-is_foreign-clause-taken g c =
+    let a = c.args.self.now.admission in
+    let far : hears a c.args.source.ip ≡ false = not_true (hears a c.args.source.ip) (sym c.is_foreign.ensures ∙ c.if-is_foreign.true) in
+    let x : Arrival = record { octets = c.args.octets; reading = reading.Unread; source = c.args.source; moment = c.args.moment; live = 0 } in record {
+      says = heard.Unread;
+      verdict = Some verdict.Foreign;
+      arrival = x;
+      speaks = (errors.NoMemory, tt);
+      of_octets = refl;
+      of_source = refl;
+      of_moment = refl;
+      reads = refl;
+      meets = (far, sym (ap (λ (b : Bool). if b then behind a x else a) far));
+      refuses = (grows_none (g.W.Wire.taken c.args.self.now.going), refl);
+      passes = (refl, refl);
+    }
 
 pub returns-then-not-admits-2-clause-taken : goal.returns-then-not-admits-2-clause-taken
 returns-then-not-admits-2-clause-taken g c =

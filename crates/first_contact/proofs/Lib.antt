@@ -1,0 +1,4 @@
+pub mod Parts
+pub mod Firsts
+pub mod Histories
+pub mod Orders

@@ -1,0 +1,147 @@
+-- What each call makes of what is known of one dialog, what it lets through, and what it drops.
+use Rattle.std.specs.Prelude.{ℕ, Bool, true, false, ◌&&◌, ◌||◌, ◌==◌, nat_le, nat_lt, Option, Some, None, List, [], ◌∷◌, ◌++◌, length, bytes_eq, if◌then◌else◌}
+use Rattle.std.specs.Option.{option_map_or}
+use Rattle.sip_text.specs.declared.address.Addr.{Addr}
+use Rattle.notifier_model.specs.declared.event.Out.{Out}
+use Rattle.notifier_model.specs.declared.event.Out.TheVariants as out
+use Rattle.first_contact.specs.declared.contact.Contact.{Contact}
+use Rattle.first_contact.specs.declared.contact.Notice.{Notice}
+use Rattle.first_contact.specs.declared.contact.Room.{Room}
+use Rattle.first_contact.specs.declared.contact.TheConstants.{GONE, FINAL, MOST}
+
+-- ---- NOTIFYs
+
+-- an out as a NOTIFY that is offered, if it is one
+abbrev pub notice_of : Out → Option Notice
+notice_of (out.Answer to octets) = None
+notice_of (out.Notify to number terminated tag note octets) =
+    Some (record { number = number; to = to; is_last = terminated; out = out.Notify to number terminated tag note octets })
+notice_of (out.Start tag refer_to) = None
+
+-- the local tag of its dialog
+abbrev pub tag_in : Out → List ℕ
+tag_in (out.Answer to octets) = []
+tag_in (out.Notify to number terminated tag note octets) = tag
+tag_in (out.Start tag refer_to) = []
+
+-- ---- what is known
+
+-- what is known of a dialog
+pub record ContactSeen : Type 0 where
+  -- where its latest NOTIFY goes
+  pub to : Addr
+  -- the number of the first one that went there
+  pub first : ℕ
+  -- whether that was answered
+  pub is_known : Bool
+  -- whether none follows the latest
+  pub is_ending : Bool
+  -- what waits for that answer, in order
+  pub held : List Notice
+
+abbrev pub seen : Contact → ContactSeen
+seen c = record { to = c.to; first = c.first; is_known = c.is_known; is_ending = c.is_ending; held = c.held.items }
+
+pub record Step : Type 0 where
+  -- what is known of the dialog then
+  pub contact : Option ContactSeen
+  -- the NOTIFYs that are let through, in order
+  pub through : List Notice
+  -- the NOTIFYs that are never let through
+  pub lost : List Notice
+
+abbrev pub same_addr : Addr → Addr → Bool
+same_addr a b = bytes_eq a.ip b.ip && (a.port == b.port)
+
+-- the NOTIFYs that wait
+abbrev pub waiting : Option ContactSeen → List Notice
+waiting None = []
+waiting (Some c) = c.held
+
+-- nothing happens
+abbrev pub idle : Option ContactSeen → Step
+idle c = record { contact = c; through = []; lost = [] }
+
+-- ---- a NOTIFY is offered
+
+-- it goes to an address of which nothing is known
+abbrev pub begun : Notice → ContactSeen
+begun n = record { to = n.to; first = n.number; is_known = false; is_ending = n.is_last; held = [] }
+
+-- it is let through as the first one to its address, and what waited is dropped
+abbrev pub begins_anew : Notice → Option ContactSeen → Step
+begins_anew n c = record { contact = Some (begun n); through = n ∷ []; lost = waiting c }
+
+-- it is let through, and what waited is dropped; nothing is known of the dialog then
+abbrev pub goes_once : Notice → Option ContactSeen → Step
+goes_once n c = record { contact = None; through = n ∷ []; lost = waiting c }
+
+-- the first one to its address, where its dialog may begin or not
+abbrev pub goes_first : Room → Notice → Option ContactSeen → Step
+goes_first room n c = if room.begins then begins_anew n c else goes_once n c
+
+-- the address has answered: it is let through
+abbrev pub passes : Notice → ContactSeen → Step
+passes n c = record { contact = Some (record c { is_ending = n.is_last; held = [] }); through = n ∷ []; lost = c.held }
+
+-- it waits behind those that wait
+abbrev pub waits : Notice → ContactSeen → Step
+waits n c = record { contact = Some (record c { is_ending = n.is_last; held = c.held ++ n ∷ [] }); through = []; lost = [] }
+
+-- it is dropped, and those that wait stay
+abbrev pub drops : Notice → ContactSeen → Step
+drops n c = record { contact = Some (record c { is_ending = n.is_last }); through = []; lost = n ∷ [] }
+
+-- may one more of this dialog wait?
+abbrev pub has_place : Room → ContactSeen → Bool
+has_place room c = room.waits && nat_lt (length c.held) MOST
+
+-- it goes where the latest one went
+abbrev pub offered_there : Room → Notice → ContactSeen → Step
+offered_there room n c = if c.is_known then passes n c else if has_place room c then waits n c else drops n c
+
+-- did the latest one go to this address?
+abbrev pub is_there : Addr → Option ContactSeen → Bool
+is_there to c = option_map_or (λ (x : ContactSeen). same_addr x.to to) c false
+
+-- it is the first one of its dialog, or to another address than the latest, or a further one
+abbrev pub offered : Room → Notice → Option ContactSeen → Step
+offered room n None = goes_first room n None
+offered room n (Some c) = if same_addr c.to n.to then offered_there room n c else goes_first room n (Some c)
+
+-- ---- an answer comes, or a NOTIFY is given up
+
+-- does what became of the NOTIFY with this number tell of the address?
+abbrev pub is_told_by : ℕ → ContactSeen → Bool
+is_told_by number c = c.is_known || (number == c.first)
+
+abbrev pub is_told : ℕ → Option ContactSeen → Bool
+is_told number c = option_map_or (is_told_by number) c false
+
+-- the dialog is gone, and what waited is dropped
+abbrev pub ended : Option ContactSeen → Step
+ended c = record { contact = None; through = []; lost = waiting c }
+
+-- The address has answered: what waited is let through.
+abbrev pub opened_more : Option ContactSeen → Step
+opened_more None = idle None
+opened_more (Some c) = record { contact = Some (record c { is_known = true; held = [] }); through = c.held; lost = [] }
+
+-- where none follows that, nothing more is to be known
+abbrev pub opened_last : Option ContactSeen → Step
+opened_last c = record { contact = None; through = waiting c; lost = [] }
+
+abbrev pub is_ending : Option ContactSeen → Bool
+is_ending c = option_map_or (λ (x : ContactSeen). x.is_ending) c false
+
+abbrev pub opened : Option ContactSeen → Step
+opened c = if is_ending c then opened_last c else opened_more c
+
+-- what an answer with this status to the NOTIFY with this number does: a 481 ends the dialog, a provisional one does nothing
+abbrev pub answered : ℕ → ℕ → Option ContactSeen → Step
+answered number status c =
+    if nat_le FINAL status then (if status == GONE then ended c else if is_told number c then opened c else idle c) else idle c
+
+-- the NOTIFY with this number is given up
+abbrev pub given_up : ℕ → Option ContactSeen → Step
+given_up number c = if is_told number c then ended c else idle c

@@ -1,0 +1,268 @@
+//! What calls make of what is known of all dialogs.
+ghost use Rattle.std.specs.Prelude.{◌≡◌, ◌≤◌, ◌<◌, ◌+◌, ◌-◌, ℕ, List, [], None, true, length, bytes_eq, if◌then◌else◌, IfOk, MatchResult};
+ghost use Rattle.first_contact.specs.Steps as steps;
+ghost use Rattle.first_contact.specs.Outcomes.{IsOffered, counted};
+ghost use Rattle.first_contact.specs.Tables.{IsStepped, IsSame, at, many, room};
+
+use crate::contact::{FINAL, GONE, Notice, Offered, Passed, Room};
+use crate::known;
+use crate::table::Contacts;
+use sip_text::NoMemory;
+use std::alloc::Global;
+use std::collections::HashMap;
+
+impl Contacts {
+    /// Nothing is known. So many dialogs may be known, and so many NOTIFYs may wait.
+    pub fn new(alloc: Global, limit: u32, places: u32) -> Contacts
+        ensures limit { result.limit ≡ limit }
+        ensures places { result.places ≡ places }
+        ensures unknown { (t : List ℕ) → at result t ≡ None }
+        ensures none_waits { result.waiting ≡ 0 }
+    {
+        Contacts {
+            alloc,
+            limit,
+            places,
+            waiting: 0,
+            known: HashMap::new(alloc),
+        }
+    }
+
+    /// How many NOTIFYs may wait.
+    pub fn places(&self) -> u32
+        ensures { result ≡ self.now.places }
+    {
+        self.places
+    }
+
+    /// How many NOTIFYs wait.
+    pub fn waiting(&self) -> usize
+        ensures { result ≡ self.now.waiting }
+    {
+        self.waiting as usize
+    }
+
+    /// The room that there is, where a dialog may begin or not.
+    fn room(&self, may_begin: bool) -> Room
+        ensures { result ≡ room may_begin self.now }
+    {
+        Room {
+            begins: may_begin && self.known.len() < self.limit as usize,
+            waits: self.waiting < self.places,
+        }
+    }
+
+    /// So many fewer wait.
+    fn count_off(&mut self, gone: usize)
+        ensures waiting { self.new.waiting ≡ self.old.waiting - gone }
+        ensures limit { self.new.limit ≡ self.old.limit }
+        ensures places { self.new.places ≡ self.old.places }
+        ensures known { self.new.known ≡ self.old.known }
+    {
+        let left = (self.waiting as usize).saturating_sub(gone);
+        self.waiting = left as u32;
+    }
+
+    /// What became of one that was offered counts.
+    fn count(&mut self, offered: &Offered)
+        requires room { offered.now ≡ Offered.Waits → self.old.waiting < self.old.places }
+        ensures waiting { self.new.waiting ≡ counted offered.now self.old.waiting }
+        ensures limit { self.new.limit ≡ self.old.limit }
+        ensures places { self.new.places ≡ self.old.places }
+        ensures known { self.new.known ≡ self.old.known }
+    {
+        match offered {
+            Offered::Through { lost, .. } => self.count_off(*lost),
+            Offered::Waits => self.waiting += 1,
+            Offered::Lost => {}
+        }
+    }
+
+    /// A NOTIFY is offered that goes where the latest one of its dialog went.
+    fn offer_there(&mut self, room: Room, notice: Notice) -> Result<Offered, NoMemory>
+        requires there { steps.is_there notice.to (at self.old (steps.tag_in notice.out)) ≡ true }
+        requires places { room.waits ≡ true → self.old.waiting < self.old.places }
+        ensures offered { MatchResult result
+            (λ o. IsStepped self.old self.new (steps.tag_in notice.out) (steps.offered room notice (at self.old (steps.tag_in notice.out))))
+            (λ _. IsSame self.old self.new) }
+        ensures outcome { IfOk result (IsOffered (steps.offered room notice (at self.old (steps.tag_in notice.out)))) }
+    {
+        let offered = known::offer(&mut self.known, room, notice)?;
+        self.count(&offered);
+        Ok(offered)
+    }
+
+    /// The dialog with this tag is gone. What waited.
+    fn end(&mut self, tag: &str) -> Vec<Notice>
+        ensures at_tag { (t : List ℕ) → at self.new t ≡ (if bytes_eq tag.now t then None else at self.old t) }
+        ensures waited { result.items ≡ steps.waiting (at self.old tag.now) }
+        ensures count { self.new.waiting ≡ self.old.waiting - length (steps.waiting (at self.old tag.now)) }
+        ensures limit { self.new.limit ≡ self.old.limit }
+        ensures places { self.new.places ≡ self.old.places }
+    {
+        match known::take(&mut self.known, tag) {
+            Some(contact) => {
+                let held = contact.into_held();
+                self.count_off(held.len());
+                held
+            }
+            None => Vec::new(self.alloc),
+        }
+    }
+
+    /// A dialog begins with this NOTIFY, or goes on to another address with it. How many are dropped that waited.
+    fn begin(&mut self, notice: &Notice) -> Result<usize, NoMemory>
+        requires room { many self.old < self.old.limit }
+        ensures begun { MatchResult result
+            (λ n. IsStepped self.old self.new (steps.tag_in notice.now.out)
+            (steps.begins_anew notice.now (at self.old (steps.tag_in notice.now.out))))
+            (λ _. IsSame self.old self.new) }
+        ensures lost { IfOk result (λ n. n ≡ length (steps.waiting (at self.old (steps.tag_in notice.now.out)))) }
+    {
+        let lost = known::begin(&mut self.known, self.alloc, notice)?;
+        self.count_off(lost);
+        Ok(lost)
+    }
+
+    /// A NOTIFY goes to an address of which nothing is known, and nothing will be known. How many are dropped that waited.
+    fn forget(&mut self, notice: &Notice) -> usize
+        ensures once { IsStepped self.old self.new (steps.tag_in notice.now.out)
+            (steps.goes_once notice.now (at self.old (steps.tag_in notice.now.out))) }
+        ensures lost { result ≡ length (steps.waiting (at self.old (steps.tag_in notice.now.out))) }
+    {
+        self.end(notice.tag()).len()
+    }
+
+    /// A NOTIFY goes to an address of which nothing is known. How many are dropped that waited.
+    fn go_first(&mut self, room: Room, notice: &Notice) -> Result<usize, NoMemory>
+        requires room { room.begins ≡ true → many self.old < self.old.limit }
+        ensures first { MatchResult result
+            (λ n. IsStepped self.old self.new (steps.tag_in notice.now.out)
+            (steps.goes_first room notice.now (at self.old (steps.tag_in notice.now.out))))
+            (λ _. IsSame self.old self.new) }
+        ensures lost { IfOk result (λ n. n ≡ length (steps.waiting (at self.old (steps.tag_in notice.now.out)))) }
+    {
+        if room.begins {
+            self.begin(notice)
+        } else {
+            Ok(self.forget(notice))
+        }
+    }
+
+    /// A NOTIFY is offered; `may_begin` says whether the answer to a first one will be told, or its giving up. Where it won't be, or
+    /// where of too many dialogs something is known, a first one is let through and nothing is known of its address then. An `Err` says that
+    /// an allocation failed: it is dropped, and nothing changes.
+    pub fn offer(&mut self, may_begin: bool, notice: Notice) -> Result<Offered, NoMemory>
+        ensures offered { MatchResult result
+            (λ o. IsStepped self.old self.new (steps.tag_in notice.out) (steps.offered (room may_begin self.old) notice (at self.old (steps.tag_in notice.out))))
+            (λ _. IsSame self.old self.new) }
+        ensures outcome { IfOk result (IsOffered (steps.offered (room may_begin self.old) notice (at self.old (steps.tag_in notice.out)))) }
+        ensures bounded { many self.new ≤ self.new.limit }
+        ensures few { self.new.waiting ≤ self.new.places }
+    {
+        let room = self.room(may_begin);
+        if known::is_there(&self.known, notice.tag(), notice.to) {
+            return self.offer_there(room, notice);
+        }
+        let lost = self.go_first(room, &notice)?;
+        Ok(Offered::Through { notice, lost })
+    }
+
+    /// An answer with this status came to the NOTIFY with this tag and this number.
+    pub fn answer(&mut self, tag: &str, number: u32, status: u16) -> Passed
+        ensures answered { IsStepped self.old self.new tag.now (steps.answered number status (at self.old tag.now)) }
+        ensures through { result.through.items ≡ (steps.answered number status (at self.old tag.now)).through }
+        ensures lost { result.lost ≡ length (steps.answered number status (at self.old tag.now)).lost }
+    {
+        if status < FINAL {
+            return self.none();
+        }
+        if status == GONE {
+            return self.drop_held(tag);
+        }
+        if !self.is_told(tag, number) {
+            return self.none();
+        }
+        self.let_through(tag)
+    }
+
+    /// The NOTIFY with this tag and this number is given up: how many are dropped that waited for its answer.
+    pub fn give_up(&mut self, tag: &str, number: u32) -> usize
+        ensures given_up { IsStepped self.old self.new tag.now (steps.given_up number (at self.old tag.now)) }
+        ensures lost { result ≡ length (steps.given_up number (at self.old tag.now)).lost }
+    {
+        if self.is_told(tag, number) {
+            self.end(tag).len()
+        } else {
+            0
+        }
+    }
+
+    /// Whether what became of the NOTIFY with this tag and this number tells of its dialog's address.
+    fn is_told(&self, tag: &str, number: u32) -> bool
+        ensures { result ≡ steps.is_told number (at self.now tag.now) }
+    {
+        match self.known.get(tag) {
+            Some(contact) => contact.is_told_by(number),
+            None => false,
+        }
+    }
+
+    /// Whether none follows the latest NOTIFY of the dialog with this tag.
+    fn is_ending(&self, tag: &str) -> bool
+        ensures { result ≡ steps.is_ending (at self.now tag.now) }
+    {
+        match self.known.get(tag) {
+            Some(contact) => contact.is_ending,
+            None => false,
+        }
+    }
+
+    /// Nothing is let through, and nothing dropped.
+    fn none(&self) -> Passed
+        ensures through { result.through.items ≡ [] }
+        ensures lost { result.lost ≡ 0 }
+    {
+        Passed {
+            through: Vec::new(self.alloc),
+            lost: 0,
+        }
+    }
+
+    /// The dialog with this tag is gone, and what waited is dropped.
+    fn drop_held(&mut self, tag: &str) -> Passed
+        ensures ended { IsStepped self.old self.new tag.now (steps.ended (at self.old tag.now)) }
+        ensures through { result.through.items ≡ [] }
+        ensures lost { result.lost ≡ length (steps.waiting (at self.old tag.now)) }
+    {
+        let lost = self.end(tag);
+        Passed {
+            through: Vec::new(self.alloc),
+            lost: lost.len(),
+        }
+    }
+
+    /// The address of the dialog with this tag has answered, and more may follow. What waited for that.
+    fn open(&mut self, tag: &str) -> Vec<Notice>
+        ensures opened { IsStepped self.old self.new tag.now (steps.opened_more (at self.old tag.now)) }
+        ensures waited { result.items ≡ steps.waiting (at self.old tag.now) }
+    {
+        let held = known::open(&mut self.known, self.alloc, tag);
+        self.count_off(held.len());
+        held
+    }
+
+    /// The address of the dialog with this tag has answered.
+    fn let_through(&mut self, tag: &str) -> Passed
+        ensures opened { IsStepped self.old self.new tag.now (steps.opened (at self.old tag.now)) }
+        ensures through { result.through.items ≡ (steps.opened (at self.old tag.now)).through }
+        ensures lost { result.lost ≡ length (steps.opened (at self.old tag.now)).lost }
+    {
+        if self.is_ending(tag) {
+            let through = self.end(tag);
+            return Passed { through, lost: 0 };
+        }
+        let through = self.open(tag);
+        Passed { through, lost: 0 }
+    }
+}

@@ -1,0 +1,17 @@
+use Rattle.std.proofs.Common.{◌≡◌, List, []}
+use Rattle.transport.specs.Wires.{Grows}
+use Rattle.feeds.specs.Emitted.{wire_seen}
+use Rattle.service.specs.Sending.{Act, fates, Does}
+use Rattle.service.specs.Watched.{AreRowed}
+use Rattle.service.proofs.sending.Waiting.release_all.Given as goal
+
+abbrev pub invariant-loop-notice : goal.invariant-loop-notice
+invariant-loop-notice g l = record {
+  acts : List Act;
+  none : fates acts ≡ [];
+  does : Does acts l.fn.self.transactions l.self.transactions
+      (wire_seen g.W.Wire.taken g.W.Wire.failures l.fn.wire) (wire_seen g.W.Wire.taken g.W.Wire.failures l.wire);
+  rowed : AreRowed l.fn.self.transactions acts l.fn.self.watchers.rows l.self.watchers.rows;
+  given : Grows (g.W.Wire.given l.fn.wire) (g.W.Wire.given l.wire) [];
+  burst : l.self.burst ≡ l.fn.self.burst;
+}
