@@ -625,7 +625,7 @@ def fewer_mailboxes(program, folder):
     """Who watches a mailbox that is gone is told so; the others notice nothing."""
     with left_behind(program, folder) as town:
         gone = MAILBOXES[1]
-        town.mailboxes = tuple(name for name in MAILBOXES if name != gone)
+        town.mailboxes = town.operator.mailboxes = tuple(name for name in MAILBOXES if name != gone)
         town.start()
         ones = [phone for phone in town.phones if phone.mailbox == gone]
         town.wait("its phones are told", lambda: all(phone.is_over for phone in ones))
