@@ -25,7 +25,7 @@ IsOnlySender port start serial x taken = (before later : List (Item Event)) (ite
     item.from ≡ port
 
 -- Where one port sent all of them, they are, in order, some of what that port sent: whatever other ports there are. The planned
--- stop, which no port sends, is none of them.
+-- stop of a setup, which no port sends, is none of them.
 abbrev pub OneSenderLaw : Type 0
 OneSenderLaw = (report : WorkerReport) (seat : SenderSeat) (start : Start) (serial : ℕ) (x : Request) →
     IsHeard report seat → IsOnlySender seat.number start serial x report.receiver.taken →

@@ -1,5 +1,5 @@
 //! What handles the events of a worker.
-ghost use Rattle.std.specs.Prelude.{◌≡◌, ◌+◌, Some, OnOk, OnErr};
+ghost use Rattle.std.specs.Prelude.{◌≡◌, ◌+◌, [], true, false, Some, OnOk, OnErr};
 ghost use Rattle.notifier.specs.Held.{seen_by};
 ghost use Rattle.notifier.specs.Standing.{Standing};
 ghost use Rattle.crew.specs.Loop.{posts_all, HandlesOne};
@@ -12,13 +12,45 @@ use queues::outbox::Poster;
 use std::alloc::Global;
 use std::sync::Wait;
 
-/// Posts these outs of a worker, and tells the gate of each.
-fn post_all<R: Wait, G: Gate>(rt: &R, gate: &G, worker: u32, poster: &mut Poster, outs: Vec<Out>)
-    ensures { poster.new ≡ posts_all poster.old outs.items }
-{
-    for out in outs {
-        poster.post(rt, out);
-        gate.posted(worker);
+/// The outs of one event, on their way to the outbox.
+#[derive(Drop)]
+struct Batch {
+    outs: Vec<Out>,
+    /// Whether the gate was told of the event. Before that no out of it may be posted: its record waits in front of them.
+    is_told: bool,
+}
+
+impl Batch {
+    /// These outs, of an event of which the gate wasn't told yet.
+    fn new(outs: Vec<Out>) -> Batch
+        ensures outs { result.outs ≡ outs }
+        ensures untold { result.is_told ≡ false }
+    {
+        Batch {
+            outs,
+            is_told: false,
+        }
+    }
+
+    /// Tells the gate of the event that made these outs.
+    fn tell<R: Wait, G: Gate>(&mut self, rt: &R, gate: &G, worker: u32, event: &Event)
+        ensures told { self.new.is_told ≡ true }
+        ensures outs { self.new.outs ≡ self.old.outs }
+    {
+        gate.handled(rt, worker, event, self.outs.as_slice());
+        self.is_told = true;
+    }
+
+    /// Posts the outs of this worker, whose gate was told of the event, and tells the gate of each.
+    fn post<R: Wait, G: Gate>(self, rt: &R, gate: &G, worker: u32, poster: &mut Poster)
+        requires told { self.is_told ≡ true }
+        ensures { poster.new ≡ posts_all poster.old self.outs.items }
+    {
+        let Batch { outs, is_told: _ } = self;
+        for out in outs {
+            poster.post(rt, out);
+            gate.posted(worker);
+        }
     }
 }
 
@@ -35,6 +67,18 @@ pub(crate) struct Hand<P: Package> {
     pub(crate) handled: u64,
     /// How many outs were posted.
     pub(crate) made: u64,
+    /// How many bytes the next book has room for before it grows.
+    pub(crate) room: usize,
+}
+
+/// An empty book with room for so many bytes, where memory has it.
+fn empty_book(alloc: Global, room: usize) -> Vec<u8>
+    ensures { result.items ≡ [] }
+{
+    match Vec::with_capacity(alloc, room) {
+        Ok(book) => book,
+        Err(_) => Vec::new(alloc),
+    }
 }
 
 impl<P: Package> Hand<P> {
@@ -57,27 +101,28 @@ impl<P: Package> Hand<P> {
             × (self.new.handled ≡ self.old.handled) × (self.new.made ≡ self.old.made)) }
     {
         gate.pass(self.worker, self.handled);
-        let told = self.desk.handle(alloc, &event);
-        if let Ok(outs) = &told {
-            gate.handled(rt, self.worker, &event, outs.as_slice());
-        }
-        drop(event);
-        let outs = told?;
+        let outs = self.desk.handle(alloc, &event)?;
         self.made = count_up(rt, self.made, outs.len() as u64);
         self.handled = count_up(rt, self.handled, 1);
-        post_all(rt, gate, self.worker, &mut self.poster, outs);
-        self.write_book(rt, alloc, gate);
+        let mut batch = Batch::new(outs);
+        batch.tell(rt, gate, self.worker, &event);
+        batch.post(rt, gate, self.worker, &mut self.poster);
+        self.room = self.write_book(rt, alloc, gate);
         Ok(())
     }
 
-    /// Hands the book over where the gate wants it. A spent desk has none, and where memory runs out none is handed over.
-    pub(crate) fn write_book<R: Wait, G: Gate>(&self, rt: &R, alloc: Global, gate: &G) {
+    /// Hands the book over where the gate wants it. A spent desk has none, and where memory runs out none is handed over. Says how
+    /// much room the next book is to have: an eighth more than the last one took.
+    pub(crate) fn write_book<R: Wait, G: Gate>(&self, rt: &R, alloc: Global, gate: &G) -> usize {
         if self.desk.is_spent() || !gate.wants_book(self.worker) {
-            return;
+            return self.room;
         }
-        let mut written = Vec::new(alloc);
-        if self.desk.save(alloc, &mut written).is_ok() {
-            gate.book(rt, self.worker, written);
+        let mut written = empty_book(alloc, self.room);
+        if self.desk.save(alloc, &mut written).is_err() {
+            return self.room;
         }
+        let length = written.len();
+        gate.book(rt, self.worker, written);
+        length.saturating_add(length / 8)
     }
 }

@@ -95,6 +95,7 @@ where
                 poster,
                 handled: 0,
                 made: 0,
+                room: 0,
             };
             work(&rt, alloc, &*gate, hand, receiver)
         },

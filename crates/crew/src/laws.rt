@@ -99,7 +99,7 @@ pub fn one_home()
 {}
 
 /// Where one port sent all of a subscription's own events, its worker took them in that port's order, whatever other ports there
-/// are. The planned stop, which no port sends, comes behind them.
+/// are. The planned stop of a setup, which no port sends, comes behind them. ([`crate::Port::shut`] sends an event of its own.)
 pub fn one_sender()
     ensures { OneSenderLaw }
 {}
