@@ -28,3 +28,4 @@ pub mod Resumed
 pub mod Written
 pub mod Joined
 pub mod Waiting
+pub mod Lent

@@ -20,6 +20,7 @@ use crate::store::kept::KeptAnswers;
 use crate::store::rows::Rows;
 use notifier_model::event::{Event, Out};
 use notifier_model::place::{Place, Setup};
+use notifier_model::row::Row;
 use notifier_model::saved::Saved;
 use package::Package;
 use sip_text::NoMemory;
@@ -188,6 +189,21 @@ impl<P: Package> Desk<P> {
             Ok(()) => Ok(()),
             Err(_) => Err(DeskError::NoMemory),
         }
+    }
+
+    /// The moment of its book, in seconds. Of a spent desk no contract tells it.
+    pub fn clock(&self) -> u64
+        ensures { (s : Standing) → seen_by P.seen self.now ≡ Some s → result ≡ s.book.clock }
+    {
+        self.ledger.clock
+    }
+
+    /// The rows of its book, by rising serial. Of a spent desk no contract tells them.
+    pub fn rows(&self, alloc: Global) -> Result<Vec<&Row>, NoMemory>
+        ensures { IfOk result (λ rows. (s : Standing) → seen_by P.seen self.now ≡ Some s
+            → map (λ row. row.now) rows.items ≡ s.book.rows) }
+    {
+        self.ledger.rows.all(alloc)
     }
 
     /// What the desk was made for: its setup, and the number of its worker. Of a spent desk no contract tells it.

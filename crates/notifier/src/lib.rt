@@ -20,6 +20,7 @@ pub mod laws;
 pub mod notice;
 mod resume;
 mod save;
+mod standing;
 mod store;
 mod sweep;
 mod tag;

@@ -1,5 +1,5 @@
 -- What holds of desks that go on after a restart.
-use Rattle.std.specs.Prelude.{ℕ, ◌≡◌, ◌+◌, ◌-◌, ◌<◌, ◌≤◌, Bool, true, false, List, ◌++◌, Some, All, filter}
+use Rattle.std.specs.Prelude.{ℕ, ◌≡◌, ◌+◌, ◌-◌, ◌<◌, ◌≤◌, ◌^◌, Bool, true, false, List, ◌++◌, Some, All, filter}
 use Rattle.std.specs.List.{Contains}
 use Rattle.notifier_model.specs.declared.event.Event.{Event}
 use Rattle.notifier_model.specs.declared.event.Out.{Out}
@@ -26,7 +26,7 @@ use Rattle.notifier.specs.Awaiting.{is_unanswered}
 use Rattle.notifier.specs.Resumed.{MayGoOn}
 use Rattle.notifier.specs.Sound.{IsLive}
 use Rattle.notifier.specs.Written.{saved_of}
-use Rattle.restarts.specs.Ahead.{ahead, book_ahead, leap}
+use Rattle.restarts.specs.Ahead.{ahead, book_ahead, leap, serial_ahead}
 use Rattle.restarts.specs.Living.{known}
 use Rattle.restarts.specs.Restarts.{is_open}
 use Rattle.restarts.specs.Withdrawn.{book_where}
@@ -83,6 +83,10 @@ AheadLaw = (place : Place) (book : Saved) → MayGoOn place book → MayGoOn pla
 -- the next number of a row that is ahead is above all of its numbers up to a leap further
 abbrev pub NumbersLaw : Type 0
 NumbersLaw = (row : Row) (lost number : ℕ) → lost ≤ leap → number ≤ row.sub.count + lost → number < (ahead row).sub.count + 1
+
+-- the next serial of a book that is ahead is above all that may have been given up to a leap further
+abbrev pub SerialsLaw : Type 0
+SerialsLaw = (next lost serial : ℕ) → lost ≤ leap → serial < next + lost → serial < 2 ^ 32 → serial < serial_ahead next
 
 -- ---- what is known of a row
 

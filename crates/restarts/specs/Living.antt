@@ -1,4 +1,4 @@
--- What is known of the subscriptions that live in a book.
+-- What is known of the subscriptions that live at a desk.
 use Rattle.std.specs.Prelude.{ℕ, ◌-◌, Some, min, unwrap_or}
 use Rattle.notifier_model.specs.declared.row.Row.{Row}
 use Rattle.notifier_model.specs.declared.event.Note.{Note}

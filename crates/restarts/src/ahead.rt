@@ -11,8 +11,22 @@ use sip_text::Values;
 use std::alloc::Global;
 use subscription::Sub;
 
-/// By how much numbers rise: more NOTIFYs of one subscription are never lost.
+/// By how much numbers and serials rise: more NOTIFYs of one subscription, or more subscriptions of one worker, are never lost.
 const LEAP: u32 = 65536;
+
+/// The next serial where all are used up.
+const USED_UP: u64 = 1 << 32;
+
+/// The next serial a leap further.
+fn serial_ahead(next: u64) -> u64
+    ensures { result ≡ spec.serial_ahead next }
+{
+    if next < USED_UP - u64::from(LEAP) {
+        next + u64::from(LEAP)
+    } else {
+        USED_UP
+    }
+}
 
 /// The row as one that was told so often, and waits for no answer.
 fn told_so_often(alloc: Global, row: Row, count: u32) -> Option<Row>
@@ -84,8 +98,9 @@ impl Leap {
     }
 }
 
-/// Lets the numbers of all rows rise by 65,536, and no row wait for an answer: for a book behind which more may have been handled
-/// than is known. A row that has no numbers for that is taken out, with its last number left, so that it can be told of its end.
+/// Lets the numbers of all rows and the next serial rise by 65,536, and no row wait for an answer: for a book behind which more may
+/// have been handled than is known. A row that has no numbers for that is taken out, with its last number left, so that it can be
+/// told of its end.
 pub fn skip_ahead(alloc: Global, book: Saved) -> Result<Withdrawn, NoMemory>
     ensures book { IfOk result (λ taken. taken.book ≡ spec.book_ahead book) }
     ensures left_out { IfOk result (λ taken. taken.rows.items ≡ spec.left_out book.rows) }
@@ -99,7 +114,7 @@ pub fn skip_ahead(alloc: Global, book: Saved) -> Result<Withdrawn, NoMemory>
     let Leap { ahead, left_out } = Leap::over(alloc, rows.into_vec())?;
     let book = Saved {
         clock,
-        next,
+        next: serial_ahead(next),
         rows: Values::new(ahead),
         ring,
     };

@@ -7,7 +7,7 @@
 //! same bytes, so that a subscriber takes each for a retransmission (RFC 3261 section 17.2.2).
 //!
 //! Where the end of what was handled may be lost, [`skip_ahead`] lets the numbers of NOTIFYs rise by so much that none is used
-//! twice. Where a resource was taken away meanwhile, [`withdraw`] takes out those who watch it. [`Living::all`] tells who watches.
+//! twice. Where a resource was taken away meanwhile, [`withdraw`] takes out those who watch it. [`Living::of_desk`] tells who watches.
 //!
 //! Begin with [`restart`], then `specs/Restarts`.
 #![tactic(auto)]

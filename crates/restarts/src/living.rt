@@ -1,13 +1,16 @@
-//! Who watches, by a saved book.
+//! Who watches, by what a desk keeps.
 #![tactic(auto)]
 
-ghost use Rattle.std.specs.Prelude.{◌≡◌, map, IfOk};
+ghost use Rattle.std.specs.Prelude.{◌≡◌, map, IfOk, Some};
+ghost use Rattle.notifier.specs.Held.{seen_by};
+ghost use Rattle.notifier.specs.Standing.{Standing};
 ghost use Rattle.restarts.specs.Living as spec;
 
 use notifier::notice::note;
-use notifier::{NoMemory, Saved};
+use notifier::{Desk, NoMemory};
 use notifier_model::event::Note;
 use notifier_model::row::Row;
+use package::Package;
 use sip_read::Addr;
 use sip_text::Text;
 use std::alloc::Global;
@@ -22,7 +25,7 @@ pub struct Living {
     pub number: u32,
     /// Where its NOTIFYs go.
     pub to: Addr,
-    /// What is known of it: the seconds that are left are those at the moment of the book.
+    /// What is known of it: the seconds that are left are those at the desk's moment.
     pub note: Note,
 }
 
@@ -51,16 +54,24 @@ impl Living {
         })
     }
 
-    /// The subscriptions that live in a book, in the order of its rows.
-    pub fn all(alloc: Global, book: &Saved) -> Result<Vec<Living>, NoMemory>
-        ensures { IfOk result (λ all. all.items ≡ map (spec.known book.now.clock) book.now.rows) }
+    /// The subscriptions of these rows, in their order, at this moment.
+    fn each(alloc: Global, clock: u64, rows: &[&Row]) -> Result<Vec<Living>, NoMemory>
+        ensures { IfOk result (λ all. all.items ≡ map (spec.known clock) (map (λ row. row.now) rows.now)) }
     {
-        let rows = book.rows.as_slice();
-        let mut all = Vec::new(alloc);
+        let mut all = Vec::with_capacity(alloc, rows.len())?;
         for row in rows {
-            let living = Living::known(alloc, book.clock, row)?;
+            let living = Living::known(alloc, clock, row)?;
             all.push(living)?;
         }
         Ok(all)
+    }
+
+    /// The subscriptions that live at a desk, in the order of its rows. Of a spent desk no contract tells them.
+    pub fn of_desk<P: Package>(alloc: Global, desk: &Desk<P>) -> Result<Vec<Living>, NoMemory>
+        ensures { IfOk result (λ all. (s : Standing) → seen_by P.seen desk.now ≡ Some s
+            → all.items ≡ map (spec.known s.book.clock) s.book.rows) }
+    {
+        let rows = desk.rows(alloc)?;
+        Living::each(alloc, desk.clock(), rows.as_slice())
     }
 }

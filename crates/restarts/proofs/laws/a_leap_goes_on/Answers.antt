@@ -7,3 +7,6 @@ returns-clause-may c = ahead_goes_on
 
 pub returns-clause-numbers : goal.returns-clause-numbers
 returns-clause-numbers c = λ row lost number few below. omega arith
+
+pub returns-clause-serials : goal.returns-clause-serials
+returns-clause-serials c = λ next lost serial few below fits. grind (arith)
