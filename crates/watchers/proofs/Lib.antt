@@ -1,3 +1,4 @@
+mod Addresses
 mod Bounded
 mod Rows
 mod Same

@@ -102,31 +102,31 @@ module _ (tag : List ℕ) where
 -- ---- an answer came
 
 -- what an answer makes of a row: one to what never went out changes nothing
-abbrev pub if_sent : ℕ → Watcher → Watcher
-if_sent number w = if nat_le number w.sent then answered number w else w
+abbrev pub if_sent : ℕ → ℕ → Watcher → Watcher
+if_sent number code w = if nat_le number w.sent then answered number code w else w
 
-pub same_source : (number : ℕ) (w : Watcher) → (if_sent number w).source ≡ w.source
-same_source number w = at (nat_le number w.sent) where
-  at : (b : Bool) → (cond b (answered number w) w).source ≡ w.source
+pub same_source : (number code : ℕ) (w : Watcher) → (if_sent number code w).source ≡ w.source
+same_source number code w = at (nat_le number w.sent) where
+  at : (b : Bool) → (cond b (answered number code w) w).source ≡ w.source
   at true = refl
   at false = refl
 
-pub answered_if : (tag : List ℕ) (number : ℕ) (rows : List Row)
-    → changed tag (if_sent number) rows ≡ (if not (was_sent tag number rows) then rows else changed tag (answered number) rows)
-answered_if tag number [] = refl
-answered_if tag number (row ∷ rows) = step (bytes_eq tag row.0) (answered_if tag number rows) where
-  here : (s : Bool) → (row.0, cond s (answered number row.1) row.1) ∷ rows ≡ cond (not s) (row ∷ rows) ((row.0, answered number row.1) ∷ rows)
+pub answered_if : (tag : List ℕ) (number code : ℕ) (rows : List Row)
+    → changed tag (if_sent number code) rows ≡ (if not (was_sent tag number rows) then rows else changed tag (answered number code) rows)
+answered_if tag number code [] = refl
+answered_if tag number code (row ∷ rows) = step (bytes_eq tag row.0) (answered_if tag number code rows) where
+  here : (s : Bool) → (row.0, cond s (answered number code row.1) row.1) ∷ rows ≡ cond (not s) (row ∷ rows) ((row.0, answered number code row.1) ∷ rows)
   here true = refl
   here false = refl
 
-  there : (s : Bool) → row ∷ cond (not s) rows (changed tag (answered number) rows) ≡ cond (not s) (row ∷ rows) (row ∷ changed tag (answered number) rows)
+  there : (s : Bool) → row ∷ cond (not s) rows (changed tag (answered number code) rows) ≡ cond (not s) (row ∷ rows) (row ∷ changed tag (answered number code) rows)
   there true = refl
   there false = refl
 
-  step : (b : Bool) → changed tag (if_sent number) rows ≡ cond (not (was_sent tag number rows)) rows (changed tag (answered number) rows)
-      → cond b ((row.0, if_sent number row.1) ∷ rows) (row ∷ changed tag (if_sent number) rows)
+  step : (b : Bool) → changed tag (if_sent number code) rows ≡ cond (not (was_sent tag number rows)) rows (changed tag (answered number code) rows)
+      → cond b ((row.0, if_sent number code row.1) ∷ rows) (row ∷ changed tag (if_sent number code) rows)
       ≡ cond (not (option_map_or (λ (w : Watcher). nat_le number w.sent) (cond b (Some row.1) (found tag rows)) false)) (row ∷ rows)
-      (cond b ((row.0, answered number row.1) ∷ rows) (row ∷ changed tag (answered number) rows))
+      (cond b ((row.0, answered number code row.1) ∷ rows) (row ∷ changed tag (answered number code) rows))
   step true rest = here (nat_le number row.1.sent)
   step false rest = ap (λ (r : List Row). row ∷ r) rest ∙ there (was_sent tag number rows)
 

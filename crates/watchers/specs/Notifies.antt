@@ -55,4 +55,4 @@ source addr = from_be_bytes w32 addr.ip
 -- the row that begins with the NOTIFY with this number, which went out at this moment to this address
 abbrev pub first_row : ℕ → ℕ → Addr → Known → Watcher
 first_row now number to known =
-    record { watcher = watcher known.watcher; mailbox = word known.resource; source = source to; to = to; sent = number; answered = 0; since = now; until = until now known.seconds }
+    record { watcher = watcher known.watcher; mailbox = word known.resource; source = source to; to = to; sent = number; answered = 0; code = 0; since = now; until = until now known.seconds }

@@ -1,9 +1,10 @@
 -- The rows as lines, page by page.
 --
 --   page = *row ["more" SP place LF]         ; where more rows are to be looked at: those before this place
---   row  = mailbox SP watcher SP address SP tag SP sent SP answered SP age SP left LF
+--   row  = mailbox SP watcher SP address SP tag SP sent SP answered SP age SP left SP "code=" code LF
 --
--- `sent` and `answered` are numbers of NOTIFYs; `age` and `left` are seconds: since its first NOTIFY, and until it ends.
+-- `sent` and `answered` are numbers of NOTIFYs; `age` and `left` are seconds: since its first NOTIFY, and until it ends. `code` is the
+-- status code of the answer to the last NOTIFY that was answered (RFC 3261 section 7.2), 0 where none was.
 -- The rows of a page go from the last of those that it may tell to the first.
 use Rattle.std.specs.Prelude.{◌≤◌, ℕ, zero, suc, ◌+◌, ◌-◌, ◌/◌, min, Bool, true, false, ◌&&◌, ◌==◌, nat_lt, nat_le, List, [], ◌++◌, length, slice_get, Option, Some, None, codes, decimal, bytes_eq, string_bytes, if◌then◌else◌}
 use Rattle.sip_text.specs.Addresses.{addr_text}
@@ -19,7 +20,8 @@ seconds from to = (to - from) / 1000
 abbrev pub line : List ℕ → Watcher → ℕ → ℕ → List ℕ
 line tag w age left =
     w.mailbox ++ (codes " " ++ (w.watcher ++ (codes " " ++ (addr_text w.to ++ (codes " " ++ (tag ++ (codes " " ++ (decimal w.sent
-    ++ (codes " " ++ (decimal w.answered ++ (codes " " ++ (decimal age ++ (codes " " ++ (decimal left ++ codes "\n"))))))))))))))
+    ++ (codes " " ++ (decimal w.answered ++ (codes " " ++ (decimal age ++ (codes " " ++ (decimal left
+    ++ (codes " code=" ++ (decimal w.code ++ codes "\n"))))))))))))))))
 
 -- its line at this moment
 abbrev pub row_text : ℕ → List ℕ → Watcher → List ℕ

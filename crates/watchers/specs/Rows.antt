@@ -7,7 +7,7 @@ use Rattle.std.specs.declared.alloc.Global.{Global}
 use Rattle.sip_text.specs.declared.address.Addr.{Addr}
 use Rattle.watchers.specs.Notifies.{Known, until, first_row}
 use Rattle.watchers.specs.declared.row.Watcher.{Watcher}
-use Rattle.watchers.specs.declared.watchers.TheConstants.{GONE, FINAL}
+use Rattle.watchers.specs.declared.watchers.TheConstants.{GONE, FINAL, REFUSED}
 
 -- a subscription's tag, and what is known of it
 abbrev pub Row : Type 0
@@ -58,8 +58,17 @@ without tag rows = swap_remove_by (λ (row : Row). bytes_eq tag row.0) rows
 
 -- ---- an answer came
 
-abbrev pub answered : ℕ → Watcher → Watcher
-answered number w = record w { answered = max w.answered number }
+-- the NOTIFY with this number was answered with this status code, which stands there unless a later one was answered before
+abbrev pub answered : ℕ → ℕ → Watcher → Watcher
+answered number code w = record w { answered = max w.answered number; code = if nat_le w.answered number then code else w.code }
+
+-- a final answer that is neither a success nor says that the subscription is gone (RFC 3261 section 7.2)
+abbrev pub refuses : ℕ → Bool
+refuses code = nat_le REFUSED code && not (code == GONE)
+
+-- such an answer to a NOTIFY that went out, and neither it nor a later one was answered before
+abbrev pub is_refused : ℕ → ℕ → Watcher → Bool
+is_refused number code w = refuses code && (nat_lt w.answered number && nat_le number w.sent)
 
 -- a NOTIFY with this number went out
 abbrev pub was_sent : List ℕ → ℕ → List Row → Bool
@@ -72,4 +81,4 @@ answered_rows tag number status rows =
     if nat_lt status FINAL then rows
     else if not (was_sent tag number rows) then rows
     else if status == GONE then without tag rows
-    else changed tag (answered number) rows
+    else changed tag (answered number status) rows

@@ -3,9 +3,9 @@ ghost use Rattle.std.specs.Prelude.{◌≡◌, ◌<◌, ◌==◌, ℕ, [], if◌
 ghost use Rattle.watchers.specs.Notifies as spec;
 ghost use Rattle.watchers.specs.Tallies.{tally};
 
-use indexmap::IndexMap;
 use sip_text::{Addr, NoMemory};
 use std::alloc::Global;
+use std::collections::BTreeMap;
 use std::marker::Model;
 
 /// Who sends from this address: its IPv4 address as a number, whose first octet has the highest bits.
@@ -16,10 +16,10 @@ pub fn source(addr: Addr) -> u32
 }
 
 /// How much of something each source has. One that has none takes no room. Contracts see the pairs of a source and its count, and
-/// `specs/Tallies` how much a source has by them.
+/// `specs/Tallies` how much a source has by them. The map is ordered: a stranger chooses its addresses, and no choice makes it slow.
 #[derive(Drop)]
 pub struct Counts {
-    counts: IndexMap<u32, usize>,
+    counts: BTreeMap<u32, usize>,
 }
 
 impl Model for Counts {
@@ -36,7 +36,7 @@ impl Counts {
         ensures { result ≡ [] }
     {
         Counts {
-            counts: IndexMap::new(alloc),
+            counts: BTreeMap::new(alloc),
         }
     }
 
@@ -58,8 +58,7 @@ impl Counts {
         ensures removes { count ≡ 0 → IsOk result }
     {
         if count == 0 {
-            let gone = self.counts.swap_remove(&source);
-            drop(gone);
+            self.counts.remove(&source);
             return Ok(());
         }
         match self.counts.insert(source, count) {

@@ -96,6 +96,7 @@ pub fn first_row(
         to,
         sent: number,
         answered: 0,
+        code: 0,
         since: now,
         until: until(now, known.seconds),
     })

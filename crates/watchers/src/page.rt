@@ -56,8 +56,8 @@ fn write_row(
     let mailbox = row.mailbox.as_str();
     write!(
         text,
-        "{mailbox} {watcher} {a}.{b}.{c}.{d}:{port} {tag} {} {} {age} {left}\n",
-        row.sent, row.answered
+        "{mailbox} {watcher} {a}.{b}.{c}.{d}:{port} {tag} {} {} {age} {left} code={}\n",
+        row.sent, row.answered, row.code
     )?;
     Ok(())
 }

@@ -2,6 +2,7 @@
 ghost use Rattle.std.specs.Prelude.{◌≡◌, nat_le, if◌then◌else◌};
 ghost use Rattle.watchers.specs.Rows as spec;
 
+use crate::watchers::{GONE, REFUSED};
 use sip_text::{Addr, Text};
 
 /// A live subscription, as it is known with its NOTIFYs. Moments are milliseconds.
@@ -19,7 +20,9 @@ pub struct Watcher {
     pub sent: u32,
     /// The greatest number of a NOTIFY that was answered, 0 where none was.
     pub answered: u32,
-    /// The moment of that NOTIFY.
+    /// The status code of the last answer to that NOTIFY, 0 where none was answered.
+    pub code: u16,
+    /// The moment of the NOTIFY with which its row began.
     pub since: u64,
     /// The moment at which it ends unless it is refreshed.
     pub until: u64,
@@ -35,12 +38,23 @@ impl Watcher {
         self.until = until;
     }
 
-    /// The NOTIFY with this number was answered, if it went out.
-    pub(crate) fn answer(&mut self, number: u32)
-        ensures { self.new ≡ (if nat_le number self.old.sent then spec.answered number self.old else self.old) }
+    /// The NOTIFY with this number was answered with this status code, if it went out.
+    pub(crate) fn answer(&mut self, number: u32, code: u16)
+        ensures { self.new ≡ (if nat_le number self.old.sent then spec.answered number code self.old else self.old) }
     {
         if number <= self.sent {
+            if number >= self.answered {
+                self.code = code;
+            }
             self.answered = self.answered.max(number);
         }
+    }
+
+    /// Whether an answer with this status code refuses the NOTIFY with this number: it is neither a success nor a 481, and neither that
+    /// NOTIFY nor a later one was answered before.
+    pub fn is_refused(&self, number: u32, code: u16) -> bool
+        ensures { result ≡ spec.is_refused number code self.now }
+    {
+        code >= REFUSED && code != GONE && self.answered < number && number <= self.sent
     }
 }

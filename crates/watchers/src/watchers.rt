@@ -20,6 +20,9 @@ pub const GONE: u16 = 481;
 /// The least status of a final answer (RFC 3261 section 7.2).
 pub const FINAL: u16 = 200;
 
+/// The least status of an answer by which a request isn't accepted (RFC 3261 section 7.2).
+pub const REFUSED: u16 = 300;
+
 /// Why a subscription gets no row.
 #[derive(Clone, Copy, Debug, PartialEq, Eq, Error)]
 pub enum NoRow {
@@ -78,16 +81,16 @@ fn renew_row(rows: &mut IndexMap<String, Watcher>, tag: &str, number: u32, to: A
     watcher.renew(number, to, until);
 }
 
-/// The NOTIFY with this number was answered, if it went out.
-fn mark_answered(rows: &mut IndexMap<String, Watcher>, tag: &str, number: u32)
+/// The NOTIFY with this number was answered with this status code, if it went out.
+fn mark_answered(rows: &mut IndexMap<String, Watcher>, tag: &str, number: u32, code: u16)
     ensures answered { rows_in rows.new.entries ≡ (if not (spec.was_sent tag.now number (rows_in rows.old.entries))
-        then rows_in rows.old.entries else spec.changed tag.now (spec.answered number) (rows_in rows.old.entries)) }
+        then rows_in rows.old.entries else spec.changed tag.now (spec.answered number code) (rows_in rows.old.entries)) }
     ensures sources { (k : ℕ) → rows_from (rows_in rows.new.entries) k ≡ rows_from (rows_in rows.old.entries) k }
 {
     let Some(watcher) = rows.get_mut(tag) else {
         return;
     };
-    watcher.answer(number);
+    watcher.answer(number, code);
 }
 
 /// The row of a subscription that has none comes behind the others.
@@ -292,8 +295,8 @@ impl Watchers {
     }
 
     /// An answer with this status came to the NOTIFY with this number in the subscription with this tag. A 481 says that the
-    /// subscription is gone (RFC 6665 section 4.2.2): its row goes. A provisional answer changes nothing, nor does one to what never
-    /// went out.
+    /// subscription is gone (RFC 6665 section 4.2.2): its row goes. The code of any other final answer stands in the row, unless a
+    /// later NOTIFY was answered before. A provisional answer changes nothing, nor does one to what never went out.
     pub fn answer(&mut self, tag: &str, number: u32, status: u16)
         ensures rows { self.new.rows ≡ spec.answered_rows tag.now number status self.old.rows }
         ensures limit { self.new.limit ≡ self.old.limit }
@@ -304,7 +307,7 @@ impl Watchers {
         if status == GONE {
             end_sent(&mut self.rows, &mut self.counts, tag, number);
         } else {
-            mark_answered(&mut self.rows, tag, number);
+            mark_answered(&mut self.rows, tag, number, status);
         }
     }
 }

@@ -12,16 +12,16 @@ pub returns-in_default-clause-answered : goal.returns-in_default-clause-answered
 returns-in_default-clause-answered c =
     let e : get_by_text c.args.rows.now c.args.tag.now ≡ None = search rules in
     let same : c.get_mut.follows.lender-at-none ≡ c.args.rows.now = search rules in
-    ap (λ m. rows_in m.entries) same ∙ sym (changed_none c.args.tag.now (if_sent c.args.number) c.args.rows.now.entries e)
-    ∙ answered_if c.args.tag.now c.args.number (rows_in c.args.rows.now.entries)
+    ap (λ m. rows_in m.entries) same ∙ sym (changed_none c.args.tag.now (if_sent c.args.number c.args.code) c.args.rows.now.entries e)
+    ∙ answered_if c.args.tag.now c.args.number c.args.code (rows_in c.args.rows.now.entries)
 
 pub returns-clause-answered : goal.returns-clause-answered
 returns-clause-answered c =
     let e : get_by_text c.args.rows.now c.args.tag.now ≡ Some c.in-Some.watcher.now = search rules in
     ap rows_in ((c.get_mut.follows.holds c.answer.new.self).0)
     ∙ ap (λ (w : Watcher). rows_in (set_value (named c.args.tag.now) c.args.rows.now.entries w)) c.answer.ensures
-    ∙ changed_some c.args.tag.now (if_sent c.args.number) c.args.rows.now.entries c.in-Some.watcher.now e
-    ∙ answered_if c.args.tag.now c.args.number (rows_in c.args.rows.now.entries)
+    ∙ changed_some c.args.tag.now (if_sent c.args.number c.args.code) c.args.rows.now.entries c.in-Some.watcher.now e
+    ∙ answered_if c.args.tag.now c.args.number c.args.code (rows_in c.args.rows.now.entries)
 
 pub returns-clause-sources : goal.returns-clause-sources
 returns-clause-sources c = λ k.
@@ -29,6 +29,6 @@ returns-clause-sources c = λ k.
     ap (λ (rows : List Row). rows_from rows k) (
     ap rows_in ((c.get_mut.follows.holds c.answer.new.self).0)
     ∙ ap (λ (w : Watcher). rows_in (set_value (named c.args.tag.now) c.args.rows.now.entries w)) c.answer.ensures
-    ∙ changed_some c.args.tag.now (if_sent c.args.number) c.args.rows.now.entries c.in-Some.watcher.now e
+    ∙ changed_some c.args.tag.now (if_sent c.args.number c.args.code) c.args.rows.now.entries c.in-Some.watcher.now e
     )
-    ∙ changed_counts c.args.tag.now (if_sent c.args.number) (same_source c.args.number) (rows_in c.args.rows.now.entries) k
+    ∙ changed_counts c.args.tag.now (if_sent c.args.number c.args.code) (same_source c.args.number c.args.code) (rows_in c.args.rows.now.entries) k
