@@ -1,7 +1,6 @@
 -- Who is found to ask.
 use Rattle.std.proofs.Common.{◌≡◌, ℕ, List, inl, inr, subst, ◌∙◌}
 use Rattle.sip_text.specs.declared.address.Addr.{Addr}
-use Rattle.sip_read.specs.declared.message.Request.{Request}
 use Rattle.digest.specs.declared.credentials.Credentials.{Credentials}
 use Rattle.digest.specs.declared.guard.Guard.{Guard}
 use Rattle.digest.specs.declared.guard.Verdict.{Verdict}
@@ -10,7 +9,7 @@ use Rattle.digest.specs.Verdicts as digest
 use Rattle.digest.specs.Verdicts.{IsAccepted}
 use Rattle.admission.specs.declared.authentication.Finding.TheVariants as finding
 use Rattle.admission.specs.Authorization.{Shows}
-use Rattle.admission.specs.Inquiries.{Inquiry, asked, told, IsJudged, IsFound, MayHave}
+use Rattle.admission.specs.Inquiries.{Inquiry, asked, told, IsJudged, IsFound, MayAsk}
 
 -- the same request
 pub moved : (P : digest.Request → Type 0) (method method' uri uri' : List ℕ) (source : Addr) (now : ℕ) → method ≡ method' → uri ≡ uri'
@@ -22,7 +21,7 @@ moved P method method' uri uri' source now e k h =
 -- the guard accepts credentials of this user
 pub record IsUser (g : Guard) (i : Inquiry) (user : List ℕ) : Type 0 where
   pub credentials : Credentials
-  pub shows : Shows i.octets credentials
+  pub shows : Shows g.passwords.realm i.octets credentials
   pub accepted : IsAccepted g (asked i) credentials
   pub name : user ≡ credentials.username
 
@@ -47,5 +46,5 @@ user_found g i user (inl none) = (let e = none.0 in absurd cc)
 user_found g i user (inr (inl bad)) = (let e = bad.0 in absurd cc)
 user_found g i user (inr (inr found)) = judged_user g i user found.0 found.1 found.2
 
-pub have_same : (r : Request) (user user' : List ℕ) (further further' : List (List ℕ × List ℕ)) → user ≡ user' → further ≡ further' → MayHave r user further → MayHave r user' further'
-have_same r user user' further further' e k h = subst (λ (u : List ℕ). MayHave r u further') e (subst (λ (f : List (List ℕ × List ℕ)). MayHave r user f) k h)
+pub ask_same : (i : Inquiry) (user user' : List ℕ) (further further' : List (List ℕ × List ℕ)) → user ≡ user' → further ≡ further' → MayAsk i user further → MayAsk i user' further'
+ask_same i user user' further further' e k h = subst (λ (u : List ℕ). MayAsk i u further') e (subst (λ (f : List (List ℕ × List ℕ)). MayAsk i user f) k h)

@@ -84,33 +84,36 @@ module _ (a : Admission) (x : Arrival) where
 
   -- ---- who is barred
 
-  pub unbarred : (s : Shown) → ((c : Credentials) → Shows x.octets.now c → s ≡ shown.Credentials c) → barred_user a x (username s) ≡ None → IsUnbarred a x
-  unbarred s only none k r c asked shows =
+  pub unbarred : (own : Authentication) → a.authentication ≡ Some own → (s : Shown)
+      → ((c : Credentials) → Shows own.guard.passwords.realm x.octets.now c → s ≡ shown.Credentials c) → barred_user a x (username s) ≡ None → IsUnbarred a x
+  unbarred own is s only none k r c asked shows =
+      let same : k ≡ own = some_is k own (sym asked.0 ∙ is) in
+      let S : Authentication → Type 0 = λ q. Shows q.guard.passwords.realm x.octets.now c in
       let P : Shown → Type 0 = λ w. barred_user a x (username w) ≡ None in
-      let e : barred_user a x (Some c.username) ≡ None = subst P (only c shows) none in
+      let e : barred_user a x (Some c.username) ≡ None = subst P (only c (subst S same shows)) none in
       (elim (is_barred a x c.username) as (λ y. (if y then Some c.username else None) ≡ None → y ≡ false) [ true ↦ λ h. absurd cc | false ↦ λ h. refl ]) e
 
-  pub record IsHim (s : Shown) (user : List ℕ) : Type 0 where
+  pub record IsHim (realm : Option (List ℕ)) (s : Shown) (user : List ℕ) : Type 0 where
     pub credentials : Credentials
-    pub shows : Shows x.octets.now credentials
+    pub shows : Shows realm x.octets.now credentials
     pub name : user ≡ credentials.username
     pub barred : is_barred a x user ≡ true
 
-  pub barred_is : (s : Shown) (user : List ℕ) → IsShown x.octets.now s → barred_user a x (username s) ≡ Some user → IsHim s user
-  barred_is (shown.Credentials c) user shows e =
-      (elim (is_barred a x c.username) as (λ y. is_barred a x c.username ≡ y → (if y then Some c.username else None) ≡ Some user → IsHim (shown.Credentials c) user) [
+  pub barred_is : (realm : Option (List ℕ)) (s : Shown) (user : List ℕ) → IsShown realm x.octets.now s → barred_user a x (username s) ≡ Some user → IsHim realm s user
+  barred_is realm (shown.Credentials c) user shows e =
+      (elim (is_barred a x c.username) as (λ y. is_barred a x c.username ≡ y → (if y then Some c.username else None) ≡ Some user → IsHim realm (shown.Credentials c) user) [
         | true ↦ λ b h. (let name : user ≡ c.username = sym (some_is c.username user h) in
             let P : List ℕ → Type 0 = λ u. is_barred a x u ≡ true in
             record { credentials = c; shows = shows; name = name; barred = subst P (sym name) b })
         | false ↦ λ b h. absurd cc
       ]) refl e
-  barred_is shown.Absent user shows e = absurd cc
-  barred_is shown.Malformed user shows e = absurd cc
+  barred_is realm shown.Absent user shows e = absurd cc
+  barred_is realm shown.Malformed user shows e = absurd cc
 
-  pub not_both : (s : Shown) (user : List ℕ) (k : Authentication) (r : Request) → IsShown x.octets.now s → barred_user a x (username s) ≡ Some user
+  pub not_both : (s : Shown) (user : List ℕ) (k : Authentication) (r : Request) → IsShown k.guard.passwords.realm x.octets.now s → barred_user a x (username s) ≡ Some user
       → IsAsked a x k r → IsUnbarred a x → ⊥
   not_both s user k r shows e asked free =
-      let him = barred_is s user shows e in
+      let him = barred_is k.guard.passwords.realm s user shows e in
       let P : List ℕ → Type 0 = λ u. is_barred a x u ≡ true in
       let yes = subst P him.name him.barred in
       let no = free k r him.credentials asked him.shows in

@@ -9,3 +9,4 @@ pub mod Allowances
 pub mod Shares
 pub mod Alone
 pub mod Bars
+pub mod Owning

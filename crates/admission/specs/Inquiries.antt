@@ -1,5 +1,5 @@
 -- Requests that are asked who they are from (RFC 3261 section 22).
-use Rattle.std.specs.Prelude.{◌≡◌, ℕ, Bool, true, false, ◌||◌, ◌==◌, List, length, ◌⊎◌, None, bytes_eq, codes}
+use Rattle.std.specs.Prelude.{◌≡◌, ℕ, Bool, true, false, ◌||◌, ◌==◌, List, length, ◌⊎◌, Option, Some, None, bytes_eq, codes}
 use Rattle.sip_text.specs.declared.address.Addr.{Addr}
 use Rattle.sip_read.specs.declared.message.Request.{Request}
 use Rattle.notifier_model.specs.Requests.{user_part}
@@ -21,16 +21,19 @@ use Rattle.admission.specs.declared.authentication.Finding.TheVariants as findin
 use Rattle.admission.specs.declared.authentication.Inquiry.{Inquiry as Borrowed}
 use Rattle.admission.specs.Authorization.{authorization, Shows, IsMalformed}
 use Rattle.admission.specs.Challenge.{forbidden_text, challenge_text}
+use Rattle.admission.specs.Guesses.{name_number}
 
--- a request, the datagram that it was read from, where that came from, and when, in seconds
+-- a request, the datagram that it was read from, where that came from, when, in seconds, and who made the dialog that it is in, as a number,
+-- where that is known
 pub record Inquiry : Type 0 where
   pub request : Request
   pub octets : List ℕ
   pub source : Addr
   pub now : ℕ
+  pub owner : Option ℕ
 
 abbrev pub inquiry_seen : Borrowed → Inquiry
-inquiry_seen i = record { request = i.request.now; octets = i.octets.now; source = i.source; now = i.now }
+inquiry_seen i = record { request = i.request.now; octets = i.octets.now; source = i.source; now = i.now; owner = i.owner }
 
 -- what a guard looks at
 abbrev pub asked : Inquiry → digest.Request
@@ -53,14 +56,14 @@ told verdict.BadResponse own = finding.Guess own
 -- the guard finds this of the credentials that the request shows
 pub record IsJudged (g : Guard) (i : Inquiry) (v : Verdict) : Type 0 where
   pub credentials : Credentials
-  pub shows : Shows i.octets credentials
+  pub shows : Shows g.passwords.realm i.octets credentials
   pub judges : Judges g (asked i) credentials v
 
 -- who is found to ask: who shows no credentials, or none that can be read, is nobody
 abbrev pub IsFound : Guard → Inquiry → Finding → Type 0
 IsFound g i f =
-    ((f ≡ finding.Nobody cause.Absent) × (authorization i.octets ≡ None))
-    ⊎ (((f ≡ finding.Nobody cause.Malformed) × IsMalformed i.octets)
+    ((f ≡ finding.Nobody cause.Absent) × (authorization g.passwords.realm i.octets ≡ None))
+    ⊎ (((f ≡ finding.Nobody cause.Malformed) × IsMalformed g.passwords.realm i.octets)
     ⊎ ((v : Verdict) × (j : IsJudged g i v) × (f ≡ told v j.credentials.username)))
 
 -- ---- whether they may
@@ -73,12 +76,21 @@ is_for_any r = bytes_eq r.method (codes "REFER") || (length (user_part r.uri) ==
 abbrev pub MayHave : Request → List ℕ → List (List ℕ × List ℕ) → Type 0
 MayHave r user further = (is_for_any r ≡ true) ⊎ MayWatch user (user_part r.uri) further
 
--- it shows credentials that the guard accepts, of a user who may have what it asks for
+-- the dialog that a request is in is the user's, as far as it is known who made that
+abbrev pub is_owner : Option ℕ → List ℕ → Bool
+is_owner None user = true
+is_owner (Some owner) user = name_number user == owner
+
+-- a user may ask for what they may have, and in a dialog that they made
+abbrev pub MayAsk : Inquiry → List ℕ → List (List ℕ × List ℕ) → Type 0
+MayAsk i user further = (is_owner i.owner user ≡ true) × MayHave i.request user further
+
+-- it shows credentials that the guard accepts, of a user who may ask for it
 pub record IsAdmitted (k : Authentication) (i : Inquiry) : Type 0 where
   pub credentials : Credentials
-  pub shows : Shows i.octets credentials
+  pub shows : Shows k.guard.passwords.realm i.octets credentials
   pub accepted : IsAccepted k.guard (asked i) credentials
-  pub may : MayHave i.request credentials.username k.further.items
+  pub may : MayAsk i credentials.username k.further.items
 
 -- ---- what comes of it
 
@@ -92,12 +104,12 @@ is_stale cause.Wrong = false
 abbrev pub challenge : Authentication → Inquiry → ChallengeCause → List ℕ
 challenge k i c = challenge_text i.source i.request k.tag (challenges k.guard i.source i.now (is_stale c))
 
--- a known user asks for what they may not have
+-- a known user asks for what they may not have, or in a dialog that another made
 pub record IsForbidden (k : Authentication) (i : Inquiry) : Type 0 where
   pub credentials : Credentials
-  pub shows : Shows i.octets credentials
+  pub shows : Shows k.guard.passwords.realm i.octets credentials
   pub accepted : IsAccepted k.guard (asked i) credentials
-  pub may_not : ¬ (MayHave i.request credentials.username k.further.items)
+  pub may_not : ¬ (MayAsk i credentials.username k.further.items)
 
 abbrev pub IsConcluded : Authentication → Inquiry → Conclusion → Type 0
 IsConcluded k i conclusion.Admitted = IsAdmitted k i

@@ -9,3 +9,4 @@ pub mod Table
 pub mod Guesses
 pub mod Runs
 pub mod Words
+pub mod Owners

@@ -91,7 +91,7 @@ asked reading.Response = None
 asked reading.Unread = None
 
 abbrev pub inquiry : Arrival → Request → Inquiry
-inquiry x r = record { request = r; octets = x.octets.now; source = x.source; now = x.moment / 1000 }
+inquiry x r = record { request = r; octets = x.octets.now; source = x.source; now = x.moment / 1000; owner = x.owner }
 
 -- this inquiry is made of it, by this authentication
 abbrev pub IsAsked : Admission → Arrival → Authentication → Request → Type 0
@@ -137,7 +137,7 @@ pub record IsBarred (a : Admission) (x : Arrival) (user octets : List ℕ) : Typ
   pub request : Request
   pub asked : IsAsked a x authentication request
   pub credentials : Credentials
-  pub shows : Shows x.octets.now credentials
+  pub shows : Shows authentication.guard.passwords.realm x.octets.now credentials
   pub name : user ≡ credentials.username
   pub barred : is_barred a x user ≡ true
   pub says : octets ≡ forbidden_text x.source request authentication.tag
@@ -145,7 +145,8 @@ pub record IsBarred (a : Admission) (x : Arrival) (user octets : List ℕ) : Typ
 -- nothing is asked, or it shows no credentials of a user who is barred there
 abbrev pub IsUnbarred : Admission → Arrival → Type 0
 IsUnbarred a x =
-    (k : Authentication) (r : Request) (c : Credentials) → IsAsked a x k r → Shows x.octets.now c → is_barred a x c.username ≡ false
+    (k : Authentication) (r : Request) (c : Credentials) → IsAsked a x k r → Shows k.guard.passwords.realm x.octets.now c
+    → is_barred a x c.username ≡ false
 
 -- ---- whether they may
 

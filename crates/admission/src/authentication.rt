@@ -7,9 +7,10 @@ ghost use Rattle.admission.specs.declared.authentication.Finding.TheVariants as 
 ghost use Rattle.admission.specs.declared.shown.Shown.TheVariants as shown_is;
 ghost use Rattle.admission.specs.Authorization.{Shows, IsShown};
 ghost use Rattle.admission.specs.Inquiries as spec;
-ghost use Rattle.admission.specs.Inquiries.{inquiry_seen, asked, MayHave, IsFound, IsAdmitted, IsConcluded};
+ghost use Rattle.admission.specs.Inquiries.{inquiry_seen, asked, MayHave, MayAsk, IsFound, IsAdmitted, IsConcluded};
 
 use crate::answer::Reply;
+use crate::guesses::name_number;
 use crate::shown::Shown;
 use digest::{Asked, Guard, Verdict as Judged, may_watch};
 use notifier_model::user_part;
@@ -74,6 +75,8 @@ pub(crate) struct Inquiry<'a> {
     pub source: Addr,
     /// Now, in seconds.
     pub now: u64,
+    /// Who made the dialog that it is in, as a number, where that is known.
+    pub owner: Option<u32>,
 }
 
 /// Whether any user may have what the request asks for: a transfer, or what a request asks for that names no mailbox, as one in a dialog.
@@ -93,6 +96,26 @@ fn may_have(request: &Request, user: &str, further: &[(Text, Text)]) -> bool
     may_watch(user, user_part(request.uri.as_str()), further)
 }
 
+/// Whether the dialog that a request is in is the user's, as far as it is known who made that.
+fn is_owner(owner: Option<u32>, user: &str) -> bool
+    ensures { result ≡ spec.is_owner owner user.now }
+{
+    match owner {
+        Some(owner) => name_number(user) == owner,
+        None => true,
+    }
+}
+
+/// Whether the user may ask for it: for what they may have, and in a dialog that they made.
+fn may_ask(inquiry: Inquiry<'_>, user: &str, further: &[(Text, Text)]) -> bool
+    ensures { IsTrue result ↔ MayAsk (inquiry_seen inquiry.entry) user.now further.now }
+{
+    if !is_owner(inquiry.owner, user) {
+        return false;
+    }
+    may_have(inquiry.request, user, further)
+}
+
 /// Who the guard says that it is, of credentials of this user.
 fn told(judged: Judged, user: Text) -> Finding
     ensures { result ≡ spec.told judged user }
@@ -110,10 +133,10 @@ fn told(judged: Judged, user: Text) -> Finding
 impl Authentication {
     /// Who is found to ask, where the datagram shows this. Its only error is out of memory.
     fn find(&self, alloc: Global, inquiry: Inquiry<'_>, shown: Shown) -> Result<Finding, NoMemory>
-        requires shown { IsShown inquiry.octets.now shown }
-        requires only { (c : CredentialsSeen) → Shows inquiry.octets.now c → shown ≡ shown_is.Credentials c }
+        requires shown { IsShown self.now.guard.passwords.realm inquiry.octets.now shown }
+        requires only { (c : CredentialsSeen) → Shows self.now.guard.passwords.realm inquiry.octets.now c → shown ≡ shown_is.Credentials c }
         ensures found { IfOk result (IsFound self.now.guard (inquiry_seen inquiry.entry)) }
-        ensures accepts { IfOk result (λ f. (c : CredentialsSeen) → Shows inquiry.entry.octets.now c
+        ensures accepts { IfOk result (λ f. (c : CredentialsSeen) → Shows self.now.guard.passwords.realm inquiry.entry.octets.now c
             → IsAccepted self.now.guard (asked (inquiry_seen inquiry.entry)) c → f ≡ finding.User c.username) }
     {
         let credentials = match shown {
@@ -166,8 +189,8 @@ impl Authentication {
         inquiry: Inquiry<'_>,
         shown: Shown,
     ) -> Result<Conclusion, NoMemory>
-        requires shown { IsShown inquiry.octets.now shown }
-        requires only { (c : CredentialsSeen) → Shows inquiry.octets.now c → shown ≡ shown_is.Credentials c }
+        requires shown { IsShown self.now.guard.passwords.realm inquiry.octets.now shown }
+        requires only { (c : CredentialsSeen) → Shows self.now.guard.passwords.realm inquiry.octets.now c → shown ≡ shown_is.Credentials c }
         ensures concluded { IfOk result (IsConcluded self.now (inquiry_seen inquiry.entry)) }
         ensures admits { IfOk result (λ c. IsAdmitted self.now (inquiry_seen inquiry.entry) → c ≡ conclusion.Admitted) }
     {
@@ -181,7 +204,7 @@ impl Authentication {
                 Ok(Conclusion::Guess(user, octets))
             }
             Finding::User(user) => {
-                if may_have(inquiry.request, user.as_str(), &self.further) {
+                if may_ask(inquiry, user.as_str(), &self.further) {
                     return Ok(Conclusion::Admitted);
                 }
                 let octets = self.reply(inquiry).forbidden(alloc)?;

@@ -31,8 +31,8 @@ fn minute_clock(moment: u64) -> u64
     moment / THOUSANDTH
 }
 
-/// A user's name as a number.
-fn name_number(user: &str) -> u32
+/// A user's name as a number: the first four octets of its SHA-256.
+pub fn name_number(user: &str) -> u32
     ensures { result ≡ spec.name_number user.now }
 {
     let digest = <Sha256 as Digest>::digest(user.as_bytes());

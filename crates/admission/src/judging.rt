@@ -1,15 +1,16 @@
 //! What comes of a datagram.
-ghost use Rattle.std.specs.Prelude.{◌≡◌, ◌⊎◌, true, option_map, IfOk, OnOk, OnErr};
+ghost use Rattle.std.specs.Prelude.{◌≡◌, ◌⊎◌, true, option_map, IfOk, IfSome, OnOk, OnErr};
 ghost use Rattle.admission.specs.declared.judging.Arrival.{Arrival as ArrivalSeen};
 ghost use Rattle.admission.specs.declared.judging.Reading.TheVariants as reading;
 ghost use Rattle.admission.specs.declared.judging.Verdict.{Verdict as VerdictSeen};
 ghost use Rattle.admission.specs.declared.judging.Verdict.TheVariants as verdict;
+ghost use Rattle.admission.specs.Owners.{Names, IsUser};
 ghost use Rattle.admission.specs.Verdicts as spec;
 ghost use Rattle.admission.specs.Verdicts.{Judges, IsUnbarred, IsFree, IsSeated, behind, half_noted};
 
 use crate::answer::Reply;
 use crate::authentication::{Authentication, ChallengeCause, Conclusion, Inquiry};
-use crate::guesses::Guesses;
+use crate::guesses::{Guesses, name_number};
 use crate::network::{Network, number};
 use crate::shown::{Shown, show};
 use crate::table::Rates;
@@ -40,6 +41,8 @@ pub struct Arrival<'a> {
     pub moment: u64,
     /// How many live subscriptions its source has.
     pub live: usize,
+    /// The user who made the dialog that it is in, as a number ([`name_number`](crate::name_number)), where that is known.
+    pub owner: Option<u32>,
 }
 
 /// What comes of a datagram.
@@ -60,7 +63,7 @@ pub enum Verdict {
     Challenge(ChallengeCause, Octets),
     /// It isn't heard, and this 401 goes to its source: it shows a wrong password of this user.
     Guess(Text, Octets),
-    /// It isn't heard, and this 403 goes to its source: a known user asks for another's mailbox.
+    /// It isn't heard, and this 403 goes to its source: a known user asks for another's mailbox, or in another's dialog.
     Forbidden(Octets),
     /// It isn't heard, and this 503 goes to its source: it asks for a new subscription, and has as many as it may.
     Crowded(Octets),
@@ -272,8 +275,9 @@ impl Admission {
             octets: arrival.octets,
             source: arrival.source,
             now: arrival.moment / 1000,
+            owner: arrival.owner,
         };
-        let shown = show(alloc, arrival.octets)?;
+        let shown = show(alloc, &authentication.guard.passwords.realm, arrival.octets)?;
         if let Some(user) = self.barred(arrival, &shown) {
             let octets = authentication.reply(inquiry).forbidden(alloc)?;
             return Ok(Verdict::Barred(user.copy(alloc)?, octets));
@@ -335,6 +339,23 @@ impl Admission {
         let verdict = self.weigh(alloc, arrival)?;
         self.note(arrival, &verdict)?;
         Ok(verdict)
+    }
+
+    /// The user whom the credentials of a request name that is asked who it is from, as a number ([`name_number`]). Of one that is allowed
+    /// it is the user who proved themself. None where nobody is asked, or no credentials are shown. Its only error is out of memory.
+    pub fn user(&self, alloc: Global, arrival: Arrival<'_>) -> Result<Option<u32>, NoMemory>
+        ensures names { IfOk result (λ user. IfSome user (Names self.now arrival.entry)) }
+        ensures only { IfOk result (IsUser self.now arrival.entry) }
+    {
+        let (Some(authentication), Some(_request)) = (&self.authentication, asked(arrival.reading))
+        else {
+            return Ok(None);
+        };
+        let shown = show(alloc, &authentication.guard.passwords.realm, arrival.octets)?;
+        match username(&shown) {
+            Some(user) => Ok(Some(name_number(user.as_str()))),
+            None => Ok(None),
+        }
     }
 
     /// What comes of a datagram. It takes a token of its source where it is counted, and those of a wrong password where it shows one. Its only

@@ -9,8 +9,8 @@
 //! 3. Would a subscription keep no more of a SUBSCRIBE or a REFER than it may? Else [`Verdict::Large`], with the bytes of a 413.
 //! 4. Were few enough wrong passwords shown ([`Guesses`])? Else [`Verdict::Barred`], with those of a 403, without a look at the password.
 //! 5. Does a SUBSCRIBE or a REFER, in a dialog too, answer a challenge (RFC 3261 section 22, [`digest`])? Else [`Verdict::Challenge`] or
-//!    [`Verdict::Guess`], with the bytes of a 401. May the user have the mailbox that it names? Else [`Verdict::Forbidden`], with those of a
-//!    403.
+//!    [`Verdict::Guess`], with the bytes of a 401. May the user have the mailbox that it names, and did they make the dialog that
+//!    it is in, where it is handed in who did? Else [`Verdict::Forbidden`], with those of a 403.
 //! 6. Does a SUBSCRIBE or a REFER outside a dialog ask for one more subscription of a source that has as many as it may? Then
 //!    [`Verdict::Crowded`], with the bytes of a 503. How many a source has is handed in.
 //!
@@ -45,7 +45,7 @@ mod words;
 
 pub use authentication::{Authentication, ChallengeCause};
 pub use bucket::{Bucket, Rate};
-pub use guesses::Guesses;
+pub use guesses::{Guesses, name_number};
 pub use judging::{Admission, Arrival, CROWD_TAG, LARGE_TAG, Reading, Verdict};
 pub use network::Network;
 pub use sip_text::NoMemory;

@@ -6,7 +6,7 @@ ghost use Rattle.admission.specs.Authorization.{Shows, IsShown};
 
 use crate::authorization::authorization;
 use digest::{Credentials, CredentialsError};
-use sip_text::NoMemory;
+use sip_text::{NoMemory, Text};
 use std::alloc::Global;
 
 /// What a datagram shows of who asks.
@@ -20,12 +20,12 @@ pub(crate) enum Shown {
     Malformed,
 }
 
-/// What the datagram shows of who asks. Its only error is out of memory.
-pub(crate) fn show(alloc: Global, octets: &[u8]) -> Result<Shown, NoMemory>
-    ensures is { IfOk result (IsShown octets.now) }
-    ensures only { IfOk result (λ s. (c : CredentialsSeen) → Shows octets.now c → s ≡ shown.Credentials c) }
+/// What the datagram shows of who asks, where this is our realm. Its only error is out of memory.
+pub(crate) fn show(alloc: Global, own: &Option<Text>, octets: &[u8]) -> Result<Shown, NoMemory>
+    ensures is { IfOk result (IsShown own.now octets.now) }
+    ensures only { IfOk result (λ s. (c : CredentialsSeen) → Shows own.now octets.now c → s ≡ shown.Credentials c) }
 {
-    let Some(text) = authorization(alloc, octets)? else {
+    let Some(text) = authorization(alloc, own, octets)? else {
         return Ok(Shown::Absent);
     };
     match Credentials::read(alloc, text.as_str()) {

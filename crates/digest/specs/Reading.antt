@@ -1,10 +1,11 @@
 -- What the reader of Authorization computes, as functions on lists. The grammar (Grammar) is what they come to.
-use Rattle.std.specs.Prelude.{ℕ, List, Option, Some, None, if◌then◌else◌, codes}
+use Rattle.std.specs.Prelude.{ℕ, List, Option, Some, None, if◌then◌else◌, codes, find}
 use Rattle.std.specs.Str.{byte, str_eq_ignore_ascii_case}
 use Rattle.sip_text.specs.declared.scan.Class.TheVariants as class
 use Rattle.sip_text.specs.Bytes.{is_in}
-use Rattle.sip_text.specs.Reading.{◌>>=◌, after_byte, after_spaces, span_at, value_at}
-use Rattle.digest.specs.Params.{AuthParam}
+use Rattle.sip_text.specs.Reading.{◌>>=◌, after_byte, after_spaces, span_at, value_at, elements_of}
+use Rattle.digest.specs.declared.directive.Directive.TheVariants as directive
+use Rattle.digest.specs.Params.{AuthParam, is_named, value_text}
 
 -- a parameter at the front, and the rest
 unfoldable pub auth_param_at : List ℕ → Option (AuthParam × List ℕ)
@@ -20,3 +21,18 @@ after_scheme t = do
   scheme ← span_at (is_in class.Token) t
   spaces ← span_at (is_in class.Space) scheme.1
   if str_eq_ignore_ascii_case scheme.0 (codes "Digest") then Some spaces.1 else None
+
+abbrev pub value_said : Option AuthParam → Option (List ℕ)
+value_said None = None
+value_said (Some p) = value_text p.value
+
+-- what the first parameter `realm` says
+abbrev pub realm_among : List AuthParam → Option (List ℕ)
+realm_among params = value_said (find (is_named directive.Realm) params)
+
+-- the realm that a value names
+unfoldable pub realm_said : List ℕ → Option (List ℕ)
+realm_said value = do
+  list ← after_scheme value
+  params ← elements_of auth_param_at list
+  realm_among params

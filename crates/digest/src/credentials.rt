@@ -1,18 +1,18 @@
 //! What a client says in `Authorization`.
 ghost use Rattle.std.specs.Prelude.{◌≡◌, List, option_map};
-ghost use Rattle.sip_text.specs.Bytes.{Finds};
+ghost use Rattle.sip_text.specs.Bytes.{Finds, Gives};
 ghost use Rattle.digest.specs.Credentials as spec;
 ghost use Rattle.digest.specs.Credentials.{algorithm_named, protection_said, Reads, Says};
 ghost use Rattle.digest.specs.Grammar.{HasParams};
 ghost use Rattle.digest.specs.Params.{AuthParam as ParamSeen};
-ghost use Rattle.digest.specs.Reading.{after_scheme};
+ghost use Rattle.digest.specs.Reading.{after_scheme, realm_among, realm_said};
 ghost use Rattle.digest.specs.Views.{all_seen};
 
 use crate::algorithm::Algorithm;
 use crate::directive::Directive;
 use crate::error::CredentialsError;
 use crate::param::{AuthParam, count_named, first_named, value_text};
-use sip_text::{Class, Text, elements_of, span_at};
+use sip_text::{Class, NoMemory, Text, elements_of, span_at};
 use std::alloc::Global;
 
 /// What a response is made over besides the password, the nonce and the target.
@@ -72,6 +72,38 @@ fn optional(
     match value_text(alloc, param.value)? {
         Some(text) => Ok(Some(text)),
         None => Err(CredentialsError::Bad(directive)),
+    }
+}
+
+/// What the first parameter `realm` says, if there is one.
+#[tactic(auto, using(sip_text::proofs::OverViews::over_views))]
+fn realm_among(alloc: Global, params: &[AuthParam<'_>]) -> Result<Option<Text>, NoMemory>
+    ensures { Gives (λ t. t) result (realm_among (all_seen params.now)) }
+{
+    let Some(param) = first_named(Directive::Realm, params) else {
+        return Ok(None);
+    };
+    match value_text(alloc, param.value)? {
+        Some(realm) => Ok(Some(realm)),
+        None => Ok(None),
+    }
+}
+
+/// The realm that the value of an `Authorization` header names, if it names one: what its first parameter `realm` says. Its error is want of
+/// memory.
+#[tactic(auto, unfolding(crate::specs::Reading::realm_said))]
+pub fn realm(alloc: Global, value: &[u8]) -> Result<Option<Text>, NoMemory>
+    ensures { Gives (λ t. t) result (realm_said value.now) }
+{
+    let Some(list) = after_scheme(value) else {
+        return Ok(None);
+    };
+    let Some(params) = elements_of::<AuthParam>(alloc, list)? else {
+        return Ok(None);
+    };
+    match realm_among(alloc, &params)? {
+        Some(realm) => Ok(Some(realm)),
+        None => Ok(None),
     }
 }
 

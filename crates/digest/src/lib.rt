@@ -27,7 +27,7 @@ pub mod response;
 pub mod watching;
 
 pub use algorithm::Algorithm;
-pub use credentials::{Credentials, Protection};
+pub use credentials::{Credentials, Protection, realm};
 pub use directive::Directive;
 pub use error::CredentialsError;
 pub use guard::{Asked, Guard, Verdict};

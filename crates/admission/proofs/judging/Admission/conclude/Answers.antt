@@ -14,7 +14,7 @@ returns-in-Challenge-clause-concluded c =
     let is : asked c.args.arrival.reading ≡ Some c.in-Some-Some.request.now = first_of (cc, search rules, grind common_steps) in
     let none : barred_user c.args.self.now c.args.arrival (username c.in_ok-shown.shown) ≡ None = search rules in
     let h = rw c.in-Challenge.is at c.in_ok-conclude.ensures.concluded in (
-      unbarred c.args.self.now c.args.arrival c.in_ok-shown.shown c.in_ok-shown.ensures.only none,
+      unbarred c.args.self.now c.args.arrival c.in-Some-Some.authentication own c.in_ok-shown.shown c.in_ok-shown.ensures.only none,
       record {
         authentication = c.in-Some-Some.authentication;
         request = c.in-Some-Some.request.now;
@@ -34,7 +34,7 @@ returns-in-Guess-clause-concluded c =
     let is : asked c.args.arrival.reading ≡ Some c.in-Some-Some.request.now = first_of (cc, search rules, grind common_steps) in
     let none : barred_user c.args.self.now c.args.arrival (username c.in_ok-shown.shown) ≡ None = search rules in
     let h = rw c.in-Guess.is at c.in_ok-conclude.ensures.concluded in (
-      unbarred c.args.self.now c.args.arrival c.in_ok-shown.shown c.in_ok-shown.ensures.only none,
+      unbarred c.args.self.now c.args.arrival c.in-Some-Some.authentication own c.in_ok-shown.shown c.in_ok-shown.ensures.only none,
       record {
         authentication = c.in-Some-Some.authentication;
         request = c.in-Some-Some.request.now;
@@ -54,7 +54,7 @@ returns-in-Forbidden-clause-concluded c =
     let is : asked c.args.arrival.reading ≡ Some c.in-Some-Some.request.now = first_of (cc, search rules, grind common_steps) in
     let none : barred_user c.args.self.now c.args.arrival (username c.in_ok-shown.shown) ≡ None = search rules in
     let h = rw c.in-Forbidden.is at c.in_ok-conclude.ensures.concluded in (
-      unbarred c.args.self.now c.args.arrival c.in_ok-shown.shown c.in_ok-shown.ensures.only none,
+      unbarred c.args.self.now c.args.arrival c.in-Some-Some.authentication own c.in_ok-shown.shown c.in_ok-shown.ensures.only none,
       record {
         authentication = c.in-Some-Some.authentication;
         request = c.in-Some-Some.request.now;
@@ -76,7 +76,7 @@ returns-in-Admitted-clause-concluded c =
     let none : barred_user a x (username c.in_ok-shown.shown) ≡ None = search rules in
     let h = rw c.in-Admitted.is at c.in_ok-conclude.ensures.concluded in
     if_ok c.seat-in-Admitted.result (IsSeated a x) (IsConcluded a x)
-    (λ v s. seated_concluded a x v (unbarred a x c.in_ok-shown.shown c.in_ok-shown.ensures.only none) (free_one a x c.in-Some-Some.authentication c.in-Some-Some.request.now own is h) s)
+    (λ v s. seated_concluded a x v (unbarred a x c.in-Some-Some.authentication own c.in_ok-shown.shown c.in_ok-shown.ensures.only none) (free_one a x c.in-Some-Some.authentication c.in-Some-Some.request.now own is h) s)
     c.seat-in-Admitted.ensures.seated
 
 pub returns-in-Some-clause-concluded : goal.returns-in-Some-clause-concluded
@@ -90,7 +90,7 @@ returns-in-Some-clause-concluded c =
     let is : asked x.reading ≡ Some c.in-Some-Some.request.now = first_of (cc, search rules, grind common_steps) in
     let b = c.barred.ensures in
     let some : barred_user a x (username c.in_ok-shown.shown) ≡ Some c.in-Some.user.now = first_of (cc, search rules, grind common_steps) in
-    let him : IsHim a x c.in_ok-shown.shown c.in-Some.user.now = barred_is a x c.in_ok-shown.shown c.in-Some.user.now c.in_ok-shown.ensures.is some in
+    let him : IsHim a x c.in-Some-Some.authentication.guard.passwords.realm c.in_ok-shown.shown c.in-Some.user.now = barred_is a x c.in-Some-Some.authentication.guard.passwords.realm c.in_ok-shown.shown c.in-Some.user.now c.in_ok-shown.ensures.is some in
     let same : c.in_ok-copy.field-0 ≡ c.in-Some.user.now = c.in_ok-copy.ensures in
     let P : List ℕ → Type 0 = λ u. is_barred a x u ≡ true in
     let r = c.reply.ensures.request in let s = c.reply.ensures.source in let t = c.reply.ensures.tag in
