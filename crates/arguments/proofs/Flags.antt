@@ -236,6 +236,7 @@ switch_again switch.NoRefer = refl
 switch_again switch.UntilInputEnds = refl
 switch_again switch.OldDigest = refl
 switch_again switch.LogRequests = refl
+switch_again switch.LogJson = refl
 
 pub no_switch : (word : List ℕ) → switch_of word ≡ None → (s : Switch) → word ≢ switch_text s
 no_switch word none s same = absurd (clash (sym none ∙ ap switch_of same ∙ switch_again s)) where
@@ -250,3 +251,4 @@ switch_is_no_flag switch.NoRefer = (refl, not_joined (switch_text switch.NoRefer
 switch_is_no_flag switch.UntilInputEnds = (refl, not_joined (switch_text switch.UntilInputEnds) refl)
 switch_is_no_flag switch.OldDigest = (refl, not_joined (switch_text switch.OldDigest) refl)
 switch_is_no_flag switch.LogRequests = (refl, not_joined (switch_text switch.LogRequests) refl)
+switch_is_no_flag switch.LogJson = (refl, not_joined (switch_text switch.LogJson) refl)

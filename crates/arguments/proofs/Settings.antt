@@ -347,6 +347,7 @@ switch_begins switch.NoRefer = refl
 switch_begins switch.UntilInputEnds = refl
 switch_begins switch.OldDigest = refl
 switch_begins switch.LogRequests = refl
+switch_begins switch.LogJson = refl
 
 plain_is_no_flag : (word : List ℕ) → begins 45 word ≡ false → flag_named word ≡ None
 plain_is_no_flag word plain = step (flag_named word) refl where

@@ -57,6 +57,7 @@ default_choices = record {
   guesses = record { burst = 5; per_minute = 20 };
   old_digest = false;
   log_requests = false;
+  log_json = false;
   sync = Some 1;
 }
 
@@ -92,6 +93,7 @@ with_switch switch.NoRefer choices = record choices { no_refer = true }
 with_switch switch.UntilInputEnds choices = record choices { until_input_ends = true }
 with_switch switch.OldDigest choices = record choices { old_digest = true }
 with_switch switch.LogRequests choices = record choices { log_requests = true }
+with_switch switch.LogJson choices = record choices { log_json = true }
 
 -- the choices after this setting. Mailboxes, files and who may watch or is let in are gathered apart
 abbrev pub after : Choices → Setting → Choices

@@ -57,6 +57,7 @@ switch_text switch.NoRefer = codes "--no-refer"
 switch_text switch.UntilInputEnds = codes "--until-input-ends"
 switch_text switch.OldDigest = codes "--old-digest"
 switch_text switch.LogRequests = codes "--log-requests"
+switch_text switch.LogJson = codes "--log-json"
 
 -- the least number that an option takes
 abbrev pub least : Bound → ℕ

@@ -99,7 +99,7 @@ joined_of word =
     else with_value (flag_named (before_first is_equals word)) (after_first is_equals word)
 
 abbrev pub switches : List Switch
-switches = switch.KeepSubscriptions ∷ switch.NoRefer ∷ switch.UntilInputEnds ∷ switch.OldDigest ∷ switch.LogRequests ∷ []
+switches = switch.KeepSubscriptions ∷ switch.NoRefer ∷ switch.UntilInputEnds ∷ switch.OldDigest ∷ switch.LogRequests ∷ switch.LogJson ∷ []
 
 unfoldable pub switch_of : List ℕ → Option Switch
 switch_of word = find_text switch_text switches word

@@ -13,6 +13,7 @@
 --            / ("--allow" / "--control-allow") network
 --            / "--seed" digits                    ; 64 hex digits of either case
 --            / "--keep-subscriptions" / "--no-refer" / "--until-input-ends" / "--old-digest" / "--log-requests"
+--            / "--log-json"
 --            / mailbox                            ; no space, control character, `@` or `:`, and no `-` in front
 --
 -- An option and its value are two words, or one with `=` between.

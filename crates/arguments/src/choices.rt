@@ -72,6 +72,8 @@ pub struct Choices {
     pub old_digest: bool,
     /// Whether each request that is answered is told on standard error.
     pub log_requests: bool,
+    /// Whether each line on standard error is a JSON object.
+    pub log_json: bool,
     /// After how many seconds the journal is written to the disk. None: when the system likes.
     pub sync: Option<u32>,
 }
@@ -214,6 +216,7 @@ impl Choices {
             },
             old_digest: false,
             log_requests: false,
+            log_json: false,
             sync: Some(1),
         }
     }
@@ -237,6 +240,7 @@ impl Choices {
             Switch::UntilInputEnds => self.until_input_ends = true,
             Switch::OldDigest => self.old_digest = true,
             Switch::LogRequests => self.log_requests = true,
+            Switch::LogJson => self.log_json = true,
         }
     }
 

@@ -17,6 +17,8 @@ pub enum Switch {
     OldDigest,
     /// `--log-requests`: a line on standard error for each request that is answered.
     LogRequests,
+    /// `--log-json`: each line on standard error is a JSON object.
+    LogJson,
 }
 
 impl Switch {
@@ -30,6 +32,7 @@ impl Switch {
             Switch::UntilInputEnds => "--until-input-ends",
             Switch::OldDigest => "--old-digest",
             Switch::LogRequests => "--log-requests",
+            Switch::LogJson => "--log-json",
         }
     }
 }
@@ -49,6 +52,8 @@ pub(crate) fn switch_named(word: &str) -> Option<Switch>
         Some(Switch::OldDigest)
     } else if word == "--log-requests" {
         Some(Switch::LogRequests)
+    } else if word == "--log-json" {
+        Some(Switch::LogJson)
     } else {
         None
     }

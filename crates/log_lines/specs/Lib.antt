@@ -1,0 +1,5 @@
+pub mod Shown
+pub mod Utc
+pub mod Plain
+pub mod Objects
+pub mod Lines
