@@ -37,6 +37,7 @@ usage: notifyd serve [options] [<mailbox>...]      (also --option=value)
   --keep-subscriptions       no farewell at the end
   --no-refer                 no package refer: a REFER is answered 489
   --log-requests             a line for each request that is answered
+  --log-json                 each line of the log is a JSON object
   --until-input-ends         closes where standard input ends; see notifyd-run
   --min-time <seconds>       the shortest time granted (60)
   --max-time <seconds>       the longest time granted (3600)

@@ -21,13 +21,13 @@ use package::{Change, Package};
 use restarts::Living as Row;
 use resumption::{
     Found, Halt, Reading, Renewed, Replayed, Terms, Wish, Worked, add_mails, held_names,
-    read_files, renew, replay, saved,
+    read_files, renew, replay,
 };
 use service::{Begins, Journal, Living, SETTLED, Upkeep, Volume};
 use sip_text::{Addr, NoMemory, Text};
 use std::alloc::Global;
 use std::fs::File;
-use std::rt::Files;
+use std::rt::{Clock, Files};
 
 /// The folder of a journal, and what stands there.
 #[derive(Drop)]
@@ -254,9 +254,8 @@ fn begin_with<P: Package>(
     let mut begins = Begins::anew(alloc);
     begins.unanswered = first;
     for desk in desks {
-        let book = saved(alloc, desk)?;
-        begins.tick = begins.tick.max(book.clock);
-        add_living(&mut begins.living, Row::all(alloc, &book)?)?;
+        begins.tick = begins.tick.max(desk.clock());
+        add_living(&mut begins.living, Row::of_desk(alloc, desk)?)?;
     }
     Ok(begins)
 }
@@ -452,7 +451,7 @@ fn go_on<R, P, M>(
     make: &M,
 ) -> Result<Started<P>, Halt>
 where
-    R: Files<File = File> + Eprint + AllocGlobal,
+    R: Clock + Files<File = File> + Eprint + AllocGlobal,
     P: Package,
     M: Fn(Wanted) -> Result<P, NoMemory>,
     requires callable { M.IsAlwaysCallable make.now }
@@ -476,7 +475,8 @@ where
     };
     let Generation { accounts, .. } = generation;
     let replayed = replay(alloc, &worked, accounts.into_vec(), make)?;
-    say_course(rt, &opened.folder.path, course);
+    let is_json = order.plan.choices.log_json;
+    say_journal(rt, is_json, &opened.folder.path, told(course));
     match course {
         Course::Straight => go_straight(rt, order, opened, newest, replayed),
         Course::Renewed { is_lost } => {
@@ -511,23 +511,13 @@ where
     begin_file(rt, order, opened, renewed)
 }
 
-/// Says how a service goes on from the journal in this folder.
-fn say_course<R: Eprint>(rt: &R, path: &Text, course: Course) {
+/// The same, as it is told.
+fn told(course: Course) -> log_lines::Course {
     match course {
-        Course::Straight => say_journal(rt, path, "goes on from it"),
-        Course::Renewed { is_lost: false } => {
-            say_journal(rt, path, "goes on from it, with other options")
-        }
-        Course::Renewed { is_lost: true } => say_journal(
-            rt,
-            path,
-            "goes on from it, but for what was written last",
-        ),
-        Course::Ended => say_journal(
-            rt,
-            path,
-            "its subscriptions end: another seed, contact or number of workers",
-        ),
+        Course::Straight => log_lines::Course::GoesOn,
+        Course::Renewed { is_lost: false } => log_lines::Course::GoesOnRenewed,
+        Course::Renewed { is_lost: true } => log_lines::Course::GoesOnWithoutLast,
+        Course::Ended => log_lines::Course::EndsSubscriptions,
     }
 }
 
@@ -574,7 +564,7 @@ fn start_there<R, P, M>(
     make: &M,
 ) -> Result<Started<P>, Halt>
 where
-    R: Files<File = File> + Eprint + AllocGlobal,
+    R: Clock + Files<File = File> + Eprint + AllocGlobal,
     P: Package,
     M: Fn(Wanted) -> Result<P, NoMemory>,
     requires callable { M.IsAlwaysCallable make.now }
@@ -597,7 +587,7 @@ fn start_with<R, P, M>(
     make: &M,
 ) -> Result<Started<P>, ServeError>
 where
-    R: Files<File = File> + Eprint + AllocGlobal,
+    R: Clock + Files<File = File> + Eprint + AllocGlobal,
     P: Package,
     M: Fn(Wanted) -> Result<P, NoMemory>,
     requires callable { M.IsAlwaysCallable make.now }
@@ -605,16 +595,15 @@ where
     requires some { 0 < plan.now.workers }
     ensures refused { IfErr result IsOther }
 {
+    let is_json = plan.choices.log_json;
     if opened.found.is_none() && !opened.numbers.is_empty() {
-        say_journal(rt, &opened.folder.path, "can't be read, and is put aside");
+        let path = &opened.folder.path;
+        say_journal(rt, is_json, path, log_lines::Course::Unreadable);
     }
     match start_there(rt, plan, local, opened, make) {
         Err(Halt::Unfit) => {
-            say_journal(
-                rt,
-                &opened.folder.path,
-                "can't be gone on from, and is put aside",
-            );
+            let path = &opened.folder.path;
+            say_journal(rt, is_json, path, log_lines::Course::Unfit);
             let order = new_order(rt, plan, local)?;
             Ok(begin_anew(rt, order, opened, make)?)
         }
@@ -631,7 +620,7 @@ fn begin_as_planned<R, P, M>(
     make: &M,
 ) -> Result<Started<P>, ServeError>
 where
-    R: Files<File = File> + Eprint + AllocGlobal,
+    R: Clock + Files<File = File> + Eprint + AllocGlobal,
     P: Package,
     M: Fn(Wanted) -> Result<P, NoMemory>,
     requires callable { M.IsAlwaysCallable make.now }
@@ -656,7 +645,7 @@ pub(crate) fn start<R, P, M>(
     make: &M,
 ) -> Result<Started<P>, ServeError>
 where
-    R: Files<File = File> + Eprint + AllocGlobal,
+    R: Clock + Files<File = File> + Eprint + AllocGlobal,
     P: Package,
     M: Fn(Wanted) -> Result<P, NoMemory>,
     requires callable { M.IsAlwaysCallable make.now }

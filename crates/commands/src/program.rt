@@ -15,22 +15,24 @@ use crate::error::ServeError;
 use crate::help::{HELP, asked_text};
 use crate::input::Watch;
 use crate::journal_start::{Opened, Started, found_header, open_journal, start};
-use crate::logging::{say_goodbye, say_hello, say_journal, say_spent_worker, warn_of_control};
+use crate::logging::{
+    say_goodbye, say_hello, say_journal, say_spent_worker, say_why, warn_of_control,
+};
 use crate::plan::{Plan, adopted, local_setup, new_plan};
 use crate::prompt::{Patience, Prompt};
 use crate::sockets::{Sockets, open};
 use crate::udp::all_closed;
 use crate::udp_printing::worker_lines;
 use arguments::{ExitStatus, Wanted};
+use log_lines::Course;
 use notifier::Desk;
 use package::{Change, Package};
 use scripts::write_page;
 use service::{
-    Begins, ControlPort, Exit, Journal, ServiceEnd, ServiceWork, Shared, SipDesk, has_room_soon,
-    run_crew,
+    Begins, ControlPort, Exit, Journal, ServiceEnd, ServiceWork, Shared, SipDesk, run_crew,
 };
 use sip_text::{Addr, NoMemory, Text};
-use std::alloc::Global;
+use std::alloc::{AllocError, Global};
 use std::fs::File;
 use std::io;
 use std::io::Write;
@@ -66,7 +68,7 @@ fn begin<R: Clock + AllocGlobal>(
 }
 
 /// Opens the sockets that a plan asks for, and says where they are.
-fn open_sockets<R: Wait + Net + Eprint + AllocGlobal>(
+fn open_sockets<R: Wait + Net + Clock + Eprint + AllocGlobal>(
     rt: &R,
     plan: &Plan,
 ) -> Result<Sockets, ServeError>
@@ -75,9 +77,16 @@ fn open_sockets<R: Wait + Net + Eprint + AllocGlobal>(
 {
     let sockets = open(rt, &plan.choices)?;
     let (sip, control) = (sockets.sip.local(), sockets.lines.local());
-    say_hello(rt, sip, control, plan.workers, plan.mailboxes.len())?;
+    let is_json = plan.choices.log_json;
+    say_hello(
+        rt,
+        is_json,
+        (sip, control),
+        plan.workers,
+        plan.mailboxes.len(),
+    );
     if plan.operators.is_empty() {
-        warn_of_control(rt, control)?;
+        warn_of_control(rt, is_json, control);
     }
     Ok(sockets)
 }
@@ -114,11 +123,16 @@ struct Fitted<P> {
 }
 
 /// Has a service keep the journal that it begins with. Where one is asked for and can't be written, it is said once.
-fn keep_journal<R: Eprint>(rt: &R, plan: &Plan, shared: &Shared, journal: Option<Journal>) {
+fn keep_journal<R: Clock + Eprint + AllocGlobal>(
+    rt: &R,
+    plan: &Plan,
+    shared: &Shared,
+    journal: Option<Journal>,
+) {
     match (journal, &plan.journal) {
         (Some(journal), _) => shared.keep_journal(journal),
         (None, Some(folder)) => {
-            say_journal(rt, folder, "can't be written, so nothing is kept");
+            say_journal(rt, plan.choices.log_json, folder, Course::Unwritable);
             shared.count_unwritten(1);
         }
         (None, None) => {}
@@ -293,6 +307,9 @@ where
     if plan.choices.log_requests {
         shared.log_requests();
     }
+    if plan.choices.log_json {
+        shared.log_json(&rt);
+    }
     let (work, wire) = new_work(plan, sockets, theirs, begins, changes);
     let sink = Sink::new(writer);
     let watch = Watch::begin(rt, &shared, is_watched)?;
@@ -387,23 +404,30 @@ pub fn print_help<R: Print>(rt: &R) -> u8
     print_text(rt, HELP)
 }
 
+/// Whether these words want lines on standard error to be JSON objects. They may be words that can't be read.
+fn want_json(words: &[Text]) -> bool {
+    words.iter().any(|word| word.is("--log-json"))
+}
+
 /// Tells on standard error, where there is room, why no service runs, or has ended. Answers the exit status.
-fn tell_why<R: Eprint>(rt: &R, error: &ServeError) -> u8
+fn tell_why<R: Clock + Eprint + AllocGlobal>(rt: &R, is_json: bool, error: &ServeError) -> u8
     ensures status { result ≡ status_of error.now }
 {
-    if has_room_soon() {
-        let _ = eprintln!(rt; "notifyd: {error}");
-    }
+    let text: Result<String, AllocError> = format!(in rt.alloc(); "{error}");
+    let words = text.as_ref().map_or("out of memory", |text| text.as_str());
+    say_why(rt, is_json, error.status(), words);
     error.status()
 }
 
 /// The exit status of what came of the words, whose error is told on standard error.
-fn exit_status<R: Eprint, T>(rt: &R, came: &Result<T, ServeError>) -> u8
+fn exit_status<R, T>(rt: &R, is_json: bool, came: &Result<T, ServeError>) -> u8
+where
+    R: Clock + Eprint + AllocGlobal,
     ensures status { result ≡ status_after came.now }
 {
     match came {
         Ok(_) => ExitStatus::Done.code(),
-        Err(error) => tell_why(rt, error),
+        Err(error) => tell_why(rt, is_json, error),
     }
 }
 
@@ -438,12 +462,13 @@ where
     if let Some(text) = asked_text(words) {
         return print_text(&rt, text);
     }
+    let is_json = want_json(words);
     let Ok(patience) = Patience::new(rt.alloc()) else {
-        return tell_why(&rt, &ServeError::NoMemory);
+        return tell_why(&rt, is_json, &ServeError::NoMemory);
     };
     let Ok(writer) = Prompt::new(io::writer(&rt), &patience) else {
-        return tell_why(&rt, &ServeError::NoMemory);
+        return tell_why(&rt, is_json, &ServeError::NoMemory);
     };
     let came = attempt(rt, words, writer, &patience, make);
-    exit_status(&rt, &came)
+    exit_status(&rt, is_json, &came)
 }

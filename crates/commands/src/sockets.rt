@@ -14,6 +14,7 @@ use sip_text::Addr;
 use std::io;
 use std::io::ErrorKind;
 use std::net::{Net, UdpSocket};
+use std::rt::Clock;
 use std::sync::Wait;
 use transport::{UdpWire, system_addr};
 
@@ -101,36 +102,39 @@ fn further(wire: &UdpWire) -> Result<UdpWire, ServeError>
     }
 }
 
-/// Has the receives by this wire look up as they wait, and asks for room for so many octets that wait. Less is told on standard error.
-fn prepare<R: Wait + Eprint>(
+/// Has the receives by this wire look up as they wait, and asks for room for as many octets that wait as are chosen. Less is told on standard
+/// error.
+fn prepare<R: Clock + Eprint + AllocGlobal>(
     rt: &R,
     wire: &UdpWire,
     which: AddressFlag,
-    room: u32,
+    choices: &Choices,
 ) -> Result<(), ServeError>
     ensures refused { IfErr result IsOther }
 {
     if wire.limit_waits().is_err() {
         return Err(ServeError::System);
     }
+    let room = choices.numbers.receive_buffer;
     if let Ok(got) = wire.ask_for_room(room) {
-        say_room(rt, which, room, got);
+        say_room(rt, choices.log_json, which, room, got);
     }
     Ok(())
 }
 
 /// Opens the sockets.
 #[tactic(auto, using(crate::proofs::Refused::no_socket_is))]
-pub(crate) fn open<R: Wait + Net + Eprint>(rt: &R, choices: &Choices) -> Result<Sockets, ServeError>
+pub(crate) fn open<R>(rt: &R, choices: &Choices) -> Result<Sockets, ServeError>
+where
+    R: Wait + Net + Clock + Eprint + AllocGlobal,
     ensures opened { IfOk result (AreOpen choices.now) }
     ensures refused { IfErr result IsOther }
 {
     let (sip, outgoing) = bind(rt, AddressFlag::Listen, choices.listen)?;
     let refusals = further(&sip)?;
     let (lines, replies) = bind(rt, AddressFlag::Control, choices.control)?;
-    let room = choices.numbers.receive_buffer;
-    prepare(rt, &sip, AddressFlag::Listen, room)?;
-    prepare(rt, &lines, AddressFlag::Control, room)?;
+    prepare(rt, &sip, AddressFlag::Listen, choices)?;
+    prepare(rt, &lines, AddressFlag::Control, choices)?;
     Ok(Sockets {
         sip,
         refusals,

@@ -58,10 +58,10 @@ vouched a earlier c b k own judged is source r says asks =
     let R : Heard → Type 0 = λ h. IsRead h x.reading in
     let read = is_read r x.reading asks (subst R says told.reads) in
     let admits = free a x c.verdict b is judged.meets k r (own, read) in
-    let O : List ℕ → Type 0 = λ o. IsAdmitted k (record { request = r; octets = o; source = x.source; now = x.moment / 1000 }) in
-    let S : Addr → Type 0 = λ s. IsAdmitted k (record { request = r; octets = c.came.octets; source = s; now = x.moment / 1000 }) in
+    let O : List ℕ → Type 0 = λ o. IsAdmitted k (record { request = r; octets = o; source = x.source; now = x.moment / 1000; owner = x.owner }) in
+    let S : Addr → Type 0 = λ s. IsAdmitted k (record { request = r; octets = c.came.octets; source = s; now = x.moment / 1000; owner = x.owner }) in
     let from : x.source ≡ source = told.source ∙ its_source c.came.peer source c.came.octets r c.says says judged.speaks in
-    (x.moment, subst S from (subst O told.octets admits))
+    (x.moment, x.owner, subst S from (subst O told.octets admits))
 
 -- ---- the admission goes on
 

@@ -65,6 +65,10 @@ then_more : (desk : DeskSeen) (log : List Line) (l : Line) → desk_then (log ++
 then_more desk [] l = refl
 then_more desk (x ∷ log) l = then_more (desk_after x desk) log l
 
+-- what a desk knows after a line that tells nothing, with which this was done
+abbrev undone : List ℕ → DeskSeen → Handled → DeskSeen
+undone octets desk x = record { workers = desk.workers; hearing = desk.hearing; rows = desk.rows; kept = kept_with false (token octets) x desk.kept }
+
 -- ---- the lines, and what two wires gave and took of them
 
 -- no line changes whose lines are heard
@@ -179,26 +183,28 @@ module _ {desk at : DeskSeen} {old now : PortSeats} {given given' taken taken' :
     passed : (x : Handled) → IsPassed d.peer at at' now next x → end_after x ≡ None → MayReply at' x reply → Replies (gets_answer x) d.peer reply taken' after' failures' more
         → Taking desk at' old next given after taken after' failures more
     passed x is on may replied =
-        let l : Line = record { came = d; event = None; done = x; is_kept = false; reply = reply } in record {
+        let l : Line = record { came = d; event = None; done = x; is_kept = false; reply = reply } in
+        let stays : at' ≡ desk_after l at = is.2 ∙ ap (undone d.octets at) (sym is.1) in record {
           log = was.log ++ l ∷ [];
-          book = book_more None x false at' is.2 (inl (is.0, refl, is.1)) may replied;
+          book = book_more None x false at' stays (inl (is.0, refl, is.1)) may replied;
           on = all_more (λ (y : Line). end_after y.done ≡ None) was.log (l ∷ []) was.on (on, tt);
           sends = sends_same x false is.3;
-          knows = knows_more None x false at' is.2;
+          knows = knows_more None x false at' stays;
         }
 
     again : is_near at d.peer ≡ true → (x : Handled) → IsAgain d.octets at at' now next x → end_after x ≡ None → MayReply at' x reply → Replies (gets_answer x) d.peer reply taken' after' failures' more
         → Taking desk at' old next given after taken after' failures more
     again near x is on may replied =
-        let l : Line = record { came = d; event = None; done = x; is_kept = false; reply = reply } in record {
+        let l : Line = record { came = d; event = None; done = x; is_kept = false; reply = reply } in
+        let stays : at' ≡ desk_after l at = is.3 ∙ ap (undone d.octets at) (sym is.1) in record {
           log = was.log ++ l ∷ [];
-          book = book_more None x false at' is.3 (inr (near, inl (is.0, refl, is.1, is.2))) may replied;
+          book = book_more None x false at' stays (inr (near, inl (is.0, refl, is.1, is.2))) may replied;
           on = all_more (λ (y : Line). end_after y.done ≡ None) was.log (l ∷ []) was.on (on, tt);
           sends = sends_same x false is.4;
-          knows = knows_more None x false at' is.3;
+          knows = knows_more None x false at' stays;
         }
 
-    news : is_near at d.peer ≡ true → (x : Handled) → kept_answer at.kept.items (token d.octets) ≡ None → (k : Bool) (rows' : List Row)
+    news : is_near at d.peer ≡ true → (x : Handled) → kept_answer at.kept.lines.items (token d.octets) ≡ None → (k : Bool) (rows' : List Row)
         → at' ≡ record { workers = at.workers; hearing = at.hearing; rows = rows'; kept = kept_with k (token d.octets) x at.kept }
         → IsDone (line d.octets) at.rows rows' now next x → MayReply at' x reply → Replies (gets_answer x) d.peer reply taken' after' failures' more
         → end_after x ≡ None → Taking desk at' old next given after taken after' failures more
@@ -221,9 +227,9 @@ module _ {desk at : DeskSeen} {old now : PortSeats} {given given' taken taken' :
         is
 
   taken_close : is_near at d.peer ≡ true → (k : Bool) (rows' : List Row) (at' : DeskSeen) → at' ≡ record { workers = at.workers; hearing = at.hearing; rows = rows'; kept = kept_with k (token d.octets) did.Closing at.kept }
-      → kept_answer at.kept.items (token d.octets) ≡ None → IsDone (line d.octets) at.rows rows' now next did.Closing
+      → kept_answer at.kept.lines.items (token d.octets) ≡ None → IsDone (line d.octets) at.rows rows' now next did.Closing
       → MayReply at' did.Closing reply → Replies true d.peer reply taken' after' failures' more
-      → (log : List Line) × Grows given after (datagrams_of log) × AreTaken desk log old next ends.Done × AreAnswered log taken after' failures more
+      → (log : List Line) × Grows given after (datagrams_of log) × AreTaken desk log old next ends.Done × AreAnswered log taken after' failures more × (at' ≡ desk_then log desk)
   taken_close near k rows' at' knows new is may replied =
       let l : Line = record { came = d; event = is.0; done = did.Closing; is_kept = k; reply = reply } in
       let K : List Row → DeskSeen = λ rs. record { workers = at.workers; hearing = at.hearing; rows = rs; kept = kept_with k (token d.octets) did.Closing at.kept } in
@@ -233,12 +239,13 @@ module _ {desk at : DeskSeen} {old now : PortSeats} {given given' taken taken' :
         book.came_are,
         record { each = book.each; stops = inl last; sends = sends_reached is.0 did.Closing k (λ gone. absurd cc) is.3 },
         book.answered,
+        knows_more is.0 did.Closing k at' (knows ∙ ap K is.2),
       )
 
   taken_gone : is_near at d.peer ≡ true → (k : Bool) (rows' : List Row) (at' : DeskSeen) → at' ≡ record { workers = at.workers; hearing = at.hearing; rows = rows'; kept = kept_with k (token d.octets) did.Gone at.kept }
-      → kept_answer at.kept.items (token d.octets) ≡ None → IsDone (line d.octets) at.rows rows' now next did.Gone
+      → kept_answer at.kept.lines.items (token d.octets) ≡ None → IsDone (line d.octets) at.rows rows' now next did.Gone
       → MayReply at' did.Gone reply → Replies true d.peer reply taken' after' failures' more
-      → (log : List Line) × Grows given after (datagrams_of log) × AreTaken desk log old next ends.Gone × AreAnswered log taken after' failures more
+      → (log : List Line) × Grows given after (datagrams_of log) × AreTaken desk log old next ends.Gone × AreAnswered log taken after' failures more × (at' ≡ desk_then log desk)
   taken_gone near k rows' at' knows new is may replied =
       let l : Line = record { came = d; event = is.0; done = did.Gone; is_kept = k; reply = reply } in
       let K : List Row → DeskSeen = λ rs. record { workers = at.workers; hearing = at.hearing; rows = rs; kept = kept_with k (token d.octets) did.Gone at.kept } in
@@ -252,12 +259,13 @@ module _ {desk at : DeskSeen} {old now : PortSeats} {given given' taken taken' :
           sends = record { before = was.log; last = l; event = is.1.0; mid = now; whole = refl; is = is.1.1; sent = was.sends; missed = subst P is.1.1 is.3 };
         },
         book.answered,
+        knows_more is.0 did.Gone k at' (knows ∙ ap K is.2),
       )
 
   last_news : is_near at d.peer ≡ true → (x : Handled) (end : FeedEnd) (k : Bool) (rows' : List Row) (at' : DeskSeen)
-      → at' ≡ record { workers = at.workers; hearing = at.hearing; rows = rows'; kept = kept_with k (token d.octets) x at.kept } → end_after x ≡ Some end → kept_answer at.kept.items (token d.octets) ≡ None
+      → at' ≡ record { workers = at.workers; hearing = at.hearing; rows = rows'; kept = kept_with k (token d.octets) x at.kept } → end_after x ≡ Some end → kept_answer at.kept.lines.items (token d.octets) ≡ None
       → IsDone (line d.octets) at.rows rows' now next x → MayReply at' x reply → Replies (gets_answer x) d.peer reply taken' after' failures' more
-      → (log : List Line) × Grows given after (datagrams_of log) × AreTaken desk log old next end × AreAnswered log taken after' failures more
+      → (log : List Line) × Grows given after (datagrams_of log) × AreTaken desk log old next end × AreAnswered log taken after' failures more × (at' ≡ desk_then log desk)
   last_news near (did.Answered a) end k rows' at' knows e new is may replied = absurd cc
   last_news near (did.Repeated a) end k rows' at' knows e new is may replied = absurd cc
   last_news near did.Unanswered end k rows' at' knows e new is may replied = absurd cc
@@ -267,16 +275,16 @@ module _ {desk at : DeskSeen} {old now : PortSeats} {given given' taken taken' :
   last_news near (did.Dumped n) end k rows' at' knows e new is may replied = absurd cc
   last_news near (did.Watched m n) end k rows' at' knows e new is may replied = absurd cc
   last_news near did.Closing end k rows' at' knows e new is may replied =
-      let P : FeedEnd → Type 0 = λ z. (log : List Line) × Grows given after (datagrams_of log) × AreTaken desk log old next z × AreAnswered log taken after' failures more in
+      let P : FeedEnd → Type 0 = λ z. (log : List Line) × Grows given after (datagrams_of log) × AreTaken desk log old next z × AreAnswered log taken after' failures more × (at' ≡ desk_then log desk) in
       subst P (end_is ends.Done end e) (taken_close near k rows' at' knows new is may replied)
   last_news near did.Gone end k rows' at' knows e new is may replied =
-      let P : FeedEnd → Type 0 = λ z. (log : List Line) × Grows given after (datagrams_of log) × AreTaken desk log old next z × AreAnswered log taken after' failures more in
+      let P : FeedEnd → Type 0 = λ z. (log : List Line) × Grows given after (datagrams_of log) × AreTaken desk log old next z × AreAnswered log taken after' failures more × (at' ≡ desk_then log desk) in
       subst P (end_is ends.Gone end e) (taken_gone near k rows' at' knows new is may replied)
 
   -- a line after which no more are taken
   pub taken_last : (x : Handled) (end : FeedEnd) (at' : DeskSeen) → end_after x ≡ Some end → IsTaken d.peer d.octets at at' now next x → MayReply at' x reply
       → Replies (gets_answer x) d.peer reply taken' after' failures' more
-      → (log : List Line) × Grows given after (datagrams_of log) × AreTaken desk log old next end × AreAnswered log taken after' failures more
+      → (log : List Line) × Grows given after (datagrams_of log) × AreTaken desk log old next end × AreAnswered log taken after' failures more × (at' ≡ desk_then log desk)
   taken_last x end at' e is may replied =
       ⊎_elim (λ p. absurd (let z = ap end_after p.1 in cc))
       (λ (h : (is_near at d.peer ≡ true) × (IsAgain d.octets at at' now next x ⊎ IsNews d.octets at at' now next x)).
@@ -300,25 +308,26 @@ module _ {desk at : DeskSeen} {old now : PortSeats} {given given' taken taken' :
   }
 
   -- the service closed for another cause than a line
-  taken_done : (log : List Line) × Grows given given' (datagrams_of log) × AreTaken desk log old now ends.Done × AreAnswered log taken taken' failures failures'
-  taken_done = (was.log, was.book.came_are, record { each = was.book.each; stops = inr was.on; sends = was.sends }, was.book.answered)
+  taken_done : (log : List Line) × Grows given given' (datagrams_of log) × AreTaken desk log old now ends.Done × AreAnswered log taken taken' failures failures' × (at ≡ desk_then log desk)
+  taken_done = (was.log, was.book.came_are, record { each = was.book.each; stops = inr was.on; sends = was.sends }, was.book.answered, was.knows)
 
   pub taking_open : now.is_open ≡ old.is_open
   taking_open = was.sends.still_open
 
   taken_fault : (after : Option (List Datagram)) → Grows given' after []
-      → (log : List Line) × Grows given after (datagrams_of log) × AreTaken desk log old now ends.Fault × AreAnswered log taken taken' failures failures'
+      → (log : List Line) × Grows given after (datagrams_of log) × AreTaken desk log old now ends.Fault × AreAnswered log taken taken' failures failures' × (at ≡ desk_then log desk)
   taken_fault after none = (
     was.log,
     grows_same given given' after (datagrams_of was.log) was.book.came_are none,
     record { each = was.book.each; stops = was.on; sends = was.sends },
     was.book.answered,
+    was.knows,
   )
 
 -- listening ended, behind a look that gave nothing
 pub taken_end : {desk at : DeskSeen} {old now : PortSeats} {given given' taken taken' : Option (List Datagram)} {failures failures' : ℕ}
     → Taking desk at old now given given' taken taken' failures failures' → (after : Option (List Datagram)) → Grows given' after [] → (end : FeedEnd) → EndsListening end
-    → (log : List Line) × Grows given after (datagrams_of log) × AreTaken desk log old now end × AreAnswered log taken taken' failures failures'
+    → (log : List Line) × Grows given after (datagrams_of log) × AreTaken desk log old now end × AreAnswered log taken taken' failures failures' × (at ≡ desk_then log desk)
 taken_end was after none ends.Done stops = taken_done (taking_silent was after none)
 taken_end was after none ends.Fault stops = taken_fault was after none
 taken_end was after none ends.Gone stops = absurd stops

@@ -188,11 +188,13 @@ pub record AreRefused (cases : List Case) (taken taken' : Option (List Datagram)
 
 -- ---- what that says
 
--- a SUBSCRIBE or a REFER answered a challenge, which the definition accepts for its source, at a moment of the service
+-- a SUBSCRIBE or a REFER answered a challenge, which the definition accepts for its source, at a moment of the service, and for the owner of
+-- its dialog, as far as that is known
 abbrev pub IsVouched : Authentication → Datagram × Heard → Type 0
 IsVouched k x =
     (source : Addr) (r : Request) → x.1 ≡ heard.Event (event.Request source r) → is_asked r ≡ true
-    → (moment : ℕ) × IsAdmitted k (record { request = r; octets = x.0.octets; source = source; now = moment / 1000 })
+    → (moment : ℕ) × (owner : Option ℕ)
+    × IsAdmitted k (record { request = r; octets = x.0.octets; source = source; now = moment / 1000; owner = owner })
 
 -- where a service has passwords each SUBSCRIBE and each REFER that its port was sent did
 abbrev pub EachIsVouched : Type 0

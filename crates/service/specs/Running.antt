@@ -68,7 +68,7 @@ opening p = record { mailboxes = p.mailboxes.items; changes = p.changes.items; n
 -- a desk that takes lines so, with so many workers, and took none yet
 pub record IsFresh (o : Opening) (workers : ℕ) (desk : DeskSeen) : Type 0 where
   pub first : WereTold o.mailboxes o.changes desk.rows
-  pub unkept : desk.kept ≡ buffer [] KEPT
+  pub unkept : desk.kept ≡ record { lines = buffer [] KEPT; lost = 0 }
   pub workers_are : desk.workers ≡ max 1 workers
   pub networks_are : desk.hearing.networks ≡ o.networks
 

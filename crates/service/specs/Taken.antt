@@ -4,7 +4,6 @@ use Rattle.std.specs.Int.NonZero.{non_zero_u32_get}
 use Rattle.std.specs.List.{filter, filter_map, fold, list_any, AllByRecursion}
 use Rattle.std.specs.Option.{option_map_or}
 use Rattle.std.specs.declared.alloc.Global.{Global}
-use Rattle.circular_buffer.specs.Buffer.{Buffer}
 use Rattle.sip_text.specs.declared.address.Addr.{Addr}
 use Rattle.admission.specs.declared.network.Network.{Network}
 use Rattle.admission.specs.Networks.{contains}
@@ -23,7 +22,6 @@ use Rattle.feeds.specs.declared.feeding.FeedEnd.TheVariants as ends
 use Rattle.feeds.specs.Fed.{Sends, Misses}
 use Rattle.control_lines.specs.declared.answer.ControlAnswer.{ControlAnswer}
 use Rattle.control_lines.specs.declared.answer.ControlAnswer.TheVariants as answer
-use Rattle.control_lines.specs.declared.kept.AnsweredLine.{AnsweredLine}
 use Rattle.control_lines.specs.declared.line.Asked.TheVariants as asked
 use Rattle.control_lines.specs.declared.question.Question.{Question}
 use Rattle.control_lines.specs.declared.question.Question.TheVariants as question
@@ -38,6 +36,7 @@ use Rattle.service.specs.declared.lines.Handled.{Handled}
 use Rattle.service.specs.declared.operators.Operators.{Operators}
 use Rattle.service.specs.declared.lines.Handled.TheVariants as did
 use Rattle.service.specs.declared.lines.ControlDesk.{ControlDesk}
+use Rattle.service.specs.declared.lines.KeptAnswers.{KeptAnswers}
 
 -- whose lines are heard: the addresses of the service's own sockets, and the networks that are named
 pub record Hearing : Type 0 where
@@ -53,7 +52,7 @@ pub record DeskSeen : Type 0 where
   pub workers : ℕ
   pub hearing : Hearing
   pub rows : List Row
-  pub kept : Buffer AnsweredLine
+  pub kept : KeptAnswers
 
 abbrev pub seen : {W : Type 0} → ControlDesk W → DeskSeen
 seen d = record { workers = non_zero_u32_get d.workers; hearing = operators_in d.operators; rows = d.told; kept = d.kept }
@@ -217,21 +216,27 @@ abbrev pub IsDone : List ℕ → List Row → List Row → PortSeats → PortSea
 IsDone octets rows rows' old new d =
     (event : Option Event) × Means rows octets event d × (rows' ≡ rows_after event rows) × Reaches event d old new
 
--- the answers that are kept, with that to a line with this token, if it is kept
-abbrev pub kept_with : Bool → Option Token → Handled → Buffer AnsweredLine → Buffer AnsweredLine
-kept_with false t d kept = kept
-kept_with true t (did.Answered a) kept = with_answer kept t a
-kept_with true t other kept = kept
+-- the answer to a line with this token is kept, or counted as lost. A line without a token has none to keep
+abbrev pub kept_or_lost : Bool → Option Token → ControlAnswer → KeptAnswers → KeptAnswers
+kept_or_lost is_kept None a kept = kept
+kept_or_lost true (Some t) a kept = record kept { lines = with_answer kept.lines (Some t) a }
+kept_or_lost false (Some t) a kept = record kept { lost = one_more kept.lost }
+
+-- the answers that are kept once this was done with a line with this token. What asks the service something, closes it or isn't heard leaves
+-- them as they are
+abbrev pub kept_with : Bool → Option Token → Handled → KeptAnswers → KeptAnswers
+kept_with is_kept t (did.Answered a) kept = kept_or_lost is_kept t a kept
+kept_with is_kept t other kept = kept
 
 -- its token was answered so before, and nothing was done with it
 abbrev pub IsAgain : List ℕ → DeskSeen → DeskSeen → PortSeats → PortSeats → Handled → Type 0
 IsAgain octets desk desk' old new d =
-    (a : ControlAnswer) × (d ≡ did.Repeated a) × (kept_answer desk.kept.items (token octets) ≡ Some a) × (desk' ≡ desk) × (new ≡ old)
+    (a : ControlAnswer) × (d ≡ did.Repeated a) × (kept_answer desk.kept.lines.items (token octets) ≡ Some a) × (desk' ≡ desk) × (new ≡ old)
 
 -- it has no token, or one that has no answer yet
 abbrev pub IsNews : List ℕ → DeskSeen → DeskSeen → PortSeats → PortSeats → Handled → Type 0
 IsNews octets desk desk' old new d =
-    (kept_answer desk.kept.items (token octets) ≡ None)
+    (kept_answer desk.kept.lines.items (token octets) ≡ None)
     × (is_kept : Bool) × (rows' : List Row)
     × (desk' ≡ record { workers = desk.workers; hearing = desk.hearing; rows = rows'; kept = kept_with is_kept (token octets) d desk.kept })
     × IsDone (line octets) desk.rows rows' old new d
@@ -318,8 +323,8 @@ IsForeign desk source event d = (is_near desk source ≡ false) × (event ≡ No
 -- its token was answered so before, or it has none or one that was not, and means what was done
 abbrev pub IsMeant : DeskSeen → List ℕ → Option Event → Handled → Type 0
 IsMeant desk octets event d =
-    ((a : ControlAnswer) × (event ≡ None) × (d ≡ did.Repeated a) × (kept_answer desk.kept.items (token octets) ≡ Some a))
-    ⊎ ((kept_answer desk.kept.items (token octets) ≡ None) × Means desk.rows (line octets) event d)
+    ((a : ControlAnswer) × (event ≡ None) × (d ≡ did.Repeated a) × (kept_answer desk.kept.lines.items (token octets) ≡ Some a))
+    ⊎ ((kept_answer desk.kept.lines.items (token octets) ≡ None) × Means desk.rows (line octets) event d)
 
 -- ---- what the desk knows
 

@@ -1,9 +1,10 @@
 //! Who is barred since too many wrong passwords came, told on standard error.
 
 use crate::logging::has_room;
+use crate::shared::Shared;
 use admission::word;
+use log_lines::{Record, Request};
 use sip_text::{Addr, Text, text_of};
-use std::alloc::Global;
 
 /// For how many milliseconds a source that was told isn't told again.
 const MINUTE: u64 = 60_000;
@@ -74,17 +75,19 @@ impl Barred {
 
 /// Says on standard error of which user and from where a request came whose password wasn't looked at. The user's name is one word there,
 /// whatever a stranger wrote. A line that nobody reads is dropped.
-pub(crate) fn log_barred<R: Eprint>(rt: &R, alloc: Global, user: &Text, source: Addr) {
+pub(crate) fn log_barred<R: Eprint>(rt: &R, shared: &Shared, user: &Text, source: Addr) {
     if !has_room() {
         return;
     }
-    let Ok(octets) = word(alloc, user.as_str().as_bytes()) else {
+    let Ok(octets) = word(shared.alloc(), user.as_str().as_bytes()) else {
         return;
     };
     let Some(user) = text_of(octets.as_slice()) else {
         return;
     };
-    let [a, b, c, d] = source.ip;
-    let port = source.port;
-    let _ = eprintln!(rt; "notifyd: barred user={user} source={a}.{b}.{c}.{d}:{port}");
+    let request = Request::Barred {
+        address: source,
+        user,
+    };
+    shared.tell(rt, &Record::Request(request));
 }

@@ -2,6 +2,8 @@
 
 use crate::logging::has_room;
 use crate::shared::{COMPLAINTS, Shared};
+use log_lines::{Record, Trouble};
+use std::alloc::AllocError;
 use std::io;
 
 /// How many seconds pass between two looks at what goes wrong.
@@ -20,14 +22,42 @@ pub(crate) struct Complaints {
     unwritten: u64,
 }
 
+/// What was not done, and the number of the system's error at the last time, where it told one.
+#[derive(Clone, Copy)]
+struct Failure {
+    counter: &'static str,
+    text: &'static str,
+    number: Option<u32>,
+}
+
 /// Says how often this happened, and the system's words at the last time, where it told any.
-fn tell_last<R: Eprint>(rt: &R, more: u64, what: &str, number: Option<u32>) {
+fn tell_last<R: Eprint>(rt: &R, shared: &Shared, more: u64, failure: Failure) {
+    let Failure {
+        counter,
+        text,
+        number,
+    } = failure;
+    let failed = Trouble::Failed {
+        more,
+        counter,
+        text,
+    };
     let Some(number) = number else {
-        let _ = eprintln!(rt; "notifyd: {more} {what}");
+        shared.tell(rt, &Record::Trouble(failed));
         return;
     };
-    let cause = io::Error::from_raw_os_error(number.cast_signed());
-    let _ = eprintln!(rt; "notifyd: {more} {what}, the last since: {cause}");
+    let error = io::Error::from_raw_os_error(number.cast_signed());
+    let words: Result<String, AllocError> = format!(in shared.alloc(); "{error}");
+    let trouble = match &words {
+        Ok(cause) => Trouble::FailedSince {
+            more,
+            counter,
+            text,
+            cause: cause.as_str(),
+        },
+        Err(_) => failed,
+    };
+    shared.tell(rt, &Record::Trouble(trouble));
 }
 
 impl Complaints {
@@ -51,10 +81,15 @@ impl Complaints {
 
     /// Says what happened that was not told yet, and how often.
     pub(crate) fn tell<R: Eprint>(&mut self, rt: &R, shared: &Shared) {
-        for (told, (what, count)) in self.told.iter_mut().zip(shared.complaints()) {
+        for (told, (counter, text, count)) in self.told.iter_mut().zip(shared.complaints()) {
             let more = count.saturating_sub(*told);
             if more > 0 && has_room() {
-                let _ = eprintln!(rt; "notifyd: {more} {what}");
+                let trouble = Trouble::Counted {
+                    more,
+                    counter,
+                    text,
+                };
+                shared.tell(rt, &Record::Trouble(trouble));
                 *told = count;
             }
         }
@@ -70,8 +105,12 @@ impl Complaints {
             return;
         }
         self.unsent = count;
-        let what = "datagrams or lines could not be sent";
-        tell_last(rt, more, what, shared.send_error());
+        let failure = Failure {
+            counter: "failed",
+            text: "datagrams or lines could not be sent",
+            number: shared.send_error(),
+        };
+        tell_last(rt, shared, more, failure);
     }
 
     /// Says how many records were not written to the journal that was not told yet, and the system's words at the last of them.
@@ -82,7 +121,11 @@ impl Complaints {
             return;
         }
         self.unwritten = count;
-        let what = "records were not written to the journal";
-        tell_last(rt, more, what, shared.journal_error());
+        let failure = Failure {
+            counter: "journal_lost",
+            text: "records were not written to the journal",
+            number: shared.journal_error(),
+        };
+        tell_last(rt, shared, more, failure);
     }
 }

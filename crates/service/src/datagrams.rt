@@ -56,16 +56,10 @@ fn count_verdict(shared: &Shared, verdict: &Verdict) {
 }
 
 /// Says on standard error whose password isn't looked at, and where from: once a minute of each source.
-fn tell_barred<R: Wait + Eprint>(
-    rt: &R,
-    alloc: Global,
-    shared: &Shared,
-    verdict: &Verdict,
-    arrival: Arrival<'_>,
-) {
+fn tell_barred<R: Wait + Eprint>(rt: &R, shared: &Shared, verdict: &Verdict, arrival: Arrival<'_>) {
     if let Verdict::Barred(user, _) = verdict {
         if shared.is_barred_anew(rt, arrival.source, arrival.moment) {
-            log_barred(rt, alloc, user, arrival.source);
+            log_barred(rt, shared, user, arrival.source);
         }
     }
 }
@@ -107,7 +101,7 @@ fn send_refusal<R: Wait + Eprint, W: Wire>(
         shared.count_unsent(wire.send_error());
     }
     if shared.logs_requests() {
-        log_answer(rt, to, octets);
+        log_answer(rt, shared, to, octets);
     }
 }
 
@@ -139,22 +133,38 @@ fn next_moment<R: Clock>(rt: &R, shared: &Shared, earlier: u64) -> u64
     }
 }
 
+/// What is known beside a datagram, as the admission is told of it.
+#[derive(Clone, Copy)]
+struct Known {
+    /// How many live subscriptions its source has.
+    live: usize,
+    /// The user who made the dialog that it is in.
+    owner: Option<u32>,
+}
+
+/// Nothing is known.
+const NOTHING: Known = Known {
+    live: 0,
+    owner: None,
+};
+
 /// A datagram that came, as the admission is told of it.
 fn arrival<'a>(
     octets: &'a [u8],
     reading: Reading<'a>,
     source: Addr,
     moment: u64,
-    live: usize,
+    known: Known,
 ) -> Arrival<'a>
-    ensures { result ≡ record { octets = octets.entry; reading = reading.entry; source = source; moment = moment; live = live } }
+    ensures { result ≡ record { octets = octets.entry; reading = reading.entry; source = source; moment = moment; live = known.live; owner = known.owner } }
 {
     Arrival {
         octets,
         reading,
         source,
         moment,
-        live,
+        live: known.live,
+        owner: known.owner,
     }
 }
 
@@ -222,6 +232,39 @@ impl<W: Ear> SipDesk<W> {
         shared.live_from(rt, watchers::source(source))
     }
 
+    /// The user who made the dialog that a request is in, as a number, where users show passwords and that is known.
+    fn owner<R: Wait>(&self, rt: &R, shared: &Shared, request: &Request) -> Option<u32> {
+        if self.admission.authentication.is_none() {
+            return None;
+        }
+        match &request.head.to.tag {
+            Some(tag) => shared.owner(rt, tag.as_str()),
+            None => None,
+        }
+    }
+
+    /// What is known of a request beside itself.
+    fn known<R: Wait>(&self, rt: &R, shared: &Shared, request: &Request, source: Addr) -> Known {
+        Known {
+            live: self.live_from(rt, shared, request, source),
+            owner: self.owner(rt, shared, request),
+        }
+    }
+
+    /// Notes which user sent a request outside a dialog that is let through: the dialog that it makes is this user's. Where there is no
+    /// memory for that, it is nobody's.
+    fn note_user<R: Wait>(&self, rt: &R, alloc: Global, shared: &Shared, arrival: Arrival<'_>) {
+        let Reading::Request(request) = arrival.reading else {
+            return;
+        };
+        if self.admission.authentication.is_none() || request.head.to.tag.is_some() {
+            return;
+        }
+        if let Ok(Some(user)) = self.admission.user(alloc, arrival) {
+            shared.note_user(rt, request, user);
+        }
+    }
+
     /// Whether the datagram is heard. Any other is counted by its verdict. A refusal goes to its source.
     fn admits<R: Wait + Eprint>(
         &mut self,
@@ -248,7 +291,7 @@ impl<W: Ear> SipDesk<W> {
             return true;
         }
         count_verdict(shared, &verdict);
-        tell_barred(rt, alloc, shared, &verdict, arrival);
+        tell_barred(rt, shared, &verdict, arrival);
         let refusal = refusal(verdict);
         refuse(rt, &mut self.going, shared, arrival.source, refusal);
         false
@@ -281,7 +324,7 @@ impl<W: Ear> SipDesk<W> {
         let message = read(alloc, octets);
         match message {
             Err(error) => {
-                let arrival = arrival(octets, Reading::Unread, source, moment, 0);
+                let arrival = arrival(octets, Reading::Unread, source, moment, NOTHING);
                 if !self.admits(rt, alloc, shared, arrival) {
                     return true;
                 }
@@ -289,7 +332,7 @@ impl<W: Ear> SipDesk<W> {
                 true
             }
             Ok(Message::Response(response)) => {
-                let arrival = arrival(octets, Reading::Response, source, moment, 0);
+                let arrival = arrival(octets, Reading::Response, source, moment, NOTHING);
                 if !self.admits(rt, alloc, shared, arrival) {
                     return true;
                 }
@@ -297,11 +340,12 @@ impl<W: Ear> SipDesk<W> {
                 send_on(rt, port, shared, Event::Reply(response))
             }
             Ok(Message::Request(request)) => {
-                let live = self.live_from(rt, shared, &request, source);
-                let arrival = arrival(octets, Reading::Request(&request), source, moment, live);
+                let known = self.known(rt, shared, &request, source);
+                let arrival = arrival(octets, Reading::Request(&request), source, moment, known);
                 if !self.admits(rt, alloc, shared, arrival) {
                     return true;
                 }
+                self.note_user(rt, alloc, shared, arrival);
                 send_on(rt, port, shared, Event::Request(source, request))
             }
         }

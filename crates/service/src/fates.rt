@@ -46,7 +46,7 @@ pub(crate) fn tell_fate<R: Wait + Eprint>(rt: &R, shared: &Shared, out: &Out, fa
                 shared.count_status(bytes.as_slice());
             }
             if shared.logs_requests() {
-                log_answer(rt, *to, bytes.as_slice());
+                log_answer(rt, shared, *to, bytes.as_slice());
             }
         }
         Out::Notify {

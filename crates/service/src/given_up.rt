@@ -2,6 +2,8 @@
 
 use crate::logging::has_room;
 use crate::request_log::Unanswered;
+use crate::shared::Shared;
+use log_lines::{Record, Trouble};
 use sip_text::Addr;
 
 /// How many milliseconds pass between two lines.
@@ -40,43 +42,48 @@ impl GivenUp {
     }
 
     /// Counts one more at this moment. Says, where no line came within the last minute, how many there were, and which this one was.
-    pub(crate) fn add<R: Eprint>(&mut self, rt: &R, now: u64, last: Unanswered<'_>) {
+    pub(crate) fn add<R: Eprint>(
+        &mut self,
+        rt: &R,
+        shared: &Shared,
+        now: u64,
+        last: Unanswered<'_>,
+    ) {
         self.count = self.count.saturating_add(1);
         let Unanswered { due, resource } = last;
         self.last = due.to;
         if !self.is_time(now) || !has_room() {
             return;
         }
-        let count = self.count;
-        let [a, b, c, d] = due.to.ip;
-        let port = due.to.port;
-        let tag = due.tag.as_str();
-        let _ = eprintln!(rt;
-            "notifyd: nobody answered {count} NOTIFYs, the last of them from {resource};tag={tag} at {a}.{b}.{c}.{d}:{port}"
-        );
+        let trouble = Trouble::GivenUp {
+            more: self.count,
+            address: due.to,
+            mailbox: resource,
+            tag: due.tag.as_str(),
+        };
+        shared.tell(rt, &Record::Trouble(trouble));
         self.count = 0;
         self.told = Some(now);
     }
 
     /// Says how many were not told yet, where there are some, and where the last one was sent. Without room they are told later.
-    pub(crate) fn tell_others<R: Eprint>(&mut self, rt: &R) {
+    pub(crate) fn tell_others<R: Eprint>(&mut self, rt: &R, shared: &Shared) {
         if self.count == 0 || !has_room() {
             return;
         }
-        let count = self.count;
-        let [a, b, c, d] = self.last.ip;
-        let port = self.last.port;
-        let _ = eprintln!(rt;
-            "notifyd: nobody answered {count} more NOTIFYs, the last of them at {a}.{b}.{c}.{d}:{port}"
-        );
+        let trouble = Trouble::GivenUpMore {
+            more: self.count,
+            address: self.last,
+        };
+        shared.tell(rt, &Record::Trouble(trouble));
         self.count = 0;
     }
 
     /// Tells those that were not told yet, where no line came within the last minute.
-    pub(crate) fn look<R: Eprint>(&mut self, rt: &R, now: u64) {
+    pub(crate) fn look<R: Eprint>(&mut self, rt: &R, shared: &Shared, now: u64) {
         if self.count > 0 && self.is_time(now) {
             self.told = Some(now);
-            self.tell_others(rt);
+            self.tell_others(rt, shared);
         }
     }
 }

@@ -20,6 +20,9 @@
 //! Where a journal is kept ([`Journal`], put into [`Shared`]) each worker writes there what it handled before it posts anything of it, and the
 //! thread that takes lines writes a line before it answers `ok`. So a service that is killed can go on. No contract says what a file keeps.
 //!
+//! Where users show passwords, the thread that hears notes who sent a request that may make a dialog, and the worker that makes it which
+//! dialog that is: so a later request in it is its user's alone (`owners`).
+//!
 //! What it isn't: what the workers do is `notifier`'s, what a port sends `crew`'s, and what a datagram says `feeds`'s; the
 //! counters of [`Shared`] are no part of any contract. Begin with [`run_crew`], then `specs/Ticks`, `specs/Listening`, `specs/Served`,
 //! `specs/Admitted`, `specs/Taken` and `specs/Running`.
@@ -27,6 +30,7 @@
 
 mod barred;
 mod begins;
+mod changes;
 mod clock;
 mod complaints;
 mod datagrams;
@@ -42,7 +46,9 @@ mod listening;
 mod logging;
 mod operators;
 mod outs;
+mod owners;
 mod post;
+mod refusals;
 mod reports;
 mod request_log;
 mod running;
@@ -58,7 +64,7 @@ pub use clock::Stopwatch;
 pub use datagrams::SipDesk;
 pub use error::RunError;
 pub use journaling::{Journal, SETTLED, Upkeep};
-pub use lines::{ControlDesk, ControlPort};
+pub use lines::{ControlDesk, ControlPort, KeptAnswers};
 pub use logging::has_room_soon;
 pub use operators::Operators;
 pub use outs::Exit;

@@ -8,7 +8,7 @@ ghost use Rattle.control_lines.specs.Lines.{answer_text};
 ghost use Rattle.control_lines.specs.declared.question.Question.TheVariants as questions;
 ghost use Rattle.service.specs.declared.lines.Handled.TheVariants as did;
 ghost use Rattle.service.specs.Taken as spec;
-ghost use Rattle.service.specs.Taken.{Line, IsSent, IsChanged, IsDone, IsFound, IsTaken, Offers, IsAnswered, WereTold, datagrams_of, AreTaken, AreAnswered, AreTurnedAway, operators_in, seen};
+ghost use Rattle.service.specs.Taken.{Line, IsSent, IsChanged, IsDone, IsFound, IsTaken, Offers, IsAnswered, WereTold, datagrams_of, desk_then, AreTaken, AreAnswered, AreTurnedAway, operators_in, seen};
 ghost use Rattle.feeds.specs.Fed.{is_fault};
 ghost use Rattle.service.specs.Listening.{IsDeafAsTold};
 
@@ -176,18 +176,30 @@ pub fn take_line<R: Wait>(
     }
 }
 
-/// Keeps an answer to a line with this token. False where there is no memory for it: the line is done again if it comes again.
-fn keep_answer(kept: &mut AnsweredLines, token: Option<Token>, answer: ControlAnswer) -> bool
-    ensures { kept.new ≡ spec.kept_with result token (did.Answered answer) kept.old }
+/// The answers to the last lines with a token.
+#[derive(Drop)]
+pub struct KeptAnswers {
+    pub lines: AnsweredLines,
+    /// How many were not kept, since there was no memory for them. It stays at the greatest number.
+    pub lost: u64,
+}
+
+/// Keeps the answer to a line with this token, if it has one. False where there is no memory for it: the answer is counted as lost, and the
+/// line is done again if it comes again.
+fn keep_answer(kept: &mut KeptAnswers, token: Option<Token>, answer: ControlAnswer) -> bool
+    ensures { kept.new ≡ spec.kept_or_lost result token answer kept.old }
 {
-    match kept.keep(token, answer) {
+    match kept.lines.keep(token, answer) {
         Ok(()) => true,
-        Err(_) => false,
+        Err(_) => {
+            kept.lost = kept.lost.saturating_add(1);
+            false
+        }
     }
 }
 
 /// Keeps the answer to a line with this token, if it was done and answered. Tells whether it is kept.
-fn keep(kept: &mut AnsweredLines, token: Option<Token>, done: Handled) -> bool
+fn keep(kept: &mut KeptAnswers, token: Option<Token>, done: Handled) -> bool
     ensures { kept.new ≡ spec.kept_with result token done kept.old }
 {
     match done {
@@ -244,7 +256,7 @@ pub struct ControlDesk<W> {
     pub coming: W,
     pub going: W,
     pub told: ToldCounts,
-    pub kept: AnsweredLines,
+    pub kept: KeptAnswers,
     /// Whose lines are heard.
     pub operators: Operators,
     /// How many workers the service has.
@@ -261,7 +273,7 @@ impl<W: Drop> ControlDesk<W> {
     ) -> Result<ControlDesk<W>, NoMemory>
         ensures coming { IfOk result (λ d. d.coming ≡ port.coming) }
         ensures first { IfOk result (λ d. WereTold port.mailboxes.items port.changes.items d.told) }
-        ensures unkept { IfOk result (λ d. d.kept ≡ buffer [] KEPT) }
+        ensures unkept { IfOk result (λ d. d.kept ≡ record { lines = buffer [] KEPT; lost = 0 }) }
         ensures workers { IfOk result (λ d. non_zero_u32_get d.workers ≡ max 1 workers) }
         ensures networks { IfOk result (λ d. d.operators.networks ≡ port.networks) }
         ensures own { IfOk result (λ d. d.operators.own ≡ own) }
@@ -275,7 +287,7 @@ impl<W: Drop> ControlDesk<W> {
         } = port;
         let mut told = ToldCounts::new(alloc, mailboxes.as_slice())?;
         tell_each(&mut told, changes.as_slice());
-        let kept = AnsweredLines::with_room(alloc, KEPT)?;
+        let lines = AnsweredLines::with_room(alloc, KEPT)?;
         let Some(workers) = NonZeroU32::new(workers.max(1)) else {
             unreachable!()
         };
@@ -284,7 +296,7 @@ impl<W: Drop> ControlDesk<W> {
             coming,
             going,
             told,
-            kept,
+            kept: KeptAnswers { lines, lost: 0 },
             operators: Operators { own, networks },
             workers,
         })
@@ -344,7 +356,10 @@ impl<W: Wire> ControlDesk<W> {
     {
         shared.count(Counter::ControlLine);
         match done {
-            Handled::Answered(answer) => self.say(rt, shared, to, answer),
+            Handled::Answered(answer) => {
+                shared.count_change(rt, answer);
+                self.say(rt, shared, to, answer);
+            }
             Handled::Repeated(answer) => self.say(rt, shared, to, answer),
             Handled::Unanswered => {}
             Handled::Foreign => shared.count(Counter::ForeignLine),
@@ -410,7 +425,7 @@ impl<W: Wire> ControlDesk<W> {
             return Handled::Foreign;
         }
         let (token, line) = cut_token(octets);
-        if let Some(answer) = self.kept.answer_to(token) {
+        if let Some(answer) = self.kept.lines.answer_to(token) {
             return Handled::Repeated(answer);
         }
         let done = take_line(rt, self.alloc, port, &mut self.told, line);
@@ -433,7 +448,8 @@ impl<W: Ear> ControlDesk<W> {
             × Grows (W.given self.old.coming) (W.given self.new.coming) (datagrams_of log)
             × AreTaken (seen self.old) log port.old port.new result
             × AreAnswered log (W.taken self.old.going) (W.taken self.new.going)
-            (W.failures self.old.going) (W.failures self.new.going) }
+            (W.failures self.old.going) (W.failures self.new.going)
+            × (seen self.new ≡ desk_then log (seen self.old)) }
         // Whose lines are heard stays.
         ensures hearing { operators_in self.new.operators ≡ operators_in self.old.operators }
         // Nothing is sent where lines come in, and nothing is received where answers go.

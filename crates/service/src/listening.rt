@@ -6,7 +6,9 @@ ghost use Rattle.service.specs.Listening.{Gave, IsDeafAsTold, MayCome, tells_dea
 use crate::logging::has_room;
 use crate::shared::{Counter, Shared};
 use feeds::FeedEnd;
+use log_lines::{Record, Trouble};
 use sip_text::Addr;
+use std::alloc::AllocError;
 use std::rt::Clock;
 use std::sync::Wait;
 use std::sync::atomic::{AtomicBool, Ordering};
@@ -82,9 +84,14 @@ impl<'a> Listening<'a> {
         if !has_room() {
             return;
         }
-        let [a, b, c, d] = place.ip;
-        let port = place.port;
-        let _ = eprintln!(rt; "notifyd: a receive at {a}.{b}.{c}.{d}:{port} failed: {fault}");
+        let words: Result<String, AllocError> = format!(in shared.alloc(); "{fault}");
+        let trouble = Trouble::ReceiveFailed {
+            address: place,
+            cause: words
+                .as_ref()
+                .map_or("out of memory", |cause| cause.as_str()),
+        };
+        shared.tell(rt, &Record::Trouble(trouble));
     }
 
     /// Receives once by a wire, and puts the datagram at the beginning of these octets. Behind a receive that failed it waits a little, so

@@ -1,5 +1,5 @@
 //! What the workers post, sent out, and each NOTIFY again that nobody answers.
-ghost use Rattle.std.specs.Prelude.{◌≡◌, ◌⊎◌, List, [], ◌∷◌, ◌++◌, true, false};
+ghost use Rattle.std.specs.Prelude.{◌≡◌, ◌<◌, ◌^◌, ◌⊎◌, List, [], ◌∷◌, ◌++◌, true, false};
 ghost use Rattle.transport.specs.Devices.{rises};
 ghost use Rattle.transactions.specs.Machine.{State};
 ghost use Rattle.watchers.specs.Rows.{Row};
@@ -12,7 +12,7 @@ ghost use Rattle.service.specs.Keeping.{AreKept};
 ghost use Rattle.service.specs.Sending.{Act, IsSentOut, fates, outflow, taking};
 ghost use Rattle.service.specs.Watched.{AreRowed};
 
-use crate::fates::{Put, Timed};
+use crate::fates::Put;
 use crate::sending::{Waiting, Watch};
 use crate::shared::{Counter, Shared};
 use crew::Gate;
@@ -72,7 +72,8 @@ impl Waker {
 impl Gate for Waker {
     fn pass(&self, _worker: u32, _index: u64) {}
 
-    fn handled<R: Wait>(&self, rt: &R, worker: u32, event: &Event, _outs: &[Out]) {
+    fn handled<R: Wait>(&self, rt: &R, worker: u32, event: &Event, outs: &[Out]) {
+        self.shared.follow_dialogs(rt, event, outs);
         self.shared.note_handled(rt, worker, event);
     }
 
@@ -131,28 +132,66 @@ impl Outgoing {
     }
 }
 
-/// Sends or writes an out that was taken, unless it is a NOTIFY that waits. What became of it.
+/// An out that was taken of the outbox at this moment, and is to leave.
+#[derive(Drop)]
+struct Leaving {
+    now: u64,
+    out: Out,
+    /// Whether the records that wait for the journal were written since it was taken. That of its event is one of them, so it may not leave
+    /// before. Where no journal is kept, or the system takes a record no more, there is none to wait for.
+    is_written: bool,
+    ghost in_range: { now < 2 ^ 63 },
+}
+
+impl Leaving {
+    /// This out, taken at this moment. Nothing was written since.
+    fn new(now: u64, out: Out) -> Leaving
+        requires in_range { now < 2 ^ 63 }
+        ensures now { result.now ≡ now }
+        ensures out { result.out ≡ out }
+        ensures unwritten { result.is_written ≡ false }
+    {
+        Leaving {
+            now,
+            out,
+            is_written: false,
+        }
+    }
+
+    /// Writes the records that wait for the journal: from now on the out may leave.
+    fn write<R: Wait>(&mut self, rt: &R, shared: &Shared)
+        ensures now { self.new.now ≡ self.old.now }
+        ensures out { self.new.out ≡ self.old.out }
+        ensures written { self.new.is_written ≡ true }
+    {
+        shared.write_journal(rt);
+        self.is_written = true;
+    }
+}
+
+/// Sends or writes an out that was taken, behind its event's record, unless it is a NOTIFY that waits. What became of it.
 fn send_on<R: Wait + Eprint, W: Wire, F: Write>(
     rt: &R,
     exit: &mut Exit<W, F>,
     waiting: &mut Waiting,
-    timed: Timed,
+    leaving: Leaving,
     shared: &Shared,
 ) -> Fate
-    ensures fate { MayMeet timed.out result }
-    ensures taken { Grows (W.taken exit.old.wire) (W.taken exit.new.wire) (sent_datagrams ((timed.out, result) ∷ [])) }
+    requires written { leaving.is_written ≡ true }
+    ensures fate { MayMeet leaving.out result }
+    ensures taken { Grows (W.taken exit.old.wire) (W.taken exit.new.wire) (sent_datagrams ((leaving.out, result) ∷ [])) }
     ensures wire_failures { W.failures exit.new.wire
-        ≡ rises (spec.count fails_to_send ((timed.out, result) ∷ [])) (W.failures exit.old.wire) }
+        ≡ rises (spec.count fails_to_send ((leaving.out, result) ∷ [])) (W.failures exit.old.wire) }
     ensures given { Grows (W.given exit.old.wire) (W.given exit.new.wire) [] }
     ensures failures { exit.new.sink.failures
-        ≡ rises (spec.count spec.fails_to_start ((timed.out, result) ∷ [])) exit.old.sink.failures }
-    ensures writes { Writes (F.contents exit.old.sink.writer) (F.contents exit.new.sink.writer) timed.out result }
+        ≡ rises (spec.count spec.fails_to_start ((leaving.out, result) ∷ [])) exit.old.sink.failures }
+    ensures writes { Writes (F.contents exit.old.sink.writer) (F.contents exit.new.sink.writer) leaving.out result }
     ensures flushed { result ≡ Fate.Started → exit.new.sink.is_flushed ≡ true }
-    ensures stays { is_start timed.out ≡ false → exit.new.sink ≡ exit.old.sink }
+    ensures stays { is_start leaving.out ≡ false → exit.new.sink ≡ exit.old.sink }
     ensures kept { (s : State) (rows : List Row) (acts : List Act) → AreKept s rows acts waiting.old
-        → AreKept s rows (acts ++ taking timed.now timed.out result ∷ []) waiting.new }
+        → AreKept s rows (acts ++ taking leaving.now leaving.out result ∷ []) waiting.new }
 {
-    let Timed { now, out } = timed;
+    let Leaving { now, out, .. } = leaving;
     let Some(out) = waiting.let_through(rt, out, shared) else {
         return Fate::Held;
     };
@@ -195,19 +234,21 @@ pub(crate) fn send_outs<R: Wait + Clock + Files<File = File> + Eprint, W: Wire, 
         watch.look(rt, shared);
         if watch.is_over(left, outgoing.waiting.len()) {
             outgoing.waiting.settle(rt, shared);
-            outgoing.waiting.given_up.tell_others(rt);
+            outgoing.waiting.given_up.tell_others(rt, shared);
+            outgoing.waiting.refusals.tell_others(rt, shared);
             shared.count_lost(outgoing.waiting.len());
             shared.write_journal(rt);
             return;
         }
+        // What is sent again, or was held back, was taken before: its record is written.
         let has_more = outgoing
             .waiting
             .tend(rt, &mut exit.wire, &mut watch, shared);
         match next_out(rt, &mut outgoing.taker, &mut left) {
             Next::Out(out) => {
-                shared.write_journal(rt);
-                let now = watch.now();
-                send_on(rt, exit, &mut outgoing.waiting, Timed { now, out }, shared);
+                let mut leaving = Leaving::new(watch.now(), out);
+                leaving.write(rt, shared);
+                send_on(rt, exit, &mut outgoing.waiting, leaving, shared);
                 watch.count_out();
             }
             Next::Ended => shared.count(Counter::WorkerEnded),

@@ -1,6 +1,8 @@
 //! A line for each request that is answered, and for each NOTIFY that nobody answered, for whoever looks why a phone isn't served.
 
 use crate::logging::{beginning, has_room};
+use crate::shared::Shared;
+use log_lines::{Record, Request};
 use sip_text::{Addr, text_of};
 use transactions::Open;
 
@@ -23,19 +25,20 @@ fn second_word(line: &str) -> &str {
 
 /// Says on standard error to whom this answer goes, to which method, whom that was sent to, and the status code. A line that nobody
 /// reads is dropped.
-pub(crate) fn log_answer<R: Eprint>(rt: &R, to: Addr, answer: &[u8]) {
+pub(crate) fn log_answer<R: Eprint>(rt: &R, shared: &Shared, to: Addr, answer: &[u8]) {
     if !has_room() {
         return;
     }
     let Some(answer) = text_of(answer) else {
         return;
     };
-    let [a, b, c, d] = to.ip;
-    let port = to.port;
-    let method = beginning(second_word(header(answer, "CSeq")));
-    let mailbox = beginning(header(answer, "To"));
-    let code = second_word(answer);
-    let _ = eprintln!(rt; "notifyd: {a}.{b}.{c}.{d}:{port} {method} {mailbox} {code}");
+    let request = Request::Answered {
+        address: to,
+        method: beginning(second_word(header(answer, "CSeq"))),
+        user: beginning(header(answer, "To")),
+        code: second_word(answer).parse::<u64>().unwrap_or(0),
+    };
+    shared.tell(rt, &Record::Request(request));
 }
 
 /// A NOTIFY that nobody answered.
@@ -48,13 +51,15 @@ pub(crate) struct Unanswered<'a> {
 
 /// Says on standard error to whom a NOTIFY was sent that nobody answered, of which mailbox and which dialog. A line that nobody reads is
 /// dropped.
-pub(crate) fn log_unanswered<R: Eprint>(rt: &R, unanswered: Unanswered<'_>) {
+pub(crate) fn log_unanswered<R: Eprint>(rt: &R, shared: &Shared, unanswered: Unanswered<'_>) {
     if !has_room() {
         return;
     }
     let Unanswered { due, resource } = unanswered;
-    let [a, b, c, d] = due.to.ip;
-    let port = due.to.port;
-    let tag = due.tag.as_str();
-    let _ = eprintln!(rt; "notifyd: {a}.{b}.{c}.{d}:{port} NOTIFY {resource};tag={tag} unanswered");
+    let request = Request::Unanswered {
+        address: due.to,
+        mailbox: resource,
+        tag: due.tag.as_str(),
+    };
+    shared.tell(rt, &Record::Request(request));
 }

@@ -20,6 +20,7 @@ ghost use Rattle.service.specs.declared.post.Note.{Note};
 use crate::fates::{Put, Timed, tell_fate};
 use crate::given_up::GivenUp;
 use crate::post::Note;
+use crate::refusals::{Refusals, refused};
 use crate::request_log::{Unanswered, log_unanswered};
 use crate::shared::{Counter, LAST_MOMENT, Shared};
 use circular_buffer::HeapCircularBuffer;
@@ -210,9 +211,9 @@ fn count_doubtful<R: Eprint>(
     let due = unanswered.due;
     if is_doubtful(now, due) && !was_doubtful(due) {
         shared.count(Counter::GivenUp);
-        given_up.add(rt, now, unanswered);
+        given_up.add(rt, shared, now, unanswered);
         if shared.logs_requests() {
-            log_unanswered(rt, unanswered);
+            log_unanswered(rt, shared, unanswered);
         }
     }
 }
@@ -292,6 +293,7 @@ pub(crate) struct Waiting {
     /// Whether it is told how many subscriptions a source has.
     counts_sources: bool,
     pub(crate) given_up: GivenUp,
+    pub(crate) refusals: Refusals,
 }
 
 impl Waiting {
@@ -317,6 +319,7 @@ impl Waiting {
             contacts,
             counts_sources: per_source.is_some(),
             given_up: GivenUp::new(),
+            refusals: Refusals::new(),
         })
     }
 
@@ -519,14 +522,24 @@ impl Waiting {
         }
     }
 
-    /// Takes the note of an answer. What waited for it.
-    fn take_note<R: Wait>(&mut self, rt: &R, note: &Note, shared: &Shared) -> Vec<Notice>
+    /// Takes the note of an answer at this moment. What waited for it.
+    fn take_note<R: Wait + Eprint>(
+        &mut self,
+        rt: &R,
+        now: u64,
+        note: &Note,
+        shared: &Shared,
+    ) -> Vec<Notice>
         ensures transactions { self.new.transactions ≡ after (answer_of note.now) self.old.transactions }
         ensures rows { self.new.watchers.rows ≡ answered_rows note.now.tag note.now.number note.now.status self.old.watchers.rows }
         ensures burst { self.new.burst ≡ self.old.burst }
     {
         if note.status == GONE {
             shared.count(Counter::Gone);
+        }
+        if let Some(refusal) = refused(&self.watchers, note) {
+            shared.count_refusal(refusal.code);
+            self.refusals.add(rt, shared, now, refusal);
         }
         let gone = self.gone_source(note);
         self.transactions
@@ -541,8 +554,8 @@ impl Waiting {
         passed.through
     }
 
-    /// Takes notes of answers, a few at a time. Behind one for which NOTIFYs waited it takes no further one.
-    fn take_notes<R: Wait>(&mut self, rt: &R, shared: &Shared) -> Taken
+    /// Takes notes of answers at this moment, a few at a time. Behind one for which NOTIFYs waited it takes no further one.
+    fn take_notes<R: Wait + Eprint>(&mut self, rt: &R, now: u64, shared: &Shared) -> Taken
         ensures noted { (taken : List Note)
             × (self.new.transactions ≡ state_after (map answer_of taken) self.old.transactions)
             × (self.new.watchers.rows ≡ noted_rows taken self.old.watchers.rows) }
@@ -555,7 +568,7 @@ impl Waiting {
                     through: Vec::new(self.alloc),
                 };
             };
-            let through = self.take_note(rt, &note, shared);
+            let through = self.take_note(rt, now, &note, shared);
             if !through.is_empty() {
                 return Taken {
                     has_more: true,
@@ -670,7 +683,7 @@ impl Waiting {
         }
         watch.begin_look();
         self.settle(rt, shared);
-        let taken = self.take_notes(rt, shared);
+        let taken = self.take_notes(rt, watch.now(), shared);
         let late = Late {
             now: watch.now(),
             through: taken.through,
@@ -679,7 +692,8 @@ impl Waiting {
         if taken.has_more {
             return true;
         }
-        self.given_up.look(rt, watch.now());
+        self.given_up.look(rt, shared, watch.now());
+        self.refusals.look(rt, shared, watch.now());
         shared.set_live(self.watchers.len());
         shared.window.answer(rt, watch.now(), &self.watchers);
         if watch.repeats == 0 {

@@ -2,15 +2,21 @@
 ghost use Rattle.std.specs.Prelude.{◌<◌, ◌^◌, IfSome};
 
 use crate::barred::Barred;
+use crate::changes::ChangeCounts;
 use crate::complaints::Complaints;
 use crate::drops::kernel_drops;
 use crate::journaling::Journal;
+use crate::logging::Log;
+use crate::owners::{Owners, concerns_dialogs};
 use crate::post::{LostStarts, Notes};
+use crate::refusals::RefusalCounts;
 use crate::statuses::Statuses;
 use crate::window::Window;
-use notifier_model::Event;
+use control_lines::ControlAnswer;
+use log_lines::{Record, tell};
+use notifier_model::{Event, Out};
 use package::MailChange;
-use sip_read::ReadError;
+use sip_read::{ReadError, Request};
 use sip_text::{Addr, NoMemory};
 use std::alloc::Global;
 use std::fs::File;
@@ -44,6 +50,7 @@ pub struct Shared {
     pub(crate) is_closing: AtomicBool,
     pub(crate) is_finished: AtomicBool,
     logs_requests: AtomicBool,
+    log: Log,
     pub(crate) notes: Notes,
     pub(crate) lost_starts: LostStarts,
     pub(crate) window: Window,
@@ -51,6 +58,10 @@ pub struct Shared {
     journal: OnceLock<Journal>,
     /// How many live subscriptions each source has, as the thread that sends told it last.
     sources: Mutex<Counts>,
+    /// Who made which dialog, where users show passwords.
+    owners: Mutex<Owners>,
+    /// Whether any user did.
+    has_owners: AtomicBool,
     complaints: Mutex<Complaints>,
     barred_lately: Mutex<Barred>,
     live: AtomicU64,
@@ -71,6 +82,7 @@ pub struct Shared {
     held_dropped: AtomicU64,
     lost: AtomicU64,
     gone_by_481: AtomicU64,
+    refusals: RefusalCounts,
     failed_receives: AtomicU64,
     too_long: AtomicU64,
     foreign: AtomicU64,
@@ -82,6 +94,7 @@ pub struct Shared {
     barred: AtomicU64,
     large: AtomicU64,
     control_lines: AtomicU64,
+    changes: ChangeCounts,
     workers: AtomicU64,
     workers_ended: AtomicU64,
     // the number of the first worker that ran out of memory, or NOBODY
@@ -147,7 +160,7 @@ pub enum Counter {
     Wrong,
     /// A request was challenged anew whose credentials are right, but to a nonce that is too old.
     Stale,
-    /// A request was refused since its user may not have the mailbox.
+    /// A request was refused since its user may not have the mailbox, or another one made its dialog.
     Forbidden,
     /// A request was refused without a look at its password: too many wrong ones came from its source, or some from there and too many for
     /// its user.
@@ -207,6 +220,7 @@ impl Shared {
         let lost_starts = LostStarts::new(alloc)?;
         let window = Window::new(alloc)?;
         let sources = Mutex::new(Counts::new(alloc));
+        let owners = Mutex::new(Owners::new(alloc));
         let complaints = Mutex::new(Complaints::new());
         let barred_lately = Mutex::new(Barred::new());
         Ok(Shared {
@@ -217,11 +231,14 @@ impl Shared {
             is_closing: AtomicBool::new(false),
             is_finished: AtomicBool::new(false),
             logs_requests: AtomicBool::new(false),
+            log: Log::new(),
             notes,
             lost_starts,
             window,
             journal: OnceLock::new(),
             sources,
+            owners,
+            has_owners: AtomicBool::new(false),
             complaints,
             barred_lately,
             live: AtomicU64::new(0),
@@ -242,6 +259,7 @@ impl Shared {
             held_dropped: AtomicU64::new(0),
             lost: AtomicU64::new(0),
             gone_by_481: AtomicU64::new(0),
+            refusals: RefusalCounts::new(),
             failed_receives: AtomicU64::new(0),
             too_long: AtomicU64::new(0),
             foreign: AtomicU64::new(0),
@@ -253,6 +271,7 @@ impl Shared {
             barred: AtomicU64::new(0),
             large: AtomicU64::new(0),
             control_lines: AtomicU64::new(0),
+            changes: ChangeCounts::new(),
             workers: AtomicU64::new(0),
             workers_ended: AtomicU64::new(0),
             spent_worker: AtomicU32::new(NOBODY),
@@ -266,6 +285,7 @@ impl Shared {
 
     /// How many seconds the service is up. None where the clock can't be read.
     pub fn seconds<R: Clock>(&self, rt: &R) -> Option<u64> {
+        self.log.look(rt);
         match self.began.elapsed(rt) {
             Ok(passed) => Some(passed.as_secs()),
             Err(_) => None,
@@ -276,6 +296,7 @@ impl Shared {
     pub(crate) fn moment<R: Clock>(&self, rt: &R) -> Option<u64>
         ensures in_range { IfSome result (λ moment. moment < 2 ^ 63) }
     {
+        self.log.look(rt);
         match self.began.elapsed(rt) {
             Ok(passed) => {
                 let seconds = passed.as_secs().saturating_mul(1000);
@@ -330,6 +351,22 @@ impl Shared {
     /// Whether it is.
     pub(crate) fn logs_requests(&self) -> bool {
         self.logs_requests.load(Ordering::SeqCst)
+    }
+
+    /// From now on each line on standard error is a JSON object.
+    pub fn log_json<R: Clock>(&self, rt: &R) {
+        self.log.be_json();
+        self.log.look(rt);
+    }
+
+    /// Writes a line on standard error, in the form that the operator wants.
+    pub fn tell<R: Eprint>(&self, rt: &R, record: &Record<'_>) {
+        tell(rt, self.alloc, self.log.form(), record);
+    }
+
+    /// What memory is taken of.
+    pub(crate) fn alloc(&self) -> Global {
+        self.alloc
     }
 
     /// Counts one.
@@ -480,6 +517,11 @@ impl Shared {
         }
     }
 
+    /// Counts a control line that was done and answered so.
+    pub(crate) fn count_change<R: Clock>(&self, rt: &R, answer: ControlAnswer) {
+        self.changes.count(answer, self.seconds(rt));
+    }
+
     /// Counts an answer to a request by its status code.
     pub(crate) fn count_status(&self, answer: &[u8]) {
         self.statuses.count(answer);
@@ -509,6 +551,24 @@ impl Shared {
         let _ = self.sources.lock(rt).set(source, count);
     }
 
+    /// The user who made the dialog with this tag, as a number, where that is known.
+    pub(crate) fn owner<R: Wait>(&self, rt: &R, tag: &str) -> Option<u32> {
+        self.owners.lock(rt).user(tag)
+    }
+
+    /// A request outside a dialog is let through, which this user sent.
+    pub(crate) fn note_user<R: Wait>(&self, rt: &R, request: &Request, user: u32) {
+        self.has_owners.store(true, Ordering::SeqCst);
+        self.owners.lock(rt).pass(request, user);
+    }
+
+    /// A worker handled this event, which made these outs. Nobody is told of them yet.
+    pub(crate) fn follow_dialogs<R: Wait>(&self, rt: &R, event: &Event, outs: &[Out]) {
+        if self.has_owners.load(Ordering::SeqCst) && concerns_dialogs(event, outs) {
+            self.owners.lock(rt).follow(event, outs);
+        }
+    }
+
     /// Counts a datagram that couldn't be read for this reason.
     pub fn count_unread(&self, error: &ReadError) {
         let place = (error.number() as usize).saturating_sub(1);
@@ -527,45 +587,58 @@ impl Shared {
         }
     }
 
-    /// What an operator hears of once a minute and at the end, and how often each has happened. What could not be sent is told apart.
-    pub(crate) fn complaints(&self) -> [(&'static str, u64); COMPLAINTS] {
+    /// What an operator hears of once a minute and at the end: the name of its counter, what happened, and how often. What could not be
+    /// sent is told apart.
+    pub(crate) fn complaints(&self) -> [(&'static str, &'static str, u64); COMPLAINTS] {
         let told = |counted: &AtomicU64| counted.load(Ordering::SeqCst);
+        let challenged = told(&self.challenged).saturating_add(told(&self.stale));
+        let forbidden = told(&self.forbidden).saturating_add(self.statuses.sent("403"));
+        let sent = |code: &str| self.statuses.sent(code);
         [
-            ("datagrams were no SIP messages", self.unread()),
+            ("unread", "datagrams were no SIP messages", self.unread()),
             (
+                "foreign",
                 "datagrams came from none of the networks of --allow",
                 told(&self.foreign),
             ),
-            ("datagrams were more than --rate", told(&self.limited)),
             (
+                "limited",
+                "datagrams were more than --rate",
+                told(&self.limited),
+            ),
+            (
+                "too_long",
                 "datagrams were longer than --max-datagram",
                 told(&self.too_long),
             ),
+            ("challenged", "requests were answered 401", challenged),
+            ("forbidden", "requests were answered 403", forbidden),
             (
-                "requests were answered 401",
-                told(&self.challenged).saturating_add(told(&self.stale)),
+                "barred",
+                "passwords were more than --guesses",
+                told(&self.barred),
             ),
             (
-                "requests were answered 403",
-                told(&self.forbidden).saturating_add(self.statuses.sent("403")),
+                "large",
+                "requests were more than --max-texts",
+                told(&self.large),
             ),
-            ("passwords were more than --guesses", told(&self.barred)),
-            ("requests were more than --max-texts", told(&self.large)),
             (
+                "per_source",
                 "requests were more than --per-source",
                 told(&self.per_source),
             ),
-            ("requests were answered 400", self.statuses.sent("400")),
-            ("requests were answered 404", self.statuses.sent("404")),
-            ("requests were answered 405", self.statuses.sent("405")),
-            ("requests were answered 406", self.statuses.sent("406")),
-            ("requests were answered 416", self.statuses.sent("416")),
-            ("requests were answered 420", self.statuses.sent("420")),
-            ("requests were answered 423", self.statuses.sent("423")),
-            ("requests were answered 481", self.statuses.sent("481")),
-            ("requests were answered 489", self.statuses.sent("489")),
-            ("requests were answered 500", self.statuses.sent("500")),
-            ("requests were answered 503", self.statuses.sent("503")),
+            ("answers_400", "requests were answered 400", sent("400")),
+            ("answers_404", "requests were answered 404", sent("404")),
+            ("answers_405", "requests were answered 405", sent("405")),
+            ("answers_406", "requests were answered 406", sent("406")),
+            ("answers_416", "requests were answered 416", sent("416")),
+            ("answers_420", "requests were answered 420", sent("420")),
+            ("answers_423", "requests were answered 423", sent("423")),
+            ("answers_481", "requests were answered 481", sent("481")),
+            ("answers_489", "requests were answered 489", sent("489")),
+            ("answers_500", "requests were answered 500", sent("500")),
+            ("answers_503", "requests were answered 503", sent("503")),
         ]
     }
 
@@ -592,6 +665,11 @@ impl Shared {
     /// Counts NOTIFYs that waited, or were to wait, for the answer to another one, and are never sent.
     pub(crate) fn count_held_dropped(&self, count: usize) {
         self.held_dropped.fetch_add(count as u64, Ordering::SeqCst);
+    }
+
+    /// Counts a NOTIFY that was refused with this status code.
+    pub(crate) fn count_refusal(&self, code: u16) {
+        self.refusals.count(code);
     }
 
     /// How many NOTIFYs were given up.
@@ -694,15 +772,17 @@ impl Shared {
     }
 
     /// The counters, each on a line of its own, behind the seconds that the service is up. The datagrams that couldn't be
-    /// read are counted by the number of the error, from 1, on one line, and by cause, the answers by status code. What the system
-    /// dropped at the socket of SIP stands there where it tells that.
+    /// read are counted by the number of the error, from 1, on one line, and by cause, the answers and the NOTIFYs that were
+    /// refused by status code. What the system dropped at the socket of SIP stands there where it tells that.
     pub fn lines(&self, alloc: Global, seconds: u64) -> Result<String, NoMemory> {
         let mut text = format!(in alloc; "up {seconds}\n")?;
         self.add_named(alloc, &mut text)?;
         self.add_unread(alloc, &mut text)?;
         add_line(alloc, &mut text, "live", &self.live)?;
         self.add_journal(alloc, &mut text)?;
+        self.changes.add_lines(alloc, &mut text, seconds)?;
         self.statuses.add_lines(alloc, &mut text)?;
+        self.refusals.add_lines(alloc, &mut text)?;
         self.add_causes(alloc, &mut text)?;
         self.add_drops(alloc, &mut text)?;
         Ok(text)

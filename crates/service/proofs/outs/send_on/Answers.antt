@@ -10,7 +10,7 @@ use Rattle.service.proofs.Acts.{held_may, held_writes, taken_put}
 use Rattle.service.proofs.outs.send_on.Goals as goal
 
 pub returns-in_default-clause-fate : goal.returns-in_default-clause-fate
-returns-in_default-clause-fate g c = held_may c.args.timed.out c.in_default.ensures.notify
+returns-in_default-clause-fate g c = held_may c.args.leaving.out c.in_default.ensures.notify
 
 pub returns-in_default-clause-taken : goal.returns-in_default-clause-taken
 returns-in_default-clause-taken g c = grows_none _
@@ -19,10 +19,10 @@ pub returns-in_default-clause-given : goal.returns-in_default-clause-given
 returns-in_default-clause-given g c = grows_none _
 
 pub returns-in_default-clause-writes : goal.returns-in_default-clause-writes
-returns-in_default-clause-writes g c = held_writes c.args.timed.out _ c.in_default.ensures.notify
+returns-in_default-clause-writes g c = held_writes c.args.leaving.out _ c.in_default.ensures.notify
 
 pub returns-in_default-clause-kept : goal.returns-in_default-clause-kept
-returns-in_default-clause-kept g c = λ s rows acts is. c.in_default.ensures.held s rows acts c.args.timed.now is
+returns-in_default-clause-kept g c = λ s rows acts is. c.in_default.ensures.held s rows acts c.args.leaving.now is
 
 pub returns-clause-fate : goal.returns-clause-fate
 returns-clause-fate g c = subst (λ (o : Out). MayMeet o c.put_out-fate.result) c.in-Some.ensures.itself c.put_out-fate.ensures.fate
@@ -49,6 +49,6 @@ returns-clause-stays g c =
 
 pub returns-clause-kept : goal.returns-clause-kept
 returns-clause-kept g c = λ s rows acts is.
-    let now = c.args.timed.now in let fate = c.put_out-fate.result in
-    let same : Put now c.in-Some.out fate ≡ taking now c.args.timed.out fate = ap (λ (o : Out). Put now o fate) c.in-Some.ensures.itself ∙ sym (taken_put now c.args.timed.out fate c.put_out-fate.ensures.not_held) in
+    let now = c.args.leaving.now in let fate = c.put_out-fate.result in
+    let same : Put now c.in-Some.out fate ≡ taking now c.args.leaving.out fate = ap (λ (o : Out). Put now o fate) c.in-Some.ensures.itself ∙ sym (taken_put now c.args.leaving.out fate c.put_out-fate.ensures.not_held) in
     subst (λ (a : Act). AreKept s rows (acts ++ a ∷ []) c.put.new.self) same (c.put.ensures.put s rows acts (c.in-Some.ensures.through s rows acts is))

@@ -1,4 +1,7 @@
-use Rattle.std.proofs.Common.{[], ◌++◌, ◌∷◌, map, refl, ap, sym, inl}
+use Rattle.std.proofs.Common.{[], ◌++◌, ◌∷◌, ◌∙◌, map, refl, ap, sym, subst, inl}
+use Rattle.notifier_model.specs.declared.event.Out.{Out}
+use Rattle.queues.specs.OutboxTook.{Took}
+use Rattle.queues.specs.declared.outbox.Posted.TheVariants as posted
 use Rattle.queues.proofs.Ended.{ended_none}
 use Rattle.feeds.specs.Emitted.{writer_seen, counted}
 use Rattle.feeds.proofs.Emitting.{running_first, running_as, running_end, running_done}
@@ -45,17 +48,19 @@ loop-preserved-in-Ended g c =
 pub loop-preserved-in-Out : goal.loop-preserved-in-Out
 loop-preserved-in-Out g c =
     let was = c.loop.invariant in let at = c.in-Out in let tended = c.tend-has_more.ensures in let more = tended.does in
-    let sent = c.send_on.ensures in let fate = c.send_on.result in let now = c.now-now.result in record {
-      acts = (was.acts ++ more.0) ++ taking now at.out fate ∷ [];
+    let sent = c.send_on.ensures in let fate = c.send_on.result in let now = c.write.new.self.now in let out = c.write.new.self.out in
+    let took : Took c.loop.outgoing.taker (posted.Out at.ensures.0 out) c.next_out.new.taker =
+    subst (λ (o : Out). Took c.loop.outgoing.taker (posted.Out at.ensures.0 o) c.next_out.new.taker) (sym (c.write.ensures.out ∙ c.new-leaving.ensures.out)) at.ensures.1 in record {
+      acts = (was.acts ++ more.0) ++ taking now out fate ∷ [];
       report = counted was.report fate;
-      running = running_taking (was.acts ++ more.0) (running_as (running_on was.acts was.running more.0 _ more.1.no_outs tended.given) c.loop.outgoing.taker c.next_out.new.left refl at.ensures.2) now c.next_out.new.taker at.ensures.0 at.out fate
+      running = running_taking (was.acts ++ more.0) (running_as (running_on was.acts was.running more.0 _ more.1.no_outs tended.given) c.loop.outgoing.taker c.next_out.new.left refl at.ensures.2) now c.next_out.new.taker at.ensures.0 out fate
           (g.W.Wire.given c.send_on.new.exit.wire)
           (writer_seen g.F.Write.contents c.send_on.new.exit.sink)
-          at.ensures.1 sent.fate sent.given sent.failures sent.writes;
+          took sent.fate sent.given sent.failures sent.writes;
       does = does_more (does_more was.does (does_behind was.kept more.1.does))
-          (does_taking now at.out fate _ _ _ _ sent.taken sent.wire_failures (state_more (was.acts ++ more.0) (taking now at.out fate ∷ []) _));
+          (does_taking now out fate _ _ _ _ sent.taken sent.wire_failures (state_more (was.acts ++ more.0) (taking now out fate ∷ []) _));
       flushed = flushed_taking (λ s. s.is_flushed) _ _ (was.acts ++ more.0) (flushed_on (λ s. s.is_flushed) _ _ was.acts was.flushed more.0 more.1.no_outs)
-          c.send_on.new.exit.sink now at.out fate sent.fate sent.flushed sent.stays;
+          c.send_on.new.exit.sink now out fate sent.fate sent.flushed sent.stays;
       kept = sent.kept _ _ (was.acts ++ more.0) (more.1.kept _ _ was.acts was.kept);
     }
 

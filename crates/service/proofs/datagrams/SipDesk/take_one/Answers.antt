@@ -1,4 +1,4 @@
-use Rattle.std.proofs.Common.{◌≡◌, ◌∙◌, Bool, false, Ok, Some, refl, sym, ap, subst}
+use Rattle.std.proofs.Common.{◌≡◌, ◌∙◌, Bool, false, Ok, None, Some, refl, sym, ap, subst}
 use Rattle.std.specs.Prelude.{if◌then◌else◌}
 use Rattle.admission.specs.declared.judging.Reading.TheVariants as reading
 use Rattle.admission.specs.declared.judging.Verdict.TheVariants as verdict
@@ -18,7 +18,7 @@ pub returns-then-is_foreign-clause-taken : goal.returns-then-is_foreign-clause-t
 returns-then-is_foreign-clause-taken g c =
     let a = c.args.self.now.admission in
     let far : hears a c.args.source.ip ≡ false = not_true (hears a c.args.source.ip) (sym c.is_foreign.ensures ∙ c.if-is_foreign.true) in
-    let x : Arrival = record { octets = c.args.octets; reading = reading.Unread; source = c.args.source; moment = c.args.moment; live = 0 } in record {
+    let x : Arrival = record { octets = c.args.octets; reading = reading.Unread; source = c.args.source; moment = c.args.moment; live = 0; owner = None } in record {
       says = heard.Unread;
       verdict = Some verdict.Foreign;
       arrival = x;
