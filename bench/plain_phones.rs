@@ -1,16 +1,22 @@
-//! Phones for `bench/subscriptions`, in plain Rust: they measure the processor time that a server takes, which is run as a
-//! child of this program.
+//! Phones for `bench/subscriptions` and `bench/peers`, in plain Rust. In its first two ways this measures the processor time that a server
+//! takes, which is run as a child of this program.
 //!
 //! `plain_phones subscribe <subscriptions> <window> <port> <program>...` has so many phones subscribe, each once, at most
 //! `window` of them at a time without their NOTIFY, and answers each NOTIFY. `plain_phones echo <datagrams> <window> <port>
 //! <program>...` sends so many datagrams of a SUBSCRIBE's length, at most `window` of them at a time without their echo. The
 //! program is run with these words, and killed in the end. It prints nanoseconds of processor time (user and system) that one
 //! of these takes: of the program, and then of each of its threads, the oldest first.
+//!
+//! `plain_phones lives <port>` has phones live at a notifier that somebody else runs. Each line of its standard input is `<first> <phones>
+//! <window> <mailboxes> <seconds>..`: so many phones, numbered from the first on, at most `window` of them at a time, each with the mailbox
+//! `m<its number modulo mailboxes>`. A phone sends a SUBSCRIBE for each of the seconds, the next one once the last one's answer and a NOTIFY
+//! are there; 0 seconds end its subscription. Where nothing comes for half a second, requests that aren't answered are sent again. It prints
+//! the nanoseconds that each line took, and how many requests were sent again.
 
 use std::collections::HashSet;
 use std::env;
 use std::fs;
-use std::io::ErrorKind;
+use std::io::{self, BufRead, ErrorKind, Write};
 use std::net::UdpSocket;
 use std::process::{exit, Child, Command};
 use std::sync::Mutex;
@@ -19,6 +25,9 @@ use std::time::{Duration, Instant};
 
 /// How long the phones wait for a datagram.
 const PATIENCE: Duration = Duration::from_secs(20);
+
+/// When a request is sent again (RFC 3261 section 17.1.2.2).
+const T1: Duration = Duration::from_millis(500);
 
 /// The program that is measured.
 static SERVER: Mutex<Option<Child>> = Mutex::new(None);
@@ -179,8 +188,159 @@ fn run_echo(socket: &UdpSocket, server: u32, count: u32, window: u32, port: u16)
     since(server, &before)
 }
 
+/// A phone that lives at a notifier.
+struct Phone {
+    number: usize,
+    /// How many requests it sent, and the last one.
+    asked: usize,
+    request: Vec<u8>,
+    /// Whether the last one is answered, and whether a NOTIFY came since.
+    is_answered: bool,
+    is_told: bool,
+    /// What it sends its requests to, and the notifier's tag with `;tag=` in front, once it is known.
+    target: String,
+    tag: String,
+}
+
+impl Phone {
+    fn new(number: usize, mailboxes: usize, port: u16) -> Phone {
+        let target = format!("sip:m{}@127.0.0.1:{port}", number % mailboxes);
+        Phone { number, asked: 0, request: Vec::new(), is_answered: false, is_told: false, target, tag: String::new() }
+    }
+
+    /// Sends its next request, for so many seconds.
+    fn ask(&mut self, socket: &UdpSocket, seconds: usize, mailboxes: usize, own: u16) {
+        self.asked += 1;
+        (self.is_answered, self.is_told) = (false, false);
+        let (number, asked, target, tag) = (self.number, self.asked, &self.target, &self.tag);
+        let user = format!("m{}", number % mailboxes);
+        let request = format!(
+            "SUBSCRIBE {target} SIP/2.0\r\n\
+             Via: SIP/2.0/UDP 127.0.0.1:{own};branch=z9hG4bK{number:08}.{asked}\r\n\
+             Max-Forwards: 70\r\n\
+             From: <sip:{user}@127.0.0.1>;tag=f{number:08}\r\n\
+             To: <sip:{user}@127.0.0.1>{tag}\r\n\
+             Call-ID: c{number:08}\r\n\
+             CSeq: {asked} SUBSCRIBE\r\n\
+             Contact: <sip:{user}@127.0.0.1:{own}>\r\n\
+             Event: message-summary\r\n\
+             Expires: {seconds}\r\n\
+             Content-Length: 0\r\n\r\n"
+        );
+        self.request = request.into_bytes();
+        self.send(socket);
+    }
+
+    fn send(&self, socket: &UdpSocket) {
+        socket.send(&self.request).unwrap_or_else(|_| fail("a send failed"));
+    }
+
+    /// Takes in a final answer: its tag and its Contact are those of the dialog.
+    fn be_answered(&mut self, answer: &str) {
+        self.is_answered = true;
+        if self.tag.is_empty() {
+            let tag = value(answer, "To").split(";tag=").nth(1).unwrap_or_else(|| fail(answer));
+            self.tag = format!(";tag={tag}");
+            let contact = value(answer, "Contact").split(['<', '>']).nth(1).unwrap_or_else(|| fail(answer));
+            self.target = contact.to_string();
+        }
+    }
+}
+
+/// The value of the first line of this name.
+fn value<'a>(message: &'a str, name: &str) -> &'a str {
+    let values = message.lines().filter_map(|line| line.split_once(": "));
+    let mut own = values.filter(|(own, _)| *own == name).map(|(_, value)| value);
+    own.next().unwrap_or_else(|| fail(&format!("no {name} in {message}")))
+}
+
+/// The place of the phone of a message among those from the first on, unless it is of another one.
+fn place(message: &str, first: usize, count: usize) -> Option<usize> {
+    let number: usize = value(message, "Call-ID").strip_prefix('c')?.parse().ok()?;
+    number.checked_sub(first).filter(|&place| place < count)
+}
+
+/// The length of what comes next. Until it comes these phones send again each half second what isn't answered, and count that.
+fn receive_or_repeat(socket: &UdpSocket, room: &mut [u8], phones: &[Phone], repeats: &mut usize) -> usize {
+    let began = Instant::now();
+    while began.elapsed() < PATIENCE {
+        match socket.recv(room) {
+            Ok(length) => return length,
+            Err(fault) if fault.kind() == ErrorKind::WouldBlock => {}
+            Err(_) => fail("nobody hears"),
+        }
+        for phone in phones.iter().filter(|phone| !phone.is_answered) {
+            phone.send(socket);
+            *repeats += 1;
+        }
+    }
+    fail("an answer or a NOTIFY is missing")
+}
+
+/// Has phones live, as a line of the input says. Answers the nanoseconds that they took, and how many requests were sent again.
+fn run_lives(socket: &UdpSocket, line: &str, port: u16) -> (u128, usize) {
+    let numbers: Vec<usize> = line.split(' ').map(|word| word.parse().unwrap_or_else(|_| fail(line))).collect();
+    let [first, count, window, mailboxes, seconds @ ..] = &numbers[..] else {
+        fail(line);
+    };
+    let own = socket.local_addr().unwrap().port();
+    let mut phones: Vec<Phone> = (*first..first + count).map(|number| Phone::new(number, *mailboxes, port)).collect();
+    let mut room = vec![0; 65536];
+    let mut out = Vec::new();
+    let (mut begun, mut done, mut repeats) = (0, 0, 0);
+    let began = Instant::now();
+    while done < *count {
+        while begun < *count && begun - done < *window {
+            phones[begun].ask(socket, seconds[0], *mailboxes, own);
+            begun += 1;
+        }
+        let length = receive_or_repeat(socket, &mut room, &phones[..begun], &mut repeats);
+        let message = std::str::from_utf8(&room[..length]).unwrap_or_else(|_| fail("no UTF-8"));
+        if message.starts_with("NOTIFY ") {
+            answer(message.as_bytes(), &mut out);
+            socket.send(&out).unwrap_or_else(|_| fail("a send failed"));
+        } else if !message.starts_with("SIP/2.0 2") {
+            fail(message);
+        }
+        let Some(phone) = place(message, *first, *count).map(|place| &mut phones[place]) else {
+            continue;
+        };
+        let was_ready = phone.is_answered && phone.is_told;
+        if message.starts_with("NOTIFY ") {
+            phone.is_told = true;
+        } else if value(message, "CSeq").starts_with(&format!("{} ", phone.asked)) {
+            phone.be_answered(message);
+        }
+        if was_ready || !(phone.is_answered && phone.is_told) {
+            continue;
+        }
+        match seconds.get(phone.asked) {
+            Some(&next) => phone.ask(socket, next, *mailboxes, own),
+            None => done += 1,
+        }
+    }
+    (began.elapsed().as_nanos(), repeats)
+}
+
+/// Has phones live as each line of the input says.
+fn live(port: u16) {
+    let socket = phones(port);
+    socket.set_read_timeout(Some(T1)).unwrap_or_else(|_| fail("no socket"));
+    for line in io::stdin().lock().lines() {
+        let line = line.unwrap_or_else(|_| fail("no line"));
+        let (nanos, repeats) = run_lives(&socket, &line, port);
+        println!("{nanos} {repeats}");
+        io::stdout().flush().unwrap_or_else(|_| fail("no output"));
+    }
+}
+
 fn main() {
     let words: Vec<String> = env::args().collect();
+    if let [_, kind, port] = &words[..] {
+        if kind == "lives" {
+            return live(port.parse().unwrap_or_else(|_| fail("a number is none")));
+        }
+    }
     let [_, kind, count, window, port, program, rest @ ..] = &words[..] else {
         fail("subscribe|echo <count> <window> <port> <program>...");
     };

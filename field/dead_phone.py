@@ -2,7 +2,7 @@
 """Finds a dead phone by WATCHERS: field/dead_phone.py [<program>]. Two phones watch a mailbox, one of them dies, and the mailbox
 changes: a row,
 
-    mailbox watcher address tag sent answered since until
+    mailbox watcher address tag sent answered since until code
 
 has a number answered below the number sent where the phone is dead, and the same number where it lives. Where the service answers `busy`
 this is left out.
@@ -17,7 +17,7 @@ import cases
 from service import NO_MESSAGES, Service, address
 from suite import run, same
 
-Row = namedtuple("Row", "mailbox watcher address tag sent answered since until")
+Row = namedtuple("Row", "mailbox watcher address tag sent answered since until code")
 
 # Seconds in which an answer is noted.
 PATIENCE = 10

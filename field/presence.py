@@ -29,8 +29,8 @@ TRIES = 8
 class Presence:
     """Kamailio at this port, to be used in a `with`."""
 
-    def __init__(self, port):
-        self.sip = port
+    def __init__(self, port, children=4):
+        self.sip, self.children = port, children
         self.folder = tempfile.TemporaryDirectory(prefix="presence-")
         self.process = None
 
@@ -54,15 +54,8 @@ class Presence:
         self.folder.cleanup()
 
     def start(self):
-        place, address = self.folder.name, f"127.0.0.1:{self.sip}"
-        shutil.copytree(TABLES, f"{place}/tables")
-        with open(f"{HERE}/presence.cfg") as file:
-            text = file.read().replace("FOLDER", f"{place}/tables").replace("ADDRESS", address)
-        with open(f"{place}/presence.cfg", "w") as file:
-            file.write(text)
-        words = f"kamailio -f {place}/presence.cfg -l udp:{address} -Y {place} -P {place}/pid -m 64 -M 8 -DD -E".split()
-        with open(f"{place}/log", "wb") as log:
-            self.process = started(words, stdin=subprocess.DEVNULL, stdout=log, stderr=log)
+        with open(f"{self.folder.name}/log", "wb") as log:
+            self.process = started(command(self.folder.name, self.sip, self.children), stdin=subprocess.DEVNULL, stdout=log, stderr=log)
 
     def find(self):
         """Waits until it answers."""
@@ -86,6 +79,17 @@ class Presence:
 
     def end(self, _crowd):
         """It has no farewell: the `with` ends it."""
+
+
+def command(place, port, children=4, megabytes=64):
+    """The command that starts it at this port, with what it needs in this folder: so many processes take requests, and share so much memory."""
+    address = f"127.0.0.1:{port}"
+    shutil.copytree(TABLES, f"{place}/tables")
+    with open(f"{HERE}/presence.cfg") as file:
+        text = file.read().replace("FOLDER", f"{place}/tables").replace("ADDRESS", address).replace("children=4", f"children={children}")
+    with open(f"{place}/presence.cfg", "w") as file:
+        file.write(text)
+    return f"kamailio -f {place}/presence.cfg -l udp:{address} -Y {place} -P {place}/pid -m {megabytes} -M 8 -DD -E".split()
 
 
 def request(method, user, port, speaker, number, lines, body):
