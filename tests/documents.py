@@ -49,7 +49,7 @@ ANYWHERE = {"Errors", "Codes", "Numbers", "Views", "LineViews"}
 
 # Crates of the edge and of the programs, whose definitions stand beside their code: `tests/cited.py` prints them.
 BESIDE = {
-    "admission", "arguments", "commands", "control_lines", "digest", "feeds", "keeper", "restarts", "resumption", "scripts", "server",
+    "admission", "arguments", "commands", "control_lines", "digest", "feeds", "keeper", "log_lines", "restarts", "resumption", "scripts", "server",
     "service", "telling", "transactions", "transport", "watchers",
 }
 

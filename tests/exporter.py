@@ -201,7 +201,7 @@ def phones_fall_behind(program, folder):
         becomes("who is behind", states, [(rows[2].address, "behind")])
         same("who is first of all", rows[2].address, rows_of(exporter)[0]["address"])
         told = exporter.json("/watchers.json", state="behind")
-        same("how many are how", ({"behind": 1, "gone": 0, "waiting": 0, "well": 2}, 1), (told["states"], told["total"]))
+        same("how many are how", ({"behind": 1, "gone": 0, "refuses": 0, "waiting": 0, "well": 2}, 1), (told["states"], told["total"]))
         same("how the mailbox is", (3, 1), tuple(exporter.json("/mailboxes.json")["mailboxes"][0][name] for name in ("watchers", "behind")))
         desk.rows = rows[:2]
         becomes("who is gone", states, [(rows[2].address, "gone")])
@@ -213,6 +213,20 @@ def phones_fall_behind(program, folder):
         becomes("who is behind", states, [(rows[0].address, "behind")])
         rows[0].answered = 5
         becomes("who is behind once it answered", states, [])
+
+
+def phones_refuse(program, folder):
+    """A phone that refuses what it is told isn't well, though it answers, until it takes the next NOTIFY."""
+    rows = [Watched(number, "alice", 3, 3, f" code={code}") for number, code in enumerate((200, 603, 403, 0))]
+    with Desk(rows) as desk, Exporter(desk.port) as exporter:
+        def states():
+            return [(it["address"], it["state"]) for it in rows_of(exporter)]
+
+        well = [(it.address, "well") for it in rows]
+        refuse = [(it.address, "refuses") for it in rows]
+        becomes("who refuses", states, [refuse[1], refuse[2], well[0], well[3]])
+        rows[2].more = " code=200"
+        becomes("who refuses", states, [refuse[1], well[0], well[2], well[3]])
 
 
 def a_restart_forgets_who_was_behind(program, folder):
@@ -498,7 +512,7 @@ def families():
 def is_a_family(counter):
     """Whether a family, or one by its labels, has this counter of STATUS."""
     names = {f"notifyd_{counter}{ending}" for ending in ("", "_total", "_seconds")}
-    return bool(names & families()) or re.match("answers_[0-9]|unread", counter) is not None
+    return bool(names & families()) or re.match("(answers|notifies_refused)_([0-9]|other)|unread", counter) is not None
 
 
 def a_dashboard_of_the_families(program, folder):
@@ -623,6 +637,7 @@ def checks():
 def checks_apart():
     yield "exporter: slow clients hold nobody", slow_clients
     yield "exporter: phones fall behind, go, and come back", phones_fall_behind
+    yield "exporter: phones refuse what they are told", phones_refuse
     yield "exporter: a service goes and comes", a_service_goes_and_comes
     yield "exporter: a page of metrics", a_page_of_metrics
     yield "exporter: a service that isn't there", a_service_that_is_not_there

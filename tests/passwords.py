@@ -228,6 +228,92 @@ def a_transfer_wants_a_user(program, folder):
         phone.expect_notify("active;expires=180", "SIP/2.0 100 Trying\r\n")
 
 
+def goes_on(phone, dialog, user, seconds, first):
+    """A user asks in a dialog for so many seconds more, and shows their password when they are asked for it: the answer has this first line.
+    The Request-URI names no mailbox, as that of a phone which goes by the Contact of the 200."""
+    uri, shown = "sip:127.0.0.1", ()
+    for line in (ASKED, first):
+        dialog.asked += 1
+        lines = (f"Event: {dialog.event}", f"Expires: {seconds}", *shown)
+        request = phone.request("SUBSCRIBE", dialog.call_id, dialog.asked, dialog.tag, lines)
+        phone.send(request.replace(f"sip:{phone.user}@127.0.0.1 SIP/2.0".encode(), f"{uri} SIP/2.0".encode(), 1))
+        answer = phone.expect(line)
+        if line == ASKED:
+            shown = ("Authorization: " + written(credentials(challenges(answer)[0], user, USERS[user], uri)),)
+
+
+def a_dialog_is_its_owners(program, folder):
+    """A user with a right password neither refreshes nor ends another's subscription, though they know its Call-ID and tags: it goes on, and
+    its own user may do both, from elsewhere too."""
+    words = ("--passwords", password_file(folder), "alice", "bob")
+    with Service(program, *words) as service, service.operator() as operator, service.phone("alice") as phone:
+        caller = Caller(phone)
+        caller.dialog.tag = caller.again(caller.right(), TAKEN).tag("To")
+        phone.expect_notify("active", NO_MESSAGES)
+        dialog = caller.dialog
+        with service.phone("alice") as other:
+            for seconds in (1800, 0):
+                goes_on(other, dialog, "bob", seconds, FORBIDDEN)
+        count_is(operator, challenged=3, forbidden=2)
+        row = operator.ask("WATCHERS").splitlines()[1].split(" ")
+        same("whom the row names", ["alice", phone.me, dialog.tag, "1"], [row[0], *row[2:5]])
+        operator.tell("MAIL alice voice 2 8 0 2")
+        phone.expect_notify("active", HEARD)
+        goes_on(phone, dialog, "alice", 1800, TAKEN)
+        phone.expect_notify("active", HEARD)
+        with service.phone("alice") as other:
+            other.dialogs = phone.dialogs
+            goes_on(other, dialog, "alice", 0, TAKEN)
+            other.expect_notify("terminated;reason=timeout", HEARD)
+        count_is(operator, challenged=5, forbidden=2)
+        service.close()
+
+
+def a_dialog_that_was_asked_for_twice(program, folder):
+    """A SUBSCRIBE that is sent again makes no second dialog, and the first one stays its user's. So does a dialog of a transfer."""
+    words = ("--passwords", password_file(folder), "alice", "bob")
+    with Service(program, *words) as service, service.operator() as operator, service.phone("alice") as phone:
+        caller = Caller(phone)
+        right = caller.right()
+        caller.dialog.tag = caller.again(right, TAKEN).tag("To")
+        phone.expect_notify("active", NO_MESSAGES)
+        lines = (*caller.lines, f"Authorization: {written(right)}")
+        phone.send(phone.request("SUBSCRIBE", caller.dialog.call_id, caller.dialog.asked, "", lines))
+        same("the tag of the answer that comes again", caller.dialog.tag, phone.expect(TAKEN).tag("To"))
+        with service.phone("alice") as other:
+            goes_on(other, caller.dialog, "bob", 0, FORBIDDEN)
+        goes_on(phone, caller.dialog, "alice", 1800, TAKEN)
+        phone.expect_notify("active", NO_MESSAGES)
+        transfer = Caller(phone, "REFER", ("Refer-To: <sip:dave@127.0.0.1>",))
+        transfer.dialog.event = "refer;id=2"
+        told = credentials(transfer.asked(), "bob", USERS["bob"], own_uri(phone), "REFER")
+        transfer.dialog.tag = transfer.again(told, "SIP/2.0 202 Accepted").tag("To")
+        phone.expect_notify("active;expires=180", "SIP/2.0 100 Trying\r\n")
+        with service.phone("alice") as other:
+            goes_on(other, transfer.dialog, "alice", 0, FORBIDDEN)
+        goes_on(phone, transfer.dialog, "bob", 60, TAKEN)
+        phone.expect_notify("active", "SIP/2.0 100 Trying\r\n")
+        same("how many were refused", 2, counted(operator)["forbidden"])
+
+
+def several_realms(program, folder):
+    """Of several Authorization lines the one of our realm counts, wherever it stands (RFC 3261 section 22.3). Where none is, the first
+    counts."""
+    with Service(program, "--passwords", password_file(folder), "alice") as service, service.operator() as operator:
+        with service.phone("alice") as phone:
+            proxy = {"realm": "proxy.example", "nonce": "c60f3082ee1212b402a21831ae", "algorithm": "MD5"}
+            others = written(credentials(proxy, "alice", USERS["alice"], own_uri(phone)))
+            for before, behind in (((others,), ()), ((), (others,)), (("Basic YWxpY2U6", others), (others,))):
+                caller = Caller(phone)
+                values = (*before, written(caller.right()), *behind)
+                caller.dialog.tag = caller.again("\r\nAuthorization: ".join(values), TAKEN).tag("To")
+                phone.expect_notify("active", NO_MESSAGES)
+            caller = Caller(phone)
+            caller.again("\r\nAuthorization: ".join((others, written(caller.right("wonder")))), ASKED)
+            caller.again("\r\nAuthorization: ".join((others, others)), ASKED)
+            count_is(operator, challenged=6, wrong=2)
+
+
 def the_old_form(program, folder):
     with Service(program, "--passwords", password_file(folder), "--old-digest", "alice") as service:
         with service.phone("alice") as phone:
@@ -663,6 +749,9 @@ def checks():
     yield "another's mailbox is forbidden, a further one is not", anothers_mailbox
     yield "a late answer is stale", a_late_answer
     yield "a transfer wants a user of the file", a_transfer_wants_a_user
+    yield "a dialog is its owner's", a_dialog_is_its_owners
+    yield "a dialog that was asked for twice, and one of a transfer, are their owners'", a_dialog_that_was_asked_for_twice
+    yield "of several Authorization lines the one of our realm counts", several_realms
     yield "the old form is taken where it is wanted", the_old_form
     yield "malformed values never pass", malformed_values
     yield "too many wrong passwords bar their source", too_many_guesses

@@ -334,6 +334,47 @@ def the_last_send_is_answered_too_late(program, folder):
         service.close()
 
 
+def code_becomes(operator, number, code):
+    """Waits until the one row of WATCHERS says that the NOTIFY with this number was answered with this code."""
+    end, came = time.monotonic() + PATIENCE, None
+    while came != [str(number), f"code={code}"] and time.monotonic() < end:
+        time.sleep(0.01)
+        came = [word for line in operator.ask("WATCHERS").splitlines()[1:] for word in line.split(" ")[5::3]]
+    same(f"the answer to NOTIFY {number}", [str(number), f"code={code}"], came)
+
+
+def a_phone_that_refuses_stays(program, folder):
+    """A phone that refuses each NOTIFY stays subscribed. Its row has the last code, each refusal counts once, and the log tells the first
+    at once and the others at the end. A 500 to a NOTIFY that a later one overtook says nothing."""
+    with Service(program, "alice") as service, service.operator() as operator, Observer(service.sip, "alice") as phone:
+        dialog = phone.ask("SIP/2.0 200 OK")
+        code_becomes(operator, 0, 0)
+        for number, status in enumerate(("403 Forbidden", "403 Forbidden", "603 Decline", "415 Unsupported Media Type"), 1):
+            came = phone.notified(number)
+            phone.reply(came, status)
+            code_becomes(operator, number, status[:3])
+            phone.reply(came, status)
+            operator.tell(f"MAIL alice voice {number} 0 0 0")
+        phone.accept(5, "Messages-Waiting: yes\r\nVoice-Message: 4/0 (0/0)\r\n")
+        code_becomes(operator, 5, 200)
+        for new in (1, 2):
+            operator.tell(f"MAIL alice voice {new} 0 0 0")
+        overtaken, last = phone.observe(2)
+        phone.reply(last)
+        code_becomes(operator, 7, 200)
+        phone.reply(overtaken, "500 Server Internal Error")
+        phone.hears_nothing()
+        code_becomes(operator, 7, 200)
+        counted = {name: count for name, count in operator.counters().items() if name.startswith("notifies_refused_") and count != "0"}
+        same("what was refused", {"notifies_refused_403": "2", "notifies_refused_603": "1", "notifies_refused_other": "1"}, counted)
+        ended = service.close(lambda: phone.accept(8))
+        log = [
+            f"notifyd: phones refused 1 NOTIFYs, the last of them from alice;tag={dialog.tag} at {phone.me} with 403",
+            f"notifyd: phones refused 3 more NOTIFYs, the last of them at {phone.me} with 415",
+        ]
+        same("what the log says of it", log, [line for line in ended.err.decode().splitlines() if "phones refused" in line])
+
+
 def a_farewell_comes_again(program, folder):
     """The service waits for the answer, and no longer."""
     with Service(program, "--linger", "30", "alice") as service, Observer(service.sip, "alice") as phone:
@@ -413,6 +454,7 @@ def checks():
     # The longest stands first, so that others are tried beside it.
     yield "repeats: eleven times at most, and one who answers the fifth is told of the next change", it_is_given_up
     yield "repeats: who answers the eleventh may be given up, and WATCHERS has no such row", the_last_send_is_answered_too_late
+    yield "repeats: who refuses each NOTIFY stays, and is told", a_phone_that_refuses_stays
     yield "repeats: what waits for an answer is given up with its NOTIFY", what_waits_is_given_up_too
     yield "repeats: a phone that answers nothing draws one NOTIFY, and all that waited once it answers", a_stranger_draws_one
     yield "repeats: an address elsewhere draws one NOTIFY until it answers", an_address_elsewhere_draws_one

@@ -97,7 +97,7 @@ class Service:
     def __enter__(self):
         self.running.__enter__()
         try:
-            self.running.lines_until(b"listening at")
+            self.running.lines_until(b"listening")
         except BaseException:
             self.running.__exit__()
             raise
@@ -171,6 +171,24 @@ def each_line_is_answered(program, folder):
     with Service(program, "alice") as service, service.operator() as operator:
         for line, answer in lines:
             operator.tell(line, answer)
+        service.close()
+
+
+def changes_are_counted(program, folder):
+    """STATUS tells a feed that is dead from one that has nothing to tell: lines that change something are counted, those that can't, and how
+    long ago the last one did. A repeat with its token, and a question, are none of them."""
+    once = "@0123456789abcdef MAIL alice voice 2 0 0 0"
+    lines = (("MAIL alice voice 1 0 0 0", "ok"), (once, "ok"), (once, "ok"), ("MAIL bob voice 1 0 0 0", "unknown mailbox"), ("MAIL alice", "bad line"))
+    names = ("changes", "unknown_mailboxes", "bad_lines")
+    with Service(program, "alice") as service, service.operator() as operator:
+        same("what is counted at first", ["0"] * 3, [operator.counters()[name] for name in names])
+        time.sleep(2.2)
+        silent = int(operator.counters()["change_age"])
+        for line, answer in lines:
+            operator.tell(line, answer)
+        counted = operator.counters()
+        same("what is counted", ["2", "1", "1"], [counted[name] for name in names])
+        same("whether the last change is of just now", True, int(counted["change_age"]) < silent)
         service.close()
 
 
@@ -337,8 +355,8 @@ def who_watches_is_told(program, folder):
                 same("what comes to the silent phone", octets, next_datagram(silent))
             uri, tag = "sip:alice@127.0.0.1", "w0-1-76b8e0ada0f13d90"
             place = "127.0.0.1:{}".format(*silent.getsockname()[1:])
-            told = re.sub(r" \d+ \d+\n$", " AGE LEFT\n", operator.ask("WATCHERS alice"))
-            same("the row of the silent phone", f"ok\nalice {uri} {place} {tag} 1 0 AGE LEFT\n", told)
+            told = re.sub(r" \d+ \d+ code=", " AGE LEFT code=", operator.ask("WATCHERS alice"))
+            same("the row of the silent phone", f"ok\nalice {uri} {place} {tag} 1 0 AGE LEFT code=0\n", told)
             dialog, away = phone.subscribe(), other.subscribe()
             operator.tell("MAIL alice voice 2 8 0 2")
             phone.expect_notify("active", HEARD)
@@ -757,6 +775,7 @@ def checks():
     yield "serve: the answer and the first NOTIFY, byte for byte", as_written_down
     yield "serve: a change is notified, and what changes nothing isn't; more time, and an end", a_change_is_notified
     yield "serve: each control line is answered", each_line_is_answered
+    yield "serve: changes are counted, and how long ago the last one came", changes_are_counted
     yield "serve: an answer is not answered", answers_get_no_answer
     yield "serve: SHOW and DUMP tell what was told last", what_was_told_is_shown
     yield "serve: DUMP tells all counts, page by page, and tell follows", all_counts_are_dumped
