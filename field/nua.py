@@ -18,12 +18,11 @@ import signal
 import socket
 import subprocess
 import sys
-import time
 
 HERE = os.path.dirname(os.path.abspath(__file__))
 sys.path.append(os.path.join(HERE, "..", "tests"))
 
-from suite import started
+from suite import first_answer, started
 from watchers import Feeder
 
 LIBRARY = "libsofia-sip-ua.so.0"
@@ -161,19 +160,8 @@ class Nua:
 
     def find(self):
         """Waits until it answers."""
-        until = time.monotonic() + START
-        with socket.socket(socket.AF_INET, socket.SOCK_DGRAM) as asker:
-            asker.settimeout(0.2)
-            asker.connect(("127.0.0.1", self.control))
-            while time.monotonic() < until:
-                try:
-                    asker.send(b"STATUS")
-                    return asker.recv(65535)
-                except ConnectionRefusedError:
-                    time.sleep(0.05)
-                except socket.timeout:
-                    pass
-        raise AssertionError("the notifier on Sofia-SIP doesn't answer")
+        if first_answer(self.control, lambda _: b"STATUS", START) is None:
+            raise AssertionError("the notifier on Sofia-SIP doesn't answer")
 
     def feeder(self, agenda):
         return Feeder(self.control, agenda)

@@ -5,13 +5,11 @@ import os
 import re
 import shutil
 import signal
-import socket
 import subprocess
 import tempfile
-import time
 
 from phone import Message
-from suite import started
+from suite import first_answer, started
 from watchers import T1, open_socket, received
 
 HERE = os.path.dirname(os.path.abspath(__file__))
@@ -59,20 +57,9 @@ class Presence:
 
     def find(self):
         """Waits until it answers."""
-        until = time.monotonic() + START
-        with socket.socket(socket.AF_INET, socket.SOCK_DGRAM) as asker:
-            asker.settimeout(0.2)
-            asker.connect(("127.0.0.1", self.sip))
-            while time.monotonic() < until:
-                try:
-                    asker.send(request("OPTIONS", "alice", self.sip, asker, 1, (), ""))
-                    return asker.recv(65535)
-                except ConnectionRefusedError:
-                    time.sleep(0.1)
-                except socket.timeout:
-                    pass
-        with open(f"{self.folder.name}/log") as log:
-            raise AssertionError(f"Kamailio doesn't answer: {log.read()}")
+        if first_answer(self.sip, lambda asker: request("OPTIONS", "alice", self.sip, asker, 1, (), ""), START) is None:
+            with open(f"{self.folder.name}/log") as log:
+                raise AssertionError(f"Kamailio doesn't answer: {log.read()}")
 
     def feeder(self, agenda):
         return Publisher(self.sip, agenda)

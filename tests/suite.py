@@ -24,6 +24,7 @@ import re
 import socket
 import subprocess
 import threading
+import time
 from collections import namedtuple
 
 # How a call ended: its exit status (negative: the signal that killed it), and the bytes of both streams.
@@ -173,6 +174,24 @@ def in_brief(words, out):
 # Ports that the system gives by itself begin at 32768; those below are asked for by their number alone.
 FIRST_PORT, LAST_PORT = 10_000, 32_000
 _next_port = FIRST_PORT + os.getpid() * 509 % (LAST_PORT - FIRST_PORT)
+
+
+def first_answer(port, question, seconds):
+    """What a program at this port of this machine answers first, which is asked again and again for so many seconds. None where it answers
+    nothing. `question` says what to ask from a socket."""
+    until = time.monotonic() + seconds
+    with socket.socket(socket.AF_INET, socket.SOCK_DGRAM) as asker:
+        asker.settimeout(0.2)
+        asker.connect(("127.0.0.1", port))
+        while time.monotonic() < until:
+            try:
+                asker.send(question(asker))
+                return asker.recv(65535)
+            except ConnectionRefusedError:
+                time.sleep(0.05)
+            except socket.timeout:
+                pass
+    return None
 
 
 def free_port():
