@@ -87,6 +87,7 @@ unfolding flag_named address_flag_of other_of special_of bound_of time_of number
 flag_again (flag.Address address.Listen) = refl
 flag_again (flag.Address address.Contact) = refl
 flag_again (flag.Address address.Control) = refl
+flag_again (flag.Address address.Feed) = refl
 flag_again (flag.Number bound.Workers) = refl
 flag_again (flag.Number bound.MinTime) = refl
 flag_again (flag.Number bound.MaxTime) = refl
@@ -100,6 +101,7 @@ flag_again (flag.Number bound.Inbox) = refl
 flag_again (flag.Number bound.Outbox) = refl
 flag_again (flag.Number bound.Repeats) = refl
 flag_again (flag.Number bound.Linger) = refl
+flag_again (flag.Number bound.Outage) = refl
 flag_again (flag.Number bound.MaxDatagram) = refl
 flag_again (flag.Number bound.ReceiveBuffer) = refl
 flag_again (flag.Number bound.NonceTime) = refl
@@ -116,6 +118,7 @@ flag_again flag.Rate = refl
 flag_again flag.Guesses = refl
 flag_again flag.Allow = refl
 flag_again flag.ControlAllow = refl
+flag_again flag.FeedFrom = refl
 flag_again flag.Seed = refl
 
 -- a word that is no option is none of these texts
@@ -151,6 +154,7 @@ no_equals : (f : Flag) → position_or_len is_equals (flag_text f) ≡ length (f
 no_equals (flag.Address address.Listen) = refl
 no_equals (flag.Address address.Contact) = refl
 no_equals (flag.Address address.Control) = refl
+no_equals (flag.Address address.Feed) = refl
 no_equals (flag.Number bound.Workers) = refl
 no_equals (flag.Number bound.MinTime) = refl
 no_equals (flag.Number bound.MaxTime) = refl
@@ -164,6 +168,7 @@ no_equals (flag.Number bound.Inbox) = refl
 no_equals (flag.Number bound.Outbox) = refl
 no_equals (flag.Number bound.Repeats) = refl
 no_equals (flag.Number bound.Linger) = refl
+no_equals (flag.Number bound.Outage) = refl
 no_equals (flag.Number bound.MaxDatagram) = refl
 no_equals (flag.Number bound.ReceiveBuffer) = refl
 no_equals (flag.Number bound.NonceTime) = refl
@@ -180,6 +185,7 @@ no_equals flag.Rate = refl
 no_equals flag.Guesses = refl
 no_equals flag.Allow = refl
 no_equals flag.ControlAllow = refl
+no_equals flag.FeedFrom = refl
 no_equals flag.Seed = refl
 
 pair_is : (f g : Flag) (v w : List ℕ) → ◌≡◌ {A = Option (Flag × List ℕ)} (Some (f, v)) (Some (g, w)) → (f ≡ g) × (v ≡ w)

@@ -25,6 +25,8 @@ use Rattle.arguments.specs.declared.flag.Flag.TheVariants as flag
 use Rattle.arguments.specs.declared.guesses.Guesses.{Guesses}
 use Rattle.arguments.specs.declared.switch.Switch.{Switch}
 use Rattle.arguments.specs.declared.switch.Switch.TheVariants as switch
+use Rattle.arguments.specs.declared.syncing.Syncing.{Syncing}
+use Rattle.arguments.specs.declared.syncing.Syncing.TheVariants as syncing
 use Rattle.arguments.specs.declared.setting.Setting.{Setting}
 use Rattle.arguments.specs.declared.setting.Setting.TheVariants as setting
 use Rattle.arguments.specs.declared.error.OptionsError.{OptionsError}
@@ -52,6 +54,7 @@ most_is_small bound.Inbox = omega arith
 most_is_small bound.Outbox = omega arith
 most_is_small bound.Repeats = omega arith
 most_is_small bound.Linger = omega arith
+most_is_small bound.Outage = omega arith
 most_is_small bound.MaxDatagram = omega arith
 most_is_small bound.ReceiveBuffer = omega arith
 most_is_small bound.NonceTime = omega arith
@@ -114,31 +117,42 @@ guesses_again g b n = rw (numbers_again g.burst g.per_minute b n) refl
 
 -- ---- how often a journal is written to the disk
 
-sync_takes : (words : List (List ℕ)) (w : List ℕ) (s : Option ℕ) → sync_of w ≡ Some s → AreOption words (codes "--sync") w → IsSetting words (setting.Sync s)
+sync_takes : (words : List (List ℕ)) (w : List ℕ) (s : Syncing) → sync_of w ≡ Some s → AreOption words (codes "--sync") w → IsSetting words (setting.Sync s)
 unfolding sync_of
-sync_takes words w s e are = step (bytes_eq w (codes "never")) refl e where
-  step : (b : Bool) → bytes_eq w (codes "never") ≡ b → cond {A = Option (Option ℕ)} b (Some None) (between 1 3600 w >>= λ n. Some (Some n)) ≡ Some s
-      → IsSetting words (setting.Sync s)
-  step true is k =
-      subst (λ (x : Option ℕ). IsSetting words (setting.Sync x)) (some_is {A = Option ℕ} None s k) (subst (AreOption words (codes "--sync")) (same_text w (codes "never") is) are)
-  step false is k =
-      let p = bind_some (between 1 3600 w) (λ n. Some (Some n)) s k in
-      let n = between_takes 1 3600 w p.0 p.1 in
-      subst (λ (x : Option ℕ). IsSetting words (setting.Sync x)) (some_is {A = Option ℕ} (Some p.0) s p.2) (n.1, n.2, subst (AreOption words (codes "--sync")) n.0 are)
+sync_takes words w s e are = step (bytes_eq w (codes "never")) (bytes_eq w (codes "always")) refl refl e where
+  P : Syncing → Type 0
+  P x = IsSetting words (setting.Sync x)
 
--- a number is not that word: `n` is no digit
+  step : (b c : Bool) → bytes_eq w (codes "never") ≡ b → bytes_eq w (codes "always") ≡ c
+      → cond {A = Option Syncing} b (Some syncing.Never) (cond {A = Option Syncing} c (Some syncing.Always) (between 1 3600 w >>= λ n. Some (syncing.Each n))) ≡ Some s
+      → IsSetting words (setting.Sync s)
+  step true c is other k = subst P (some_is {A = Syncing} syncing.Never s k) (subst (AreOption words (codes "--sync")) (same_text w (codes "never") is) are)
+  step false true other is k = subst P (some_is {A = Syncing} syncing.Always s k) (subst (AreOption words (codes "--sync")) (same_text w (codes "always") is) are)
+  step false false is other k =
+      let p = bind_some (between 1 3600 w) (λ n. Some (syncing.Each n)) s k in
+      let n = between_takes 1 3600 w p.0 p.1 in
+      subst P (some_is {A = Syncing} (syncing.Each p.0) s p.2) (n.1, n.2, subst (AreOption words (codes "--sync")) n.0 are)
+
+-- a number is no word that has such a letter, which is no digit
+no_word : (letter n : ℕ) (word : List ℕ) → Lacks letter (decimal n) → (Lacks letter word → ⊥) → bytes_eq (decimal n) word ≡ false
+no_word letter n word lacks has = step (bytes_eq (decimal n) word) refl where
+  step : (b : Bool) → bytes_eq (decimal n) word ≡ b → b ≡ false
+  step false is = refl
+  step true is = absurd (has (subst (Lacks letter) (same_text (decimal n) word is) lacks))
+
 no_never : (n : ℕ) → n ≤ 3600 → bytes_eq (decimal n) (codes "never") ≡ false
-no_never n le = step (bytes_eq (decimal n) (codes "never")) refl where
+no_never n le = no_word 110 n (codes "never") (decimal_lacks 110 n refl (omega arith)) clash where
   clash : false ≡ true → ⊥
   clash e = absurd cc
 
-  step : (b : Bool) → bytes_eq (decimal n) (codes "never") ≡ b → b ≡ false
-  step false is = refl
-  step true is = absurd (clash (subst (Lacks 110) (same_text (decimal n) (codes "never") is) (decimal_lacks 110 n refl (omega arith))))
+no_always : (n : ℕ) → n ≤ 3600 → bytes_eq (decimal n) (codes "always") ≡ false
+no_always n le = no_word 97 n (codes "always") (decimal_lacks 97 n refl (omega arith)) clash where
+  clash : false ≡ true → ⊥
+  clash e = absurd cc
 
-sync_again : (n : ℕ) → 1 ≤ n → n ≤ 3600 → sync_of (decimal n) ≡ Some (Some n)
+sync_again : (n : ℕ) → 1 ≤ n → n ≤ 3600 → sync_of (decimal n) ≡ Some (syncing.Each n)
 unfolding sync_of
-sync_again n high le = rw (no_never n le, between_again 1 3600 n high le (omega arith)) refl
+sync_again n high le = rw (no_never n le, no_always n le, between_again 1 3600 n high le (omega arith)) refl
 
 -- ---- a further mailbox of a user
 
@@ -242,6 +256,9 @@ valued_takes flag.Allow words value s are e =
 valued_takes flag.ControlAllow words value s are e =
     let p = bind_some (network value) (λ n. Some (setting.ControlAllow n)) s (or_bad_ok flag.ControlAllow (network value >>= λ n. Some (setting.ControlAllow n)) s e) in
     subst (IsSetting words) (some_is (setting.ControlAllow p.0) s p.2) (value, are, p.1)
+valued_takes flag.FeedFrom words value s are e =
+    let p = bind_some (network value) (λ n. Some (setting.FeedFrom n)) s (or_bad_ok flag.FeedFrom (network value >>= λ n. Some (setting.FeedFrom n)) s e) in
+    subst (IsSetting words) (some_is (setting.FeedFrom p.0) s p.2) (value, are, p.1)
 valued_takes flag.Seed words value s are e =
     let p = bind_some (seed_bytes value) (λ x. Some (setting.Seed x)) s (or_bad_ok flag.Seed (seed_bytes value >>= λ x. Some (setting.Seed x)) s e) in
     subst (IsSetting words) (some_is (setting.Seed p.0) s p.2) (value, are, seed_takes value p.0 p.1)
@@ -264,6 +281,7 @@ valued_wrong flag.Rate value e k = or_bad_err flag.Rate (rate_of value >>= λ r.
 valued_wrong flag.Guesses value e k = or_bad_err flag.Guesses (guesses_of value >>= λ g. Some (setting.Guesses g)) e k
 valued_wrong flag.Allow value e k = or_bad_err flag.Allow (network value >>= λ n. Some (setting.Allow n)) e k
 valued_wrong flag.ControlAllow value e k = or_bad_err flag.ControlAllow (network value >>= λ n. Some (setting.ControlAllow n)) e k
+valued_wrong flag.FeedFrom value e k = or_bad_err flag.FeedFrom (network value >>= λ n. Some (setting.FeedFrom n)) e k
 valued_wrong flag.Seed value e k = or_bad_err flag.Seed (seed_bytes value >>= λ x. Some (setting.Seed x)) e k
 
 abbrev by_name : List ℕ → Result Setting OptionsError
@@ -304,6 +322,7 @@ flag_begins : (f : Flag) → begins 45 (flag_text f) ≡ true
 flag_begins (flag.Address address.Listen) = refl
 flag_begins (flag.Address address.Contact) = refl
 flag_begins (flag.Address address.Control) = refl
+flag_begins (flag.Address address.Feed) = refl
 flag_begins (flag.Number bound.Workers) = refl
 flag_begins (flag.Number bound.MinTime) = refl
 flag_begins (flag.Number bound.MaxTime) = refl
@@ -317,6 +336,7 @@ flag_begins (flag.Number bound.Inbox) = refl
 flag_begins (flag.Number bound.Outbox) = refl
 flag_begins (flag.Number bound.Repeats) = refl
 flag_begins (flag.Number bound.Linger) = refl
+flag_begins (flag.Number bound.Outage) = refl
 flag_begins (flag.Number bound.MaxDatagram) = refl
 flag_begins (flag.Number bound.ReceiveBuffer) = refl
 flag_begins (flag.Number bound.NonceTime) = refl
@@ -333,6 +353,7 @@ flag_begins flag.Rate = refl
 flag_begins flag.Guesses = refl
 flag_begins flag.Allow = refl
 flag_begins flag.ControlAllow = refl
+flag_begins flag.FeedFrom = refl
 flag_begins flag.Seed = refl
 
 joined_begins : (f : Flag) (value : List ℕ) → begins 45 (joined (flag_text f) value) ≡ true
@@ -400,11 +421,15 @@ journal_again : (path : List ℕ) → valued flag.JournalFolder path ≡ Ok (set
 unfolding valued
 journal_again path = refl
 
-never_again : valued flag.Sync (codes "never") ≡ Ok (setting.Sync None)
+never_again : valued flag.Sync (codes "never") ≡ Ok (setting.Sync syncing.Never)
 unfolding valued sync_of
 never_again = refl
 
-syncs_again : (n : ℕ) → 1 ≤ n → n ≤ 3600 → valued flag.Sync (decimal n) ≡ Ok (setting.Sync (Some n))
+always_again : valued flag.Sync (codes "always") ≡ Ok (setting.Sync syncing.Always)
+unfolding valued sync_of
+always_again = refl
+
+syncs_again : (n : ℕ) → 1 ≤ n → n ≤ 3600 → valued flag.Sync (decimal n) ≡ Ok (setting.Sync (syncing.Each n))
 unfolding valued
 syncs_again n high le = rw (sync_again n high le) refl
 
@@ -431,6 +456,10 @@ networks_again text n e = rw e refl
 control_networks_again : (text : List ℕ) (n : Network) → network text ≡ Some n → valued flag.ControlAllow text ≡ Ok (setting.ControlAllow n)
 unfolding valued
 control_networks_again text n e = rw e refl
+
+feed_networks_again : (text : List ℕ) (n : Network) → network text ≡ Some n → valued flag.FeedFrom text ≡ Ok (setting.FeedFrom n)
+unfolding valued
+feed_networks_again text n e = rw e refl
 
 seeds_again : (digits seed : List ℕ) → decode_sized digits 32 ≡ Ok seed → valued flag.Seed digits ≡ Ok (setting.Seed seed)
 unfolding valued
@@ -466,8 +495,9 @@ setting_again (setting.Number b n) front rest h = options_again (flag.Number b) 
 setting_again (setting.MailboxFile path) front rest h = options_again flag.MailboxFile path front rest h ∙ ap (λ r. then_more r (settings_from None rest)) (file_again path)
 setting_again (setting.StateFile path) front rest h = options_again flag.StateFile path front rest h ∙ ap (λ r. then_more r (settings_from None rest)) (state_again path)
 setting_again (setting.JournalFolder path) front rest h = options_again flag.JournalFolder path front rest h ∙ ap (λ r. then_more r (settings_from None rest)) (journal_again path)
-setting_again (setting.Sync None) front rest h = options_again flag.Sync (codes "never") front rest h ∙ ap (λ r. then_more r (settings_from None rest)) never_again
-setting_again (setting.Sync (Some n)) front rest h = options_again flag.Sync (decimal n) front rest h.2 ∙ ap (λ r. then_more r (settings_from None rest)) (syncs_again n h.0 h.1)
+setting_again (setting.Sync syncing.Never) front rest h = options_again flag.Sync (codes "never") front rest h ∙ ap (λ r. then_more r (settings_from None rest)) never_again
+setting_again (setting.Sync syncing.Always) front rest h = options_again flag.Sync (codes "always") front rest h ∙ ap (λ r. then_more r (settings_from None rest)) always_again
+setting_again (setting.Sync (syncing.Each n)) front rest h = options_again flag.Sync (decimal n) front rest h.2 ∙ ap (λ r. then_more r (settings_from None rest)) (syncs_again n h.0 h.1)
 setting_again (setting.PasswordFile path) front rest h = options_again flag.PasswordFile path front rest h ∙ ap (λ r. then_more r (settings_from None rest)) (passwords_again path)
 setting_again (setting.Watch user mailbox) front rest h =
     options_again flag.Watch (watched_text user mailbox) front rest h.2 ∙ ap (λ r. then_more r (settings_from None rest)) (watches_again user mailbox h.0 h.1)
@@ -475,6 +505,7 @@ setting_again (setting.Rate rate) front rest h = options_again flag.Rate (rate_t
 setting_again (setting.Guesses g) front rest h = options_again flag.Guesses (guesses_text g) front rest h.2 ∙ ap (λ r. then_more r (settings_from None rest)) (all_guesses_again g h.0 h.1)
 setting_again (setting.Allow n) front rest h = options_again flag.Allow h.0 front rest h.1 ∙ ap (λ r. then_more r (settings_from None rest)) (networks_again h.0 n h.2)
 setting_again (setting.ControlAllow n) front rest h = options_again flag.ControlAllow h.0 front rest h.1 ∙ ap (λ r. then_more r (settings_from None rest)) (control_networks_again h.0 n h.2)
+setting_again (setting.FeedFrom n) front rest h = options_again flag.FeedFrom h.0 front rest h.1 ∙ ap (λ r. then_more r (settings_from None rest)) (feed_networks_again h.0 n h.2)
 setting_again (setting.Seed seed) front rest h = options_again flag.Seed h.0 front rest h.1 ∙ ap (λ r. then_more r (settings_from None rest)) (seeds_again h.0 seed h.2)
 setting_again (setting.Switch x) front rest h =
     ap (λ (l : List (List ℕ)). settings_from None (l ++ rest)) h ∙ alone_again (switch_text x) rest (switch_is_no_flag x).0 ∙ ap (λ r. then_more r (settings_from None rest)) (switches_again x)

@@ -9,6 +9,7 @@ use Rattle.arguments.specs.declared.flag.Bound.{Bound}
 use Rattle.arguments.specs.declared.flag.Bound.TheVariants as bound
 use Rattle.arguments.specs.declared.switch.Switch.{Switch}
 use Rattle.arguments.specs.declared.switch.Switch.TheVariants as switch
+use Rattle.arguments.specs.declared.syncing.Syncing.TheVariants as syncing
 use Rattle.arguments.specs.declared.setting.Setting.{Setting}
 use Rattle.arguments.specs.declared.setting.Setting.TheVariants as setting
 use Rattle.arguments.specs.declared.choices.Numbers.{Numbers}
@@ -34,6 +35,7 @@ default_numbers = record {
   outbox = 1024;
   repeats = 16384;
   linger = 2;
+  outage = 600;
   max_datagram = 8192;
   receive_buffer = 4194304;
   nonce_time = None;
@@ -48,6 +50,7 @@ default_choices = record {
   listen = loopback 5060;
   contact = None;
   control = loopback 5061;
+  feed = loopback 5062;
   numbers = default_numbers;
   seed = None;
   keep_subscriptions = false;
@@ -58,7 +61,7 @@ default_choices = record {
   old_digest = false;
   log_requests = false;
   log_json = false;
-  sync = Some 1;
+  sync = syncing.Each 1;
 }
 
 abbrev pub with_number : Bound → ℕ → Numbers → Numbers
@@ -75,6 +78,7 @@ with_number bound.Inbox n numbers = record numbers { inbox = n }
 with_number bound.Outbox n numbers = record numbers { outbox = n }
 with_number bound.Repeats n numbers = record numbers { repeats = n }
 with_number bound.Linger n numbers = record numbers { linger = n }
+with_number bound.Outage n numbers = record numbers { outage = n }
 with_number bound.MaxDatagram n numbers = record numbers { max_datagram = n }
 with_number bound.ReceiveBuffer n numbers = record numbers { receive_buffer = n }
 with_number bound.NonceTime n numbers = record numbers { nonce_time = Some n }
@@ -86,6 +90,7 @@ abbrev pub with_address : AddressFlag → Addr → Choices → Choices
 with_address address.Listen addr choices = record choices { listen = addr }
 with_address address.Contact addr choices = record choices { contact = Some addr }
 with_address address.Control addr choices = record choices { control = addr }
+with_address address.Feed addr choices = record choices { feed = addr }
 
 abbrev pub with_switch : Switch → Choices → Choices
 with_switch switch.KeepSubscriptions choices = record choices { keep_subscriptions = true }
@@ -102,13 +107,14 @@ after choices (setting.Number bound n) = record choices { numbers = with_number 
 after choices (setting.MailboxFile path) = choices
 after choices (setting.StateFile path) = choices
 after choices (setting.JournalFolder path) = choices
-after choices (setting.Sync seconds) = record choices { sync = seconds }
+after choices (setting.Sync sync) = record choices { sync = sync }
 after choices (setting.PasswordFile path) = choices
 after choices (setting.Watch user mailbox) = choices
 after choices (setting.Rate rate) = record choices { rate = Some rate }
 after choices (setting.Guesses guesses) = record choices { guesses = guesses }
 after choices (setting.Allow network) = choices
 after choices (setting.ControlAllow network) = choices
+after choices (setting.FeedFrom network) = choices
 after choices (setting.Seed seed) = record choices { seed = Some seed }
 after choices (setting.Switch switch) = with_switch switch choices
 after choices (setting.Mailbox name) = choices
@@ -159,13 +165,14 @@ with_state path (setting.Number bound n) = path
 with_state path (setting.MailboxFile file) = path
 with_state path (setting.StateFile file) = Some file
 with_state path (setting.JournalFolder folder) = path
-with_state path (setting.Sync seconds) = path
+with_state path (setting.Sync sync) = path
 with_state path (setting.PasswordFile file) = path
 with_state path (setting.Watch user mailbox) = path
 with_state path (setting.Rate rate) = path
 with_state path (setting.Guesses guesses) = path
 with_state path (setting.Allow network) = path
 with_state path (setting.ControlAllow network) = path
+with_state path (setting.FeedFrom network) = path
 with_state path (setting.Seed seed) = path
 with_state path (setting.Switch switch) = path
 with_state path (setting.Mailbox name) = path
@@ -180,13 +187,14 @@ with_journal path (setting.Number bound n) = path
 with_journal path (setting.MailboxFile file) = path
 with_journal path (setting.StateFile file) = path
 with_journal path (setting.JournalFolder folder) = Some folder
-with_journal path (setting.Sync seconds) = path
+with_journal path (setting.Sync sync) = path
 with_journal path (setting.PasswordFile file) = path
 with_journal path (setting.Watch user mailbox) = path
 with_journal path (setting.Rate rate) = path
 with_journal path (setting.Guesses guesses) = path
 with_journal path (setting.Allow network) = path
 with_journal path (setting.ControlAllow network) = path
+with_journal path (setting.FeedFrom network) = path
 with_journal path (setting.Seed seed) = path
 with_journal path (setting.Switch switch) = path
 with_journal path (setting.Mailbox name) = path
@@ -201,13 +209,14 @@ with_passwords path (setting.Number bound n) = path
 with_passwords path (setting.MailboxFile file) = path
 with_passwords path (setting.StateFile file) = path
 with_passwords path (setting.JournalFolder folder) = path
-with_passwords path (setting.Sync seconds) = path
+with_passwords path (setting.Sync sync) = path
 with_passwords path (setting.PasswordFile file) = Some file
 with_passwords path (setting.Watch user mailbox) = path
 with_passwords path (setting.Rate rate) = path
 with_passwords path (setting.Guesses guesses) = path
 with_passwords path (setting.Allow network) = path
 with_passwords path (setting.ControlAllow network) = path
+with_passwords path (setting.FeedFrom network) = path
 with_passwords path (setting.Seed seed) = path
 with_passwords path (setting.Switch switch) = path
 with_passwords path (setting.Mailbox name) = path
@@ -222,13 +231,14 @@ with_watched pairs (setting.Number bound n) = pairs
 with_watched pairs (setting.MailboxFile path) = pairs
 with_watched pairs (setting.StateFile path) = pairs
 with_watched pairs (setting.JournalFolder path) = pairs
-with_watched pairs (setting.Sync seconds) = pairs
+with_watched pairs (setting.Sync sync) = pairs
 with_watched pairs (setting.PasswordFile path) = pairs
 with_watched pairs (setting.Watch user mailbox) = pairs ++ (user, mailbox) ∷ []
 with_watched pairs (setting.Rate rate) = pairs
 with_watched pairs (setting.Guesses guesses) = pairs
 with_watched pairs (setting.Allow network) = pairs
 with_watched pairs (setting.ControlAllow network) = pairs
+with_watched pairs (setting.FeedFrom network) = pairs
 with_watched pairs (setting.Seed seed) = pairs
 with_watched pairs (setting.Switch switch) = pairs
 with_watched pairs (setting.Mailbox name) = pairs
@@ -243,13 +253,14 @@ with_network networks (setting.Number bound n) = networks
 with_network networks (setting.MailboxFile path) = networks
 with_network networks (setting.StateFile path) = networks
 with_network networks (setting.JournalFolder path) = networks
-with_network networks (setting.Sync seconds) = networks
+with_network networks (setting.Sync sync) = networks
 with_network networks (setting.PasswordFile path) = networks
 with_network networks (setting.Watch user mailbox) = networks
 with_network networks (setting.Rate rate) = networks
 with_network networks (setting.Guesses guesses) = networks
 with_network networks (setting.Allow network) = networks ++ network ∷ []
 with_network networks (setting.ControlAllow network) = networks
+with_network networks (setting.FeedFrom network) = networks
 with_network networks (setting.Seed seed) = networks
 with_network networks (setting.Switch switch) = networks
 with_network networks (setting.Mailbox name) = networks
@@ -265,13 +276,14 @@ with_control_network networks (setting.Number bound n) = networks
 with_control_network networks (setting.MailboxFile path) = networks
 with_control_network networks (setting.StateFile path) = networks
 with_control_network networks (setting.JournalFolder path) = networks
-with_control_network networks (setting.Sync seconds) = networks
+with_control_network networks (setting.Sync sync) = networks
 with_control_network networks (setting.PasswordFile path) = networks
 with_control_network networks (setting.Watch user mailbox) = networks
 with_control_network networks (setting.Rate rate) = networks
 with_control_network networks (setting.Guesses guesses) = networks
 with_control_network networks (setting.Allow network) = networks
 with_control_network networks (setting.ControlAllow network) = networks ++ network ∷ []
+with_control_network networks (setting.FeedFrom network) = networks
 with_control_network networks (setting.Seed seed) = networks
 with_control_network networks (setting.Switch switch) = networks
 with_control_network networks (setting.Mailbox name) = networks
@@ -289,3 +301,26 @@ with_alone ip (network ∷ networks) = network ∷ networks ++ record { ip = ip;
 -- also where this machine sends them from
 abbrev pub control_networks : List Setting → List Network
 control_networks settings = with_alone (choices_of settings).control.ip (named_operators settings)
+
+-- the networks whose voicemail systems are heard, with what this setting adds
+abbrev pub with_feed_network : List Network → Setting → List Network
+with_feed_network networks (setting.Address which addr) = networks
+with_feed_network networks (setting.Number bound n) = networks
+with_feed_network networks (setting.MailboxFile path) = networks
+with_feed_network networks (setting.StateFile path) = networks
+with_feed_network networks (setting.JournalFolder path) = networks
+with_feed_network networks (setting.Sync seconds) = networks
+with_feed_network networks (setting.PasswordFile path) = networks
+with_feed_network networks (setting.Watch user mailbox) = networks
+with_feed_network networks (setting.Rate rate) = networks
+with_feed_network networks (setting.Guesses guesses) = networks
+with_feed_network networks (setting.Allow network) = networks
+with_feed_network networks (setting.ControlAllow network) = networks
+with_feed_network networks (setting.FeedFrom network) = networks ++ network ∷ []
+with_feed_network networks (setting.Seed seed) = networks
+with_feed_network networks (setting.Switch switch) = networks
+with_feed_network networks (setting.Mailbox name) = networks
+
+-- those networks, in order: none is heard where none is named
+abbrev pub feed_networks : List Setting → List Network
+feed_networks settings = fold with_feed_network [] settings

@@ -13,6 +13,7 @@ abbrev pub address_flag_text : AddressFlag → List ℕ
 address_flag_text address.Listen = codes "--listen"
 address_flag_text address.Contact = codes "--contact"
 address_flag_text address.Control = codes "--control"
+address_flag_text address.Feed = codes "--feed-listen"
 
 abbrev pub bound_text : Bound → List ℕ
 bound_text bound.Workers = codes "--workers"
@@ -28,6 +29,7 @@ bound_text bound.Inbox = codes "--inbox"
 bound_text bound.Outbox = codes "--outbox"
 bound_text bound.Repeats = codes "--repeats"
 bound_text bound.Linger = codes "--linger"
+bound_text bound.Outage = codes "--outage"
 bound_text bound.MaxDatagram = codes "--max-datagram"
 bound_text bound.ReceiveBuffer = codes "--receive-buffer"
 bound_text bound.NonceTime = codes "--nonce-time"
@@ -48,6 +50,7 @@ flag_text flag.Rate = codes "--rate"
 flag_text flag.Guesses = codes "--guesses"
 flag_text flag.Allow = codes "--allow"
 flag_text flag.ControlAllow = codes "--control-allow"
+flag_text flag.FeedFrom = codes "--feed-from"
 flag_text flag.Seed = codes "--seed"
 
 -- the options without a value
@@ -63,6 +66,7 @@ switch_text switch.LogJson = codes "--log-json"
 abbrev pub least : Bound → ℕ
 least bound.Repeats = 0
 least bound.Linger = 0
+least bound.Outage = 0
 least bound.MaxDatagram = 512
 least bound.MaxTexts = 512
 least bound.ReceiveBuffer = 4096
@@ -84,6 +88,7 @@ most bound.Inbox = 65536
 most bound.Outbox = 65536
 most bound.Repeats = 65536
 most bound.Linger = 32
+most bound.Outage = 3600
 most bound.MaxDatagram = 65507
 most bound.ReceiveBuffer = 1073741824
 most bound.NonceTime = 86400

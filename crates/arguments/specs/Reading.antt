@@ -13,6 +13,8 @@ use Rattle.arguments.specs.declared.flag.Bound.TheVariants as bound
 use Rattle.arguments.specs.declared.flag.Flag.{Flag}
 use Rattle.arguments.specs.declared.flag.Flag.TheVariants as flag
 use Rattle.arguments.specs.declared.guesses.Guesses.{Guesses}
+use Rattle.arguments.specs.declared.syncing.Syncing.{Syncing}
+use Rattle.arguments.specs.declared.syncing.Syncing.TheVariants as syncing
 use Rattle.arguments.specs.declared.switch.Switch.{Switch}
 use Rattle.arguments.specs.declared.switch.Switch.TheVariants as switch
 use Rattle.arguments.specs.declared.setting.Setting.{Setting}
@@ -30,10 +32,10 @@ find_text text [] word = None
 find_text text (x ∷ xs) word = if bytes_eq word (text x) then Some x else find_text text xs word
 
 abbrev pub address_flags : List AddressFlag
-address_flags = address.Listen ∷ address.Contact ∷ address.Control ∷ []
+address_flags = address.Listen ∷ address.Contact ∷ address.Control ∷ address.Feed ∷ []
 
 abbrev pub times : List Bound
-times = bound.MinTime ∷ bound.MaxTime ∷ bound.DefaultTime ∷ bound.ReferTime ∷ bound.Linger ∷ bound.NonceTime ∷ []
+times = bound.MinTime ∷ bound.MaxTime ∷ bound.DefaultTime ∷ bound.ReferTime ∷ bound.Linger ∷ bound.Outage ∷ bound.NonceTime ∷ []
 
 abbrev pub counts : List Bound
 counts = bound.Workers ∷ bound.MaxCseq ∷ bound.Table ∷ bound.Serials ∷ bound.Kept ∷ bound.Inbox ∷ bound.Outbox ∷ bound.Repeats ∷ bound.PerSource ∷ []
@@ -70,7 +72,7 @@ number_flag None = None
 -- the options whose value is neither an address nor a number
 abbrev pub specials : List Flag
 specials =
-    flag.MailboxFile ∷ flag.StateFile ∷ flag.JournalFolder ∷ flag.Sync ∷ flag.PasswordFile ∷ flag.Watch ∷ flag.Rate ∷ flag.Guesses ∷ flag.Allow ∷ flag.ControlAllow ∷ flag.Seed ∷ []
+    flag.MailboxFile ∷ flag.StateFile ∷ flag.JournalFolder ∷ flag.Sync ∷ flag.PasswordFile ∷ flag.Watch ∷ flag.Rate ∷ flag.Guesses ∷ flag.Allow ∷ flag.ControlAllow ∷ flag.FeedFrom ∷ flag.Seed ∷ []
 
 unfoldable pub special_of : List ℕ → Option Flag
 special_of word = find_text flag_text specials word
@@ -146,9 +148,12 @@ guesses_of value = do
   pair ← pair_of value
   Some (record { burst = pair.0; per_minute = pair.1 })
 
--- so many seconds from 1 to 3600, or never
-unfoldable pub sync_of : List ℕ → Option (Option ℕ)
-sync_of value = if bytes_eq value (codes "never") then Some None else (between 1 3600 value >>= λ n. Some (Some n))
+-- so many seconds from 1 to 3600, or never, or always
+unfoldable pub sync_of : List ℕ → Option Syncing
+sync_of value =
+    if bytes_eq value (codes "never") then Some syncing.Never
+    else if bytes_eq value (codes "always") then Some syncing.Always
+    else (between 1 3600 value >>= λ n. Some (syncing.Each n))
 
 unfoldable pub valued : Flag → List ℕ → Result Setting OptionsError
 valued (flag.Address which) value = or_bad (flag.Address which) (addr_of value >>= λ a. Some (setting.Address which a))
@@ -163,6 +168,7 @@ valued flag.Rate value = or_bad flag.Rate (rate_of value >>= λ r. Some (setting
 valued flag.Guesses value = or_bad flag.Guesses (guesses_of value >>= λ g. Some (setting.Guesses g))
 valued flag.Allow value = or_bad flag.Allow (network value >>= λ n. Some (setting.Allow n))
 valued flag.ControlAllow value = or_bad flag.ControlAllow (network value >>= λ n. Some (setting.ControlAllow n))
+valued flag.FeedFrom value = or_bad flag.FeedFrom (network value >>= λ n. Some (setting.FeedFrom n))
 valued flag.Seed value = or_bad flag.Seed (seed_bytes value >>= λ s. Some (setting.Seed s))
 
 -- a word that is no option

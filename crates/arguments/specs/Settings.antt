@@ -1,16 +1,16 @@
 -- What the words of `notifyd serve` say.
 --
 --   words    = *setting
---   setting  = ("--listen" / "--contact" / "--control") address
---            / ("--workers" / "--min-time" / "--max-time" / "--default-time" / "--refer-time" / "--linger" / "--max-cseq" / "--table"
+--   setting  = ("--listen" / "--contact" / "--control" / "--feed-listen") address
+--            / ("--workers" / "--min-time" / "--max-time" / "--default-time" / "--refer-time" / "--linger" / "--outage" / "--max-cseq" / "--table"
 --              / "--serials" / "--kept" / "--inbox" / "--outbox" / "--repeats" / "--max-datagram" / "--receive-buffer" / "--nonce-time"
 --              / "--per-source" / "--journal-bytes" / "--max-texts") number
 --            / ("--mailboxes" / "--state" / "--journal" / "--passwords") path
---            / "--sync" (number / "never")       ; seconds, from 1 to 3600
+--            / "--sync" (number / "never" / "always")      ; seconds, from 1 to 3600
 --            / "--watch" user ":" mailbox         ; no `:` in the user
 --            / "--rate" number "/" number         ; so many datagrams a second, and so many at once, each from 1 to 65536
 --            / "--guesses" number "/" number      ; so many wrong passwords at once, and so many a minute, each from 1 to 65536
---            / ("--allow" / "--control-allow") network
+--            / ("--allow" / "--control-allow" / "--feed-from") network
 --            / "--seed" digits                    ; 64 hex digits of either case
 --            / "--keep-subscriptions" / "--no-refer" / "--until-input-ends" / "--old-digest" / "--log-requests"
 --            / "--log-json"
@@ -34,6 +34,7 @@ use Rattle.admission.specs.Networks.{network}
 use Rattle.arguments.specs.declared.flag.Flag.{Flag}
 use Rattle.arguments.specs.declared.guesses.Guesses.{Guesses}
 use Rattle.arguments.specs.declared.switch.Switch.{Switch}
+use Rattle.arguments.specs.declared.syncing.Syncing.TheVariants as syncing
 use Rattle.arguments.specs.declared.setting.Setting.{Setting}
 use Rattle.arguments.specs.declared.setting.Setting.TheVariants as setting
 use Rattle.arguments.specs.declared.error.OptionsError.{OptionsError}
@@ -85,8 +86,9 @@ IsSetting words (setting.Number bound n) = (least bound ≤ n) × (n ≤ most bo
 IsSetting words (setting.MailboxFile path) = AreOption words (codes "--mailboxes") path
 IsSetting words (setting.StateFile path) = AreOption words (codes "--state") path
 IsSetting words (setting.JournalFolder path) = AreOption words (codes "--journal") path
-IsSetting words (setting.Sync None) = AreOption words (codes "--sync") (codes "never")
-IsSetting words (setting.Sync (Some seconds)) = (1 ≤ seconds) × (seconds ≤ 3600) × AreOption words (codes "--sync") (decimal seconds)
+IsSetting words (setting.Sync syncing.Never) = AreOption words (codes "--sync") (codes "never")
+IsSetting words (setting.Sync syncing.Always) = AreOption words (codes "--sync") (codes "always")
+IsSetting words (setting.Sync (syncing.Each seconds)) = (1 ≤ seconds) × (seconds ≤ 3600) × AreOption words (codes "--sync") (decimal seconds)
 IsSetting words (setting.PasswordFile path) = AreOption words (codes "--passwords") path
 IsSetting words (setting.Watch user mailbox) =
     (has_no_colon user ≡ true) × IsMailbox mailbox × AreOption words (codes "--watch") (watched_text user mailbox)
@@ -98,6 +100,8 @@ IsSetting words (setting.Allow n) =
     (text : List ℕ) × AreOption words (codes "--allow") text × (network text ≡ Some n)
 IsSetting words (setting.ControlAllow n) =
     (text : List ℕ) × AreOption words (codes "--control-allow") text × (network text ≡ Some n)
+IsSetting words (setting.FeedFrom n) =
+    (text : List ℕ) × AreOption words (codes "--feed-from") text × (network text ≡ Some n)
 IsSetting words (setting.Seed seed) =
     (digits : List ℕ) × AreOption words (codes "--seed") digits × (decode_sized digits 32 ≡ Ok seed)
 IsSetting words (setting.Switch switch) = words ≡ switch_text switch ∷ []

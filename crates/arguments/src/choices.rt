@@ -8,6 +8,7 @@ use crate::flag::{AddressFlag, Bound};
 use crate::guesses::Guesses;
 use crate::setting::Setting;
 use crate::switch::Switch;
+use crate::syncing::Syncing;
 use admission::Rate;
 use sip_text::Addr;
 
@@ -32,6 +33,8 @@ pub struct Numbers {
     pub repeats: u32,
     /// How long at most a planned stop waits for the answers to the last NOTIFYs.
     pub linger: u32,
+    /// How long at most time isn't counted in which each send fails. 0: it is.
+    pub outage: u32,
     /// How many octets a SIP datagram has at most that is read.
     pub max_datagram: u32,
     /// For how many octets of datagrams that wait the system is asked for room.
@@ -55,6 +58,8 @@ pub struct Choices {
     pub contact: Option<Addr>,
     /// Where control lines come in.
     pub control: Addr,
+    /// Where NOTIFYs of voicemail systems come in, if they are heard.
+    pub feed: Addr,
     pub numbers: Numbers,
     /// From which the words of local tags are drawn. None: from the system's randomness.
     pub seed: Option<[u8; 32]>,
@@ -74,8 +79,8 @@ pub struct Choices {
     pub log_requests: bool,
     /// Whether each line on standard error is a JSON object.
     pub log_json: bool,
-    /// After how many seconds the journal is written to the disk. None: when the system likes.
-    pub sync: Option<u32>,
+    /// When the journal is brought to the disk.
+    pub sync: Syncing,
 }
 
 /// 127.0.0.1 with this port.
@@ -135,6 +140,7 @@ impl Numbers {
             outbox: 1024,
             repeats: 16384,
             linger: 2,
+            outage: 600,
             max_datagram: 8192,
             receive_buffer: 4194304,
             nonce_time: None,
@@ -161,6 +167,7 @@ impl Numbers {
             Bound::Outbox => self.outbox = number,
             Bound::Repeats => self.repeats = number,
             Bound::Linger => self.linger = number,
+            Bound::Outage => self.outage = number,
             Bound::MaxDatagram => self.max_datagram = number,
             Bound::ReceiveBuffer => self.receive_buffer = number,
             Bound::NonceTime => self.nonce_time = Some(number),
@@ -204,6 +211,7 @@ impl Choices {
             listen: loopback(5060),
             contact: None,
             control: loopback(5061),
+            feed: loopback(5062),
             numbers: Numbers::defaults(),
             seed: None,
             keep_subscriptions: false,
@@ -217,7 +225,7 @@ impl Choices {
             old_digest: false,
             log_requests: false,
             log_json: false,
-            sync: Some(1),
+            sync: Syncing::Each(1),
         }
     }
 
@@ -228,6 +236,7 @@ impl Choices {
             AddressFlag::Listen => self.listen = addr,
             AddressFlag::Contact => self.contact = Some(addr),
             AddressFlag::Control => self.control = addr,
+            AddressFlag::Feed => self.feed = addr,
         }
     }
 
@@ -254,7 +263,7 @@ impl Choices {
             Setting::Switch(switch) => self.set_switch(*switch),
             Setting::Rate(rate) => self.rate = Some(*rate),
             Setting::Guesses(guesses) => self.guesses = *guesses,
-            Setting::Sync(seconds) => self.sync = *seconds,
+            Setting::Sync(sync) => self.sync = *sync,
             Setting::MailboxFile(_)
             | Setting::StateFile(_)
             | Setting::JournalFolder(_)
@@ -262,6 +271,7 @@ impl Choices {
             | Setting::Watch(..)
             | Setting::Allow(..)
             | Setting::ControlAllow(..)
+            | Setting::FeedFrom(..)
             | Setting::Mailbox(_) => {}
         }
     }

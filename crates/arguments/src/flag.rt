@@ -17,6 +17,8 @@ pub enum AddressFlag {
     Contact,
     /// `--control`: where control lines come in.
     Control,
+    /// `--feed-listen`: where NOTIFYs of voicemail systems come in.
+    Feed,
 }
 
 /// An option whose value is a number.
@@ -35,6 +37,7 @@ pub enum Bound {
     Outbox,
     Repeats,
     Linger,
+    Outage,
     MaxDatagram,
     ReceiveBuffer,
     NonceTime,
@@ -68,6 +71,8 @@ pub enum Flag {
     Allow,
     /// `--control-allow`: a network from which control lines are heard.
     ControlAllow,
+    /// `--feed-from`: a network from which NOTIFYs of voicemail systems are heard.
+    FeedFrom,
     /// `--seed`: from which the words of local tags are drawn.
     Seed,
 }
@@ -81,6 +86,7 @@ impl AddressFlag {
             AddressFlag::Listen => "--listen",
             AddressFlag::Contact => "--contact",
             AddressFlag::Control => "--control",
+            AddressFlag::Feed => "--feed-listen",
         }
     }
 }
@@ -104,6 +110,7 @@ impl Bound {
             Bound::Outbox => "--outbox",
             Bound::Repeats => "--repeats",
             Bound::Linger => "--linger",
+            Bound::Outage => "--outage",
             Bound::MaxDatagram => "--max-datagram",
             Bound::ReceiveBuffer => "--receive-buffer",
             Bound::NonceTime => "--nonce-time",
@@ -118,7 +125,7 @@ impl Bound {
         ensures { result ≡ spec.least self }
     {
         match self {
-            Bound::Repeats | Bound::Linger => 0,
+            Bound::Repeats | Bound::Linger | Bound::Outage => 0,
             Bound::MaxDatagram | Bound::MaxTexts => 512,
             Bound::ReceiveBuffer => 4096,
             Bound::JournalBytes => 65536,
@@ -132,7 +139,7 @@ impl Bound {
     {
         match self {
             Bound::Workers => 256,
-            Bound::MinTime => 3600,
+            Bound::MinTime | Bound::Outage => 3600,
             Bound::MaxCseq => 2147483647,
             Bound::Table | Bound::Inbox | Bound::Outbox | Bound::Repeats | Bound::PerSource =>
                 65536,
@@ -165,6 +172,7 @@ impl Flag {
             Flag::Guesses => "--guesses",
             Flag::Allow => "--allow",
             Flag::ControlAllow => "--control-allow",
+            Flag::FeedFrom => "--feed-from",
             Flag::Seed => "--seed",
         }
     }
@@ -184,11 +192,13 @@ impl Display for Flag {
                 write!(f, "{text} <file>")
             }
             Flag::JournalFolder => write!(f, "{text} <folder>"),
-            Flag::Sync => write!(f, "{text} <1 to 3600, or never>"),
+            Flag::Sync => write!(f, "{text} <1 to 3600, never or always>"),
             Flag::Watch => write!(f, "{text} <user:mailbox>"),
             Flag::Rate => write!(f, "{text} <a second>/<at once>, each 1 to 65536"),
             Flag::Guesses => write!(f, "{text} <at once>/<a minute>, each 1 to 65536"),
-            Flag::Allow | Flag::ControlAllow => write!(f, "{text} <a.b.c.d/bits>"),
+            Flag::Allow | Flag::ControlAllow | Flag::FeedFrom => {
+                write!(f, "{text} <a.b.c.d/bits>")
+            }
             Flag::Seed => write!(f, "{text} <64 hex digits>"),
         }
     }
@@ -204,6 +214,8 @@ fn address_flag(word: &str) -> Option<AddressFlag>
         Some(AddressFlag::Contact)
     } else if word == "--control" {
         Some(AddressFlag::Control)
+    } else if word == "--feed-listen" {
+        Some(AddressFlag::Feed)
     } else {
         None
     }
@@ -224,6 +236,8 @@ fn time_flag(word: &str) -> Option<Bound>
         Some(Bound::ReferTime)
     } else if word == "--linger" {
         Some(Bound::Linger)
+    } else if word == "--outage" {
+        Some(Bound::Outage)
     } else if word == "--nonce-time" {
         Some(Bound::NonceTime)
     } else {
@@ -323,6 +337,8 @@ fn special_flag(word: &str) -> Option<Flag>
         Some(Flag::Allow)
     } else if word == "--control-allow" {
         Some(Flag::ControlAllow)
+    } else if word == "--feed-from" {
+        Some(Flag::FeedFrom)
     } else if word == "--seed" {
         Some(Flag::Seed)
     } else {

@@ -2,7 +2,7 @@
 //! watch beside their own. And the paths that they name beside those of mailboxes: a file of passwords, and a folder of a journal.
 ghost use Rattle.std.specs.Prelude.{◌≡◌, IfOk, OnOk};
 ghost use Rattle.arguments.specs.Choices as spec;
-ghost use Rattle.arguments.specs.Choices.{with_network, with_control_network, with_alone, with_watched, with_passwords, with_journal};
+ghost use Rattle.arguments.specs.Choices.{with_network, with_control_network, with_feed_network, with_alone, with_watched, with_passwords, with_journal};
 
 use crate::choices::Choices;
 use crate::setting::Setting;
@@ -70,6 +70,27 @@ pub fn control_networks(alloc: Global, settings: &[Setting]) -> Result<Vec<Netwo
 {
     let mut networks = named_operators(alloc, settings)?;
     add_alone(&mut networks, Choices::of(settings).control.ip)?;
+    Ok(networks)
+}
+
+/// Adds the network whose voicemail systems a setting lets in, if it names one.
+fn add_feed_network(heard: &mut Vec<Network>, setting: &Setting) -> Result<(), NoMemory>
+    ensures { OnOk result (heard.new.items ≡ with_feed_network heard.old.items setting.now) }
+{
+    if let Setting::FeedFrom(network) = setting {
+        heard.push(*network)?;
+    }
+    Ok(())
+}
+
+/// The networks that settings name whose voicemail systems are heard, in order. Its only error is out of memory.
+pub fn feed_networks(alloc: Global, settings: &[Setting]) -> Result<Vec<Network>, NoMemory>
+    ensures { IfOk result (λ networks. networks.items ≡ spec.feed_networks settings.now) }
+{
+    let mut networks = Vec::new(alloc);
+    for setting in settings {
+        add_feed_network(&mut networks, setting)?;
+    }
     Ok(networks)
 }
 

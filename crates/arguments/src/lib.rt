@@ -24,6 +24,7 @@ mod number_range;
 pub mod setting;
 pub mod setup;
 pub mod switch;
+pub mod syncing;
 pub mod tell;
 pub mod told;
 pub mod udp_arguments;
@@ -37,7 +38,8 @@ pub use exit_status::ExitStatus;
 pub use flag::{AddressFlag, Bound, Flag};
 pub use guesses::Guesses;
 pub use heard::{
-    allowed_networks, control_networks, further_mailboxes, journal_folder, password_file,
+    allowed_networks, control_networks, feed_networks, further_mailboxes, journal_folder,
+    password_file,
 };
 pub use lines_call::{LinesCall, parse_lines_call};
 pub use mailbox_file::{is_blank, line_mailboxes};
@@ -45,6 +47,7 @@ pub use setting::{Setting, parse_settings};
 pub use setup::{dealt_names, loopback_setup};
 pub use sip_text::NoMemory;
 pub use switch::Switch;
+pub use syncing::Syncing;
 pub use tell::{TellCall, TellError, parse_tell};
 pub use told::{all_told, boxes_left, dealt_boxes, made_boxes};
 pub use udp_arguments::{UdpArguments, parse_udp_arguments};

@@ -12,6 +12,7 @@ use crate::error::OptionsError;
 use crate::flag::{AddressFlag, Bound, Flag, flag_named, joined_option};
 use crate::guesses::Guesses;
 use crate::switch::{Switch, switch_named};
+use crate::syncing::Syncing;
 use crate::value::{between, seed_bytes};
 use admission::{Network, Rate};
 use package::texts::is_word;
@@ -21,7 +22,7 @@ use std::alloc::Global;
 /// One thing that the words say.
 #[derive(Debug, Drop)]
 pub enum Setting {
-    /// `--listen`, `--contact` or `--control` with an address.
+    /// `--listen`, `--contact`, `--control` or `--feed-listen` with an address.
     Address(AddressFlag, Addr),
     /// An option with a number, from the least to the greatest that it takes.
     Number(Bound, u32),
@@ -31,8 +32,8 @@ pub enum Setting {
     StateFile(Text),
     /// `--journal` with the path of a folder.
     JournalFolder(Text),
-    /// `--sync` with the seconds from one to the next, or with `never`.
-    Sync(Option<u32>),
+    /// `--sync` with the seconds from one to the next, or with `never` or `always`.
+    Sync(Syncing),
     /// `--passwords` with the path of a file.
     PasswordFile(Text),
     /// `--watch` with a user and a further mailbox of that user.
@@ -45,6 +46,8 @@ pub enum Setting {
     Allow(Network),
     /// `--control-allow` with a network whose control lines are heard.
     ControlAllow(Network),
+    /// `--feed-from` with a network whose voicemail systems are heard.
+    FeedFrom(Network),
     /// `--seed` with 32 bytes.
     Seed([u8; 32]),
     /// An option without a value.
@@ -82,16 +85,19 @@ fn read_guesses(value: &[u8]) -> Option<Guesses>
     Some(Guesses { burst, per_minute })
 }
 
-/// Seconds from 1 to 3600, or none where it says `never`.
+/// Seconds from 1 to 3600, or one of the words `never` and `always`.
 #[tactic(auto, unfolding(crate::specs::Reading::sync_of))]
-fn read_sync(value: &str) -> Option<Option<u32>>
+fn read_sync(value: &str) -> Option<Syncing>
     ensures { Finds (λ x. x) result (sync_of value.now) }
 {
     if value == "never" {
-        return Some(None);
+        return Some(Syncing::Never);
+    }
+    if value == "always" {
+        return Some(Syncing::Always);
     }
     let seconds = between(1, 3600, value.as_bytes())?;
-    Some(Some(seconds))
+    Some(Syncing::Each(seconds))
 }
 
 /// A user before the first colon, and a mailbox behind it.
@@ -151,6 +157,7 @@ fn valued(alloc: Global, flag: Flag, value: &str) -> Result<Setting, OptionsErro
         Flag::Guesses => or_bad(flag, read_guesses(bytes).map(Setting::Guesses)),
         Flag::Allow => or_bad(flag, Network::of(bytes).map(Setting::Allow)),
         Flag::ControlAllow => or_bad(flag, Network::of(bytes).map(Setting::ControlAllow)),
+        Flag::FeedFrom => or_bad(flag, Network::of(bytes).map(Setting::FeedFrom)),
         Flag::Seed => or_bad(flag, seed_bytes(value).map(Setting::Seed)),
     }
 }

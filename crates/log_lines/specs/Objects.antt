@@ -8,6 +8,10 @@
 --   answered                address, method, user, code
 --   unanswered              address, method, mailbox, tag
 --   barred                  address, user
+--   outage_began            most
+--   outage_ended            seconds
+--   outage_too_long         seconds
+--   stood_still             seconds
 --   counted                 counter, more
 --   not_done                counter, more, cause
 --   receive_failed          address, cause
@@ -28,6 +32,8 @@ use Rattle.log_lines.specs.declared.beginning.Beginning.{Beginning}
 use Rattle.log_lines.specs.declared.beginning.Beginning.TheVariants as beginning
 use Rattle.log_lines.specs.declared.request.Request.{Request}
 use Rattle.log_lines.specs.declared.request.Request.TheVariants as request
+use Rattle.log_lines.specs.declared.outage.Outage.{Outage}
+use Rattle.log_lines.specs.declared.outage.Outage.TheVariants as outage
 use Rattle.log_lines.specs.declared.trouble.Trouble.{Trouble}
 use Rattle.log_lines.specs.declared.trouble.Trouble.TheVariants as trouble
 use Rattle.log_lines.specs.declared.ending.Count.{Count}
@@ -103,9 +109,24 @@ request_members (request.Unanswered address mailbox tag) =
     ++ (text (codes "mailbox") mailbox.now ++ text (codes "tag") tag.now))
 request_members (request.Barred address user) = place (codes "address") address ++ word (codes "user") user.now
 
+-- ---- time that isn't counted
+
+abbrev pub outage_what : Outage → List ℕ
+outage_what (outage.Began most) = codes "outage_began"
+outage_what (outage.Ended seconds) = codes "outage_ended"
+outage_what (outage.TooLong seconds) = codes "outage_too_long"
+outage_what (outage.StoodStill seconds) = codes "stood_still"
+
+abbrev pub outage_members : Outage → List Token
+outage_members (outage.Began most) = number (codes "most") most
+outage_members (outage.Ended seconds) = number (codes "seconds") seconds
+outage_members (outage.TooLong seconds) = number (codes "seconds") seconds
+outage_members (outage.StoodStill seconds) = number (codes "seconds") seconds
+
 -- ---- what goes wrong
 
 abbrev pub trouble_what : Trouble → List ℕ
+trouble_what (trouble.Outage o) = outage_what o
 trouble_what (trouble.Counted more counter text) = codes "counted"
 trouble_what (trouble.Failed more counter text) = codes "not_done"
 trouble_what (trouble.FailedSince more counter text cause) = codes "not_done"
@@ -116,6 +137,7 @@ trouble_what (trouble.PhoneRefuses more address code mailbox tag) = codes "refus
 trouble_what (trouble.PhoneRefusesMore more address code) = codes "refused"
 
 abbrev pub trouble_members : Trouble → List Token
+trouble_members (trouble.Outage o) = outage_members o
 trouble_members (trouble.Counted more counter what) = word (codes "counter") counter.now ++ number (codes "more") more
 trouble_members (trouble.Failed more counter what) = word (codes "counter") counter.now ++ number (codes "more") more
 trouble_members (trouble.FailedSince more counter what cause) =
@@ -168,6 +190,7 @@ level (record_.Beginning (beginning.ControlReachable control)) = Some (codes "wa
 level (record_.Beginning (beginning.SmallBuffer option octets asked)) = Some (codes "warning")
 level (record_.Beginning (beginning.Journal folder course)) = course_level course
 level (record_.Request r) = None
+level (record_.Trouble (trouble.Outage o)) = Some (codes "warning")
 level (record_.Trouble (trouble.Counted more counter text)) = None
 level (record_.Trouble (trouble.Failed more counter text)) = Some (codes "warning")
 level (record_.Trouble (trouble.FailedSince more counter text cause)) = Some (codes "warning")

@@ -7,6 +7,8 @@ use Rattle.log_lines.specs.declared.beginning.Beginning.{Beginning}
 use Rattle.log_lines.specs.declared.beginning.Beginning.TheVariants as beginning
 use Rattle.log_lines.specs.declared.request.Request.{Request}
 use Rattle.log_lines.specs.declared.request.Request.TheVariants as request
+use Rattle.log_lines.specs.declared.outage.Outage.{Outage}
+use Rattle.log_lines.specs.declared.outage.Outage.TheVariants as outage
 use Rattle.log_lines.specs.declared.trouble.Trouble.{Trouble}
 use Rattle.log_lines.specs.declared.trouble.Trouble.TheVariants as trouble
 use Rattle.log_lines.specs.declared.ending.Ending.{Ending}
@@ -41,7 +43,16 @@ plain_request (request.Unanswered address mailbox tag) =
     addr_text address ++ (codes " NOTIFY " ++ (mailbox.now ++ (codes ";tag=" ++ (tag.now ++ codes " unanswered"))))
 plain_request (request.Barred address user) = codes "barred user=" ++ (user.now ++ (codes " source=" ++ addr_text address))
 
+abbrev pub plain_outage : Outage → List ℕ
+plain_outage (outage.Began most) =
+    codes "every send fails: time isn't counted until one succeeds, for " ++ (decimal most ++ codes " seconds at most")
+plain_outage (outage.Ended seconds) = codes "sends succeed again: " ++ (decimal seconds ++ codes " seconds were not counted")
+plain_outage (outage.TooLong seconds) =
+    codes "every send still fails: time counts again, " ++ (decimal seconds ++ codes " seconds were not counted")
+plain_outage (outage.StoodStill seconds) = codes "the process stood still: " ++ (decimal seconds ++ codes " seconds are not counted")
+
 abbrev pub plain_trouble : Trouble → List ℕ
+plain_trouble (trouble.Outage o) = plain_outage o
 plain_trouble (trouble.Counted more counter text) = decimal more ++ (codes " " ++ text.now)
 plain_trouble (trouble.Failed more counter text) = decimal more ++ (codes " " ++ text.now)
 plain_trouble (trouble.FailedSince more counter text cause) =

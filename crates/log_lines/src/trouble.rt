@@ -4,6 +4,7 @@ ghost use Rattle.log_lines.specs.Objects.{trouble_what, trouble_members};
 ghost use Rattle.log_lines.specs.Plain.{plain_trouble};
 
 use crate::object::Object;
+use crate::outage::Outage;
 use crate::place::Place;
 use sip_text::{Addr, NoMemory};
 use std::fmt;
@@ -12,6 +13,8 @@ use std::fmt::{Display, Formatter};
 /// A line on what went wrong since the last one like it.
 #[derive(Clone, Copy)]
 pub enum Trouble<'a> {
+    /// Time isn't counted.
+    Outage(Outage),
     /// Something was dropped or refused.
     Counted {
         /// How often.
@@ -88,6 +91,7 @@ impl Display for Trouble<'_> {
 
     fn fmt<W: fmt::Write>(&self, f: &mut Formatter<W>) -> fmt::Result {
         match *self {
+            Trouble::Outage(outage) => write!(f, "{outage}"),
             Trouble::Counted { more, text, .. } | Trouble::Failed { more, text, .. } => {
                 write!(f, "{more} {text}")
             }
@@ -148,6 +152,7 @@ impl Trouble<'_> {
         ensures { result.now ≡ trouble_what self.now }
     {
         match self {
+            Trouble::Outage(outage) => outage.what(),
             Trouble::Counted { .. } => "counted",
             Trouble::Failed { .. } | Trouble::FailedSince { .. } => "not_done",
             Trouble::ReceiveFailed { .. } => "receive_failed",
@@ -162,6 +167,7 @@ impl Trouble<'_> {
         ensures tokens { OnOk result (object.new.writer.tokens ≡ object.old.writer.tokens ++ trouble_members self.now) }
     {
         match *self {
+            Trouble::Outage(outage) => outage.add_members(object),
             Trouble::Counted { more, counter, .. } | Trouble::Failed { more, counter, .. } => {
                 object.word("counter", counter)?;
                 object.number("more", more)
