@@ -41,6 +41,22 @@ pub trait Gate: Send + Sync {
         drop(written);
     }
 
+    /// Local tags of subscriptions of which somebody wants to know whether the desk of the worker with this number still has them. It is
+    /// asked behind the outs of each event.
+    fn asked<R: Wait>(&self, rt: &R, worker: u32) -> Option<Vec<String>> {
+        let _ = rt;
+        let _ = worker;
+        None
+    }
+
+    /// Those of them that it has no more: whatever it made of them is posted. So it also tells of those that ended untold (RFC 6665
+    /// section 4.2.2). Where memory runs out it isn't told.
+    fn gone<R: Wait>(&self, rt: &R, worker: u32, tags: Vec<String>) {
+        let _ = rt;
+        let _ = worker;
+        drop(tags);
+    }
+
     /// The worker with this number ran out of memory: from now on it drops what is sent to it, until each port has ended.
     fn give_up(&self, worker: u32) {
         let _ = worker;

@@ -7,8 +7,11 @@ ghost use Rattle.crew.specs.Loop.{posts_all, HandlesOne};
 use crate::counting::count_up;
 use crate::gate::Gate;
 use notifier::{Desk, DeskError, Event, Out};
+use notifier_model::homes::TagNumbers;
+use notifier_model::row::Row;
 use package::Package;
 use queues::outbox::Poster;
+use sip_text::NoMemory;
 use std::alloc::Global;
 use std::sync::Wait;
 
@@ -71,6 +74,43 @@ pub(crate) struct Hand<P: Package> {
     pub(crate) room: usize,
 }
 
+/// Whether one of these rows has this local tag. They stand in the order of these serials, which rise.
+fn has_row(rows: &[&Row], serials: &[u32], tag: &str) -> bool {
+    let Some(
+        TagNumbers {
+            serial: Some(serial),
+            ..
+        },
+    ) = TagNumbers::read(tag)
+    else {
+        return false;
+    };
+    let Ok(place) = serials.binary_search(&serial) else {
+        return false;
+    };
+    match rows.get(place) {
+        Some(row) => row.sub.usage().local_tag.is(tag),
+        None => false,
+    }
+}
+
+/// Those of these local tags that no row of the desk has.
+fn missing<P: Package>(
+    alloc: Global,
+    desk: &Desk<P>,
+    tags: Vec<String>,
+) -> Result<Vec<String>, NoMemory> {
+    let rows = desk.rows(alloc)?;
+    let serials: Vec<u32> = rows.iter().map(|row| row.serial).collect(alloc)?;
+    let mut gone = Vec::new(alloc);
+    for tag in tags {
+        if !has_row(rows.as_slice(), serials.as_slice(), tag.as_str()) {
+            gone.push(tag)?;
+        }
+    }
+    Ok(gone)
+}
+
 /// An empty book with room for so many bytes, where memory has it.
 fn empty_book(alloc: Global, room: usize) -> Vec<u8>
     ensures { result.items ≡ [] }
@@ -82,8 +122,8 @@ fn empty_book(alloc: Global, room: usize) -> Vec<u8>
 }
 
 impl<P: Package> Hand<P> {
-    /// Passes the gate, handles one event and tells the gate of it, posts its outs, counts it and them, and writes the book where the
-    /// gate wants it.
+    /// Passes the gate, handles one event and tells the gate of it, posts its outs, counts it and them, tells which subscriptions are gone
+    /// of those of which the gate asks, and writes the book where the gate wants it.
     pub(crate) fn handle<R: Wait, G: Gate>(
         &mut self,
         rt: &R,
@@ -107,8 +147,20 @@ impl<P: Package> Hand<P> {
         let mut batch = Batch::new(outs);
         batch.tell(rt, gate, self.worker, &event);
         batch.post(rt, gate, self.worker, &mut self.poster);
+        self.tell_gone(rt, alloc, gate);
         self.room = self.write_book(rt, alloc, gate);
         Ok(())
+    }
+
+    /// Tells which subscriptions the desk has no more, of those of which the gate asks. Where memory runs out it tells nothing: the desk
+    /// isn't spent by that.
+    fn tell_gone<R: Wait, G: Gate>(&self, rt: &R, alloc: Global, gate: &G) {
+        let Some(tags) = gate.asked(rt, self.worker) else {
+            return;
+        };
+        if let Ok(gone) = missing(alloc, &self.desk, tags) {
+            gate.gone(rt, self.worker, gone);
+        }
     }
 
     /// Hands the book over where the gate wants it. A spent desk has none, and where memory runs out none is handed over. Says how

@@ -6,19 +6,15 @@ use Rattle.std.proofs.lemmas.List.{append-nil, map-append}
 use Rattle.std.proofs.lemmas.List.Elements.{filter-append, filter_map-append}
 use Rattle.notifier_model.specs.declared.event.Out.{Out}
 use Rattle.notifier_model.specs.declared.event.Out.TheVariants as out
-use Rattle.queues.specs.OutboxSeats.{TakerSeat}
-use Rattle.queues.specs.OutboxTook.{Took}
-use Rattle.queues.specs.declared.outbox.Posted.TheVariants as posted
 use Rattle.transport.specs.Devices.{rises}
 use Rattle.transport.specs.declared.datagram.Datagram.{Datagram}
 use Rattle.transport.specs.Wires.{datagram, Grows}
 use Rattle.feeds.specs.declared.sending.Fate.{Fate}
 use Rattle.feeds.specs.declared.sending.Fate.TheVariants.{Sent, Started, Failed}
 use Rattle.feeds.specs.declared.sending.Fate.TheVariants as became
-use Rattle.feeds.specs.declared.sending.EmitReport.{EmitReport}
-use Rattle.feeds.specs.Emitted.{Fates, WireSeen, WriterSeen, MayMeet, Writes, count, counted, datagram_sent, sent_datagrams, fails_to_send, fails_to_start, is_start, is_held}
-use Rattle.feeds.proofs.Emitting.{Running, one, running_out, rises_more, flushed_more}
-use Rattle.feeds.proofs.Telling.{grows_none, grows_more, grows_same}
+use Rattle.feeds.specs.Emitted.{Fates, WireSeen, MayMeet, Writes, count, datagram_sent, sent_datagrams, fails_to_send, fails_to_start, is_start, is_held}
+use Rattle.feeds.proofs.Emitting.{one, rises_more, flushed_more}
+use Rattle.feeds.proofs.Telling.{grows_none, grows_more}
 use Rattle.transactions.specs.declared.open.Open.{Open}
 use Rattle.transactions.specs.Timers.{is_over}
 use Rattle.transactions.specs.Machine.{State, answer, due, turn}
@@ -27,7 +23,7 @@ use Rattle.first_contact.specs.Steps.{notice_of}
 use Rattle.service.specs.declared.post.Note.{Note}
 use Rattle.service.specs.Noted.{answer_of}
 use Rattle.service.specs.Taken.{failures_then}
-use Rattle.service.specs.Sending.{Act, Put, Held, Released, Noted, Repeated, GaveUp, fate_of, fates, sent_by, sent_again, datagrams, fails_at, failures, call_of, calls, kept_after, taking, AreAsked, Does, IsSentOut, WithoutRepeatsLaw}
+use Rattle.service.specs.Sending.{Act, Put, Held, Released, Noted, Repeated, Tried, GaveUp, Gone, fate_of, fates, sent_by, sent_again, datagrams, fails_at, failures, call_of, calls, kept_after, taking, AreAsked, Does, WithoutRepeatsLaw}
 
 -- ---- two parts of what it did
 
@@ -191,32 +187,19 @@ module _ (now : ℕ) (t : Open) (s u : State) (is_due : due s now ≡ Some t) (t
   pub does_give_up : (w : WireSeen) → is_over now t ≡ true → Does (GaveUp now ∷ []) s u w w
   does_give_up w over = record { taken = grows_none w.taken; failed = refl; asked = ((t, is_due, over), tt); open_now = turned }
 
--- ---- the outs
+-- it is tried, and stays due
+module _ (now : ℕ) (t : Open) (s : State) (is_due : due s now ≡ Some t) where
+  pub does_try : (fails : Bool) (v w : WireSeen) → is_over now t ≡ false → Grows v.taken w.taken (sent_again t fails)
+      → w.failures ≡ failures_then fails v.failures → Does (Tried now (datagram t.to t.bytes) fails ∷ []) s s v w
+  does_try false v w early taken failed =
+      record { taken = taken; failed = failed; asked = ((t, repeated_is now t s (turn s now) is_due refl early, refl), tt); open_now = refl }
+  does_try true v w early taken failed =
+      record { taken = taken; failed = failed; asked = ((t, repeated_is now t s (turn s now) is_due refl early, refl), tt); open_now = refl }
 
-module _ (acts : List Act) {t0 t : TakerSeat} {left : ℕ} {told told' : Option (List Datagram)} {writer writer' : WriterSeen} {report : EmitReport}
-    (was : Running (fates acts) t0 t left told told' writer writer' report) where
-  -- nothing was taken, and what was done is no out
-  pub running_on : (more : List Act) (told'' : Option (List Datagram)) → fates more ≡ [] → Grows told' told'' []
-      → Running (fates (acts ++ more)) t0 t left told told'' writer writer' report
-  running_on more told'' none same =
-      let P : Fates → Type 0 = λ l. Running l t0 t left told told'' writer writer' report in
-      subst P (sym (filter_map-append fate_of acts more ∙ ap (λ l. fates acts ++ l) none ∙ append-nil (fates acts))) (record {
-        outbox = was.outbox;
-        workers = was.workers;
-        left_is = was.left_is;
-        given = grows_same told told' told'' [] was.given same;
-        met = was.met;
-      })
+-- ---- a subscription that is gone
 
-  pub running_taking : (now : ℕ) (u : TakerSeat) (w : ℕ) (o : Out) (f : Fate) (told'' : Option (List Datagram)) (after' : WriterSeen)
-      → Took t (posted.Out w o) u → MayMeet o f → Grows told' told'' []
-      → after'.failures ≡ rises (count fails_to_start (one o f)) writer'.failures
-      → Writes writer'.contents after'.contents o f
-      → Running (fates (acts ++ taking now o f ∷ [])) t0 u left told told'' writer after' (counted report f)
-  running_taking now u w o f told'' after' took may none failed wrote =
-      let P : Fates → Type 0 = λ l. Running l t0 u left told told'' writer after' (counted report f) in
-      subst P (sym (filter_map-append fate_of acts (taking now o f ∷ []) ∙ ap (λ l. fates acts ++ l) (taken_fates now o f)))
-      (running_out was u w o f told'' after' took may none failed wrote)
+pub does_gone : (tag : List ℕ) (s t : State) (w : WireSeen) → t ≡ answer s tag 0 481 → Does (Gone tag ∷ []) s t w w
+does_gone tag s t w is = record { taken = grows_none w.taken; failed = refl; asked = (tt, tt); open_now = is }
 
 -- ---- what was flushed
 
@@ -233,16 +216,6 @@ module _ {S : Type 0} (flushed : S → Bool) (first old : S) (acts : List Act) (
       subst P (sym (filter_map-append fate_of acts (taking now o f ∷ []) ∙ ap (λ l. fates acts ++ l) (taken_fates now o f)))
       (flushed_more flushed first old new o f (fates acts) may was written stays)
 
--- ---- all of it
-
-pub sent_out : {t0 t : TakerSeat} {left : ℕ} {told told' : Option (List Datagram)} {acts : List Act} {s u : State} {wire wire' : WireSeen}
-    {writer writer' : WriterSeen} {report : EmitReport} → Running (fates acts) t0 t left told told' writer writer' report
-    → Does acts s u wire wire' → IsSentOut s t0.workers acts t0.got t.got (record { wire = wire; wire' = wire'; writer = writer; writer' = writer' }) report
-sent_out running did = record {
-  met = running.met;
-  does = record { taken = did.taken; failed = did.failed; asked = did.asked; open_now = refl };
-}
-
 -- ---- all of it but repeats
 
 pub without_repeats : WithoutRepeatsLaw
@@ -252,7 +225,9 @@ without_repeats (Held now o ∷ acts) = without_repeats acts
 without_repeats (Released now o fate ∷ acts) = without_repeats acts
 without_repeats (Noted tag number status ∷ acts) = without_repeats acts
 without_repeats (Repeated now sent fails ∷ acts) = without_repeats acts
+without_repeats (Tried now sent fails ∷ acts) = without_repeats acts
 without_repeats (GaveUp now ∷ acts) = without_repeats acts
+without_repeats (Gone tag ∷ acts) = without_repeats acts
 
 -- ---- notes, one by one
 

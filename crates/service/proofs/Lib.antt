@@ -2,6 +2,7 @@ pub mod Doing
 pub mod Answering
 pub mod Closed
 pub mod Acts
+pub mod Departing
 pub mod Repeats
 pub mod Rowing
 pub mod Keeping

@@ -7,11 +7,12 @@ use Rattle.notifier_model.specs.declared.event.Out.{Out}
 use Rattle.notifier_model.specs.declared.event.Out.TheVariants as out
 use Rattle.feeds.specs.declared.sending.Fate.{Fate}
 use Rattle.transport.specs.declared.datagram.Datagram.{Datagram}
+use Rattle.transport.specs.Wires.{datagram}
 use Rattle.transactions.specs.declared.open.Open.{Open}
 use Rattle.transactions.specs.Machine.{State, empty}
-use Rattle.transactions.specs.Runs.{Call, state_after, is_end, earliest, keeping, times}
+use Rattle.transactions.specs.Runs.{Call, state_after, repeated, is_end, earliest, keeping, times}
 use Rattle.transactions.proofs.Histories.{each_repeat}
-use Rattle.service.specs.Sending.{Act, Put, Held, Released, Noted, Repeated, GaveUp, met, kept_by, call_of, calls, went_out, AreAsked, ends_it, IsOfNotify, EachRepeatIsOfANotify}
+use Rattle.service.specs.Sending.{Act, Put, Held, Released, Noted, Repeated, Tried, GaveUp, Gone, met, kept_by, call_of, calls, went_out, AreAsked, ends_it, IsOfNotify, EachRepeatIsOfANotify, EachTryIsOfANotify}
 use Rattle.service.proofs.Acts.{state_first}
 
 -- what was asked for behind a part
@@ -72,7 +73,9 @@ put_is (Released now (out.Notify to number terminated tag note octets) fate) t e
 put_is (Released now (out.Start tag refer_to) fate) t e = absurd cc
 put_is (Noted tag number status) t e = absurd cc
 put_is (Repeated now sent fails) t e = absurd cc
+put_is (Tried now sent fails) t e = absurd cc
 put_is (GaveUp now) t e = absurd cc
+put_is (Gone tag) t e = absurd cc
 
 -- no call is_end it, so no act does
 unended : (tag : List ℕ) (number : ℕ) (acts : List Act) → AllByRecursion (λ call. is_end tag number call ≡ false) (calls acts)
@@ -87,7 +90,9 @@ unended tag number (Released now (out.Notify to n terminated other note octets) 
 unended tag number (Released now (out.Start other refer_to) fate ∷ acts) none = (refl, unended tag number acts none)
 unended tag number (Noted other n status ∷ acts) none = (none.0, unended tag number acts none.1)
 unended tag number (Repeated now sent fails ∷ acts) none = (refl, unended tag number acts none.1)
+unended tag number (Tried now sent fails ∷ acts) none = (refl, unended tag number acts none)
 unended tag number (GaveUp now ∷ acts) none = (refl, unended tag number acts none.1)
+unended tag number (Gone other ∷ acts) none = (none.0, unended tag number acts none.1)
 
 -- none comes again before half a second has passed
 half_a_second : (n : ℕ) → 500 ≤ earliest n
@@ -96,13 +101,12 @@ half_a_second (suc zero) = omega arith
 half_a_second (suc (suc zero)) = omega arith
 half_a_second (suc (suc (suc n))) = omega arith
 
--- where none waited at the start
-each_put : (limit : ℕ) (before after : List Act) (now : ℕ) (sent : Datagram) (fails : Bool)
-    → AreAsked (empty limit) (before ++ Repeated now sent fails ∷ after) → IsOfNotify before now sent
-each_put limit before after now sent fails asked =
-    let here = asked_behind before (Repeated now sent fails ∷ after) (empty limit) asked in
-    let t = here.0.0 in
-    let order = each_repeat limit (calls before) now t here.0.1 in
+-- what is asked for behind these, where none waited at the start
+of_notify : (limit : ℕ) (before : List Act) (now : ℕ) (sent : Datagram)
+    → ((t : Open) × (repeated (state_after (calls before) (empty limit)) now ≡ Some t) × (sent ≡ datagram t.to t.bytes)) → IsOfNotify before now sent
+of_notify limit before now sent here =
+    let t = here.0 in
+    let order = each_repeat limit (calls before) now t here.1 in
     let f = found before order.earlier (keeping t) order.since order.split in
     let put = put_is f.act t f.is in
     let P : Datagram → Type 0 = λ d. before ≡ f.before ++ met put.3 t.first (out.Notify d.peer t.number put.0 t.tag put.1 d.octets) put.2 ∷ f.after in
@@ -118,11 +122,27 @@ each_put limit before after now sent fails asked =
       note = put.1;
       fate = put.2;
       had_waited = put.3;
-      split = subst P (sym here.0.2) (f.split ∙ ap (λ act. f.before ++ act ∷ f.after) put.4);
+      split = subst P (sym here.2) (f.split ∙ ap (λ act. f.before ++ act ∷ f.after) put.4);
       unanswered = unended t.tag t.number f.after (subst C (sym f.rest) order.unanswered);
       waited = omega (arith, long, waited);
       in_time = order.in_time;
     }
+
+each_put : (limit : ℕ) (before after : List Act) (now : ℕ) (sent : Datagram) (fails : Bool)
+    → AreAsked (empty limit) (before ++ Repeated now sent fails ∷ after) → IsOfNotify before now sent
+each_put limit before after now sent fails asked =
+    of_notify limit before now sent (asked_behind before (Repeated now sent fails ∷ after) (empty limit) asked).0
+
+each_tried : (limit : ℕ) (before after : List Act) (now : ℕ) (sent : Datagram) (fails : Bool)
+    → AreAsked (empty limit) (before ++ Tried now sent fails ∷ after) → IsOfNotify before now sent
+each_tried limit before after now sent fails asked =
+    of_notify limit before now sent (asked_behind before (Tried now sent fails ∷ after) (empty limit) asked).0
+
+pub each_try_is : EachTryIsOfANotify
+each_try_is limit unanswered before after now sent fails asked =
+    let rest : List Act = before ++ Tried now sent fails ∷ after in
+    each_tried limit (went_out unanswered ++ before) after now sent fails
+    (subst (AreAsked (empty limit)) (sym (append_assoc (went_out unanswered) before (Tried now sent fails ∷ after))) (asked_anew unanswered rest (empty limit) asked))
 
 pub each_repeat_is : EachRepeatIsOfANotify
 each_repeat_is limit unanswered before after now sent fails asked =

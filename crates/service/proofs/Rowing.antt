@@ -1,8 +1,7 @@
 -- The rows of live subscriptions after what the thread that sends did.
 use Rattle.std.proofs.Common.{◌≡◌, ◌⊎◌, ℕ, Bool, true, false, List, [], ◌∷◌, ◌++◌, map, Some, refl, ap, sym, ◌∙◌, subst, inl, inr}
 use Rattle.std.specs.Prelude.{option_to_list}
-use Rattle.transactions.specs.declared.open.Open.{Open}
-use Rattle.transactions.specs.Machine.{State, empty, due}
+use Rattle.transactions.specs.Machine.{State, empty}
 use Rattle.transactions.specs.Runs.{state_after}
 use Rattle.notifier_model.specs.declared.event.Note.{Note as KnownNote}
 use Rattle.notifier_model.specs.declared.event.Out.{Out}
@@ -13,8 +12,8 @@ use Rattle.sip_text.specs.declared.address.Addr.{Addr}
 use Rattle.notifier_model.specs.declared.event.Out.TheVariants as out
 use Rattle.service.specs.declared.post.Note.{Note}
 use Rattle.service.specs.Noted.{answer_of}
-use Rattle.service.specs.Sending.{Act, Put, Repeated, GaveUp, call_of, calls}
-use Rattle.service.specs.Watched.{known_from, IsSeen, AreRowed, is_doubtful, doubted, given_up, noted_rows}
+use Rattle.service.specs.Sending.{Act, Put, Repeated, GaveUp, Gone, call_of, calls}
+use Rattle.service.specs.Watched.{known_from, IsSeen, AreRowed, noted_rows}
 use Rattle.service.proofs.Acts.{noted, state_first}
 
 rowed_append : (a b : List Act) (s : State) (rows mid rows' : List Row) → AreRowed s a rows mid → AreRowed (state_after (calls a) s) b mid rows'
@@ -58,17 +57,16 @@ rows_noted_more notes n rows mid rows' was is = is ∙ ap (answered_rows n.tag n
 pub rowed_put : (now : ℕ) (o : Out) (fate : Fate) (rows rows' : List Row) → IsSeen now o rows rows' → AreRowed (empty 0) (Put now o fate ∷ []) rows rows'
 rowed_put now o fate rows rows' seen = (rows', seen, refl)
 
--- what was due is sent again: its row stays, or goes where it is doubtful
-pub rowed_repeat : (s : State) (now : ℕ) (t : Open) (sent : Datagram) (fails : Bool) (rows rows' : List Row) → due s now ≡ Some t → is_doubtful now t ≡ false → rows' ≡ rows
-    → AreRowed s (Repeated now sent fails ∷ []) rows rows'
-rowed_repeat s now t sent fails rows rows' is_due sure same = (rows', same ∙ sym (ap (λ o. doubted now o rows) is_due ∙ rw sure refl), refl)
+-- what was due is sent again, or given up: its row stays
+pub rowed_repeat : (s : State) (now : ℕ) (sent : Datagram) (fails : Bool) (rows : List Row) → AreRowed s (Repeated now sent fails ∷ []) rows rows
+rowed_repeat s now sent fails rows = (rows, refl, refl)
 
-pub rowed_doubt : (s : State) (now : ℕ) (t : Open) (sent : Datagram) (fails : Bool) (rows rows' : List Row) → due s now ≡ Some t → is_doubtful now t ≡ true → rows' ≡ without t.tag rows
-    → AreRowed s (Repeated now sent fails ∷ []) rows rows'
-rowed_doubt s now t sent fails rows rows' is_due doubtful gone = (rows', gone ∙ sym (ap (λ o. doubted now o rows) is_due ∙ rw doubtful refl), refl)
+pub rowed_give_up : (s : State) (now : ℕ) (rows : List Row) → AreRowed s (GaveUp now ∷ []) rows rows
+rowed_give_up s now rows = (rows, refl, refl)
 
-pub rowed_give_up : (s : State) (now : ℕ) (t : Open) (rows rows' : List Row) → due s now ≡ Some t → rows' ≡ without t.tag rows → AreRowed s (GaveUp now ∷ []) rows rows'
-rowed_give_up s now t rows rows' is_due is = (rows', is ∙ sym (ap (λ o. given_up o rows) is_due), refl)
+-- a subscription is gone, and so is its row
+pub rowed_gone : (s : State) (tag : List ℕ) (rows rows' : List Row) → rows' ≡ without tag rows → AreRowed s (Gone tag ∷ []) rows rows'
+rowed_gone s tag rows rows' gone = (rows', gone, refl)
 
 -- ---- an out
 

@@ -8,6 +8,7 @@ pub mod Told
 pub mod Served
 pub mod Admitted
 pub mod Taken
+pub mod Departing
 pub mod Handing
 pub mod Running
 pub mod Refused

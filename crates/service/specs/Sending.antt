@@ -1,6 +1,6 @@
 -- What the thread that sends does: it sends, writes or fails at each out that the workers post, or holds a NOTIFY back, takes notes of
--- answers to NOTIFYs, sends what waited for them, and sends a NOTIFY again whose time has come, or gives it up (RFC 3261 section 17.1.2).
--- Moments are milliseconds.
+-- answers to NOTIFYs, sends what waited for them, sends a NOTIFY again whose time has come, or gives it up (RFC 3261 section 17.1.2), and
+-- takes the word of a worker that a subscription is gone. Moments are milliseconds.
 use Rattle.std.specs.Prelude.{◌≡◌, ◌<◌, ◌≤◌, ◌+◌, ℕ, Bool, true, false, not, List, [], ◌∷◌, ◌++◌, length, map, Option, Some, None, option_map, option_to_list, if◌then◌else◌}
 use Rattle.std.specs.List.{filter, filter_map, AllByRecursion}
 use Rattle.queues.specs.declared.items.Item.{Item}
@@ -19,6 +19,7 @@ use Rattle.feeds.specs.declared.sending.EmitReport.{EmitReport}
 use Rattle.feeds.specs.Emitted.{Fates, WireSeen, WriterSeen, wire_seen, writer_seen, AreMet, datagram_sent, sent_datagrams, fails_to_send}
 use Rattle.service.specs.declared.outs.Exit.{Exit}
 use Rattle.transactions.specs.declared.open.Open.{Open}
+use Rattle.transactions.specs.declared.open.TheConstants.{GONE}
 use Rattle.transactions.specs.Timers.{is_over}
 use Rattle.transactions.specs.Machine.{State, empty, due}
 use Rattle.transactions.specs.Runs.{Call, Keep, Answer, Turn, state_after, repeated, is_end}
@@ -35,8 +36,12 @@ pub data Act : Type 0 where
   Noted : (tag : List ℕ) (number status : ℕ) → Act
   -- at this moment it sent this again, or the wire failed at it
   Repeated : (now : ℕ) (sent : Datagram) (fails : Bool) → Act
+  -- while no send succeeded it tried to send this again, which stays due, or the wire failed at it (specs/Moments of the crate outage_clock)
+  Tried : (now : ℕ) (sent : Datagram) (fails : Bool) → Act
   -- at this moment it gave up the NOTIFY that was due
   GaveUp : (now : ℕ) → Act
+  -- it took the word of a worker that the subscription with this local tag is gone
+  Gone : (tag : List ℕ) → Act
 
 -- ---- of the outs
 
@@ -46,7 +51,9 @@ fate_of (Held now o) = Some (o, became.Held)
 fate_of (Released now o fate) = None
 fate_of (Noted tag number status) = None
 fate_of (Repeated now sent fails) = None
+fate_of (Tried now sent fails) = None
 fate_of (GaveUp now) = None
+fate_of (Gone tag) = None
 
 -- what became of the outs when they were taken
 abbrev pub fates : List Act → Fates
@@ -60,7 +67,9 @@ sent_by (Held now o) = None
 sent_by (Released now o fate) = datagram_sent o fate
 sent_by (Noted tag number status) = None
 sent_by (Repeated now sent fails) = if fails then None else Some sent
+sent_by (Tried now sent fails) = if fails then None else Some sent
 sent_by (GaveUp now) = None
+sent_by (Gone tag) = None
 
 -- the datagrams that were sent, in order
 abbrev pub datagrams : List Act → List Datagram
@@ -72,7 +81,9 @@ fails_at (Held now o) = false
 fails_at (Released now o fate) = fails_to_send o fate
 fails_at (Noted tag number status) = false
 fails_at (Repeated now sent fails) = fails
+fails_at (Tried now sent fails) = fails
 fails_at (GaveUp now) = false
+fails_at (Gone tag) = false
 
 -- what the wire took of a repeat, where it did not fail at it
 abbrev pub sent_again : Open → Bool → List Datagram
@@ -92,14 +103,16 @@ keeping now n = Keep now n.tag n.number n.to n.bytes
 abbrev pub kept_by : ℕ → Out → Option Call
 kept_by now o = option_map (keeping now) (notify_of o)
 
--- what it is to the open transactions of NOTIFYs
+-- what it is to the open transactions of NOTIFYs. A subscription that is gone ends all of its tag, as a 481 does
 abbrev pub call_of : Act → Option Call
 call_of (Put now o fate) = kept_by now o
 call_of (Held now o) = None
 call_of (Released now o fate) = kept_by now o
 call_of (Noted tag number status) = Some (Answer tag number status)
 call_of (Repeated now sent fails) = Some (Turn now)
+call_of (Tried now sent fails) = None
 call_of (GaveUp now) = Some (Turn now)
+call_of (Gone tag) = Some (Answer tag 0 GONE)
 
 abbrev pub calls : List Act → List Call
 calls acts = filter_map call_of acts
@@ -122,7 +135,9 @@ IsAsked s (Held now o) = Unit {0}
 IsAsked s (Released now o fate) = Unit {0}
 IsAsked s (Noted tag number status) = Unit {0}
 IsAsked s (Repeated now sent fails) = (t : Open) × (repeated s now ≡ Some t) × (sent ≡ datagram t.to t.bytes)
+IsAsked s (Tried now sent fails) = (t : Open) × (repeated s now ≡ Some t) × (sent ≡ datagram t.to t.bytes)
 IsAsked s (GaveUp now) = (t : Open) × (due s now ≡ Some t) × (is_over now t ≡ true)
+IsAsked s (Gone tag) = Unit {0}
 
 -- each of them, from these open transactions on
 abbrev pub AreAsked : State → List Act → Type 0
@@ -179,7 +194,9 @@ is_late (Held now o) = false
 is_late (Released now o fate) = true
 is_late (Noted tag number status) = false
 is_late (Repeated now sent fails) = true
+is_late (Tried now sent fails) = true
 is_late (GaveUp now) = false
+is_late (Gone tag) = false
 
 -- without them just the datagrams of the outs are sent, in order
 abbrev pub WithoutRepeatsLaw : Type 0
@@ -187,14 +204,16 @@ WithoutRepeatsLaw = (acts : List Act) → datagrams (filter (λ act. not (is_lat
 
 -- ---- what that says of each repeat
 
--- it is the note of an answer that ends the NOTIFY with this tag and this number
+-- it is the note of an answer that ends the NOTIFY with this tag and this number, or the word that its subscription is gone
 abbrev pub ends_it : List ℕ → ℕ → Act → Bool
 ends_it tag number (Put now o fate) = false
 ends_it tag number (Held now o) = false
 ends_it tag number (Released now o fate) = false
 ends_it tag number (Noted other n status) = is_end tag number (Answer other n status)
 ends_it tag number (Repeated now sent fails) = false
+ends_it tag number (Tried now sent fails) = false
 ends_it tag number (GaveUp now) = false
+ends_it tag number (Gone other) = is_end tag number (Answer other 0 GONE)
 
 -- this became of an out at this moment: when it was taken, or after it had waited
 abbrev pub met : Bool → ℕ → Out → Fate → Act
@@ -202,7 +221,7 @@ met false now o fate = Put now o fate
 met true now o fate = Released now o fate
 
 -- it is the datagram of a NOTIFY that was put before, or had waited and was sent then, from 500 milliseconds after that on and before 32 seconds have passed, and
--- no final answer to it was noted since
+-- no final answer to it was noted since, nor the word that its subscription is gone
 pub record IsOfNotify (before : List Act) (now : ℕ) (sent : Datagram) : Type 0 where
   pub earlier : List Act
   pub since : List Act
@@ -222,3 +241,8 @@ pub record IsOfNotify (before : List Act) (now : ℕ) (sent : Datagram) : Type 0
 abbrev pub EachRepeatIsOfANotify : Type 0
 EachRepeatIsOfANotify = (limit : ℕ) (unanswered : List Out) (before after : List Act) (now : ℕ) (sent : Datagram) (fails : Bool)
     → AreAsked (open_first limit unanswered) (before ++ Repeated now sent fails ∷ after) → IsOfNotify (went_out unanswered ++ before) now sent
+
+-- so is what is tried while no send succeeds
+abbrev pub EachTryIsOfANotify : Type 0
+EachTryIsOfANotify = (limit : ℕ) (unanswered : List Out) (before after : List Act) (now : ℕ) (sent : Datagram) (fails : Bool)
+    → AreAsked (open_first limit unanswered) (before ++ Tried now sent fails ∷ after) → IsOfNotify (went_out unanswered ++ before) now sent

@@ -10,6 +10,7 @@ use crate::shared::Shared;
 use crew::Port;
 use feeds::{FeedEnd, send_event};
 use notifier_model::Event;
+use outage_clock::Look;
 use std::rt::Clock;
 use std::sync::Wait;
 use std::thread;
@@ -17,6 +18,9 @@ use std::time::Duration;
 
 /// How long the clock sleeps at most before it looks whether the service closes, in milliseconds.
 const NAP: u64 = 100;
+
+/// How many milliseconds a second has.
+const SECOND: u64 = 1000;
 
 /// What the time is read by. It counts how often the clock couldn't be read.
 #[derive(Drop)]
@@ -34,12 +38,12 @@ impl Stopwatch {
         Stopwatch { tick, failures: 0 }
     }
 
-    /// How many seconds the service is up. None where the clock can't be read.
-    fn seconds<R: Clock>(&mut self, rt: &R, shared: &Shared) -> Option<u64>
+    /// How many milliseconds the service is up, and the moment of its clock. None where the clock can't be read.
+    fn look<R: Wait + Clock>(&mut self, rt: &R, shared: &Shared) -> Option<(u64, Look)>
         ensures { self.new.failures ≡ failures_then (is_none result) self.old.failures }
     {
-        match shared.seconds(rt) {
-            Some(seconds) => Some(seconds),
+        match shared.look(rt) {
+            Some(look) => Some(look),
             None => {
                 self.failures = self.failures.saturating_add(1);
                 None
@@ -48,7 +52,8 @@ impl Stopwatch {
     }
 }
 
-/// Sends a tick each second of the monotonic clock: the seconds since the service began, behind those that were told before it did.
+/// Sends a tick each second of the service's clock: the seconds since the service began, behind those that were told before it did, without
+/// those in which nothing left this machine or the process stood still (`outage_clock`).
 /// It fails the transfers whose START lines were not written. So it goes on until the service closes, the clock fails or a worker is gone.
 /// Once a minute it says on standard error what was refused, dropped or not sent in it.
 /// The port isn't closed.
@@ -76,12 +81,13 @@ pub fn tell_time<R: Wait + Clock + Eprint>(
             continue;
         }
         thread::sleep(rt, Duration::from_millis(NAP));
-        let Some(passed) = stopwatch.seconds(rt, shared) else {
+        let Some((passed, look)) = stopwatch.look(rt, shared) else {
             return FeedEnd::Fault;
         };
-        shared.complain(rt, passed);
-        shared.sync_journal(rt, passed);
-        let now = stopwatch.tick.saturating_add(passed);
+        shared.complain(rt, passed / SECOND);
+        shared.sync_journal(rt, passed / SECOND);
+        shared.tell_outages(rt);
+        let now = stopwatch.tick.saturating_add(look.moment / SECOND);
         if now <= second {
             continue;
         }

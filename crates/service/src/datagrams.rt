@@ -15,6 +15,7 @@ ghost use Rattle.transport.specs.declared.datagram.Datagram.{Datagram};
 
 use crate::barred::log_barred;
 use crate::listening::{Came, Listening, ROOM};
+use crate::newcomers::Newcomer;
 use crate::request_log::log_answer;
 use crate::shared::{Counter, Shared};
 use admission::{Admission, Arrival, ChallengeCause, Reading, Verdict};
@@ -99,6 +100,8 @@ fn send_refusal<R: Wait + Eprint, W: Wire>(
 {
     if wire.send(rt, to, octets).is_err() {
         shared.count_unsent(wire.send_error());
+    } else {
+        shared.note_sent();
     }
     if shared.logs_requests() {
         log_answer(rt, shared, to, octets);
@@ -217,19 +220,32 @@ impl<W: Ear> SipDesk<W> {
         !is_near
     }
 
+    /// Whether a source with so many live subscriptions may have no more.
+    fn is_full(&self, live: usize) -> bool {
+        match self.admission.per_source {
+            Some(most) => live >= most as usize,
+            None => false,
+        }
+    }
+
     /// How many live subscriptions the source of a request outside a dialog has, where it may have so many only. 0 of any other: nobody
-    /// asks.
-    fn live_from<R: Wait>(
-        &self,
-        rt: &R,
-        shared: &Shared,
-        request: &Request,
-        source: Addr,
-    ) -> usize {
-        if self.admission.per_source.is_none() || request.head.to.tag.is_some() {
+    /// asks. 0 of one that was let through and comes again: it is answered as it was before.
+    fn live_from<R: Wait>(&self, rt: &R, shared: &Shared, newcomer: Newcomer<'_>) -> usize {
+        if self.admission.per_source.is_none() || newcomer.request.head.to.tag.is_some() {
             return 0;
         }
-        shared.live_from(rt, watchers::source(source))
+        let live = shared.live_from(rt, watchers::source(newcomer.source));
+        if self.is_full(live) && shared.is_again(rt, newcomer) {
+            return 0;
+        }
+        live
+    }
+
+    /// Notes a request outside a dialog that is let through, where each source may have so many subscriptions only.
+    fn note_newcomer<R: Wait>(&self, rt: &R, shared: &Shared, newcomer: Newcomer<'_>) {
+        if self.admission.per_source.is_some() && newcomer.request.head.to.tag.is_none() {
+            shared.note_newcomer(rt, newcomer);
+        }
     }
 
     /// The user who made the dialog that a request is in, as a number, where users show passwords and that is known.
@@ -244,10 +260,10 @@ impl<W: Ear> SipDesk<W> {
     }
 
     /// What is known of a request beside itself.
-    fn known<R: Wait>(&self, rt: &R, shared: &Shared, request: &Request, source: Addr) -> Known {
+    fn known<R: Wait>(&self, rt: &R, shared: &Shared, newcomer: Newcomer<'_>) -> Known {
         Known {
-            live: self.live_from(rt, shared, request, source),
-            owner: self.owner(rt, shared, request),
+            live: self.live_from(rt, shared, newcomer),
+            owner: self.owner(rt, shared, newcomer.request),
         }
     }
 
@@ -340,11 +356,17 @@ impl<W: Ear> SipDesk<W> {
                 send_on(rt, port, shared, Event::Reply(response))
             }
             Ok(Message::Request(request)) => {
-                let known = self.known(rt, shared, &request, source);
+                let newcomer = Newcomer {
+                    request: &request,
+                    source,
+                    moment,
+                };
+                let known = self.known(rt, shared, newcomer);
                 let arrival = arrival(octets, Reading::Request(&request), source, moment, known);
                 if !self.admits(rt, alloc, shared, arrival) {
                     return true;
                 }
+                self.note_newcomer(rt, shared, newcomer);
                 self.note_user(rt, alloc, shared, arrival);
                 send_on(rt, port, shared, Event::Request(source, request))
             }

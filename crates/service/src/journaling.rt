@@ -4,7 +4,7 @@
 //! before it sends what it took: so many events that come together cost one write.
 //!
 //! So a service that is killed goes on where it was: who reads the journal plays the events again. What is written is in the system's
-//! hands then, which outlives the process. What it brings to the disk, and when, is said by [`Upkeep::sync`].
+//! hands then, which outlives the process. When it is brought to the disk, which outlives the machine, [`Syncing`] says.
 
 use crate::shelf::{Chore, Limits, Loss, Shelf};
 use crate::volume::Volume;
@@ -27,6 +27,17 @@ const NO_ERROR: u32 = 0;
 /// answered or given up (RFC 3261 section 17.1.2.2), so the file before it may go.
 pub const SETTLED: u64 = 40;
 
+/// When what was written is brought to the disk.
+#[derive(Clone, Copy)]
+pub enum Syncing {
+    /// When the system likes.
+    Never,
+    /// Every so many seconds, by a thread that delays no send.
+    Each(u32),
+    /// Behind each write, before anything is sent of it, and before a line is answered `ok`: each of these awaits the disk.
+    Always,
+}
+
 /// How a journal is kept.
 #[derive(Drop)]
 pub struct Upkeep {
@@ -38,8 +49,8 @@ pub struct Upkeep {
     pub age: u64,
     /// For how many seconds the file in which a service goes on was the current one before. 0: it is new.
     pub been: u64,
-    /// Every how many seconds the system brings to the disk what was written. None: when it likes.
-    pub sync: Option<u32>,
+    /// When what was written is brought to the disk.
+    pub sync: Syncing,
 }
 
 /// The journal of a service that runs. All its threads share it.
@@ -53,7 +64,7 @@ pub struct Journal {
     wanted: Vec<AtomicBool>,
     /// How many bytes the current file has.
     bytes: AtomicU64,
-    /// Whether records wait to be written.
+    /// Whether a record waits to be written of an event that has outs. One of an event without any waits for the next such: nothing of it leaves.
     waits: AtomicBool,
     /// The number of the system's error at the last record that wasn't written, or NO_ERROR.
     error: AtomicU32,
@@ -123,30 +134,83 @@ impl Journal {
         shelf.take_lost()
     }
 
-    /// A worker handled an event, and nothing of it was posted yet: its record waits to be written. How many records are lost.
-    pub(crate) fn handled<R: Wait>(&self, rt: &R, worker: u32, event: &Event) -> u64 {
+    /// Has the system bring the current file to the disk. No lock is held meanwhile. Where it isn't the one that was written, it was begun
+    /// since, and has all that was.
+    fn sync_current<R: Wait>(&self, rt: &R) -> io::Result<()> {
+        let handle = self.shelf.lock(rt).current().handle();
+        match handle {
+            Ok(file) => file.sync_data(),
+            Err(error) => Err(error),
+        }
+    }
+
+    /// Brings to the disk what was just written, where that comes before all else. How many records are lost by that.
+    fn bring_to_disk<R: Wait>(&self, rt: &R) -> u64 {
+        let Syncing::Always = self.upkeep.sync else {
+            return 0;
+        };
+        let Err(error) = self.sync_current(rt) else {
+            return 0;
+        };
         let mut shelf = self.shelf.lock(rt);
-        let _ = shelf.handled(worker, event);
-        self.waits.store(true, Ordering::SeqCst);
+        if shelf.is_behind() {
+            return 0;
+        }
+        shelf.miss_sync(error.raw_os_error());
         self.note(&mut shelf)
     }
 
-    /// Writes the records that wait: what the workers posted may be sent behind that. How many are lost.
-    pub(crate) fn flush<R: Wait>(&self, rt: &R) -> u64 {
-        if !self.waits.load(Ordering::SeqCst) {
-            return 0;
-        }
+    /// Writes the records that wait. How many are lost.
+    fn write<R: Wait>(&self, rt: &R) -> u64 {
         let mut shelf = self.shelf.lock(rt);
         self.waits.store(false, Ordering::SeqCst);
         let _ = shelf.flush();
         self.note(&mut shelf)
     }
 
-    /// A control line that changes a mailbox of this worker is about to be answered `ok`: that is written. How many records are lost.
-    pub(crate) fn answered<R: Wait>(&self, rt: &R, worker: u32, change: &MailChange) -> u64 {
+    /// The record of a line is written. How many records are lost.
+    fn write_answered<R: Wait>(&self, rt: &R, worker: u32, change: &MailChange) -> u64 {
         let mut shelf = self.shelf.lock(rt);
         let _ = shelf.answered(worker, change);
         self.note(&mut shelf)
+    }
+
+    /// A worker handled an event, and posts outs of it next, or has none: its record waits to be written. How many records are lost.
+    pub(crate) fn handled<R: Wait>(
+        &self,
+        rt: &R,
+        worker: u32,
+        event: &Event,
+        has_outs: bool,
+    ) -> u64 {
+        let mut shelf = self.shelf.lock(rt);
+        let _ = shelf.handled(worker, event);
+        if has_outs {
+            self.waits.store(true, Ordering::SeqCst);
+        }
+        self.note(&mut shelf)
+    }
+
+    /// Writes the records that wait, where one of them is of an event with outs: what the workers posted may be sent behind that. How many
+    /// are lost.
+    pub(crate) fn flush<R: Wait>(&self, rt: &R) -> u64 {
+        if self.waits.load(Ordering::SeqCst) {
+            self.write_all(rt)
+        } else {
+            0
+        }
+    }
+
+    /// Writes all records that wait. How many are lost.
+    pub(crate) fn write_all<R: Wait>(&self, rt: &R) -> u64 {
+        let lost = self.write(rt);
+        lost.saturating_add(self.bring_to_disk(rt))
+    }
+
+    /// A control line that changes a mailbox of this worker is about to be answered `ok`: that is written. How many records are lost.
+    pub(crate) fn answered<R: Wait>(&self, rt: &R, worker: u32, change: &MailChange) -> u64 {
+        let lost = self.write_answered(rt, worker, change);
+        lost.saturating_add(self.bring_to_disk(rt))
     }
 
     /// A control line is about to be answered `ok` that is unknown for want of memory. Nothing more is written then. How many records are lost.
@@ -256,16 +320,13 @@ impl Journal {
     /// Has the system bring to the disk what was written, where the last time is long enough ago. No lock is held meanwhile. Where it can't
     /// that is tried again the next time: a process that is killed loses nothing by it.
     pub(crate) fn sync<R: Wait>(&self, rt: &R, now: u64) {
-        let Some(seconds) = self.upkeep.sync else {
+        let Syncing::Each(seconds) = self.upkeep.sync else {
             return;
         };
         if now.saturating_sub(self.synced.load(Ordering::SeqCst)) < u64::from(seconds) {
             return;
         }
         self.synced.store(now, Ordering::SeqCst);
-        let handle = self.shelf.lock(rt).current().handle();
-        if let Ok(file) = handle {
-            let _ = file.sync_data();
-        }
+        let _ = self.sync_current(rt);
     }
 }

@@ -2,13 +2,18 @@
 
 ghost use Rattle.service.specs.Admitted.{EachIsVouched, EachAnswerIsSentOn, OpenHearsAll};
 ghost use Rattle.service.specs.Running.{BeginsAnewLaw};
-ghost use Rattle.service.specs.Sending.{EachRepeatIsOfANotify, WithoutRepeatsLaw};
+ghost use Rattle.service.specs.Sending.{EachRepeatIsOfANotify, EachTryIsOfANotify, WithoutRepeatsLaw};
 ghost use Rattle.service.specs.Taken.{EachForeignIsSilent, EachOwnIsSilent};
 
 /// What is sent again is the datagram of a NOTIFY that was put before, half a second before at least and less than 32 seconds before
 /// (RFC 3261 section 17.1.2.2), and no answer that ends it was noted since. One that was unanswered at the start counts as put then.
 pub fn each_repeat()
     ensures { EachRepeatIsOfANotify }
+{}
+
+/// The same of what is tried while no send succeeds.
+pub fn each_try()
+    ensures { EachTryIsOfANotify }
 {}
 
 /// But for repeats what is sent are just the datagrams of the outs, in order.

@@ -8,6 +8,7 @@ ghost use Rattle.transport.specs.Wires.{Grows};
 ghost use Rattle.feeds.specs.declared.sending.EmitReport.{EmitReport};
 ghost use Rattle.feeds.specs.Emitted as spec;
 ghost use Rattle.feeds.specs.Emitted.{MayMeet, Writes, sent_datagrams, fails_to_send, is_start};
+ghost use Rattle.service.specs.Departing.{Takes, next_outs};
 ghost use Rattle.service.specs.Keeping.{AreKept};
 ghost use Rattle.service.specs.Sending.{Act, IsSentOut, fates, outflow, taking};
 ghost use Rattle.service.specs.Watched.{AreRowed};
@@ -21,6 +22,7 @@ use feeds::{Fate, Next, next_out, put_out};
 use notifier_model::{Event, Out};
 use queues::outbox::Taker;
 use std::alloc::{AllocError, Global};
+use std::collections::VecDeque;
 use std::fs::File;
 use std::io::Write;
 use std::rt::{Clock, Files};
@@ -37,18 +39,27 @@ const QUIET_NAP: u64 = 1000;
 /// The same where NOTIFYs are due again that may not leave yet.
 const PACED_NAP: u64 = 1;
 
-/// Notes why an out was not sent, where the system says so.
+/// How many outs are taken at once at most where a journal is kept, besides the first.
+const AT_ONCE: u32 = 64;
+
+/// How many are taken besides the first. Where no journal is kept they would wait in another place alone.
+fn taken_at_once(shared: &Shared) -> u32 {
+    if shared.has_journal() { AT_ONCE } else { 0 }
+}
+
+/// Notes whether a datagram was sent, and why not, where the system says so.
 fn note_error<W: Wire>(shared: &Shared, wire: &W, out: &Out, fate: Fate) {
     match (out, fate) {
         (Out::Answer { .. } | Out::Notify { .. }, Fate::Failed) => {
             shared.note_send_error(wire.send_error());
         }
+        (Out::Answer { .. } | Out::Notify { .. }, Fate::Sent) => shared.note_sent(),
         _ => {}
     }
 }
 
-/// Hands over to the journal what workers handle, wakes the thread that sends when one posts, and closes the service where one runs out of memory:
-/// what is sent to that worker nobody would handle any more.
+/// Hands over to the journal what workers handle, asks them which subscriptions they ended, wakes the thread that sends when one posts, and
+/// closes the service where one runs out of memory: what is sent to that worker nobody would handle any more.
 #[derive(Drop)]
 pub(crate) struct Waker {
     unparker: Unparker,
@@ -74,7 +85,8 @@ impl Gate for Waker {
 
     fn handled<R: Wait>(&self, rt: &R, worker: u32, event: &Event, outs: &[Out]) {
         self.shared.follow_dialogs(rt, event, outs);
-        self.shared.note_handled(rt, worker, event);
+        self.shared
+            .note_handled(rt, worker, event, !outs.is_empty());
     }
 
     fn posted(&self, _worker: u32) {
@@ -87,6 +99,15 @@ impl Gate for Waker {
 
     fn book<R: Wait>(&self, rt: &R, worker: u32, written: Vec<u8>) {
         self.shared.write_book(rt, worker, written.as_slice());
+    }
+
+    fn asked<R: Wait>(&self, rt: &R, worker: u32) -> Option<Vec<String>> {
+        self.shared.roll_asked(rt, worker)
+    }
+
+    fn gone<R: Wait>(&self, rt: &R, _worker: u32, tags: Vec<String>) {
+        self.shared.tell_gone(rt, tags);
+        self.unparker.unpark();
     }
 
     fn give_up(&self, worker: u32) {
@@ -104,6 +125,7 @@ pub struct Exit<W, F> {
 /// What is to be sent: what the workers post, and the NOTIFYs that wait for their answers.
 #[derive(Drop)]
 pub(crate) struct Outgoing {
+    pub(crate) alloc: Global,
     pub(crate) taker: Taker,
     pub(crate) workers: u32,
     pub(crate) waiting: Waiting,
@@ -126,13 +148,17 @@ impl Outgoing {
     /// Waits where nothing was posted: until a worker posts, but not for long, where nothing was done for some turns.
     fn rest<R: Wait + Clock>(&self, rt: &R, watch: &Watch) {
         if !watch.yields() {
-            self.parker
-                .park_timeout(rt, Duration::from_millis(self.nap(watch.now())));
+            let nap = if watch.stands() {
+                NAP
+            } else {
+                self.nap(watch.now())
+            };
+            self.parker.park_timeout(rt, Duration::from_millis(nap));
         }
     }
 }
 
-/// An out that was taken of the outbox at this moment, and is to leave.
+/// An out that was taken of the outbox, and is to leave at this moment.
 #[derive(Drop)]
 struct Leaving {
     now: u64,
@@ -143,29 +169,148 @@ struct Leaving {
     ghost in_range: { now < 2 ^ 63 },
 }
 
-impl Leaving {
-    /// This out, taken at this moment. Nothing was written since.
-    fn new(now: u64, out: Out) -> Leaving
-        requires in_range { now < 2 ^ 63 }
-        ensures now { result.now ≡ now }
-        ensures out { result.out ≡ out }
-        ensures unwritten { result.is_written ≡ false }
+/// Outs that were taken of the outbox and are to leave, in their order. Where a journal is kept all that is posted by a moment is taken at
+/// once: so one write does for all their records.
+#[derive(Drop)]
+struct Departing {
+    outs: VecDeque<Out>,
+    /// Whether the records that wait for the journal were written since the last take.
+    is_written: bool,
+}
+
+impl Departing {
+    /// Nothing was taken.
+    fn new(alloc: Global) -> Departing
+        ensures none { result.outs.items ≡ [] }
     {
-        Leaving {
-            now,
-            out,
+        Departing {
+            outs: VecDeque::new(alloc),
             is_written: false,
         }
     }
 
-    /// Writes the records that wait for the journal: from now on the out may leave.
+    /// Whether all that was taken has left.
+    fn is_empty(&self) -> bool
+        ensures { result ≡ true → self.now.outs.items ≡ [] }
+    {
+        self.outs.is_empty()
+    }
+
+    /// Takes what is next of the outbox, and counts an end mark. The record of an out may wait from now on.
+    #[tactic(auto, using(crate::proofs::Departing::takes_next))]
+    fn take<R: Wait>(&mut self, rt: &R, taker: &mut Taker, left: &mut u32, shared: &Shared) -> Next
+        ensures taken { Takes taker.old taker.new left.old left.new (next_outs result) }
+        ensures outs { self.new.outs ≡ self.old.outs }
+        ensures unwritten { self.new.is_written ≡ false }
+    {
+        self.is_written = false;
+        let next = next_out(rt, taker, left);
+        if let Next::Ended = &next {
+            shared.count(Counter::WorkerEnded);
+        }
+        next
+    }
+
+    /// Takes what is next of the outbox behind those that were taken, where there is room. Whether there may be more.
+    fn add<R: Wait>(&mut self, rt: &R, taker: &mut Taker, left: &mut u32, shared: &Shared) -> bool
+        ensures taken { (outs : List Out) × Takes taker.old taker.new left.old left.new outs
+            × (self.new.outs.items ≡ self.old.outs.items ++ outs) }
+        ensures unwritten { self.new.is_written ≡ true → (self.old.is_written ≡ true) × (taker.new ≡ taker.old) }
+    {
+        if self.outs.reserve(1).is_err() {
+            return false;
+        }
+        match self.take(rt, taker, left, shared) {
+            Next::Out(out) => {
+                self.outs.push_back_reserved(out);
+                true
+            }
+            Next::Ended => true,
+            Next::Nothing => false,
+        }
+    }
+
+    /// Takes what else is posted by now, as far as there is room.
+    fn fill<R: Wait>(&mut self, rt: &R, taker: &mut Taker, left: &mut u32, shared: &Shared)
+        ensures taken { (outs : List Out) × Takes taker.old taker.new left.old left.new outs
+            × (self.new.outs.items ≡ self.old.outs.items ++ outs) }
+        ensures unwritten { self.new.is_written ≡ true → (self.old.is_written ≡ true) × (taker.new ≡ taker.old) }
+    {
+        for _ in 0..taken_at_once(shared) {
+            if !self.add(rt, taker, left, shared) {
+                return;
+            }
+        }
+    }
+
+    /// What is next of the outbox, where all that was taken has left. Behind an out it takes what else is posted by now.
+    fn refill<R: Wait>(
+        &mut self,
+        rt: &R,
+        taker: &mut Taker,
+        left: &mut u32,
+        shared: &Shared,
+    ) -> Next
+        requires none { self.old.outs.items ≡ [] }
+        ensures taken { (outs : List Out) × Takes taker.old taker.new left.old left.new outs
+            × (self.old.outs.items ++ outs ≡ next_outs result ++ self.new.outs.items) }
+        ensures unwritten { self.new.is_written ≡ true → (self.old.is_written ≡ true) × (taker.new ≡ taker.old) }
+    {
+        match self.take(rt, taker, left, shared) {
+            Next::Out(out) => {
+                self.fill(rt, taker, left, shared);
+                Next::Out(out)
+            }
+            other => other,
+        }
+    }
+
+    /// What is next: an out that was taken before, else what is next of the outbox.
+    fn next_out<R: Wait>(
+        &mut self,
+        rt: &R,
+        taker: &mut Taker,
+        left: &mut u32,
+        shared: &Shared,
+    ) -> Next
+        // All leave in the order in which they are taken.
+        ensures taken { (outs : List Out) × Takes taker.old taker.new left.old left.new outs
+            × (self.old.outs.items ++ outs ≡ next_outs result ++ self.new.outs.items) }
+        // What is taken now may not leave before a write.
+        ensures unwritten { self.new.is_written ≡ true → (self.old.is_written ≡ true) × (taker.new ≡ taker.old) }
+    {
+        if self.is_empty() {
+            return self.refill(rt, taker, left, shared);
+        }
+        match self.outs.pop_front() {
+            Some(out) => Next::Out(out),
+            None => Next::Nothing,
+        }
+    }
+
+    /// Writes the records that wait for the journal, unless nothing was taken since that was done: from now on what was taken may leave.
     fn write<R: Wait>(&mut self, rt: &R, shared: &Shared)
-        ensures now { self.new.now ≡ self.old.now }
-        ensures out { self.new.out ≡ self.old.out }
+        ensures outs { self.new.outs ≡ self.old.outs }
         ensures written { self.new.is_written ≡ true }
     {
-        shared.write_journal(rt);
-        self.is_written = true;
+        if !self.is_written {
+            shared.write_journal(rt);
+            self.is_written = true;
+        }
+    }
+
+    /// This out, which was taken, at the moment in which it leaves.
+    fn leaving(&self, now: u64, out: Out) -> Leaving
+        requires in_range { now < 2 ^ 63 }
+        ensures now { result.now ≡ now }
+        ensures out { result.out ≡ out }
+        ensures written { result.is_written ≡ self.now.is_written }
+    {
+        Leaving {
+            now,
+            out,
+            is_written: self.is_written,
+        }
     }
 }
 
@@ -229,29 +374,30 @@ pub(crate) fn send_outs<R: Wait + Clock + Files<File = File> + Eprint, W: Wire, 
     ensures ended { AllEnded outgoing.old.taker.workers outgoing.new.taker.got }
 {
     let mut left = outgoing.workers;
+    let mut departing = Departing::new(outgoing.alloc);
     let mut watch = Watch::new(outgoing.linger);
     for _ in rt.forever() {
         watch.look(rt, shared);
-        if watch.is_over(left, outgoing.waiting.len()) {
+        if departing.is_empty() && watch.is_over(left, outgoing.waiting.len()) {
             outgoing.waiting.settle(rt, shared);
             outgoing.waiting.given_up.tell_others(rt, shared);
             outgoing.waiting.refusals.tell_others(rt, shared);
             shared.count_lost(outgoing.waiting.len());
-            shared.write_journal(rt);
+            shared.end_journal(rt);
             return;
         }
         // What is sent again, or was held back, was taken before: its record is written.
         let has_more = outgoing
             .waiting
             .tend(rt, &mut exit.wire, &mut watch, shared);
-        match next_out(rt, &mut outgoing.taker, &mut left) {
+        match departing.next_out(rt, &mut outgoing.taker, &mut left, shared) {
             Next::Out(out) => {
-                let mut leaving = Leaving::new(watch.now(), out);
-                leaving.write(rt, shared);
-                send_on(rt, exit, &mut outgoing.waiting, leaving, shared);
+                departing.write(rt, shared);
+                let next = departing.leaving(watch.now(), out);
+                send_on(rt, exit, &mut outgoing.waiting, next, shared);
                 watch.count_out();
             }
-            Next::Ended => shared.count(Counter::WorkerEnded),
+            Next::Ended => {}
             Next::Nothing => {
                 watch.pause(has_more);
                 outgoing.waiting.settle_few(rt, shared);

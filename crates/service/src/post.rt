@@ -1,5 +1,5 @@
 //! What one thread of a service hands to another: notes of answers to NOTIFYs, transfers that nobody was told to start, questions and
-//! their pages.
+//! their pages, and tags of subscriptions.
 ghost use Rattle.std.specs.Prelude.{◌≡◌, ◌<◌, IfOk, IfSome, option_copied};
 ghost use Rattle.service.specs.Noted as spec;
 
@@ -34,6 +34,8 @@ pub(crate) enum Parcel {
     Question(Inquiry),
     /// What that is told, for the thread that takes lines.
     Page(WatchersPage),
+    /// Local tags of subscriptions: a worker is asked for them, or says that they are gone.
+    Tags(Vec<String>),
 }
 
 /// Parcels from one thread to another, in order. All of a service are of this one type, whatever they carry: no function can be proved

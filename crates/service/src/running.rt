@@ -21,6 +21,7 @@ use crate::error::RunError;
 use crate::feeding::{Feeder, Task, start_feeder};
 use crate::lines::{ControlDesk, ControlPort};
 use crate::outs::{Exit, Outgoing, Waker, send_outs};
+use crate::roll::RollCall;
 use crate::sending::Waiting;
 use crate::shared::Shared;
 use crew::{Crew, Port, Report};
@@ -56,6 +57,8 @@ pub struct ServiceWork {
     pub repeats: u32,
     /// For how many seconds at most it waits, at its end, for the answers to the last NOTIFYs.
     pub linger: u32,
+    /// How many seconds at most its clock leaves out in which each send fails. 0: none.
+    pub outage: u32,
 }
 
 /// What came of a service.
@@ -418,9 +421,12 @@ fn make_ready<R: Wait>(
         begins,
         repeats: _,
         linger,
+        outage,
     } = work;
     let sources = new_sources(alloc, workers, sip, desk, begins.tick)?;
     shared.set_workers(workers);
+    shared.allow_outages(outage);
+    shared.set_roll(RollCall::new(alloc, workers)?);
     waiting.begin(rt, begins, &shared);
     let linger = u64::from(linger) * 1000;
     let sending = Sending {
@@ -459,6 +465,7 @@ where
         shared,
     } = sending;
     let outgoing = Outgoing {
+        alloc,
         taker,
         workers,
         waiting,

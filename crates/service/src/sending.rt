@@ -1,13 +1,12 @@
 //! The NOTIFYs that nobody has answered yet, sent again (RFC 3261 section 17.1.2).
 ghost use Rattle.std.specs.Prelude.{◌≡◌, ◌<◌, ◌^◌, ℕ, List, [], ◌∷◌, ◌++◌, map, true, is_some, IfOk, IfSome, IfNone, OnSome};
 ghost use Rattle.service.specs.Watched.{IsSeen, AreRowed, noted_rows};
-ghost use Rattle.service.specs.Watched.{is_doubtful as doubtful};
 ghost use Rattle.watchers.specs.Rows.{without};
 ghost use Rattle.transport.specs.Wires.{Grows};
 ghost use Rattle.transport.specs.Devices.{rises};
-ghost use Rattle.feeds.specs.Emitted.{wire_seen, sent_datagrams, count, fails_to_send};
+ghost use Rattle.feeds.specs.Emitted.{WireSeen, wire_seen, sent_datagrams, count, fails_to_send};
 ghost use Rattle.first_contact.specs.Steps.{notice_of};
-ghost use Rattle.transactions.specs.Machine.{State};
+ghost use Rattle.transactions.specs.Machine.{State, answer};
 ghost use Rattle.transactions.specs.Runs.{after, state_after};
 ghost use Rattle.watchers.specs.Rows.{Row, answered_rows};
 ghost use Rattle.service.specs.Keeping.{act_of, AreKept, GoesOnBy};
@@ -17,6 +16,7 @@ ghost use Rattle.service.specs.Taken.{failures_then};
 ghost use Rattle.service.specs.Noted.{answer_of};
 ghost use Rattle.service.specs.declared.post.Note.{Note};
 
+use crate::doubts::{Doubts, NEVER_SENT};
 use crate::fates::{Put, Timed, tell_fate};
 use crate::given_up::GivenUp;
 use crate::post::Note;
@@ -27,6 +27,7 @@ use circular_buffer::HeapCircularBuffer;
 use feeds::{Fate, Idle};
 use first_contact::{Contacts, Notice, Offered};
 use notifier_model::{NotifyOut, Out};
+use outage_clock::Look;
 use sip_text::NoMemory;
 use std::alloc::Global;
 use std::fs::File;
@@ -42,9 +43,8 @@ const NOTES_AT_ONCE: u32 = OUTS_AT_ONCE;
 /// The status of an answer that says that the dialog or its usage is gone (RFC 3261 section 12.2.1.2).
 const GONE: u16 = 481;
 
-/// How many milliseconds a NOTIFY waits for an answer until its worker may have given it up. It counts in whole seconds, so for it 32 of
-/// them may be over up to one earlier. It tells nobody.
-const DOUBT: u64 = 31_000;
+/// The least status of a final answer (RFC 3261 section 7.2).
+const FINAL: u16 = 200;
 
 /// How many NOTIFYs are sent again within a millisecond at most: so the answers to many of them don't overflow the buffer of the
 /// socket by which they come, and what the workers post never waits behind them.
@@ -70,10 +70,16 @@ const SECOND: u64 = 1000;
 pub(crate) struct Watch {
     /// The moment of the last look at the clock, in milliseconds.
     moment: u64,
+    /// For how many seconds the service was up then.
+    second: u64,
+    /// Whether time stood still then, since each send fails.
+    stands: bool,
     /// How many NOTIFYs may be sent again in it.
     repeats: u32,
     /// How many outs followed one another since the last look at the notes.
     outs: u32,
+    /// Whether nothing was posted in a turn since then.
+    saw_none: bool,
     /// The turns in a row in which nothing was done.
     idle: Idle,
     /// For how many milliseconds at most the answers to the last NOTIFYs are waited for, and until when.
@@ -86,8 +92,11 @@ impl Watch {
     pub(crate) fn new(linger: u64) -> Watch {
         Watch {
             moment: 0,
+            second: 0,
+            stands: false,
             repeats: PACE,
             outs: 0,
+            saw_none: false,
             idle: Idle::new(),
             linger,
             until: None,
@@ -109,6 +118,7 @@ impl Watch {
 
     /// Nothing was posted in this turn. Where more is to be done all the same, the next turn goes on with it.
     pub(crate) fn pause(&mut self, has_more: bool) {
+        self.saw_none = true;
         if has_more {
             self.idle.end();
         } else {
@@ -128,9 +138,12 @@ impl Watch {
         !is_first && self.outs < OUTS_AT_ONCE && self.idle.is_short()
     }
 
-    /// The notes and what is due are looked at in this turn.
-    fn begin_look(&mut self) {
+    /// The notes and what is due are looked at in this turn. Whether nothing was posted in one since the last time.
+    fn begin_look(&mut self) -> bool {
         self.outs = 0;
+        let was_empty = self.saw_none;
+        self.saw_none = false;
+        was_empty
     }
 
     /// Looks at the clock, unless outs follow one another: an out that comes behind a wait is of a moment of its own. Where the clock
@@ -139,19 +152,45 @@ impl Watch {
         if self.idle.is_none() && self.outs % OUTS_A_LOOK != 0 {
             return;
         }
-        match shared.moment(rt) {
-            Some(moment) if moment > self.moment => {
-                if self.moment == 0 || self.moment / SECOND < moment / SECOND {
-                    shared.look_at_drops(rt);
-                    shared.look_at_journal(rt, moment / SECOND);
-                }
-                let passed = moment.saturating_sub(self.moment).min(CATCH_UP);
-                self.repeats = PACE.saturating_mul(passed as u32);
-                self.moment = moment;
-            }
-            Some(_) => {}
-            None => self.until = Some(0),
+        let Some((reading, look)) = shared.look(rt) else {
+            self.until = Some(0);
+            return;
+        };
+        self.begin_second(rt, shared, reading / SECOND);
+        self.begin_moment(look);
+    }
+
+    /// The service is up for so many seconds. In each the files are looked at, and where time stands still one NOTIFY is tried.
+    fn begin_second<R: Wait + Files<File = File>>(&mut self, rt: &R, shared: &Shared, second: u64) {
+        if self.moment > 0 && second <= self.second {
+            return;
         }
+        self.second = second;
+        shared.look_at_drops(rt);
+        shared.look_at_journal(rt, second);
+        if self.stands {
+            self.repeats = 1;
+        }
+    }
+
+    /// So the clock was found. As time begins to stand still one NOTIFY is tried at once.
+    fn begin_moment(&mut self, look: Look) {
+        self.stands = look.stands;
+        if look.moment <= self.moment {
+            return;
+        }
+        let passed = look.moment.saturating_sub(self.moment).min(CATCH_UP);
+        self.repeats = if look.stands {
+            1
+        } else {
+            PACE.saturating_mul(passed as u32)
+        };
+        self.moment = look.moment;
+    }
+
+    /// Whether time stands still, since each send fails.
+    pub(crate) fn stands(&self) -> bool {
+        self.stands
     }
 
     /// Whether nothing is left to be done, where so many workers haven't ended and so many NOTIFYs wait for their answers.
@@ -178,6 +217,7 @@ fn send_again<R: Wait, W: Wire>(rt: &R, wire: &mut W, due: &Open, shared: &Share
 {
     match wire.send(rt, due.to, due.bytes.as_slice()) {
         Ok(()) => {
+            shared.note_sent();
             shared.count(Counter::Repeat);
             false
         }
@@ -188,33 +228,48 @@ fn send_again<R: Wait, W: Wire>(rt: &R, wire: &mut W, due: &Open, shared: &Share
     }
 }
 
-/// Whether the worker of a NOTIFY may have given it up.
-fn is_doubtful(now: u64, due: &Open) -> bool
-    ensures { result ≡ doubtful now due.now }
-{
-    now.saturating_sub(due.first) >= DOUBT
-}
-
-/// Whether that was so already when it was sent last.
-fn was_doubtful(due: &Open) -> bool {
-    is_doubtful(due.next.saturating_sub(due.interval), due)
-}
-
-/// Counts and tells a NOTIFY that is given up from this moment on.
-fn count_doubtful<R: Eprint>(
+/// Counts and tells a NOTIFY that is given up at this moment.
+fn count_given_up<R: Eprint>(
     rt: &R,
     given_up: &mut GivenUp,
     now: u64,
     unanswered: Unanswered<'_>,
     shared: &Shared,
 ) {
-    let due = unanswered.due;
-    if is_doubtful(now, due) && !was_doubtful(due) {
-        shared.count(Counter::GivenUp);
-        given_up.add(rt, shared, now, unanswered);
-        if shared.logs_requests() {
-            log_unanswered(rt, shared, unanswered);
+    shared.count(Counter::GivenUp);
+    given_up.add(rt, shared, now, unanswered);
+    if shared.logs_requests() {
+        log_unanswered(rt, shared, unanswered);
+    }
+}
+
+/// The local tag and the number of a NOTIFY. None of any other out, or without memory.
+fn notify_name(alloc: Global, out: &Out) -> Option<(String, u32)> {
+    match out {
+        Out::Notify { tag, number, .. } => {
+            Some((String::from_str(alloc, tag.as_str()).ok()?, *number))
         }
+        _ => None,
+    }
+}
+
+/// The worker of this NOTIFY, which isn't sent now, may end its subscription before its answer comes.
+fn doubt(doubts: &mut Doubts, name: Option<(String, u32)>) {
+    let Some((tag, number)) = name else {
+        return;
+    };
+    let now = doubts.moment();
+    doubts.add(tag.as_str(), number, now);
+}
+
+/// This NOTIFY goes out, and so many that waited before it never do.
+fn count_lost(doubts: &mut Doubts, shared: &Shared, name: Option<(String, u32)>, lost: usize) {
+    if lost == 0 {
+        return;
+    }
+    shared.count_held_dropped(lost);
+    if let Some((tag, _)) = name {
+        doubt(doubts, Some((tag, NEVER_SENT)));
     }
 }
 
@@ -244,7 +299,10 @@ fn send_late<R: Wait, W: Wire>(rt: &R, wire: &mut W, out: &Out, shared: &Shared)
     match out {
         Out::Notify { to, bytes, .. } | Out::Answer { to, bytes } => {
             match wire.send(rt, *to, bytes.as_slice()) {
-                Ok(()) => Fate::Sent,
+                Ok(()) => {
+                    shared.note_sent();
+                    Fate::Sent
+                }
                 Err(_) => {
                     shared.note_send_error(wire.send_error());
                     Fate::Failed
@@ -292,6 +350,8 @@ pub(crate) struct Waiting {
     is_off: bool,
     /// Whether it is told how many subscriptions a source has.
     counts_sources: bool,
+    /// The subscriptions that their workers may have ended untold.
+    doubts: Doubts,
     pub(crate) given_up: GivenUp,
     pub(crate) refusals: Refusals,
 }
@@ -318,6 +378,7 @@ impl Waiting {
             is_off: contacts.places() == 0,
             contacts,
             counts_sources: per_source.is_some(),
+            doubts: Doubts::new(alloc),
             given_up: GivenUp::new(),
             refusals: Refusals::new(),
         })
@@ -363,6 +424,7 @@ impl Waiting {
         if self.is_off {
             return Some(out);
         }
+        let name = notify_name(self.alloc, &out);
         let notice = match Notice::new(out) {
             Ok(notice) => notice,
             Err(out) => return Some(out),
@@ -370,7 +432,7 @@ impl Waiting {
         let may_begin = self.has_room(rt, shared);
         match self.contacts.offer(may_begin, notice) {
             Ok(Offered::Through { notice, lost }) => {
-                shared.count_held_dropped(lost);
+                count_lost(&mut self.doubts, shared, name, lost);
                 let Notice { out, .. } = notice;
                 return Some(out);
             }
@@ -378,6 +440,7 @@ impl Waiting {
             Ok(Offered::Lost) => shared.count_held_dropped(1),
             Err(_) => shared.count_held_dropped(1),
         }
+        doubt(&mut self.doubts, name);
         self.settle(rt, shared);
         None
     }
@@ -475,6 +538,10 @@ impl Waiting {
         else {
             return;
         };
+        if self.transactions.len() >= self.contacts.places() as usize {
+            // It isn't sent again, so nobody is told that it stays unanswered.
+            self.doubts.add(tag.as_str(), number, now);
+        }
         let kept = self.transactions.keep(now, tag, number, to, bytes);
         if kept.is_err() && !self.is_off {
             shared.count(Counter::Once);
@@ -542,6 +609,9 @@ impl Waiting {
             self.refusals.add(rt, shared, now, refusal);
         }
         let gone = self.gone_source(note);
+        if note.status >= FINAL {
+            self.doubts.answer(now, note.tag.as_str(), note.number);
+        }
         self.transactions
             .answer(note.tag.as_str(), note.number, note.status);
         self.watchers
@@ -624,8 +694,55 @@ impl Waiting {
         }
     }
 
-    /// Sends the NOTIFY again that is due at this moment, or gives it up. Its row goes too where its worker may have given it up: it comes
-    /// back with the next NOTIFY, if the subscription goes on. False where none is due.
+    /// The subscription with this tag is gone: its worker ended it. So is its row, and none of its NOTIFYs is sent any more, whether it
+    /// waits for an answer or for its first send.
+    fn end_gone<R: Wait>(&mut self, rt: &R, tag: &str, shared: &Shared)
+        ensures transactions { self.new.transactions ≡ answer self.old.transactions tag.now 0 481 }
+        ensures rows { self.new.watchers.rows ≡ without tag.now self.old.watchers.rows }
+        ensures burst { self.new.burst ≡ self.old.burst }
+    {
+        let source = end_row(&mut self.watchers, tag);
+        self.transactions.answer(tag, 0, GONE);
+        let passed = self.contacts.answer(tag, 0, GONE);
+        shared.count_held_dropped(passed.lost);
+        self.tell_source(rt, shared, source);
+    }
+
+    /// The same of the subscriptions with these tags.
+    fn end_all<R: Wait>(&mut self, rt: &R, tags: Vec<String>, shared: &Shared)
+        ensures ended { (acts : List Act) × (fates acts ≡ [])
+            × ((wire : WireSeen) → Does acts self.old.transactions self.new.transactions wire wire)
+            × AreRowed self.old.transactions acts self.old.watchers.rows self.new.watchers.rows }
+        ensures burst { self.new.burst ≡ self.old.burst }
+    {
+        for tag in tags {
+            self.end_gone(rt, tag.as_str(), shared);
+        }
+    }
+
+    /// Sends the NOTIFYs that waited until now, and ends what workers told as gone.
+    fn catch_up<R: Wait + Eprint, W: Wire>(
+        &mut self,
+        rt: &R,
+        wire: &mut W,
+        late: Late,
+        shared: &Shared,
+    )
+        requires in_range { late.now < 2 ^ 63 }
+        ensures does { (acts : List Act) × (fates acts ≡ [])
+            × Does acts self.old.transactions self.new.transactions
+            (wire_seen W.taken W.failures wire.old) (wire_seen W.taken W.failures wire.new)
+            × AreRowed self.old.transactions acts self.old.watchers.rows self.new.watchers.rows }
+        ensures given { Grows (W.given wire.old) (W.given wire.new) [] }
+        ensures burst { self.new.burst ≡ self.old.burst }
+    {
+        self.release_all(rt, wire, late, shared);
+        let over = self.doubts.over(&self.watchers);
+        self.end_all(rt, over, shared);
+    }
+
+    /// Sends the NOTIFY again that is due at this moment, or gives it up. Its row stays: where its worker ends the subscription, that says
+    /// so. False where none is due.
     fn repeat<R: Wait + Eprint, W: Wire>(
         &mut self,
         rt: &R,
@@ -644,29 +761,74 @@ impl Waiting {
         let Some(due) = self.transactions.due(now) else {
             return false;
         };
-        let resource = resource(&self.watchers, due);
-        let unanswered = Unanswered { due, resource };
-        count_doubtful(rt, &mut self.given_up, now, unanswered, shared);
         if due.is_over(now) {
-            let source = end_row(&mut self.watchers, due.tag.as_str());
+            let resource = resource(&self.watchers, due);
+            let unanswered = Unanswered { due, resource };
+            count_given_up(rt, &mut self.given_up, now, unanswered, shared);
             drop_held(&mut self.contacts, due, shared);
+            self.doubts.add(due.tag.as_str(), due.number, due.first);
             self.transactions.turn(now);
-            self.tell_source(rt, shared, source);
             return true;
         }
         send_again(rt, wire, due, shared);
-        if !is_doubtful(now, due) {
-            self.transactions.turn(now);
-            return true;
-        }
-        let source = end_row(&mut self.watchers, due.tag.as_str());
+        self.doubts.sent_again(now, due);
         self.transactions.turn(now);
-        self.tell_source(rt, shared, source);
         true
     }
 
-    /// Takes notes of answers, and sends what waited for them; once none waits, it sends a NOTIFY again that is due, or gives it up. Nothing
-    /// of that while only what is posted counts. True where more may be done at once: notes wait, or another NOTIFY may be due and sent again in this moment.
+    /// While time stands still, since each send fails: tries to send the NOTIFY again that is due. It stays due, so that it is tried until a
+    /// send succeeds. One whose time is over is given up. False where none is due.
+    fn probe<R: Wait + Eprint, W: Wire>(
+        &mut self,
+        rt: &R,
+        wire: &mut W,
+        now: u64,
+        shared: &Shared,
+    ) -> bool
+        requires in_range { now < 2 ^ 63 }
+        ensures does { (acts : List Act) × (fates acts ≡ [])
+            × Does acts self.old.transactions self.new.transactions
+            (wire_seen W.taken W.failures wire.old) (wire_seen W.taken W.failures wire.new)
+            × AreRowed self.old.transactions acts self.old.watchers.rows self.new.watchers.rows }
+        ensures given { Grows (W.given wire.old) (W.given wire.new) [] }
+        ensures burst { self.new.burst ≡ self.old.burst }
+    {
+        let Some(due) = self.transactions.due(now) else {
+            return false;
+        };
+        let is_late = due.is_over(now);
+        if is_late {
+            return self.repeat(rt, wire, now, shared);
+        }
+        send_again(rt, wire, due, shared);
+        true
+    }
+
+    /// Sends the NOTIFY again that is due, or gives it up; while time stands still it is tried alone. False where none is due.
+    fn send_due<R: Wait + Eprint, W: Wire>(
+        &mut self,
+        rt: &R,
+        wire: &mut W,
+        watch: &Watch,
+        shared: &Shared,
+    ) -> bool
+        ensures does { (acts : List Act) × (fates acts ≡ [])
+            × Does acts self.old.transactions self.new.transactions
+            (wire_seen W.taken W.failures wire.old) (wire_seen W.taken W.failures wire.new)
+            × AreRowed self.old.transactions acts self.old.watchers.rows self.new.watchers.rows }
+        ensures given { Grows (W.given wire.old) (W.given wire.new) [] }
+        ensures burst { self.new.burst ≡ self.old.burst }
+    {
+        if watch.stands() {
+            self.probe(rt, wire, watch.now(), shared)
+        } else {
+            self.repeat(rt, wire, watch.now(), shared)
+        }
+    }
+
+    /// Takes notes of answers, sends what waited for them, and ends what workers told as gone; once no note waits, it asks the workers, and
+    /// sends a NOTIFY again that is due, or gives it up. Nothing of that while only what is posted counts. True where more may be done at
+    /// once: notes wait, or another NOTIFY may be due and sent again in this moment.
     pub(crate) fn tend<R: Wait + Eprint, W: Wire>(
         &mut self,
         rt: &R,
@@ -681,25 +843,29 @@ impl Waiting {
         if watch.is_busy() {
             return false;
         }
-        watch.begin_look();
+        let was_empty = watch.begin_look();
         self.settle(rt, shared);
+        self.doubts.turn(rt, watch.now(), was_empty, shared);
         let taken = self.take_notes(rt, watch.now(), shared);
         let late = Late {
             now: watch.now(),
             through: taken.through,
         };
-        self.release_all(rt, wire, late, shared);
+        self.catch_up(rt, wire, late, shared);
         if taken.has_more {
             return true;
         }
+        self.doubts.note_none();
+        self.doubts.look(rt, &self.watchers, shared);
         self.given_up.look(rt, shared, watch.now());
         self.refusals.look(rt, shared, watch.now());
         shared.set_live(self.watchers.len());
         shared.window.answer(rt, watch.now(), &self.watchers);
+        shared.hold_clock(rt, self.transactions.next_moment());
         if watch.repeats == 0 {
             return false;
         }
-        let was_due = self.repeat(rt, wire, watch.now(), shared);
+        let was_due = self.send_due(rt, wire, watch, shared);
         if was_due {
             watch.repeats -= 1;
         }

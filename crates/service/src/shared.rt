@@ -7,14 +7,18 @@ use crate::complaints::Complaints;
 use crate::drops::kernel_drops;
 use crate::journaling::Journal;
 use crate::logging::Log;
+use crate::newcomers::{Newcomer, Newcomers};
+use crate::outages::Outages;
 use crate::owners::{Owners, concerns_dialogs};
 use crate::post::{LostStarts, Notes};
 use crate::refusals::RefusalCounts;
+use crate::roll::RollCall;
 use crate::statuses::Statuses;
 use crate::window::Window;
 use control_lines::ControlAnswer;
 use log_lines::{Record, tell};
 use notifier_model::{Event, Out};
+use outage_clock::Look;
 use package::MailChange;
 use sip_read::{ReadError, Request};
 use sip_text::{Addr, NoMemory};
@@ -54,10 +58,16 @@ pub struct Shared {
     pub(crate) notes: Notes,
     pub(crate) lost_starts: LostStarts,
     pub(crate) window: Window,
+    /// The clock by which NOTIFYs are sent again and given up, and subscriptions end.
+    pub(crate) outages: Outages,
+    /// What workers are asked, once there are some.
+    roll: OnceLock<RollCall>,
     /// What is written of the workers, where that is kept.
     journal: OnceLock<Journal>,
     /// How many live subscriptions each source has, as the thread that sends told it last.
     sources: Mutex<Counts>,
+    /// The requests for new ones that were let through lately, where each source may have so many only.
+    newcomers: Mutex<Newcomers>,
     /// Who made which dialog, where users show passwords.
     owners: Mutex<Owners>,
     /// Whether any user did.
@@ -100,6 +110,7 @@ pub struct Shared {
     // the number of the first worker that ran out of memory, or NOBODY
     spent_worker: AtomicU32,
     control_foreign: AtomicU64,
+    bad_summaries: AtomicU64,
     starts_dropped: AtomicU64,
     per_source: AtomicU64,
     journal_lost: AtomicU64,
@@ -119,7 +130,7 @@ const CAUSES: [&str; 7] = [
 ];
 
 /// Of how many things an operator hears once a minute and at the end.
-pub(crate) const COMPLAINTS: usize = 20;
+pub(crate) const COMPLAINTS: usize = 21;
 
 /// What is counted, each by one.
 #[derive(Clone, Copy)]
@@ -138,7 +149,7 @@ pub enum Counter {
     Failed,
     /// A NOTIFY was sent again.
     Repeat,
-    /// A NOTIFY was given up: nobody answered it for 31 seconds or more.
+    /// A NOTIFY was given up: nobody answered it for 32 seconds.
     GivenUp,
     /// A NOTIFY is not sent again, since as many others wait for their answers as may.
     Once,
@@ -173,6 +184,8 @@ pub enum Counter {
     WorkerEnded,
     /// Of the control lines one from elsewhere than lines are heard from.
     ForeignLine,
+    /// A datagram of a voicemail system told nothing: it came from elsewhere, was no request, or was refused.
+    BadSummary,
     /// A START line was not written, and its transfer fails.
     StartDropped,
     /// A request was refused since its source has as many live subscriptions as it may.
@@ -220,6 +233,7 @@ impl Shared {
         let lost_starts = LostStarts::new(alloc)?;
         let window = Window::new(alloc)?;
         let sources = Mutex::new(Counts::new(alloc));
+        let newcomers = Mutex::new(Newcomers::new(alloc));
         let owners = Mutex::new(Owners::new(alloc));
         let complaints = Mutex::new(Complaints::new());
         let barred_lately = Mutex::new(Barred::new());
@@ -235,8 +249,11 @@ impl Shared {
             notes,
             lost_starts,
             window,
+            outages: Outages::new(),
+            roll: OnceLock::new(),
             journal: OnceLock::new(),
             sources,
+            newcomers,
             owners,
             has_owners: AtomicBool::new(false),
             complaints,
@@ -276,6 +293,7 @@ impl Shared {
             workers_ended: AtomicU64::new(0),
             spent_worker: AtomicU32::new(NOBODY),
             control_foreign: AtomicU64::new(0),
+            bad_summaries: AtomicU64::new(0),
             starts_dropped: AtomicU64::new(0),
             per_source: AtomicU64::new(0),
             journal_lost: AtomicU64::new(0),
@@ -305,6 +323,28 @@ impl Shared {
             }
             Err(_) => None,
         }
+    }
+
+    /// From now on, before the service runs, so many seconds are not counted at most in which each send fails. 0: each is.
+    pub fn allow_outages(&self, seconds: u32) {
+        self.outages.allow(seconds);
+    }
+
+    /// How many milliseconds the service is up, and the moment of its clock, which leaves out its outages and what it stood still for.
+    /// None where the clock can't be read.
+    pub(crate) fn look<R: Wait + Clock>(&self, rt: &R) -> Option<(u64, Look)> {
+        let reading = self.moment(rt)?;
+        Some((reading, self.outages.look(rt, reading)))
+    }
+
+    /// The next NOTIFY is due to be sent again at this moment, if one waits for its answer: so far the clock may run where each send fails.
+    pub(crate) fn hold_clock<R: Wait>(&self, rt: &R, next: Option<u64>) {
+        self.outages.hold(rt, next, self.is_closing());
+    }
+
+    /// Says on standard error which time isn't counted.
+    pub(crate) fn tell_outages<R: Wait + Eprint>(&self, rt: &R) {
+        self.outages.tell(rt, self);
     }
 
     /// Whether no more is taken.
@@ -396,6 +436,7 @@ impl Shared {
             Counter::ControlLine => &self.control_lines,
             Counter::WorkerEnded => &self.workers_ended,
             Counter::ForeignLine => &self.control_foreign,
+            Counter::BadSummary => &self.bad_summaries,
             Counter::StartDropped => &self.starts_dropped,
             Counter::Crowded => &self.per_source,
         };
@@ -431,18 +472,25 @@ impl Shared {
         self.journal.get()?.error()
     }
 
-    /// A worker handled an event, and nothing of it was posted yet: its record waits to be written, where a journal is kept.
-    pub(crate) fn note_handled<R: Wait>(&self, rt: &R, worker: u32, event: &Event) {
+    /// A worker handled an event, and posts outs of it next, or has none: its record waits to be written, where a journal is kept.
+    pub(crate) fn note_handled<R: Wait>(&self, rt: &R, worker: u32, event: &Event, has_outs: bool) {
         if let Some(journal) = self.journal.get() {
-            self.count_unwritten(journal.handled(rt, worker, event));
+            self.count_unwritten(journal.handled(rt, worker, event, has_outs));
         }
     }
 
-    /// Writes the records that wait, where a journal is kept. What was taken of the outbox before may be sent behind that: its events were
-    /// noted before it was posted.
+    /// Writes the records that wait, where a journal is kept and one of them is of an event with outs. What was taken of the outbox before may
+    /// be sent behind that: its events were noted before it was posted.
     pub(crate) fn write_journal<R: Wait>(&self, rt: &R) {
         if let Some(journal) = self.journal.get() {
             self.count_unwritten(journal.flush(rt));
+        }
+    }
+
+    /// Writes all records that wait, where a journal is kept: nothing more is handled.
+    pub(crate) fn end_journal<R: Wait>(&self, rt: &R) {
+        if let Some(journal) = self.journal.get() {
+            self.count_unwritten(journal.write_all(rt));
         }
     }
 
@@ -479,7 +527,8 @@ impl Shared {
     /// once a second.
     pub(crate) fn look_at_journal<R: Wait + Files<File = File>>(&self, rt: &R, now: u64) {
         if let Some(journal) = self.journal.get() {
-            self.count_unwritten(journal.flush(rt));
+            // Also the records of events without outs, which await no send: they wait a second at most.
+            self.count_unwritten(journal.write_all(rt));
             journal.look(rt, now);
         }
     }
@@ -491,8 +540,14 @@ impl Shared {
         }
     }
 
-    /// The system told this number at a send that failed, if it told one.
+    /// A send succeeded.
+    pub(crate) fn note_sent(&self) {
+        self.outages.note_send(true);
+    }
+
+    /// A send failed, at which the system told this number, if it told one.
     pub(crate) fn note_send_error(&self, number: Option<u32>) {
+        self.outages.note_send(false);
         if let Some(number) = number {
             self.send_error.store(number, Ordering::SeqCst);
         }
@@ -532,6 +587,37 @@ impl Shared {
         self.workers.store(u64::from(count), Ordering::SeqCst);
     }
 
+    /// From now on workers are asked so.
+    pub(crate) fn set_roll(&self, roll: RollCall) {
+        if let Err(other) = self.roll.try_set(roll) {
+            drop(other);
+        }
+    }
+
+    /// Asks the workers for the subscriptions with these local tags.
+    pub(crate) fn call_roll<R: Wait>(&self, rt: &R, tags: Vec<String>) {
+        if let Some(roll) = self.roll.get() {
+            roll.ask(rt, self.alloc, tags);
+        }
+    }
+
+    /// For which subscriptions this worker is asked, if for any.
+    pub(crate) fn roll_asked<R: Wait>(&self, rt: &R, worker: u32) -> Option<Vec<String>> {
+        self.roll.get()?.asked(rt, worker)
+    }
+
+    /// A worker has these no more.
+    pub(crate) fn tell_gone<R: Wait>(&self, rt: &R, tags: Vec<String>) {
+        if let Some(roll) = self.roll.get() {
+            roll.tell_gone(rt, tags);
+        }
+    }
+
+    /// Which ones a worker has no more, if one said so.
+    pub(crate) fn hear_gone<R: Wait>(&self, rt: &R) -> Option<Vec<String>> {
+        self.roll.get()?.gone(rt)
+    }
+
     /// So many subscriptions live: each has a row.
     pub(crate) fn set_live(&self, count: usize) {
         let count = count as u64;
@@ -549,6 +635,16 @@ impl Shared {
     /// This source has so many live subscriptions now. Where there is no memory for it, it has as many as before.
     pub(crate) fn set_live_from<R: Wait>(&self, rt: &R, source: u32, count: usize) {
         let _ = self.sources.lock(rt).set(source, count);
+    }
+
+    /// A request for a new subscription is let through.
+    pub(crate) fn note_newcomer<R: Wait>(&self, rt: &R, newcomer: Newcomer<'_>) {
+        let _ = self.newcomers.lock(rt).pass(newcomer);
+    }
+
+    /// Whether it was let through before, and comes again.
+    pub(crate) fn is_again<R: Wait>(&self, rt: &R, newcomer: Newcomer<'_>) -> bool {
+        self.newcomers.lock(rt).is_again(newcomer)
     }
 
     /// The user who made the dialog with this tag, as a number, where that is known.
@@ -627,6 +723,11 @@ impl Shared {
                 "per_source",
                 "requests were more than --per-source",
                 told(&self.per_source),
+            ),
+            (
+                "bad_summaries",
+                "datagrams at --feed-listen told nothing",
+                told(&self.bad_summaries),
             ),
             ("answers_400", "requests were answered 400", sent("400")),
             ("answers_404", "requests were answered 404", sent("404")),
@@ -716,6 +817,7 @@ impl Shared {
             ("workers", &self.workers),
             ("workers_ended", &self.workers_ended),
             ("control_foreign", &self.control_foreign),
+            ("bad_summaries", &self.bad_summaries),
             ("starts_dropped", &self.starts_dropped),
             ("per_source", &self.per_source),
             ("journal_lost", &self.journal_lost),
@@ -771,6 +873,14 @@ impl Shared {
         }
     }
 
+    /// Appends how many seconds were not counted.
+    fn add_outages(&self, alloc: Global, text: &mut String) -> Result<(), NoMemory> {
+        let seconds = self.outages.seconds();
+        let line = format!(in alloc; "outage_seconds {seconds}\n")?;
+        text.push_str(line.as_str())?;
+        Ok(())
+    }
+
     /// The counters, each on a line of its own, behind the seconds that the service is up. The datagrams that couldn't be
     /// read are counted by the number of the error, from 1, on one line, and by cause, the answers and the NOTIFYs that were
     /// refused by status code. What the system dropped at the socket of SIP stands there where it tells that.
@@ -779,6 +889,7 @@ impl Shared {
         self.add_named(alloc, &mut text)?;
         self.add_unread(alloc, &mut text)?;
         add_line(alloc, &mut text, "live", &self.live)?;
+        self.add_outages(alloc, &mut text)?;
         self.add_journal(alloc, &mut text)?;
         self.changes.add_lines(alloc, &mut text, seconds)?;
         self.statuses.add_lines(alloc, &mut text)?;

@@ -129,6 +129,13 @@ impl Shelf {
         &self.current
     }
 
+    /// Whether that misses a record.
+    pub(crate) fn is_behind(&self) -> bool
+        ensures { result ≡ self.now.is_behind }
+    {
+        self.is_behind
+    }
+
     /// The next file isn't begun after all.
     fn give_up_next(&mut self)
         ensures current { self.new.current ≡ self.old.current }
@@ -232,6 +239,17 @@ impl Shelf {
     /// The number that the system told as it refused a record last, if it told one.
     pub(crate) fn refusal(&self) -> Option<i32> {
         self.refusal
+    }
+
+    /// The system refused with this number, where it told one, to bring to the disk what was written last. Nobody knows whether that is there:
+    /// so the current file is taken to miss a record.
+    pub(crate) fn miss_sync(&mut self, number: Option<i32>)
+        ensures current { self.new.current ≡ self.old.current }
+        ensures behind { self.new.is_behind ≡ true }
+    {
+        self.fall_behind();
+        self.lost = self.lost.saturating_add(1);
+        self.refusal = number;
     }
 
     /// The keeper counted something whose record it could not make, or lost count of it.

@@ -29,5 +29,5 @@ loop-preserved g c =
       still_open = sent.still_open ∙ c.loop.invariant.still_open;
       seats = c.send_event-in-loop.ensures.seats ∙ c.loop.invariant.seats;
       ticking = ticking_more c.loop.invariant.ticking c.send_event-in-loop.new.port c.saturating_add-now.result c.if-now-second.false sent;
-      failures = c.in-Some-seconds.ensures ∙ c.loop.invariant.failures;
+      failures = c.in-Some-look.ensures ∙ c.loop.invariant.failures;
     }

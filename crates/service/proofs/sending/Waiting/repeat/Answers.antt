@@ -2,7 +2,7 @@ use Rattle.std.proofs.Common.{◌∷◌, [], refl, sym, ◌∙◌}
 use Rattle.transport.specs.Wires.{datagram}
 use Rattle.service.specs.Sending.{Repeated, GaveUp}
 use Rattle.service.proofs.Acts.{does_repeat, does_give_up}
-use Rattle.service.proofs.Rowing.{rowed_repeat, rowed_doubt, rowed_give_up}
+use Rattle.service.proofs.Rowing.{rowed_repeat, rowed_give_up}
 use Rattle.service.proofs.sending.Waiting.repeat.Goals as goal
 
 pub returns-then-is_over-clause-does : goal.returns-then-is_over-clause-does
@@ -10,18 +10,8 @@ returns-then-is_over-clause-does g c = (
   GaveUp c.args.now ∷ [],
   refl,
   does_give_up c.args.now c.in-Some.due.now _ _ (sym c.in-Some.ensures) c.turn.ensures.turned _ (sym c.is_over.ensures ∙ c.if-is_over.true),
-  rowed_give_up _ c.args.now c.in-Some.due.now _ _ (sym c.in-Some.ensures) (rw c.as_str.ensures at c.end_row-source.ensures.rows),
+  rowed_give_up c.args.self.now.transactions c.args.now _,
 )
-
-pub returns-then-not-is_doubtful-clause-does : goal.returns-then-not-is_doubtful-clause-does
-returns-then-not-is_doubtful-clause-does g c =
-    let due = c.in-Some.due.now in let again = c.send_again in (
-      Repeated c.args.now (datagram due.to due.bytes) again.result ∷ [],
-      refl,
-      does_repeat c.args.now due _ _ (sym c.in-Some.ensures) c.turn-then-not-is_doubtful.ensures.turned again.result _ _ (sym c.is_over.ensures ∙ c.if-is_over.false)
-          again.ensures.taken again.ensures.failures,
-      rowed_repeat _ c.args.now due (datagram due.to due.bytes) again.result _ _ (sym c.in-Some.ensures) (sym c.is_doubtful.ensures ∙ c.if-not-is_doubtful.true) refl,
-    )
 
 pub returns-clause-does : goal.returns-clause-does
 returns-clause-does g c =
@@ -30,5 +20,5 @@ returns-clause-does g c =
       refl,
       does_repeat c.args.now due _ _ (sym c.in-Some.ensures) c.turn-2.ensures.turned again.result _ _ (sym c.is_over.ensures ∙ c.if-is_over.false)
           again.ensures.taken again.ensures.failures,
-      rowed_doubt _ c.args.now due (datagram due.to due.bytes) again.result _ _ (sym c.in-Some.ensures) (sym c.is_doubtful.ensures ∙ c.if-not-is_doubtful.false) (rw c.as_str-2.ensures at c.end_row-source-2.ensures.rows),
+      rowed_repeat c.args.self.now.transactions c.args.now (datagram due.to due.bytes) again.result _,
     )

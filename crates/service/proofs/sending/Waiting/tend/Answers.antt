@@ -9,7 +9,7 @@ returns-then-is_busy-clause-does g c = ([], goes_on_none _ _)
 
 pub returns-then-taken-clause-does : goal.returns-then-taken-clause-does
 returns-then-taken-clause-does g c =
-    let first = c.settle.ensures in let all = c.take_notes-taken.ensures in let notes = all.noted in let late = c.release_all.ensures in let sent = late.does in (
+    let first = c.settle.ensures in let all = c.take_notes-taken.ensures in let notes = all.noted in let late = c.catch_up.ensures in let sent = late.does in (
       map noted notes.0 ++ sent.0,
       goes_on_more _ _ _ (map noted notes.0 ++ sent.0) _ _ first.kept first.none (ap (λ b. b.items) (late.burst ∙ all.burst) ∙ first.none)
           (none_more (map noted notes.0) sent.0 (noted_fates notes.0) sent.1)
@@ -19,7 +19,7 @@ returns-then-taken-clause-does g c =
 
 pub returns-then-watch-eq0-clause-does : goal.returns-then-watch-eq0-clause-does
 returns-then-watch-eq0-clause-does g c =
-    let first = c.settle.ensures in let all = c.take_notes-taken.ensures in let notes = all.noted in let late = c.release_all.ensures in let sent = late.does in (
+    let first = c.settle.ensures in let all = c.take_notes-taken.ensures in let notes = all.noted in let late = c.catch_up.ensures in let sent = late.does in (
       map noted notes.0 ++ sent.0,
       goes_on_more _ _ _ (map noted notes.0 ++ sent.0) _ _ first.kept first.none (ap (λ b. b.items) (late.burst ∙ all.burst) ∙ first.none)
           (none_more (map noted notes.0) sent.0 (noted_fates notes.0) sent.1)
@@ -29,8 +29,8 @@ returns-then-watch-eq0-clause-does g c =
 
 pub returns-then-was_due-clause-does : goal.returns-then-was_due-clause-does
 returns-then-was_due-clause-does g c =
-    let first = c.settle.ensures in let all = c.take_notes-taken.ensures in let notes = all.noted in let late = c.release_all.ensures in let sent = late.does in
-    let more = c.repeat-was_due.ensures in let again = more.does in let rest = sent.0 ++ again.0 in (
+    let first = c.settle.ensures in let all = c.take_notes-taken.ensures in let notes = all.noted in let late = c.catch_up.ensures in let sent = late.does in
+    let more = c.send_due-was_due.ensures in let again = more.does in let rest = sent.0 ++ again.0 in (
       map noted notes.0 ++ rest,
       goes_on_more _ _ _ (map noted notes.0 ++ rest) _ _ first.kept first.none (ap (λ b. b.items) (more.burst ∙ late.burst ∙ all.burst) ∙ first.none)
           (none_more (map noted notes.0) rest (noted_fates notes.0) (none_more sent.0 again.0 sent.1 again.1))
@@ -40,8 +40,8 @@ returns-then-was_due-clause-does g c =
 
 pub returns-else-was_due-clause-does : goal.returns-else-was_due-clause-does
 returns-else-was_due-clause-does g c =
-    let first = c.settle.ensures in let all = c.take_notes-taken.ensures in let notes = all.noted in let late = c.release_all.ensures in let sent = late.does in
-    let more = c.repeat-was_due.ensures in let again = more.does in let rest = sent.0 ++ again.0 in (
+    let first = c.settle.ensures in let all = c.take_notes-taken.ensures in let notes = all.noted in let late = c.catch_up.ensures in let sent = late.does in
+    let more = c.send_due-was_due.ensures in let again = more.does in let rest = sent.0 ++ again.0 in (
       map noted notes.0 ++ rest,
       goes_on_more _ _ _ (map noted notes.0 ++ rest) _ _ first.kept first.none (ap (λ b. b.items) (more.burst ∙ late.burst ∙ all.burst) ∙ first.none)
           (none_more (map noted notes.0) rest (noted_fates notes.0) (none_more sent.0 again.0 sent.1 again.1))
