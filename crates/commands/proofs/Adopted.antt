@@ -19,6 +19,7 @@ still_a_plan words seed workers plan is = record {
   changes = is.changes;
   heard = is.heard;
   operators = is.operators;
+  feeds = is.feeds;
   journal = is.journal;
   reached = is.reached;
   some = is.some;

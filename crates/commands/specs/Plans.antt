@@ -12,7 +12,7 @@ use Rattle.arguments.specs.declared.setting.Setting.{Setting}
 use Rattle.admission.specs.declared.judging.Admission.{Admission}
 use Rattle.arguments.specs.declared.setting.Setting.TheVariants as setting
 use Rattle.admission.specs.declared.network.Network.{Network}
-use Rattle.arguments.specs.Choices.{choices_of, state_of, journal_folder, control_networks}
+use Rattle.arguments.specs.Choices.{choices_of, state_of, journal_folder, control_networks, feed_networks}
 use Rattle.commands.specs.State.{IsState}
 use Rattle.commands.specs.Heard.{IsAdmission}
 use Rattle.arguments.specs.Settings.{IsMailbox, AreSettings}
@@ -35,6 +35,7 @@ Names (setting.Rate rate) names = names ≡ []
 Names (setting.Guesses guesses) names = names ≡ []
 Names (setting.Allow network) names = names ≡ []
 Names (setting.ControlAllow network) names = names ≡ []
+Names (setting.FeedFrom network) names = names ≡ []
 Names (setting.Seed seed) names = names ≡ []
 Names (setting.Switch switch) names = names ≡ []
 Names (setting.Mailbox name) names = names ≡ name ∷ []
@@ -120,6 +121,12 @@ pub record AreOperators (words : List (List ℕ)) (networks : List Network) : Ty
   pub are_settings : AreSettings words settings
   pub are_networks : networks ≡ control_networks settings
 
+-- the words name these networks, whose voicemail systems are heard
+pub record AreFeeds (words : List (List ℕ)) (networks : List Network) : Type 0 where
+  pub settings : List Setting
+  pub are_settings : AreSettings words settings
+  pub are_networks : networks ≡ feed_networks settings
+
 -- the words name this folder of a journal, or none
 pub record IsJournal (words : List (List ℕ)) (journal : Option (List ℕ)) : Type 0 where
   pub settings : List Setting
@@ -134,6 +141,7 @@ pub record IsPlan (words : List (List ℕ)) (plan : Plan) : Type 0 where
   pub changes : AreChanges words plan.changes.items
   pub heard : AreHeard words plan.admission
   pub operators : AreOperators words plan.operators.items
+  pub feeds : AreFeeds words plan.feeds.items
   pub journal : IsJournal words plan.journal
   pub reached : IsReached plan.choices
   pub some : plan.mailboxes.items ≢ []

@@ -48,6 +48,7 @@ status_of_words (wrong.Bad flag.Rate) = 1
 status_of_words (wrong.Bad flag.Guesses) = 1
 status_of_words (wrong.Bad flag.Allow) = 1
 status_of_words (wrong.Bad flag.ControlAllow) = 1
+status_of_words (wrong.Bad flag.FeedFrom) = 1
 status_of_words (wrong.Bad flag.Seed) = 1
 status_of_words (wrong.Unknown word) = 1
 status_of_words (wrong.NoMailbox word) = 1
@@ -94,11 +95,12 @@ abbrev pub of_halt : Halt → ServeError
 of_halt halt.NoMemory = error.NoMemory
 of_halt halt.Unfit = error.System
 
--- a service listens here: phones and the operator reach it by these two alone
+-- a service listens here: phones, the operator and voicemail systems reach it by these alone
 abbrev pub IsListened : AddressFlag → Type 0
 IsListened address.Listen = Unit {0}
 IsListened address.Contact = ⊥
 IsListened address.Control = Unit {0}
+IsListened address.Feed = Unit {0}
 
 -- a cause that isn't in the words
 abbrev pub IsOther : ServeError → Type 0
@@ -198,6 +200,7 @@ IsOfSetting (setting.Rate rate) e = e ≡ error.NoMemory
 IsOfSetting (setting.Guesses guesses) e = e ≡ error.NoMemory
 IsOfSetting (setting.Allow network) e = e ≡ error.NoMemory
 IsOfSetting (setting.ControlAllow network) e = e ≡ error.NoMemory
+IsOfSetting (setting.FeedFrom network) e = e ≡ error.NoMemory
 IsOfSetting (setting.Seed seed) e = e ≡ error.NoMemory
 IsOfSetting (setting.Switch switch) e = e ≡ error.NoMemory
 IsOfSetting (setting.Mailbox name) e = e ≡ error.NoMemory

@@ -91,6 +91,7 @@ pub record IsWork (plan : Plan) (work : ServiceWork) : Type 0 where
   pub admission : work.sip.admission ≡ plan.admission
   pub repeats : work.repeats ≡ plan.choices.numbers.repeats
   pub linger : work.linger ≡ plan.choices.numbers.linger
+  pub outage : work.outage ≡ plan.choices.numbers.outage
   pub sip_misses : misses work.sip.coming ≡ no_misses
   pub line_misses : misses work.desk.coming ≡ no_misses
 

@@ -21,7 +21,8 @@ usage: notifyd serve [options] [<mailbox>...]      (also --option=value)
   --state <file>             MAIL lines that are done first; # in front: a comment
   --journal <folder>         what is kept there outlives a crash (nothing is kept)
   --journal-bytes <octets>   a file of it has about so many at most (16777216)
-  --sync <seconds>           from one write to the disk to the next, or never (1)
+  --sync <seconds>           from one write to the disk to the next (1), or never,
+                             or always: what is sent awaits the disk
   --passwords <file>         who may subscribe and refer: user:realm:hash a line,
                              as htdigest writes them; # in front: a comment
   --watch <user:mailbox>     a mailbox that this user may watch too (repeatable)
@@ -30,6 +31,9 @@ usage: notifyd serve [options] [<mailbox>...]      (also --option=value)
   --allow <a.b.c.d/bits>     SIP is heard from here alone (repeatable)
   --control-allow <a.b.c.d/bits>  control lines are heard from here and from
                              this machine alone (repeatable)
+  --feed-from <a.b.c.d/bits>  NOTIFYs of voicemail systems are heard from here
+                             (repeatable; from nowhere)
+  --feed-listen <a.b.c.d:port>    where those come in (127.0.0.1:5062)
   --rate <a second>/<at once>     what is heard of each source address (all)
   --guesses <at once>/<a minute>  wrong passwords of a source or user (5/20)
   --per-source <1 to 65536>  live subscriptions of a source address (any number)
@@ -51,6 +55,7 @@ usage: notifyd serve [options] [<mailbox>...]      (also --option=value)
   --outbox <1 to 65536>      places of the outbox (1024)
   --repeats <0 to 65536>     unanswered NOTIFYs that are sent again (16384)
   --linger <0 to 32>         seconds that a stop waits for answers (2)
+  --outage <0 to 3600>       seconds that don't count while each send fails (600)
   --max-datagram <octets>    the longest SIP datagram that is read (8192)
   --max-texts <octets>       what a subscription keeps of a request (2048)
   --receive-buffer <octets>  room asked for datagrams that wait (4194304)

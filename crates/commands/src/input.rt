@@ -5,10 +5,12 @@ ghost use Rattle.std.specs.Prelude.{IfErr};
 ghost use Rattle.commands.specs.Refused.{IsOther};
 
 use crate::error::ServeError;
+use crate::feed::{FeedDesk, Listener, start_listener};
 use libc::net as c;
 use libc::types::pollfd;
 use service::Shared;
 use std::alloc::Global;
+use std::rt::Clock;
 use std::sync::{Arc, Wait};
 use std::thread;
 use std::thread::{Promise, PromisedHandle, Threads};
@@ -57,11 +59,13 @@ impl Promise<bool> for NoPromise {
 /// A thread that looks for the end of standard input.
 type Watcher = PromisedHandle<bool, NoPromise>;
 
-/// What looks for the end of standard input, where that is asked for.
+/// What runs beside a service until its end: what looks for the end of standard input, and what hears voicemail systems, where these are
+/// asked for.
 #[derive(Drop)]
 pub(crate) struct Watch {
     shared: Arc<Shared, Global>,
     watcher: Option<Watcher>,
+    listener: Option<Listener>,
 }
 
 /// Starts a thread that closes the service once standard input has ended.
@@ -80,32 +84,63 @@ where
 }
 
 impl Watch {
-    /// Starts looking, where it is asked for.
+    /// Starts looking, where it is asked for, and hearing by this desk, if there is one. Where the second thread is refused the first ends.
     pub(crate) fn begin<R>(
         rt: R,
         shared: &Arc<Shared, Global>,
         is_asked: bool,
+        desk: Option<FeedDesk>,
     ) -> Result<Watch, ServeError>
     where
-        R: Threads + Wait + Copy + Send + 'static,
+        R: Threads + Wait + Clock + Copy + Send + 'static,
         ensures refused { IfErr result IsOther }
     {
         let ours = Arc::try_clone(shared)?;
-        let watcher = if is_asked {
-            Some(start_watcher(rt, shared)?)
-        } else {
-            None
+        let listener = match desk {
+            Some(desk) => Some(start_listener(rt, shared, desk)?),
+            None => None,
         };
-        Ok(Watch {
+        let watch = Watch {
             shared: ours,
-            watcher,
-        })
+            watcher: None,
+            listener,
+        };
+        if !is_asked {
+            return Ok(watch);
+        }
+        watch.looking(rt)
+    }
+
+    /// The same with a thread that looks for the end of standard input. Where that is refused the other one ends.
+    fn looking<R>(self, rt: R) -> Result<Watch, ServeError>
+    where
+        R: Threads + Wait + Clock + Copy + Send + 'static,
+        ensures refused { IfErr result IsOther }
+    {
+        match start_watcher(rt, &self.shared) {
+            Ok(watcher) => {
+                let mut watch = self;
+                watch.watcher = Some(watcher);
+                Ok(watch)
+            }
+            Err(error) => {
+                self.end(&rt);
+                Err(error)
+            }
+        }
     }
 
     /// Looks no more: the service has ended.
     pub(crate) fn end<R: Threads + Wait>(self, rt: &R) {
-        let Watch { shared, watcher } = self;
+        let Watch {
+            shared,
+            watcher,
+            listener,
+        } = self;
         shared.finish();
+        if let Some(listener) = listener {
+            let _is_deaf = listener.join(rt);
+        }
         if let Some(watcher) = watcher {
             let _has_ended = watcher.join(rt);
         }

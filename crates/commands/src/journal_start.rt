@@ -1,9 +1,11 @@
 //! How a service with a journal begins: its folder is its own, what stands there is read, and its desks go on from that.
 
-ghost use Rattle.std.specs.Prelude.{◌<◌, ◌≤◌, ◌≡◌, None, IfOk, IfErr, vec_len};
+ghost use Rattle.std.specs.Prelude.{◌<◌, ◌≤◌, ◌≡◌, ℕ, None, IfOk, IfErr, vec_len};
+ghost use Rattle.arguments.specs.declared.syncing.Syncing.TheVariants as said;
 ghost use Rattle.arguments.specs.Wanted.{Gives};
 ghost use Rattle.commands.specs.Refused.{IsOfJournal, IsOther};
 ghost use Rattle.commands.specs.Serving.{BeginsAnew};
+ghost use Rattle.service.specs.declared.journaling.Syncing.TheVariants as kept;
 
 use crate::error::ServeError;
 use crate::help::VERSION;
@@ -23,7 +25,7 @@ use resumption::{
     Found, Halt, Reading, Renewed, Replayed, Terms, Wish, Worked, add_mails, held_names,
     read_files, renew, replay,
 };
-use service::{Begins, Journal, Living, SETTLED, Upkeep, Volume};
+use service::{Begins, Journal, Living, SETTLED, Syncing, Upkeep, Volume};
 use sip_text::{Addr, NoMemory, Text};
 use std::alloc::Global;
 use std::fs::File;
@@ -152,6 +154,19 @@ where
     })
 }
 
+/// When the journal of a service is brought to the disk, as its words say.
+fn syncing(sync: arguments::Syncing) -> Syncing
+    ensures never { sync ≡ said.Never → result ≡ kept.Never }
+    ensures each { (seconds : ℕ) → sync ≡ said.Each seconds → result ≡ kept.Each seconds }
+    ensures always { sync ≡ said.Always → result ≡ kept.Always }
+{
+    match sync {
+        arguments::Syncing::Never => Syncing::Never,
+        arguments::Syncing::Each(seconds) => Syncing::Each(seconds),
+        arguments::Syncing::Always => Syncing::Always,
+    }
+}
+
 impl Order<'_> {
     /// What its desks are to be.
     fn wish(&self) -> Wish<'_>
@@ -171,7 +186,7 @@ impl Order<'_> {
             limit: u64::from(self.plan.choices.numbers.journal_bytes),
             age: SETTLED,
             been,
-            sync: self.plan.choices.sync,
+            sync: syncing(self.plan.choices.sync),
         })
     }
 

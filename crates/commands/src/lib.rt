@@ -15,6 +15,7 @@ mod admitting;
 mod answers;
 mod asking;
 mod error;
+mod feed;
 mod help;
 mod input;
 mod input_telling;

@@ -69,6 +69,7 @@ fn setting_names<R: Files + AllocGlobal>(rt: &R, setting: &Setting) -> Result<Ve
         | Setting::Guesses(_)
         | Setting::Allow(..)
         | Setting::ControlAllow(..)
+        | Setting::FeedFrom(..)
         | Setting::Seed(_)
         | Setting::Switch(_) => { Ok(Vec::new(rt.alloc())) }
     }

@@ -14,7 +14,9 @@ use crate::mailboxes::{each_once, named_mailboxes};
 use crate::ranged::number_out;
 use crate::state::told_changes;
 use admission::{Admission, Network};
-use arguments::{Choices, Numbers, control_networks, journal_folder, parse_settings};
+use arguments::{
+    Choices, Numbers, control_networks, feed_networks, journal_folder, parse_settings,
+};
 use notifier_model::{Limits, Setup};
 use package::Change;
 use sip_text::{Addr, Text};
@@ -38,6 +40,8 @@ pub struct Plan {
     pub admission: Admission,
     /// The networks whose control lines are heard, beside this machine's: all are, where there is none.
     pub operators: Vec<Network>,
+    /// The networks whose voicemail systems are heard: none is, where there is none.
+    pub feeds: Vec<Network>,
     /// The folder of its journal, if it keeps one.
     pub journal: Option<Text>,
 }
@@ -115,6 +119,7 @@ struct Read {
     changes: Vec<Change>,
     admission: Admission,
     operators: Vec<Network>,
+    feeds: Vec<Network>,
     journal: Option<Text>,
 }
 
@@ -127,6 +132,7 @@ where
     ensures changes { IfOk result (λ r. spec.AreChanges words.now r.changes.items) }
     ensures heard { IfOk result (λ r. spec.AreHeard words.now r.admission) }
     ensures operators { IfOk result (λ r. spec.AreOperators words.now r.operators.items) }
+    ensures feeds { IfOk result (λ r. spec.AreFeeds words.now r.feeds.items) }
     ensures journal { IfOk result (λ r. spec.IsJournal words.now r.journal) }
     ensures refused { IfErr result (IsRefusal words.now) }
 {
@@ -135,6 +141,7 @@ where
     let changes = told_changes(rt, settings.as_slice())?;
     let admission = new_admission(rt, settings.as_slice())?;
     let operators = control_networks(rt.alloc(), settings.as_slice())?;
+    let feeds = feed_networks(rt.alloc(), settings.as_slice())?;
     let journal = journal_folder(rt.alloc(), settings.as_slice())?;
     Ok(Read {
         choices: Choices::of(settings.as_slice()),
@@ -142,6 +149,7 @@ where
         changes,
         admission,
         operators,
+        feeds,
         journal,
     })
 }
@@ -160,6 +168,7 @@ where
         changes,
         admission,
         operators,
+        feeds,
         journal,
     } = read_words(rt, words)?;
     if !is_reached(&choices) {
@@ -178,6 +187,7 @@ where
         changes,
         admission,
         operators,
+        feeds,
         journal,
     })
 }

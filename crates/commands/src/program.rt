@@ -12,6 +12,7 @@ ghost use Rattle.commands.specs.Plans.{IsPlan};
 ghost use Rattle.commands.specs.Serving.{AreOpen, BeginsAnew, EndedWell, IsWork, Ran, Serves, new_sink};
 
 use crate::error::ServeError;
+use crate::feed::open_feed;
 use crate::help::{HELP, asked_text};
 use crate::input::Watch;
 use crate::journal_start::{Opened, Started, found_header, open_journal, start};
@@ -225,6 +226,7 @@ fn new_work(
         begins,
         repeats: numbers.repeats,
         linger: numbers.linger,
+        outage: numbers.outage,
     };
     (work, outgoing)
 }
@@ -310,9 +312,10 @@ where
     if plan.choices.log_json {
         shared.log_json(&rt);
     }
+    let feed = open_feed(&rt, &plan, sockets.lines.local())?;
     let (work, wire) = new_work(plan, sockets, theirs, begins, changes);
     let sink = Sink::new(writer);
-    let watch = Watch::begin(rt, &shared, is_watched)?;
+    let watch = Watch::begin(rt, &shared, is_watched, feed)?;
     let served = run(rt, desks, work, shared, Exit { wire, sink });
     watch.end(&rt);
     // Up to here no other service may write the folder.

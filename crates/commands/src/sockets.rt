@@ -75,7 +75,7 @@ fn why_none<R: Wait + Net>(rt: &R, which: AddressFlag, addr: Addr) -> ServeError
 }
 
 /// Two wires over a socket at this address, which an option named.
-fn bind<R: Wait + Net>(
+pub(crate) fn bind<R: Wait + Net>(
     rt: &R,
     which: AddressFlag,
     addr: Addr,

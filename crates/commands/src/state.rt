@@ -96,6 +96,7 @@ fn add_path(alloc: Global, path: &mut Option<Text>, setting: &Setting) -> Result
         | Setting::Guesses(_)
         | Setting::Allow(..)
         | Setting::ControlAllow(..)
+        | Setting::FeedFrom(..)
         | Setting::Seed(_)
         | Setting::Switch(_)
         | Setting::Mailbox(_) => {}

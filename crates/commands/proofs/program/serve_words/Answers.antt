@@ -49,3 +49,8 @@ pub returns-in_err-desks-clause-refused : goal.returns-in_err-desks-clause-refus
 returns-in_err-desks-clause-refused g c =
     let p = err_from_is_err_and c.from_residual-in_err-desks.result c.from_residual-in_err-desks.ensures.1 in
     rw (p.1, p.2) (other_is c.args.words.now _ c.in_err-desks.ensures.refused)
+
+pub returns-in_err-feed-clause-refused : goal.returns-in_err-feed-clause-refused
+returns-in_err-feed-clause-refused g c =
+    let p = err_from_is_err_and c.from_residual-in_err-feed.result c.from_residual-in_err-feed.ensures.1 in
+    rw (p.1, p.2) (other_is c.args.words.now _ c.in_err-feed.ensures.refused)
