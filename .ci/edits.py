@@ -16,10 +16,10 @@ crates/NAME/wrong.edits has each wrong body of a crate that the prover must refu
 Further pairs of `old:` and `new:`, also of other files, apply to what the earlier ones made. Those that `rt ci` tries at each landing stand
 in files of their own, must-fail/NAME.edit, since it looks for them there: they are listed with `must-fail: yes` in place of their texts.
 
---check tells of a text to be changed that doesn't stand there once, of a wrong `of:`, of a name that stands twice, and of a file of
-must-fail/ that isn't listed. --mend writes `of:` as it is, lists what stands in must-fail/, takes in what stands in files
-crates/NAME/wrong/NAME.edit, as one writes a new one or another text of an old one, and removes these. It leaves a list as it is that
-has a line which is none of an edit, or a name twice.
+--check tells of a text to be changed that doesn't stand there once, of a wrong `of:`, of a name that stands twice, of a file of
+must-fail/ that isn't listed, and of other numbers in docs/testing.md than there are. --mend writes these numbers, `of:` as it is, lists
+what stands in must-fail/, takes in what stands in files crates/NAME/wrong/NAME.edit, as one writes a new one or another text of an old one,
+and removes these. It leaves a list as it is that has a line which is none of an edit, or a name twice.
 """
 import glob
 import os
@@ -42,6 +42,12 @@ DEFINITION = re.compile(r"^()(?:  (?=unfoldable|abbrev|opaque))?(?:(?:unfoldable
 
 # What functions stand in: the type that an `impl` is of, or a trait.
 OWNER = re.compile(r"^(?:unsafe )?(?:impl\b(?:<.*?>)? (?:[^{\n]* for )?|(?:pub )?trait )(\w+)", re.M)
+
+
+PAGE = f"{TOP}/docs/testing.md"
+
+# How that page counts them.
+COUNTS = re.compile(r"\*\*(\d+) stand in `must-fail/`, (\d+) in `wrong\.edits` alone, (\d+) in `run-refuses/`\.\*\*")
 
 
 class Edit:
@@ -196,6 +202,17 @@ def mend(folder, crate):
         os.rmdir(f"{folder}/crates/{crate}/wrong")
 
 
+def counts():
+    """How many wrong bodies stand in must-fail/, in the lists alone, and in run-refuses/."""
+    landing, run = (sum(len(files(TOP, crate, kind)) for crate in graph()) for kind in ("must-fail", "run-refuses"))
+    return landing, sum(len(listed(TOP, crate)) for crate in graph()), run
+
+
+def counted(page):
+    """The page with these numbers in their place."""
+    return COUNTS.sub(lambda _: "**{} stand in `must-fail/`, {} in `wrong.edits` alone, {} in `run-refuses/`.**".format(*counts()), page)
+
+
 def main(words):
     if len(words) == 2 and words[0] == "--print":
         # One without texts is the file that a shell has just made for this.
@@ -205,13 +222,14 @@ def main(words):
     if words == ["--mend"]:
         for crate in graph():
             mend(TOP, crate)
+        write(PAGE, counted(read(PAGE)))
     elif words != ["--check"]:
         sys.exit(__doc__)
     wrong = [line for crate in graph() for line in faults(TOP, crate)]
+    wrong += [] if COUNTS.search(read(PAGE)) and counted(read(PAGE)) == read(PAGE) else ["docs/testing.md: it counts them otherwise: .ci/edits.py --mend"]
     for line in wrong:
         print(line)
-    landing, run = (sum(len(files(TOP, crate, kind)) for crate in graph()) for kind in ("must-fail", "run-refuses"))
-    later = sum(len(listed(TOP, crate)) for crate in graph())
+    landing, later, run = counts()
     print(f"{landing} wrong bodies in must-fail/, {later} in {LIST} alone, {run} in run-refuses/; {len(wrong)} faults")
     return 1 if wrong else 0
 
