@@ -412,7 +412,7 @@ begun 18
 over 17
 unread 1 2 3 4 5 6 7
 """
-MORE = b"repeats 5\ngiven_up 3\nonce 4\nlost 6\ngone_by_481 9\nfailed_receives 7\ntoo_long 8\nforeign 10\nlimited 11\nchallenged 12\nwrong 13\nstale 14\nforbidden 15\nbarred 20\nlarge 21\ncontrol_lines 8\nworkers_ended 0\nstarts_dropped 16\nkernel_drops 17\ncontrol_foreign 18\njournal_lost 19\nchanges 24\nunknown_mailboxes 25\nbad_lines 26\n"
+MORE = b"repeats 5\ngiven_up 3\nonce 4\nlost 6\ngone_by_481 9\nfailed_receives 7\ntoo_long 8\nforeign 10\nlimited 11\nchallenged 12\nwrong 13\nstale 14\nforbidden 15\nbarred 20\nlarge 21\ncontrol_lines 8\nworkers_ended 0\nstarts_dropped 16\nkernel_drops 17\ncontrol_foreign 18\njournal_lost 19\nchanges 24\nunknown_mailboxes 25\nbad_lines 26\noutage_seconds 30\nbad_summaries 31\n"
 COUNTERS = FEWER_COUNTERS.replace(b"unread", MORE + b"unread") + b"""\
 workers 2
 live 1
@@ -426,7 +426,7 @@ notifies_refused_other 23
 unread_not_sip 1
 unread_bad_header 2
 """
-ALSO = ("repeats", "given_up", "once", "lost", "gone_by_481", "failed_receives", "too_long", "foreign", "limited", "challenged", "wrong", "stale", "forbidden", "barred", "large", "control_lines", "workers_ended", "starts_dropped", "kernel_drops", "control_foreign", "journal_lost", "changes", "unknown_mailboxes", "bad_lines")
+ALSO = ("repeats", "given_up", "once", "lost", "gone_by_481", "failed_receives", "too_long", "foreign", "limited", "challenged", "wrong", "stale", "forbidden", "barred", "large", "control_lines", "workers_ended", "starts_dropped", "kernel_drops", "control_foreign", "journal_lost", "changes", "unknown_mailboxes", "bad_lines", "outage_seconds", "bad_summaries")
 REPEATS = {f"notifyd_{name}_total" for name in ALSO}
 GAUGES = {"notifyd_live": "1", "notifyd_workers": "2", "notifyd_journal_bytes": "4096", "notifyd_change_age_seconds": "27"}
 CODES = {f'notifyd_answers_by_code_total{{code="{code}"}}': count for code, count in (("200", "13"), ("416", "5"), ("503", "2"))}

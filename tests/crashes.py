@@ -366,9 +366,10 @@ class Town:
         self.are_right()
 
 
-def killed_often(program, folder, phones=60, kills=20, seed=1):
+def killed_often(program, folder, phones=60, kills=20, seed=1, words=()):
     """The lines that were answered, and the NOTIFYs that came."""
     with Town(program, folder, phones, seed) as town:
+        town.words += words
         town.start()
         town.subscribe()
         for _ in range(kills):
@@ -385,6 +386,11 @@ def killed_often(program, folder, phones=60, kills=20, seed=1):
 
 def twenty_kills(program, folder):
     killed_often(program, folder)
+
+
+def each_on_the_disk(program, folder):
+    """Whatever is sent awaits the disk: all goes as it does else, if slower, and nothing is lost."""
+    killed_often(program, folder, 24, 3, words=["--sync", "always"])
 
 
 def another_file(program, folder):
@@ -457,7 +463,8 @@ def left_in_the_middle(program, folder):
             octets = file.read()
         ends = journal_file.ends(octets)
         same("where the last record ends", len(octets), ends[-1])
-        line = next(place for place, record in enumerate(records_in(path)) if place >= before and record.startswith(b"l"))
+        # The line's own record, or that of its event: whichever stands first says what it told.
+        line = next(place for place, record in enumerate(records_in(path)) if place >= before and LAST_BOX.encode() in record)
         return os.path.basename(path), octets, ends, ends[line]
 
 
@@ -776,6 +783,7 @@ def a_full_disk(program, folder):
 
 def checks():
     yield "twenty kills while phones watch and mails come, and no lamp is wrong", twenty_kills
+    yield "three kills where each record is brought to the disk at once", each_on_the_disk
     yield "a second file", another_file
     yield "a journal that is cut anywhere", cut_anywhere
     yield "a flipped byte", a_flipped_byte

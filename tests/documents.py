@@ -11,7 +11,7 @@ has to exist, by its name:
   those behind `file:` in an item that begins so;
 - a block of commands (```sh) is read by the shell, its targets of make and its programs exist, and so do their options.
 
-What the crates' wrong bodies change stands there (`.ci/edits.py`).
+What the crates' wrong bodies change stands there (`.ci/edits.py`), and those which docs/proofs.md has by plain name are tried (`.ci/named`).
 
 docs/definitions.md names each file of definitions that a clause cites of a call which can be made from outside its crate, but for the
 crates BESIDE: which these are is read off the code. How far docs/decisions.md says that a SUBSCRIBE goes is what `walk.py` counts, and each
@@ -23,11 +23,14 @@ in the repository, since they are of a tool, a language or a protocol, stand in 
 
 import functools
 import glob
+import importlib.machinery
+import importlib.util
 import itertools
 import os
 import re
 import shlex
 import subprocess
+import sys
 
 import walk
 
@@ -49,8 +52,8 @@ ANYWHERE = {"Errors", "Codes", "Numbers", "Views", "LineViews"}
 
 # Crates of the edge and of the programs, whose definitions stand beside their code: `tests/cited.py` prints them.
 BESIDE = {
-    "admission", "arguments", "commands", "control_lines", "digest", "feeds", "keeper", "log_lines", "restarts", "resumption", "scripts", "server",
-    "service", "telling", "transactions", "transport", "watchers",
+    "admission", "arguments", "commands", "control_lines", "digest", "feeds", "keeper", "log_lines", "outage_clock", "restarts", "resumption",
+    "scripts", "server", "service", "summary_bodies", "telling", "transactions", "transport", "voicemail", "watchers",
 }
 
 # Programs of the system that a block of commands may name.
@@ -227,7 +230,11 @@ def links_lead_somewhere(page):
 
 
 def is_there(path):
-    """Whether a path is that of a file or folder; of a crate `crates/` may be left out, and of a file its ending."""
+    """Whether a path is that of a file or folder; of a crate `crates/` may be left out, and of a file its ending. A list of wrong bodies is
+    the folder of those that it has."""
+    crate, is_listed, name = path.partition("/wrong.edits/")
+    if is_listed:
+        return f"name: {name}" in read(f"crates/{crate}/wrong.edits").split("\n")
     prefix = "" if path.split("/")[0] in ROOTS else "crates/"
     return any(glob.glob(f"{TOP}/{prefix}{path.rstrip('/')}{ending}") for ending in ENDINGS)
 
@@ -516,6 +523,55 @@ def wrong_bodies_can_be_planted(_program, _folder):
     assert ended.returncode == 0, "; ".join(ended.stdout.split("\n")[:12]) + ended.stderr
 
 
+@functools.cache
+def script_of(name):
+    """A script of .ci/ as a module."""
+    sys.path.append(os.path.join(TOP, ".ci"))
+    loader = importlib.machinery.SourceFileLoader(name, os.path.join(TOP, ".ci", name))
+    module = importlib.util.module_from_spec(importlib.util.spec_from_loader(name, loader))
+    loader.exec_module(module)
+    return module
+
+
+def named_ones_are_tried(_program, _folder):
+    named = script_of("named")
+    told(named.faults(named.named(read("docs/proofs.md")), None))
+
+
+def last_words_are_written(_program, _folder):
+    crates_there, last = crates(), script_of("last.py")
+    wrong = [it for it in last.lines() for said in [last.LINE.fullmatch(it)] if not said or said[2] not in crates_there or len((said[8] or "").split(", ")) != max(1, int(said[5]))]
+    told([f"tests/wrong-last.txt has a line that .ci/last.py doesn't write: {it}" for it in wrong])
+
+
+# Lists of named wrong bodies, or what `rt ci` said of them, with a fault each, and what `.ci/named` says of it.
+FAULTS = {
+    "- A: `life/must-fail/one_counter_is_isolated` (the law).": "no edit that is tried changes code",
+    "- A: `life/must-fail/no_such_edit` (`f`).": "it isn't there",
+    "- A: nothing at all.": "it has no edit",
+    "- A: `notifier/wrong.edits/an_edit` (`f`).": "it is tried by no landing",
+    "- A: `notifier/must-fail/an_id_has_no_case`; in `notifier/wrong.edits`, `another`.": "`notifier/wrong.edits` is no path of an edit",
+    "- A: `notifier/must-fail/an_id_has_no_case`; of the same, `the_ring_never_drops`.": "`the_ring_never_drops` is no path of an edit",
+}
+
+
+def named_tells_faults(_program, _folder):
+    named, good = script_of("named"), "- A: `notifier/must-fail/{an_id_has_no_case, the_ring_never_drops}` (`same_text`)."
+
+    def faults(items, said=None):
+        return named.faults(named.named(f"## {named.LIST}\n\n{items}\n"), said)
+
+    wanted = sum(len(glob.glob(f"{TOP}/crates/{it}/must-fail/*.edit")) for it in named.graph())
+    ended = "rt: ok; handles allowed: none; must-fail edits: {} refused{}; every proof and must-fail edit was done in this run"
+    limit = "rt: must-fail notifier/an_id_has_no_case.edit: refused, as it must be (only by a limit of the prover, which gave no verdict): x\n"
+    wrong = faults(good) + faults(good, ended.format(wanted, ""))
+    for items, fault in FAULTS.items():
+        wrong += [] if any(fault in it for it in faults(items)) else [f"{items} isn't told as: {fault}"]
+    for said in (limit + ended.format(wanted, ", 1 of them only by a limit"), ended.format(wanted - 1, ""), ended.format(wanted, ", 1 bad"), "rt: not ok"):
+        wrong += [] if faults(good, said) else [f"nothing is told of: {said}"]
+    told(wrong)
+
+
 def the_way_is_counted(_program, _folder):
     steps, wrong = walk.walk()
     assert not wrong, "; ".join(wrong)
@@ -550,3 +606,6 @@ def checks_apart():
     yield "each counter is explained", counters_are_explained
     yield "what other files cite of docs/ exists", others_cite_what_is_there
     yield "each wrong body can be planted, and is listed", wrong_bodies_can_be_planted
+    yield "each wrong body that docs/proofs.md has by plain name is tried, in code", named_ones_are_tried
+    yield ".ci/named tells each fault of such a list", named_tells_faults
+    yield "what was last said of the wrong bodies is as .ci/last.py writes it", last_words_are_written

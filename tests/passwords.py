@@ -496,12 +496,11 @@ def memory_has_a_bound(program, folder):
     with Service(program, *words) as service, service.operator() as operator, socket.socket(socket.AF_INET, socket.SOCK_DGRAM) as stranger:
         stranger.bind(("127.0.0.2", 0))
         stranger.connect(("127.0.0.1", service.sip))
-        stranger.settimeout(0.2 * SLOWER)
+        stranger.settimeout(PATIENCE)
         before = resident(service)
         for number in range(rows):
             stranger.send(subscribe_with(f"m{number}", most))
-            if number % 64 == 63:
-                answer_all(stranger)
+            answer_next(stranger)
         lives(operator, rows)
         grown = resident(service) - before
         # A program that is compiled without a proof takes more, for its checks.
@@ -613,6 +612,22 @@ def live_subscriptions(program, folder):
         same("what is counted", ("3", "1", "1"), tuple(told[name] for name in ("begun", "over", "per_source")))
 
 
+def it_comes_again(program, folder):
+    """A request that made a subscription and comes again, since its answer was lost, gets that answer again, though its source has as many
+    as it may by then. Another one is told to come later, each time that it comes."""
+    with Service(program, "--per-source", "1", "alice") as service, service.operator() as operator, service.phone("alice") as phone:
+        lines = ("Event: message-summary", "Expires: 3600")
+        phone.subscribe()
+        lives(operator, 1)
+        first, other = (phone.request("SUBSCRIBE", call, 1, "", lines) for call in ("SUBSCRIBEalice", "SUBSCRIBEalice-1"))
+        for request, answer in ((first, "SIP/2.0 200 OK"), (other, "SIP/2.0 503 Service Unavailable")):
+            for _ in range(2):
+                phone.send(request)
+                phone.expect(answer)
+        told = operator.counters()
+        same("what is counted", ("1", "1", "2"), tuple(told[name] for name in ("begun", "live", "per_source")))
+
+
 def strangers(service, count):
     """So many strangers of one address subscribe to alice's mailbox, and answer each NOTIFY once."""
     with socket.socket(socket.AF_INET, socket.SOCK_DGRAM) as stranger:
@@ -625,6 +640,14 @@ def strangers(service, count):
             stranger.send(request.replace(b"Call-ID: c1", b"Call-ID: s%d" % number).replace(b"bKa1", b"bKs%d" % number))
             if number % 64 == 63:
                 answer_all(stranger)
+
+
+def answer_next(stranger):
+    """Answers the NOTIFY that comes next. One that got lost would end its subscription, since it is sent once."""
+    came = Message(persist(stranger.recv, 65535))
+    while not came.is_notify():
+        came = Message(persist(stranger.recv, 65535))
+    stranger.send(came.answer("200 OK"))
 
 
 def answer_all(stranger):
@@ -763,6 +786,7 @@ def checks():
     yield "each source has its rate", rates
     yield "a made-up To tag excuses nobody from its rate, and keep-alives cost nothing", a_to_tag_excuses_nobody
     yield "each source has so many live subscriptions", live_subscriptions
+    yield "a request that comes again asks for no further one", it_comes_again
     yield "1,024 strangers keep nobody out", strangers_keep_nobody_out
     yield "bad files of passwords end the start", bad_files
     yield "options in vain, and in a bad form", options_in_vain

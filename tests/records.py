@@ -24,6 +24,10 @@ MEMBERS = {
     "answered": ("address", "method", "user", "code"),
     "unanswered": ("address", "method", "mailbox", "tag"),
     "barred": ("address", "user"),
+    "outage_began": ("most",),
+    "outage_ended": ("seconds",),
+    "outage_too_long": ("seconds",),
+    "stood_still": ("seconds",),
     "counted": ("counter", "more"),
     "not_done": ("counter", "more", "cause"),
     "receive_failed": ("address", "cause"),
@@ -37,7 +41,7 @@ MEMBERS = {
 # Members that some lines of their kind lack.
 LACKED = {"not_done": {"cause"}, "given_up": {"mailbox", "tag"}, "refused": {"mailbox", "tag"}}
 
-LEVELS = {"control_reachable": "warning", "small_buffer": "warning", "not_done": "warning", "receive_failed": "warning", "worker_out_of_memory": "error", "not_running": "error"}
+LEVELS = {"control_reachable": "warning", "small_buffer": "warning", "not_done": "warning", "receive_failed": "warning", "outage_began": "warning", "outage_ended": "warning", "outage_too_long": "warning", "stood_still": "warning", "worker_out_of_memory": "error", "not_running": "error"}
 
 BAD_COURSES = {"ends_subscriptions", "unreadable", "unfit", "unwritable"}
 

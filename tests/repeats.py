@@ -310,8 +310,8 @@ def it_is_given_up(program, folder):
 
 
 def the_last_send_is_answered_too_late(program, folder):
-    """Phones that answer the eleventh send alone, when their worker may have given the NOTIFY up. Each counts as given up, and WATCHERS has
-    just those again whose subscription goes on, as a refresh shows."""
+    """Phones that answer the eleventh send alone, when their worker may have ended their subscriptions. WATCHERS has just those that go on,
+    as a refresh shows, once their workers said so."""
     with Service(program, "alice") as service, service.operator() as operator, ExitStack() as stack:
         phones = []
         for _ in range(6):
@@ -323,14 +323,57 @@ def the_last_send_is_answered_too_late(program, folder):
             # Where a busy machine was late, the last one isn't sent.
             if len(came) == len(MOMENTS):
                 phone.reply(came[-1])
-        counters_become(operator, lambda: {"given_up": "6", "live": "0"})
+        time.sleep(GIVEN_UP - MOMENTS[-1] + 1)
         going_on = []
         for phone, dialog, _ in phones:
             phone.go_on(dialog, 3600)
             if phone.receive().first == "SIP/2.0 200 OK":
                 phone.accept(2)
                 going_on.append(dialog.tag)
+        counters_become(operator, lambda: {"live": str(len(going_on))})
         same("the rows", sorted(going_on), sorted(row[2] for row in rows_told(operator, "WATCHERS")))
+        service.close()
+
+
+def who_leaves_one_unanswered_has_no_row(program, folder):
+    """Where each NOTIFY is sent once, nothing tells but its worker that a subscription is over. It tells of a phone that never answers, and of
+    one that answers all but one: for 32 seconds both have their rows, then neither a row nor a place among those of their source. One that
+    answers stays."""
+    with Service(program, "--repeats", "0", "--per-source", "3", "alice") as service, service.operator() as operator, ExitStack() as stack:
+        silent, deaf, other, late = (stack.enter_context(Observer(service.sip, "alice")) for _ in range(4))
+        began = time.monotonic()
+        for phone in (silent, deaf, other):
+            dialog = phone.ask("SIP/2.0 200 OK")
+        for number, heard in enumerate(((deaf, other), (other,), (deaf, other)), 1):
+            if number > 1:
+                operator.tell(f"MAIL alice voice {number} 0 0 0")
+            for phone in heard:
+                phone.accept(number)
+            answers_noted(operator, str(len(heard)))
+        time.sleep(began + GIVEN_UP - 1.5 - time.monotonic())
+        same("how many rows there are before", 3, len(rows_told(operator, "WATCHERS")))
+        late.ask("SIP/2.0 503 Service Unavailable")
+        counters_become(operator, lambda: {"live": "1", "given_up": "0"})
+        same("the row that stays", [dialog.tag], [row[2] for row in rows_told(operator, "WATCHERS")])
+        if time.monotonic() > began + 3 * GIVEN_UP:
+            raise AssertionError("the rows went later than behind a minute")
+        late.ask("SIP/2.0 200 OK")
+        counters_become(operator, lambda: {"live": "2"})
+        service.close()
+
+
+def what_is_dropped_ends_its_subscription(program, folder):
+    """Of what waits for a first answer 64 are kept. Their worker waits for the answers to the others, too: so it ends the subscription of a
+    phone that answers all that it is sent, and WATCHERS has no row of it then."""
+    with Service(program, "alice") as service, Observer(service.sip, "alice") as phone, service.operator() as operator:
+        phone.ask("SIP/2.0 200 OK")
+        for new in range(1, 71):
+            operator.tell(f"MAIL alice voice {new} 0 0 0")
+        counters_become(operator, lambda: {"held": "64", "held_dropped": "6"})
+        for number in range(1, 66):
+            phone.accept(number)
+        same("how many rows there are before", 1, len(rows_told(operator, "WATCHERS")))
+        counters_become(operator, lambda: {"live": "0", "given_up": "0"})
         service.close()
 
 
@@ -453,7 +496,9 @@ def one_is_repeated_at_a_time(program, folder):
 def checks():
     # The longest stands first, so that others are tried beside it.
     yield "repeats: eleven times at most, and one who answers the fifth is told of the next change", it_is_given_up
-    yield "repeats: who answers the eleventh may be given up, and WATCHERS has no such row", the_last_send_is_answered_too_late
+    yield "repeats: who answers the eleventh may have no subscription, and WATCHERS no row then", the_last_send_is_answered_too_late
+    yield "repeats: with --repeats 0 a row goes with its subscription", who_leaves_one_unanswered_has_no_row
+    yield "repeats: a row goes with its subscription where a NOTIFY was dropped", what_is_dropped_ends_its_subscription
     yield "repeats: who refuses each NOTIFY stays, and is told", a_phone_that_refuses_stays
     yield "repeats: what waits for an answer is given up with its NOTIFY", what_waits_is_given_up_too
     yield "repeats: a phone that answers nothing draws one NOTIFY, and all that waited once it answers", a_stranger_draws_one

@@ -104,8 +104,10 @@ def consoles_of_operating(program, folder):
                 phone.send(SUBSCRIBE.replace(b"sip:alice@127.0.0.1 SIP", b"sip:carol@127.0.0.1 SIP"))
                 next_datagram(phone)
             for command in [it for it in printed if it.startswith("notifyd tell")]:
-                ended = run(program, ["tell", "--control", address(service.control), *command.split()[2:]])
-                matches(command, printed[command], ended.out.decode().rstrip().splitlines())
+                words, _, most = command.partition(" | head -")
+                ended = run(program, ["tell", "--control", address(service.control), *words.split()[2:]])
+                came = ended.out.decode().rstrip().splitlines()
+                matches(command, printed[command], came[: int(most)] if most else came)
             log = service.close().err.decode().splitlines()
             lines += lamp.end().out.splitlines(True)
     matches("what the lamp prints", printed["contrib/lamp 192.0.2.10:5060 alice"], b"".join(lines).decode().splitlines())
