@@ -8,5 +8,4 @@ pub mod Buckets
 pub mod Table
 pub mod Guesses
 pub mod Runs
-pub mod Words
 pub mod Owners

@@ -41,7 +41,6 @@ mod network;
 mod shown;
 mod table;
 mod texts;
-mod words;
 
 pub use authentication::{Authentication, ChallengeCause};
 pub use bucket::{Bucket, Rate};
@@ -50,4 +49,3 @@ pub use judging::{Admission, Arrival, CROWD_TAG, LARGE_TAG, Reading, Verdict};
 pub use network::Network;
 pub use sip_text::NoMemory;
 pub use table::Rates;
-pub use words::word;

@@ -34,6 +34,7 @@ default_numbers = record {
   inbox = 1024;
   outbox = 1024;
   repeats = 16384;
+  per_subscription = 1024;
   linger = 2;
   outage = 600;
   max_datagram = 8192;
@@ -77,6 +78,7 @@ with_number bound.Kept n numbers = record numbers { kept = n }
 with_number bound.Inbox n numbers = record numbers { inbox = n }
 with_number bound.Outbox n numbers = record numbers { outbox = n }
 with_number bound.Repeats n numbers = record numbers { repeats = n }
+with_number bound.Open n numbers = record numbers { per_subscription = n }
 with_number bound.Linger n numbers = record numbers { linger = n }
 with_number bound.Outage n numbers = record numbers { outage = n }
 with_number bound.MaxDatagram n numbers = record numbers { max_datagram = n }

@@ -38,7 +38,7 @@ abbrev pub times : List Bound
 times = bound.MinTime ∷ bound.MaxTime ∷ bound.DefaultTime ∷ bound.ReferTime ∷ bound.Linger ∷ bound.Outage ∷ bound.NonceTime ∷ []
 
 abbrev pub counts : List Bound
-counts = bound.Workers ∷ bound.MaxCseq ∷ bound.Table ∷ bound.Serials ∷ bound.Kept ∷ bound.Inbox ∷ bound.Outbox ∷ bound.Repeats ∷ bound.PerSource ∷ []
+counts = bound.Workers ∷ bound.MaxCseq ∷ bound.Table ∷ bound.Serials ∷ bound.Kept ∷ bound.Inbox ∷ bound.Outbox ∷ bound.Repeats ∷ bound.Open ∷ bound.PerSource ∷ []
 
 abbrev pub sizes : List Bound
 sizes = bound.MaxDatagram ∷ bound.ReceiveBuffer ∷ bound.JournalBytes ∷ bound.MaxTexts ∷ []

@@ -3,7 +3,7 @@
 --   words    = *setting
 --   setting  = ("--listen" / "--contact" / "--control" / "--feed-listen") address
 --            / ("--workers" / "--min-time" / "--max-time" / "--default-time" / "--refer-time" / "--linger" / "--outage" / "--max-cseq" / "--table"
---              / "--serials" / "--kept" / "--inbox" / "--outbox" / "--repeats" / "--max-datagram" / "--receive-buffer" / "--nonce-time"
+--              / "--serials" / "--kept" / "--inbox" / "--outbox" / "--repeats" / "--open" / "--max-datagram" / "--receive-buffer" / "--nonce-time"
 --              / "--per-source" / "--journal-bytes" / "--max-texts") number
 --            / ("--mailboxes" / "--state" / "--journal" / "--passwords") path
 --            / "--sync" (number / "never" / "always")      ; seconds, from 1 to 3600

@@ -31,6 +31,8 @@ pub struct Numbers {
     pub outbox: u32,
     /// How many NOTIFYs at a time may wait for their answers and be sent again (RFC 3261 section 17.1.2). 0: each is sent once.
     pub repeats: u32,
+    /// How many of them one subscription may have.
+    pub per_subscription: u32,
     /// How long at most a planned stop waits for the answers to the last NOTIFYs.
     pub linger: u32,
     /// How long at most time isn't counted in which each send fails. 0: it is.
@@ -139,6 +141,7 @@ impl Numbers {
             inbox: 1024,
             outbox: 1024,
             repeats: 16384,
+            per_subscription: 1024,
             linger: 2,
             outage: 600,
             max_datagram: 8192,
@@ -166,6 +169,7 @@ impl Numbers {
             Bound::Inbox => self.inbox = number,
             Bound::Outbox => self.outbox = number,
             Bound::Repeats => self.repeats = number,
+            Bound::Open => self.per_subscription = number,
             Bound::Linger => self.linger = number,
             Bound::Outage => self.outage = number,
             Bound::MaxDatagram => self.max_datagram = number,

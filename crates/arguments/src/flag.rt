@@ -36,6 +36,7 @@ pub enum Bound {
     Inbox,
     Outbox,
     Repeats,
+    Open,
     Linger,
     Outage,
     MaxDatagram,
@@ -109,6 +110,7 @@ impl Bound {
             Bound::Inbox => "--inbox",
             Bound::Outbox => "--outbox",
             Bound::Repeats => "--repeats",
+            Bound::Open => "--open",
             Bound::Linger => "--linger",
             Bound::Outage => "--outage",
             Bound::MaxDatagram => "--max-datagram",
@@ -141,8 +143,12 @@ impl Bound {
             Bound::Workers => 256,
             Bound::MinTime | Bound::Outage => 3600,
             Bound::MaxCseq => 2147483647,
-            Bound::Table | Bound::Inbox | Bound::Outbox | Bound::Repeats | Bound::PerSource =>
-                65536,
+            Bound::Table
+            | Bound::Inbox
+            | Bound::Outbox
+            | Bound::Repeats
+            | Bound::Open
+            | Bound::PerSource => 65536,
             Bound::Kept => 4096,
             Bound::Linger => 32,
             Bound::MaxDatagram => 65507,
@@ -266,6 +272,8 @@ fn count_flag(word: &str) -> Option<Bound>
         Some(Bound::Outbox)
     } else if word == "--repeats" {
         Some(Bound::Repeats)
+    } else if word == "--open" {
+        Some(Bound::Open)
     } else if word == "--per-source" {
         Some(Bound::PerSource)
     } else {

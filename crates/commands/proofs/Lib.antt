@@ -7,6 +7,7 @@ pub mod LastLine
 pub mod ToldLines
 pub mod Heard
 pub mod Started
+pub mod Carried
 pub mod Refused
 pub mod UdpPrinted
 pub mod UdpClosed

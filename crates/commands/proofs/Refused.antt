@@ -1,12 +1,12 @@
 -- Why a service is refused.
 use Rattle.std.proofs.Common.{◌≡◌, ◌<◌, ◌≤◌, ◌⊎◌, inl, inr, ⊎_elim, Bool, true, [], ◌∷◌, length, get_or, sym, ap, ◌∙◌, subst, arith}
 use Rattle.std.proofs.lemmas.List.{nil_from_length}
-use Rattle.std.specs.Prelude.{IfOk, IfErr, IfSome, Result, Ok, Err, Option, Some, None, ℕ, List, false, slice_get}
+use Rattle.std.specs.Prelude.{IfOk, IfErr, OnOk, IfSome, Result, Ok, Err, Option, Some, None, ℕ, List, false, slice_get}
 use Rattle.arguments.specs.declared.flag.AddressFlag.{AddressFlag}
 use Rattle.arguments.specs.declared.setting.Setting.{Setting}
 use Rattle.arguments.specs.declared.setting.Setting.TheVariants as setting
 use Rattle.arguments.specs.Settings.{AreSettings}
-use Rattle.arguments.specs.Choices.{state_of}
+use Rattle.arguments.specs.Choices.{state_of, further_mailboxes}
 use Rattle.arguments.specs.declared.choices.Choices.{Choices}
 use Rattle.notifier_model.specs.Limits.{AreLimits}
 use Rattle.commands.specs.declared.ranged.Ranged.{Ranged}
@@ -20,7 +20,7 @@ use Rattle.service.specs.Running.{is_faulty}
 use Rattle.service.proofs.Faults.{unfailed}
 use Rattle.commands.specs.UdpEnds.{all_closed, Tells}
 use Rattle.commands.specs.Serving.{Serves, EndedWell, CanEndWell}
-use Rattle.commands.specs.Refused.{IsOther, IsNoSocket, IsOfJournal, IsOfFile, IsOfState, IsOfNamedState, IsOfPasswords, IsOfAdmission, IsOfSetting, IsOfOne, NameFile, NameState, NamePasswords, IsListened, IsRefusal, asks_for_text, AskForText, IsStatus, status_of, status_after}
+use Rattle.commands.specs.Refused.{IsOther, IsNoSocket, IsOfJournal, IsOfFile, IsOfState, IsOfNamedState, IsOfPasswords, IsOfFurther, IsOfAdmission, IsOfSetting, IsOfOne, NameFile, NameState, NamePasswords, IsListened, IsRefusal, asks_for_text, AskForText, IsStatus, status_of, status_after}
 
 pub other_is : (words : List (List ℕ)) (e : ServeError) → IsOther e → IsRefusal words e
 other_is words (error.Options e) is = absurd is
@@ -35,6 +35,7 @@ other_is words error.NoPasswords is = absurd is
 other_is words (error.PasswordLine path e) is = absurd is
 other_is words (error.NoUsers path) is = absurd is
 other_is words (error.NoUser user) is = absurd is
+other_is words (error.NoFurther mailbox) is = absurd is
 other_is words (error.Address which) is = is
 other_is words (error.NotHere which) is = is
 other_is words (error.Denied which) is = is
@@ -61,6 +62,7 @@ no_socket_is which error.NoPasswords is listened = absurd is
 no_socket_is which (error.PasswordLine path e) is listened = absurd is
 no_socket_is which (error.NoUsers path) is listened = absurd is
 no_socket_is which (error.NoUser user) is listened = absurd is
+no_socket_is which (error.NoFurther mailbox) is listened = absurd is
 no_socket_is which (error.Address named) is listened = subst IsListened (sym is) listened
 no_socket_is which (error.NotHere named) is listened = subst IsListened (sym is) listened
 no_socket_is which (error.Denied named) is listened = subst IsListened (sym is) listened
@@ -107,6 +109,7 @@ of_file_is words path error.NoPasswords names is = absurd is
 of_file_is words path (error.PasswordLine named e) names is = absurd is
 of_file_is words path (error.NoUsers named) names is = absurd is
 of_file_is words path (error.NoUser user) names is = absurd is
+of_file_is words path (error.NoFurther mailbox) names is = absurd is
 of_file_is words path (error.Address which) names is = absurd is
 of_file_is words path (error.NotHere which) names is = absurd is
 of_file_is words path (error.Denied which) names is = absurd is
@@ -153,6 +156,7 @@ of_path_is words path error.NoPasswords names is = absurd is
 of_path_is words path (error.PasswordLine named e) names is = absurd is
 of_path_is words path (error.NoUsers named) names is = absurd is
 of_path_is words path (error.NoUser user) names is = absurd is
+of_path_is words path (error.NoFurther mailbox) names is = absurd is
 of_path_is words path (error.Address which) names is = absurd is
 of_path_is words path (error.NotHere which) names is = absurd is
 of_path_is words path (error.Denied which) names is = absurd is
@@ -178,6 +182,7 @@ of_users_is words path error.NoPasswords names is = absurd is
 of_users_is words path (error.PasswordLine named e) names is = (subst (NamePasswords words) (sym is.0) names, is.1)
 of_users_is words path (error.NoUsers named) names is = subst (NamePasswords words) (sym is) names
 of_users_is words path (error.NoUser user) names is = absurd is
+of_users_is words path (error.NoFurther mailbox) names is = absurd is
 of_users_is words path (error.Address which) names is = absurd is
 of_users_is words path (error.NotHere which) names is = absurd is
 of_users_is words path (error.Denied which) names is = absurd is
@@ -192,6 +197,11 @@ of_admission_is words settings e are (inr (inl is)) = subst (IsRefusal words) (s
 of_admission_is words settings e are (inr (inr (inl (inl none)))) = no_memory_is words e none
 of_admission_is words settings e are (inr (inr (inl (inr is)))) = subst (IsRefusal words) (sym is.3) (settings, is.1, are, is.2)
 of_admission_is words settings e are (inr (inr (inr is))) = of_users_is words is.0 e (settings, are, is.1) is.2
+
+pub of_further_is : (words : List (List ℕ)) (settings : List Setting) (e : ServeError) → AreSettings words settings → IsOfFurther (further_mailboxes settings) e
+    → IsRefusal words e
+of_further_is words settings e are (inl none) = no_memory_is words e none
+of_further_is words settings e are (inr is) = subst (IsRefusal words) (sym is.3) (settings, is.0, are, is.2)
 
 pub of_journal_is : (words : List (List ℕ)) (journal : Option (List ℕ)) (e : ServeError) → IsJournal words journal → IsOfJournal journal e → IsRefusal words e
 of_journal_is words journal e is (inl none) = no_memory_is words e none
@@ -247,11 +257,10 @@ can_end_well contents words before after o ended = record {
 }
 
 -- the status of an attempt
-pub status_is : {T W : Type 0} (contents : W → Option (List ℕ)) (words : List (List ℕ)) (before : SinkSeen W) (after : T → SinkSeen W) (outcome : T → ServiceEnd)
-    (came : Result T ServeError) (status : ℕ)
-    → IfOk came (λ s. EndedWell contents words before (after s) (outcome s)) → IfErr came (IsRefusal words) → status ≡ status_after came → IsStatus words status
-status_is contents words before after outcome (Ok s) status well refused is = inl (is, inr (can_end_well contents words before (after s) (outcome s) well))
-status_is contents words before after outcome (Err e) status well refused is = inr (e, refused, is)
+pub status_came : {T : Type 0} (words : List (List ℕ)) (came : Result T ServeError) (status : ℕ)
+    → OnOk came (CanEndWell words) → IfErr came (IsRefusal words) → status ≡ status_after came → IsStatus words status
+status_came words (Ok s) status well refused is = inl (is, inr well)
+status_came words (Err e) status well refused is = inr (e, refused, is)
 
 -- memory ran out before the words were read
 pub wants_memory : (words : List (List ℕ)) (status : ℕ) → status ≡ status_of error.NoMemory → IsStatus words status

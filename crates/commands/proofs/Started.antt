@@ -21,6 +21,7 @@ use Rattle.feeds.specs.Emitted.{writer_seen}
 use Rattle.arguments.specs.Setup.{dealt_names}
 use Rattle.arguments.specs.Told.{boxes_told, all_told}
 use Rattle.arguments.proofs.ToldBoxes.{told-len}
+use Rattle.transactions.specs.declared.allowance.Allowance.{Allowance}
 use Rattle.service.specs.declared.begins.Begins.{Begins}
 use Rattle.service.specs.declared.running.ServiceEnd.{ServiceEnd}
 use Rattle.service.specs.Running.{Beginning, Opening, Runs, anew, beginning}
@@ -28,7 +29,7 @@ use Rattle.service.specs.Sending.{open_first}
 use Rattle.service.proofs.Ran.{begins_anew}
 use Rattle.commands.specs.declared.plan.Plan.{Plan}
 use Rattle.commands.specs.Plans.{IsCount, setup_of}
-use Rattle.commands.specs.Serving.{BeginsAnew, BeginsBy, OpensBy, start_at, Ran}
+use Rattle.commands.specs.Serving.{BeginsAnew, BeginsBy, OpensBy, allowance_of, start_at, Ran}
 
 pub count_is : (asked : Option ℕ) (n : ℕ) → IsCount asked n → IsWithin 1 256 n
 count_is None n is = is
@@ -83,27 +84,27 @@ pub record Begun {W : Type 0} (contents : W → Option (List ℕ)) (journal : Op
   pub begins_as : BeginsBy journal plan local begins
   pub ran : Ran contents begins plan.workers opened admission before after outcome
 
-module _ {P : Type 0} (seen : P → Seen) (plan : Plan) (local : Addr) (desks : List (Option (Held P))) (repeats : ℕ) (work : Begins) (changes : Option (Vec Change Global)) where
+module _ {P : Type 0} (seen : P → Seen) (plan : Plan) (local : Addr) (desks : List (Option (Held P))) (repeats : Allowance) (work : Begins) (changes : Option (Vec Change Global)) where
   -- they stand so, where nobody looks behind the last
   abbrev pub these : Beginning
   these = beginning (λ w. standing_of seen (get_or desks w None)) repeats work
 
   -- the service that was asked for
   pub begun : {W : Type 0} (contents : W → Option (List ℕ)) (journal : Option (List ℕ)) (n : ℕ) {opened : Opening} {admission : Admission} {before after : SinkSeen W} {o : ServiceEnd}
-      → n ≡ plan.workers → repeats ≡ plan.choices.numbers.repeats
+      → n ≡ plan.workers → repeats ≡ allowance_of plan
       → (journal ≡ None → BeginsAnew seen plan local desks work changes)
       → Ran contents these n opened admission before after o
       → Begun contents journal plan local opened admission before after o
   begun contents None n {opened = opened} {admission = admission} {before = before} {after = after} {o = o} size room anew_if ran =
       let is = anew_if refl in
       let starts = start_at plan local in record {
-        begins = anew starts plan.choices.numbers.repeats;
+        begins = anew starts (allowance_of plan);
         begins_as = refl;
         ran = record {
           wire = ran.wire;
           wire' = ran.wire';
           runs =
-              subst (λ (k : ℕ). Runs (anew starts k) plan.workers opened admission (record {
+              subst (λ (k : Allowance). Runs (anew starts k) plan.workers opened admission (record {
                 wire = ran.wire;
                 wire' = ran.wire';
                 writer = writer_seen contents before;

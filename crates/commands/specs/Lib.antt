@@ -4,6 +4,7 @@ pub mod Heard
 pub mod Ranges
 pub mod Plans
 pub mod Serving
+pub mod Reloading
 pub mod Refused
 pub mod Telling
 pub mod UdpCall

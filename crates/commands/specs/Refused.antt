@@ -76,6 +76,7 @@ status_of error.NoPasswords = 1
 status_of (error.PasswordLine path e) = 3
 status_of (error.NoUsers path) = 3
 status_of (error.NoUser user) = 1
+status_of (error.NoFurther mailbox) = 1
 status_of (error.Address which) = 3
 status_of (error.NotHere which) = 3
 status_of (error.Denied which) = 3
@@ -116,6 +117,7 @@ IsOther error.NoPasswords = ⊥
 IsOther (error.PasswordLine path e) = ⊥
 IsOther (error.NoUsers path) = ⊥
 IsOther (error.NoUser user) = ⊥
+IsOther (error.NoFurther mailbox) = ⊥
 IsOther (error.Address which) = IsListened which
 IsOther (error.NotHere which) = IsListened which
 IsOther (error.Denied which) = IsListened which
@@ -144,6 +146,7 @@ IsNoSocket which error.NoPasswords = ⊥
 IsNoSocket which (error.PasswordLine path e) = ⊥
 IsNoSocket which (error.NoUsers path) = ⊥
 IsNoSocket which (error.NoUser user) = ⊥
+IsNoSocket which (error.NoFurther mailbox) = ⊥
 IsNoSocket which (error.Address named) = named ≡ which
 IsNoSocket which (error.NotHere named) = named ≡ which
 IsNoSocket which (error.Denied named) = named ≡ which
@@ -178,6 +181,7 @@ IsOfFile path error.NoPasswords = ⊥
 IsOfFile path (error.PasswordLine named e) = ⊥
 IsOfFile path (error.NoUsers named) = ⊥
 IsOfFile path (error.NoUser user) = ⊥
+IsOfFile path (error.NoFurther mailbox) = ⊥
 IsOfFile path (error.Address which) = ⊥
 IsOfFile path (error.NotHere which) = ⊥
 IsOfFile path (error.Denied which) = ⊥
@@ -230,6 +234,7 @@ IsOfState path error.NoPasswords = ⊥
 IsOfState path (error.PasswordLine named e) = ⊥
 IsOfState path (error.NoUsers named) = ⊥
 IsOfState path (error.NoUser user) = ⊥
+IsOfState path (error.NoFurther mailbox) = ⊥
 IsOfState path (error.Address which) = ⊥
 IsOfState path (error.NotHere which) = ⊥
 IsOfState path (error.Denied which) = ⊥
@@ -266,6 +271,7 @@ IsOfPasswords path error.NoPasswords = ⊥
 IsOfPasswords path (error.PasswordLine named e) = (named ≡ path) × IsOfPassword e
 IsOfPasswords path (error.NoUsers named) = named ≡ path
 IsOfPasswords path (error.NoUser user) = ⊥
+IsOfPasswords path (error.NoFurther mailbox) = ⊥
 IsOfPasswords path (error.Address which) = ⊥
 IsOfPasswords path (error.NotHere which) = ⊥
 IsOfPasswords path (error.Denied which) = ⊥
@@ -278,6 +284,11 @@ IsOfPasswords path error.NoMemory = Unit {0}
 abbrev pub IsOfWatched : List (List ℕ × List ℕ) → ServeError → Type 0
 IsOfWatched further e =
     (e ≡ error.NoMemory) ⊎ ((user mailbox : List ℕ) × Contains further (user, mailbox) × (e ≡ error.NoUser user))
+
+-- one of these mailboxes isn't the service's, or memory ran out
+abbrev pub IsOfFurther : List (List ℕ × List ℕ) → ServeError → Type 0
+IsOfFurther further e =
+    (e ≡ error.NoMemory) ⊎ ((user mailbox : List ℕ) × Contains further (user, mailbox) × (e ≡ error.NoFurther mailbox))
 
 -- passwords are spoken of, and no file of them is named
 abbrev pub HaveNoPasswords : List Setting → Type 0
@@ -298,6 +309,11 @@ NamePasswords words path = (settings : List Setting) × AreSettings words settin
 abbrev pub NameUser : List (List ℕ) → List ℕ → Type 0
 NameUser words user =
     (settings : List Setting) × (mailbox : List ℕ) × AreSettings words settings × Contains (further_mailboxes settings) (user, mailbox)
+
+-- the words let a user watch this further mailbox
+abbrev pub NameFurther : List (List ℕ) → List ℕ → Type 0
+NameFurther words mailbox =
+    (settings : List Setting) × (user : List ℕ) × AreSettings words settings × Contains (further_mailboxes settings) (user, mailbox)
 
 -- ---- the journal
 
@@ -323,6 +339,7 @@ IsRefusal words error.NoPasswords = (settings : List Setting) × AreSettings wor
 IsRefusal words (error.PasswordLine path e) = NamePasswords words path × IsOfPassword e
 IsRefusal words (error.NoUsers path) = NamePasswords words path
 IsRefusal words (error.NoUser user) = NameUser words user
+IsRefusal words (error.NoFurther mailbox) = NameFurther words mailbox
 IsRefusal words (error.Address which) = IsListened which
 IsRefusal words (error.NotHere which) = IsListened which
 IsRefusal words (error.Denied which) = IsListened which

@@ -17,6 +17,7 @@ use Rattle.service.specs.declared.running.ServiceEnd.{ServiceEnd}
 use Rattle.service.specs.declared.running.ServiceWork.{ServiceWork}
 use Rattle.service.specs.Listening.{IsDeaf}
 use Rattle.service.specs.Running.{Beginning, Opening, Runs, anew, AreFaults, is_faulty, opening}
+use Rattle.transactions.specs.declared.allowance.Allowance.{Allowance}
 use Rattle.admission.specs.declared.judging.Admission.{Admission}
 use Rattle.arguments.specs.declared.choices.Choices.{Choices}
 use Rattle.transport.specs.Ears.{no_misses}
@@ -54,10 +55,14 @@ opening_of plan = record { mailboxes = plan.mailboxes.items; changes = plan.chan
 
 -- ---- how it begins
 
+-- so many NOTIFYs may wait for their answers, of all and of one subscription
+abbrev pub allowance_of : Plan → Allowance
+allowance_of plan = record { all = plan.choices.numbers.repeats; per_tag = plan.choices.numbers.per_subscription }
+
 -- A service without a journal has new desks, and nothing of its begin is left of a former one. With one it may go on from that: no contract tells
 -- what a file holds.
 abbrev pub BeginsBy : Option (List ℕ) → Plan → Addr → Beginning → Type 0
-BeginsBy None plan local b = b ≡ anew (start_at plan local) plan.choices.numbers.repeats
+BeginsBy None plan local b = b ≡ anew (start_at plan local) (allowance_of plan)
 BeginsBy (Some folder) plan local b = Unit {0}
 
 abbrev pub BeginsAs : Plan → Addr → Beginning → Type 0
@@ -89,7 +94,7 @@ pub record IsWork (plan : Plan) (work : ServiceWork) : Type 0 where
   pub refusals : work.sip.going.local ≡ work.sip.coming.local
   pub longest : work.sip.longest ≡ plan.choices.numbers.max_datagram
   pub admission : work.sip.admission ≡ plan.admission
-  pub repeats : work.repeats ≡ plan.choices.numbers.repeats
+  pub repeats : work.repeats ≡ allowance_of plan
   pub linger : work.linger ≡ plan.choices.numbers.linger
   pub outage : work.outage ≡ plan.choices.numbers.outage
   pub sip_misses : misses work.sip.coming ≡ no_misses

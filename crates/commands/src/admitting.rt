@@ -5,7 +5,7 @@ ghost use Rattle.arguments.specs.Choices.{choices_of, password_file as path_of, 
 ghost use Rattle.commands.specs.declared.error.ServeError.TheVariants as error;
 ghost use Rattle.commands.specs.Heard as spec;
 ghost use Rattle.commands.specs.Heard.{Asks, IsAdmission};
-ghost use Rattle.commands.specs.Refused.{IsOfWatched, IsOfAdmission};
+ghost use Rattle.commands.specs.Refused.{IsOfWatched, IsOfFurther, IsOfAdmission};
 
 use crate::error::ServeError;
 use crate::passwords::file_users;
@@ -121,6 +121,40 @@ fn check_users(
         }
     }
     Ok(())
+}
+
+/// Whether the service has this mailbox.
+fn has_mailbox(mailboxes: &[Text], mailbox: &str) -> bool {
+    mailboxes.iter().any(|name| name.is(mailbox))
+}
+
+/// Sees that the service has each of these further mailboxes.
+fn check_mailboxes(
+    alloc: Global,
+    mailboxes: &[Text],
+    further: &[(Text, Text)],
+) -> Result<(), ServeError>
+    ensures refused { IfErr result (IsOfFurther further.now) }
+{
+    for pair in further {
+        if !has_mailbox(mailboxes, pair.1.as_str()) {
+            let mailbox = pair.1.copy(alloc)?;
+            return Err(ServeError::NoFurther(mailbox));
+        }
+    }
+    Ok(())
+}
+
+/// Sees that a service with these mailboxes has each further one that a user may watch.
+pub(crate) fn check_watched(
+    alloc: Global,
+    settings: &[Setting],
+    mailboxes: &[Text],
+) -> Result<(), ServeError>
+    ensures refused { IfErr result (IsOfFurther (pairs_of settings.now)) }
+{
+    let further = further_mailboxes(alloc, settings)?;
+    check_mailboxes(alloc, mailboxes, further.as_slice())
 }
 
 /// Whether the settings speak of passwords, so that a file of them must be there.

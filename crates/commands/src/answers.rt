@@ -3,8 +3,10 @@ ghost use Rattle.std.specs.Prelude.{◌≡◌, ◌≢◌, ℕ, List, ◌++◌, c
 ghost use Rattle.sip_text.specs.Reading.{text_of};
 ghost use Rattle.commands.specs.Telling.{IsFollowed, HasNoLineFeed};
 
+use control_lines::ControlAnswer;
+use json::Writer;
 use sip_text::{NoMemory, Text, text_of};
-use std::alloc::Global;
+use std::alloc::{AllocError, Global};
 use std::io;
 use std::io::Write;
 
@@ -17,6 +19,8 @@ pub enum Form {
     Lines,
     /// The lines behind `ok`, each a name and what is counted by it, as one JSON object.
     Json,
+    /// Nothing of an `ok`; what refuses goes to standard error.
+    Quiet,
 }
 
 /// The first word of a line.
@@ -35,6 +39,8 @@ impl Form {
             Form::Json
         } else if word == "DUMP" || word == "WATCHERS" {
             Form::Lines
+        } else if word == "RELOAD" {
+            Form::Quiet
         } else {
             Form::Whole
         }
@@ -117,53 +123,56 @@ pub(crate) fn next_line(
     Ok(Some(Text::new(next)))
 }
 
-/// Whether a word is a number.
-fn is_number(word: &str) -> bool {
-    !word.is_empty() && word.as_bytes().iter().all(|byte| byte.is_ascii_digit())
-}
-
-/// Writes a line as a member of a JSON object: a name, and a number, or else a text. Names and texts of counters have no character
-/// that JSON escapes; a line that has one is left out.
-fn write_member<W: Write>(writer: &mut W, line: &str, is_first: bool) -> io::Result<bool> {
-    let Some((name, value)) = line.split_once(' ') else {
-        return Ok(false);
-    };
-    if line
-        .as_bytes()
-        .iter()
-        .any(|byte| *byte == b'"' || *byte == b'\\' || *byte < b' ')
-    {
-        return Ok(false);
-    }
-    let between: &[u8] = if is_first { b"\"" } else { b", \"" };
-    writer.write_all(between)?;
-    writer.write_all(name.as_bytes())?;
-    let quote: &[u8] = if is_number(value) { b"" } else { b"\"" };
-    writer.write_all(b"\": ")?;
-    writer.write_all(quote)?;
-    writer.write_all(value.as_bytes())?;
-    writer.write_all(quote)?;
-    Ok(true)
-}
-
-/// Writes lines as one JSON object.
-fn write_object<W: Write>(writer: &mut W, lines: &str) -> io::Result<()> {
-    writer.write_all(b"{")?;
-    let mut is_first = true;
+/// Lines as one JSON object (RFC 8259): in each a name, and behind a blank a number, or else a text.
+fn object(alloc: Global, lines: &str) -> Result<Vec<u8>, AllocError> {
+    let mut writer = Writer::new(Vec::new(alloc));
+    writer.begin_object()?;
     for line in lines.lines() {
-        if write_member(writer, line, is_first)? {
-            is_first = false;
+        if let Some((name, value)) = line.split_once(' ') {
+            writer.key(name)?;
+            match value.parse::<u64>() {
+                Ok(number) => writer.u64(number)?,
+                Err(_) => writer.string(value)?,
+            }
         }
     }
-    writer.write_all(b"}\n")
+    writer.end_object()?;
+    let mut object = writer.into_inner();
+    object.push(b'\n')?;
+    Ok(object)
+}
+
+/// Says on standard error what refuses a line, unless the answer is `ok`: the number and the words behind a `no`, or else the answer.
+fn say_refusal<R: Eprint>(rt: &R, answer: &[u8]) -> io::Result<()> {
+    let text = text_of(answer).unwrap_or("");
+    let Some(why) = text.strip_prefix("no\n") else {
+        if text == ControlAnswer::Done.text() {
+            return Ok(());
+        }
+        return eprintln!(rt; "notifyd: {text}");
+    };
+    match why.split_once(' ') {
+        Some((number, words)) => eprintln!(rt; "notifyd: refused ({number}): {words}"),
+        None => eprintln!(rt; "notifyd: refused: {why}"),
+    }
 }
 
 /// Prints an answer in this form. One that has no lines is printed as it came.
-pub(crate) fn print_answer<R: Print>(rt: &R, answer: &[u8], form: Form) -> io::Result<()> {
+pub(crate) fn print_answer<R: Print + Eprint + AllocGlobal>(
+    rt: &R,
+    answer: &[u8],
+    form: Form,
+) -> io::Result<()> {
+    if form == Form::Quiet {
+        return say_refusal(rt, answer);
+    }
     let mut writer = io::writer(rt);
     match (form, told_lines(answer)) {
         (Form::Lines, Some(lines)) => writer.write_all(page(answer, lines))?,
-        (Form::Json, Some(lines)) => write_object(&mut writer, text_of(lines).unwrap_or(""))?,
+        (Form::Json, Some(lines)) => {
+            let object = object(rt.alloc(), text_of(lines).unwrap_or(""))?;
+            writer.write_all(object.as_slice())?;
+        }
         _ => {
             writer.write_all(answer)?;
             writer.write_all(b"\n")?;

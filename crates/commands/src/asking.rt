@@ -39,11 +39,19 @@ fn received(room: &[u8], length: usize) -> &[u8] {
     &room[..length.min(room.len())]
 }
 
-/// A speaker for the service that a call names, or for the one at 127.0.0.1:5061.
-fn new_speaker<R: Wait + Net>(rt: &R, call: &TellCall) -> Result<UdpSpeaker, SpeakerFault>
+/// A speaker for the service that a call names, or for the one at 127.0.0.1:5061. For a RELOAD it is one that has more patience.
+fn new_speaker<R: Wait + Net>(
+    rt: &R,
+    call: &TellCall,
+    form: Form,
+) -> Result<UdpSpeaker, SpeakerFault>
     ensures service { IfOk result (λ s. s.service ≡ reached call.now.control (loopback 5061)) }
 {
-    UdpSpeaker::to(rt, call.control.unwrap_or(CONTROL))
+    let service = call.control.unwrap_or(CONTROL);
+    match form {
+        Form::Quiet => UdpSpeaker::to_reload(rt, service),
+        Form::Whole | Form::Lines | Form::Json => UdpSpeaker::to(rt, service),
+    }
 }
 
 /// What came of a line.
@@ -171,7 +179,7 @@ fn ask_anew<R: Wait + Net + RandomSource + Print + Eprint + AllocGlobal>(
 ) -> Result<Told, NoMemory>
     ensures { IfOk result (λ told. (told.status ≡ 0) ⊎ (told.status ≡ 1) ⊎ (told.status ≡ 3)) }
 {
-    let Ok(mut speaker) = new_speaker(rt, call) else {
+    let Ok(mut speaker) = new_speaker(rt, call, form) else {
         let _ = eprintln!(rt; "notifyd: device fault");
         return Ok(Told {
             status: ExitStatus::DeviceFault.code(),

@@ -62,6 +62,9 @@ pub enum ServeError {
     /// A user who may watch a further mailbox has no password.
     #[error("no password of the user of --watch: {user}", user = .0.as_str())]
     NoUser(Text),
+    /// A further mailbox that a user may watch isn't one of the service's.
+    #[error("no such mailbox of --watch: {mailbox}", mailbox = .0.as_str())]
+    NoFurther(Text),
     /// The port of an option is in use.
     #[error("a port in use: {option}", option = .0.text())]
     Address(AddressFlag),
@@ -112,7 +115,8 @@ impl ServeError {
             | ServeError::NoContact
             | ServeError::NoMailbox
             | ServeError::NoPasswords
-            | ServeError::NoUser(_) => ExitStatus::BadArguments.code(),
+            | ServeError::NoUser(_)
+            | ServeError::NoFurther(_) => ExitStatus::BadArguments.code(),
             ServeError::Line(_, _, OptionsError::NoMemory) | ServeError::NoMemory => {
                 ExitStatus::OutOfMemory.code()
             }

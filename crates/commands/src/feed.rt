@@ -17,7 +17,7 @@ use std::sync::{Arc, Wait};
 use std::thread;
 use std::thread::{Promise, PromisedHandle, Threads};
 use transport::UdpWire;
-use voicemail::{Clerk, VoicemailDesk};
+use voicemail::{Clerk, KeptAnswers, VoicemailDesk};
 
 /// Who hears voicemail systems of a service.
 pub(crate) type FeedDesk = VoicemailDesk<UdpWire, UdpSpeaker>;
@@ -76,6 +76,7 @@ pub(crate) fn open_feed<R: Wait + Net + AllocGlobal>(
         going,
         speaker,
         networks,
+        kept: KeptAnswers::new(rt.alloc())?,
     }))
 }
 
@@ -100,6 +101,7 @@ where
     R: Threads + Wait + Clock + Copy + Send + 'static,
     ensures refused { IfErr result IsOther }
 {
+    shared.watch_feed(desk.coming.local());
     let clerk = FeedClerk {
         shared: Arc::try_clone(shared)?,
     };

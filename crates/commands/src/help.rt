@@ -5,7 +5,7 @@ ghost use Rattle.commands.specs.Refused.{asks_for_text, AskForText};
 
 use sip_text::Text;
 
-pub(crate) const VERSION: &str = "notifyd 1.0";
+pub(crate) const VERSION: &str = "notifyd 1.1";
 
 pub(crate) const HELP: &str = "\
 usage: notifyd serve [options] [<mailbox>...]      (also --option=value)
@@ -54,15 +54,16 @@ usage: notifyd serve [options] [<mailbox>...]      (also --option=value)
   --inbox <1 to 65536>       places of a worker's inbox (1024)
   --outbox <1 to 65536>      places of the outbox (1024)
   --repeats <0 to 65536>     unanswered NOTIFYs that are sent again (16384)
+  --open <1 to 65536>        how many of them one subscription may have (1024)
   --linger <0 to 32>         seconds that a stop waits for answers (2)
   --outage <0 to 3600>       seconds that don't count while each send fails (600)
   --max-datagram <octets>    the longest SIP datagram that is read (8192)
   --max-texts <octets>       what a subscription keeps of a request (2048)
   --receive-buffer <octets>  room asked for datagrams that wait (4194304)
 
-Lines for tell: MAIL, PROGRESS, STATUS, SHOW, DUMP, WATCHERS, CLOSE. With - the
-MAIL lines of standard input are told (and PROGRESS lines with --progress); see
-notifyd(8).";
+Lines for tell: MAIL, PROGRESS, STATUS, SHOW, DUMP, WATCHERS, RELOAD, CLOSE.
+With - the MAIL lines of standard input are told (and PROGRESS lines with
+--progress); see notifyd(8).";
 
 /// The text that a word asks for.
 fn word_text(word: &str) -> Option<&'static str>

@@ -1,10 +1,16 @@
-//! The folder of a journal: its lock, and its files `journal.1`, `journal.2` and so on, of which the greatest number is the newest.
+//! The folder of a journal: its lock, and its files `journal.1`, `journal.2` and so on, of which the greatest number is the newest. What is
+//! made here its user alone may read.
 
+use service::FILE_MODE;
 use sip_text::{NoMemory, Text, plain_number};
 use std::alloc::Global;
 use std::fs;
-use std::fs::{File, TryLockError};
+use std::fs::{DirBuilder, File, TryLockError};
+use std::os::unix::fs::{DirBuilderExt, OpenOptionsExt};
 use std::rt::Files;
+
+/// The permission bits of a folder that is made: its user alone may look into it.
+const FOLDER_MODE: u32 = 0o700;
 
 /// A folder that no other service writes as long as this is kept.
 #[derive(Drop)]
@@ -45,10 +51,14 @@ where
     let alloc = rt.alloc();
     let place = path.as_str();
     let name = format!(in alloc; "{place}/lock")?;
-    let _ = fs::create_dir_all(rt, place);
+    let _ = DirBuilder::new()
+        .recursive(true)
+        .mode(FOLDER_MODE)
+        .create(rt, place);
     let Ok(lock) = File::options()
         .create(true)
         .append(true)
+        .mode(FILE_MODE)
         .open(rt, name.as_str())
     else {
         return Ok(Access::Refused);
@@ -111,6 +121,7 @@ impl Folder {
         let Ok(file) = File::options()
             .create(true)
             .append(true)
+            .mode(FILE_MODE)
             .open(rt, path.as_str())
         else {
             return Ok(None);

@@ -1,6 +1,6 @@
 //! How a service with a journal begins: its folder is its own, what stands there is read, and its desks go on from that.
 
-ghost use Rattle.std.specs.Prelude.{◌<◌, ◌≤◌, ◌≡◌, ℕ, None, IfOk, IfErr, vec_len};
+ghost use Rattle.std.specs.Prelude.{◌<◌, ◌≤◌, ◌≡◌, ℕ, None, Some, IfOk, IfErr, vec_len};
 ghost use Rattle.arguments.specs.declared.syncing.Syncing.TheVariants as said;
 ghost use Rattle.arguments.specs.Wanted.{Gives};
 ghost use Rattle.commands.specs.Refused.{IsOfJournal, IsOther};
@@ -16,14 +16,14 @@ use crate::mailboxes::are_same;
 use crate::plan::{Plan, local_setup};
 use arguments::{Wanted, all_told};
 use crew::open_desks;
-use journal::{Account, Generation, Header};
+use journal::{Account, Header};
 use keeper::Keeper;
-use notifier::{Desk, Out, Setup};
+use notifier::{Desk, Out, Saved, Setup};
 use package::{Change, Package};
 use restarts::Living as Row;
 use resumption::{
     Found, Halt, Reading, Renewed, Replayed, Terms, Wish, Worked, add_mails, held_names,
-    read_files, renew, replay,
+    read_files, renew, replay, saved,
 };
 use service::{Begins, Journal, Living, SETTLED, Syncing, Upkeep, Volume};
 use sip_text::{Addr, NoMemory, Text};
@@ -78,8 +78,29 @@ where
     Ok(None)
 }
 
-/// Has the folder that the plan names for this service alone, and reads what stands there. None where the plan names none, or where it can't be written.
-pub(crate) fn open_journal<R>(rt: &R, plan: &Plan) -> Result<Option<Opened>, ServeError>
+/// The folder at this path, for this service alone: the one that it held till now, if it did. None where it can't be written.
+fn own_folder<R>(rt: &R, path: &Text, held: Option<Folder>) -> Result<Option<Folder>, ServeError>
+where
+    R: Files<File = File> + AllocGlobal,
+    ensures refused { IfErr result (IsOfJournal (Some path.now)) }
+{
+    if let Some(folder) = held {
+        return Ok(Some(folder));
+    }
+    match take_folder(rt, path)? {
+        Access::Ours(folder) => Ok(Some(folder)),
+        Access::Theirs => Err(ServeError::JournalInUse(path.copy(rt.alloc())?)),
+        Access::Refused => Ok(None),
+    }
+}
+
+/// Has the folder that the plan names for this service alone, and reads what stands there: the one that it held till now, if it did. None
+/// where the plan names none, or where it can't be written.
+pub(crate) fn open_journal<R>(
+    rt: &R,
+    plan: &Plan,
+    held: Option<Folder>,
+) -> Result<Option<Opened>, ServeError>
 where
     R: Files<File = File> + AllocGlobal + Clone + Drop,
     ensures refused { IfErr result (IsOfJournal plan.now.journal) }
@@ -87,10 +108,8 @@ where
     let Some(path) = &plan.journal else {
         return Ok(None);
     };
-    let folder = match take_folder(rt, path)? {
-        Access::Ours(folder) => folder,
-        Access::Theirs => return Err(ServeError::JournalInUse(path.copy(rt.alloc())?)),
-        Access::Refused => return Ok(None),
+    let Some(folder) = own_folder(rt, path, held)? else {
+        return Ok(None);
     };
     let numbers = folder.numbers(rt)?;
     let found = look(rt, &folder, numbers.as_slice())?;
@@ -99,6 +118,12 @@ where
         numbers,
         found,
     }))
+}
+
+/// The folder, which the service holds on to.
+pub(crate) fn held_folder(opened: Option<Opened>) -> Option<Folder> {
+    let Opened { folder, .. } = opened?;
+    Some(folder)
 }
 
 /// What the journal begins with that is gone on from, if one is.
@@ -179,10 +204,12 @@ impl Order<'_> {
         }
     }
 
-    /// How its journal is kept in this folder, where it goes on in a file that was the current one for so many seconds.
-    fn upkeep(&self, alloc: Global, folder: &Folder, been: u64) -> Result<Upkeep, NoMemory> {
+    /// How its journal is kept in this folder, where it goes on in a file that was the current one for so many seconds. What doesn't stand there
+    /// any more needs no removal.
+    fn upkeep(&self, alloc: Global, opened: &Opened, been: u64) -> Result<Upkeep, NoMemory> {
         Ok(Upkeep {
-            folder: folder.path.copy(alloc)?,
+            folder: opened.folder.path.copy(alloc)?,
+            oldest: opened.numbers.last().copied().unwrap_or(0),
             limit: u64::from(self.plan.choices.numbers.journal_bytes),
             age: SETTLED,
             been,
@@ -226,13 +253,24 @@ fn held_these(alloc: Global, accounts: &[Account], names: &[Text]) -> Result<boo
     are_same(alloc, names, held)
 }
 
+/// Whether a service like this one wrote what was found.
+fn is_own(found: &Found, order: &Order<'_>) -> bool {
+    let (was, is) = (&found.generation.header, &order.header);
+    was.seed == is.seed && was.workers == is.workers && was.contact == is.contact
+}
+
+/// Whether the end of what was handled may be lost: it is torn, or the machine was started anew.
+fn may_miss(found: &Found, order: &Order<'_>) -> bool {
+    let (was, is) = (&found.generation.header, &order.header);
+    found.is_torn || is.boot.is("") || !is.boot.is(was.boot.as_str())
+}
+
 /// How a service goes on from what was found.
 fn course_from(alloc: Global, order: &Order<'_>, found: &Found) -> Result<Course, NoMemory> {
-    let (was, is) = (&found.generation.header, &order.header);
-    if was.seed != is.seed || was.workers != is.workers || was.contact != is.contact {
+    if !is_own(found, order) {
         return Ok(Course::Ended);
     }
-    let is_lost = found.is_torn || is.boot.is("") || !is.boot.is(was.boot.as_str());
+    let is_lost = may_miss(found, order);
     let accounts = found.generation.accounts.as_slice();
     let names = order.plan.mailboxes.as_slice();
     if is_lost || !found.terms.is(&order.terms) || !held_these(alloc, accounts, names)? {
@@ -258,6 +296,15 @@ fn add_living(living: &mut Vec<Living>, rows: Vec<Row>) -> Result<(), NoMemory> 
         })?;
     }
     Ok(())
+}
+
+/// The last second of which one of these desks was told.
+fn last_second<P: Package>(desks: &[Desk<P>]) -> u64 {
+    let mut second = 0u64;
+    for desk in desks {
+        second = second.max(desk.clock());
+    }
+    second
 }
 
 /// What a service begins with beside these desks, where these NOTIFYs are sent first.
@@ -343,12 +390,13 @@ where
     Ok(Some(volume))
 }
 
-/// A service with these desks, which writes a new file.
+/// A service with these desks, which writes a new file. Once it stands there those with these numbers are removed.
 fn begin_file<R, P>(
     rt: &R,
     order: Order<'_>,
     opened: &Opened,
     renewed: Renewed<P>,
+    spare: &[u64],
 ) -> Result<Started<P>, Halt>
 where
     R: Files<File = File> + AllocGlobal,
@@ -360,12 +408,12 @@ where
     let volume = new_volume(rt, opened, &order.header, &mut keeper, desks.as_slice())?;
     let begins = begin_with(alloc, desks.as_slice(), first)?;
     let changes = told_changes(alloc, &keeper, order.plan.workers)?;
-    let upkeep = order.upkeep(alloc, &opened.folder, 0)?;
+    let upkeep = order.upkeep(alloc, opened, 0)?;
     let journal = match volume {
         Some(volume) => Some(Journal::new(alloc, keeper, order.header, volume, upkeep)?),
         None => None,
     };
-    opened.folder.remove(rt, opened.numbers.as_slice())?;
+    opened.folder.remove(rt, spare)?;
     Ok(Started {
         desks,
         begins,
@@ -383,6 +431,20 @@ struct Newest {
     begun: u64,
     /// Where its whole records end.
     whole: u64,
+    /// Whether it follows the one before.
+    follows: bool,
+}
+
+impl Newest {
+    /// The file with this number, in which this was found.
+    fn of(number: u64, found: &Found) -> Newest {
+        Newest {
+            number,
+            begun: found.begun,
+            whole: found.whole,
+            follows: found.follows,
+        }
+    }
 }
 
 /// A service whose desks stand where they stood, and which goes on in this file.
@@ -406,7 +468,7 @@ where
     let begins = begin_with(alloc, desks.as_slice(), unanswered)?;
     let changes = told_changes(alloc, &keeper, order.plan.workers)?;
     let been = begins.tick.saturating_sub(newest.begun);
-    let upkeep = order.upkeep(alloc, &opened.folder, been)?;
+    let upkeep = order.upkeep(alloc, opened, been)?;
     let journal = match old_volume(rt, opened, newest, &mut keeper)? {
         Some(volume) => Some(Journal::new(alloc, keeper, order.header, volume, upkeep)?),
         None => None,
@@ -419,12 +481,12 @@ where
     })
 }
 
-/// Those of these files that a service doesn't need which goes on in the one with this number: it needs that one and the one before. Newer ones were never
-/// whole.
+/// Those of these files that a service doesn't need which goes on from the one with this number, or from none: newer ones, which were never
+/// whole. Older ones it removes as it runs.
 fn spare_numbers(alloc: Global, numbers: &[u64], number: u64) -> Result<Vec<u64>, NoMemory> {
     let mut spare = Vec::new(alloc);
     for other in numbers {
-        if *other > number || other.saturating_add(1) < number {
+        if *other > number {
             spare.push(*other)?;
         }
     }
@@ -457,6 +519,190 @@ where
     Ok(None)
 }
 
+/// The newest file of a journal, with those before it, for a service of this order.
+#[derive(Clone, Copy)]
+struct Past<'a> {
+    order: &'a Order<'a>,
+    opened: &'a Opened,
+    newest: Newest,
+}
+
+/// What an earlier file of a journal tells.
+#[derive(Drop)]
+struct Earlier {
+    /// The NOTIFYs that nobody had answered as it ended, in order.
+    outs: Vec<Out>,
+    /// The second of the notifier in which its books were written.
+    begun: u64,
+    /// Whether it follows the one before.
+    follows: bool,
+}
+
+/// What the file at this place of the list tells. None where it isn't whole, is of another service, or may miss what was handled last.
+fn read_earlier<R, P, M>(
+    rt: &R,
+    past: Past<'_>,
+    place: usize,
+    make: &M,
+) -> Result<Option<Earlier>, Halt>
+where
+    R: Files<File = File> + AllocGlobal,
+    P: Package,
+    M: Fn(Wanted) -> Result<P, NoMemory>,
+    requires callable { M.IsAlwaysCallable make.now }
+    requires gives { Gives P.seen (M.post make.now) }
+{
+    let Past { order, opened, .. } = past;
+    let Some(number) = opened.numbers.get(place).copied() else {
+        return Ok(None);
+    };
+    let before = opened.numbers.get(place.saturating_add(1)).copied();
+    let Reading::Found(found) = read_file(rt, &opened.folder, number, before)? else {
+        return Ok(None);
+    };
+    if !is_own(&found, order) || may_miss(&found, order) {
+        return Ok(None);
+    }
+    let worked = order.worked(&found);
+    let Found {
+        generation,
+        begun,
+        follows,
+        ..
+    } = found;
+    let accounts = generation.accounts.into_vec();
+    match replay(rt.alloc(), &worked, accounts, make) {
+        Ok(replayed) => Ok(Some(Earlier {
+            outs: replayed.unanswered,
+            begun,
+            follows,
+        })),
+        Err(Halt::Unfit) => Ok(None),
+        Err(error) => Err(error),
+    }
+}
+
+/// How many NOTIFYs wait for their answers, as a book has it.
+fn unanswered_in(book: &Saved) -> usize {
+    let mut count = 0usize;
+    for row in book.rows.as_slice() {
+        count = count.saturating_add(row.unanswered.as_slice().len());
+    }
+    count
+}
+
+/// How many NOTIFYs of these desks wait for their answers.
+fn count_awaited<P: Package>(alloc: Global, desks: &[Desk<P>]) -> Result<usize, Halt> {
+    let mut count = 0usize;
+    for desk in desks {
+        let book = saved(alloc, desk)?;
+        count = count.saturating_add(unanswered_in(&book));
+    }
+    Ok(count)
+}
+
+/// Whether one of these desks waits for the answer to this NOTIFY.
+fn is_awaited<P: Package>(desks: &[Desk<P>], out: &Out) -> bool {
+    match out {
+        Out::Notify { tag, number, .. } => {
+            desks.iter().any(|desk| desk.awaits(tag.as_str(), *number))
+        }
+        Out::Answer { .. } | Out::Start { .. } => false,
+    }
+}
+
+/// Those of these outs that one of these desks awaits the answers to.
+fn awaited<P: Package>(
+    alloc: Global,
+    desks: &[Desk<P>],
+    outs: Vec<Out>,
+) -> Result<Vec<Out>, NoMemory> {
+    let mut awaited = Vec::new(alloc);
+    for out in outs {
+        if is_awaited(desks, &out) {
+            awaited.push(out)?;
+        }
+    }
+    Ok(awaited)
+}
+
+/// The NOTIFYs that these desks await the answers to, in order: behind those that earlier files tell of, these of the newest one. A file that
+/// was begun with other mailboxes doesn't follow the one before, so its own events don't tell all of them. What is older than [`SETTLED`]
+/// seconds is answered or given up.
+fn all_awaited<R, P, M>(
+    rt: &R,
+    past: Past<'_>,
+    desks: &[Desk<P>],
+    newest: Vec<Out>,
+    make: &M,
+) -> Result<Vec<Out>, Halt>
+where
+    R: Files<File = File> + AllocGlobal,
+    P: Package,
+    M: Fn(Wanted) -> Result<P, NoMemory>,
+    requires callable { M.IsAlwaysCallable make.now }
+    requires gives { Gives P.seen (M.post make.now) }
+{
+    let clock = last_second(desks);
+    let numbers = past.opened.numbers.as_slice();
+    let mut outs = newest;
+    let Newest {
+        number,
+        mut begun,
+        mut follows,
+        ..
+    } = past.newest;
+    for place in 0..numbers.len() {
+        if numbers[place] >= number {
+            continue;
+        }
+        if follows || SETTLED <= clock.saturating_sub(begun) {
+            break;
+        }
+        if count_awaited(rt.alloc(), desks)? <= outs.len() {
+            break;
+        }
+        let Some(earlier) = read_earlier(rt, past, place, make)? else {
+            break;
+        };
+        begun = earlier.begun;
+        follows = earlier.follows;
+        let mut first = awaited(rt.alloc(), desks, earlier.outs)?;
+        first.append(&mut outs)?;
+        outs = first;
+    }
+    Ok(outs)
+}
+
+/// What goes on from what was found, with the NOTIFYs of earlier files that are still unanswered.
+fn replay_found<R, P, M>(
+    rt: &R,
+    past: Past<'_>,
+    found: Found,
+    make: &M,
+) -> Result<Replayed<P>, Halt>
+where
+    R: Files<File = File> + AllocGlobal,
+    P: Package,
+    M: Fn(Wanted) -> Result<P, NoMemory>,
+    requires callable { M.IsAlwaysCallable make.now }
+    requires gives { Gives P.seen (M.post make.now) }
+{
+    let worked = past.order.worked(&found);
+    let Found { generation, .. } = found;
+    let Replayed {
+        desks,
+        unanswered,
+        keeper,
+    } = replay(rt.alloc(), &worked, generation.accounts.into_vec(), make)?;
+    let unanswered = all_awaited(rt, past, desks.as_slice(), unanswered, make)?;
+    Ok(Replayed {
+        desks,
+        unanswered,
+        keeper,
+    })
+}
+
 /// A service that goes on from what was found.
 fn go_on<R, P, M>(
     rt: &R,
@@ -476,31 +722,27 @@ where
     let alloc = rt.alloc();
     let (number, found) = from;
     let course = course_from(alloc, &order, &found)?;
-    let worked = order.worked(&found);
-    let Found {
-        generation,
-        begun,
-        whole,
-        ..
-    } = found;
-    let newest = Newest {
-        number,
-        begun,
-        whole,
+    let newest = Newest::of(number, &found);
+    let past = Past {
+        order: &order,
+        opened,
+        newest,
     };
-    let Generation { accounts, .. } = generation;
-    let replayed = replay(alloc, &worked, accounts.into_vec(), make)?;
+    let replayed = replay_found(rt, past, found, make)?;
     let is_json = order.plan.choices.log_json;
     say_journal(rt, is_json, &opened.folder.path, told(course));
     match course {
         Course::Straight => go_straight(rt, order, opened, newest, replayed),
         Course::Renewed { is_lost } => {
             let renewed = renew(alloc, &order.wish(), replayed, is_lost, make)?;
-            begin_file(rt, order, opened, renewed)
+            // Behind a leap nothing of an older file is sent again.
+            let kept = if is_lost { 0 } else { number };
+            let spare = spare_numbers(alloc, opened.numbers.as_slice(), kept)?;
+            begin_file(rt, order, opened, renewed, spare.as_slice())
         }
         Course::Ended => {
             let renewed = end_and_begin(alloc, &order.wish(), replayed, make)?;
-            begin_file(rt, order, opened, renewed)
+            begin_file(rt, order, opened, renewed, opened.numbers.as_slice())
         }
     }
 }
@@ -523,7 +765,7 @@ where
     let changes = order.plan.changes.as_slice();
     let renewed = begin_desks(rt.alloc(), &order.wish(), changes, make)?;
     opened.folder.put_aside(rt, opened.numbers.as_slice())?;
-    begin_file(rt, order, opened, renewed)
+    begin_file(rt, order, opened, renewed, &[])
 }
 
 /// The same, as it is told.

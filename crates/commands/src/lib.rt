@@ -2,7 +2,8 @@
 //!
 //! [`serve`] reads the words behind it and the files that they name, binds the sockets, runs the crate `service` until a CLOSE, a
 //! fault of a socket or of the clock, or a worker that is gone, writes what its workers did, and answers the exit status of the
-//! program. [`serve_words`] is all of it up to that end, over any writer. [`tell`] sends a control line to a service that runs, and
+//! program. At a RELOAD it reads the files again; where they are good the run ends, and the next one begins from the journal
+//! (`specs/Reloading`). [`serve_words`] is one run up to its end, over any writer. [`tell`] sends a control line to a service that runs, and
 //! prints the answer, or the lines of standard input, one behind the other (the crate `telling`). [`udp`] is the program for so many datagrams, at 127.0.0.1.
 //!
 //! What it isn't: what the threads of a service do is `service`'s, what the words mean `arguments`'s, and what a control line
@@ -30,6 +31,7 @@ pub mod plan;
 pub mod program;
 mod prompt;
 mod ranged;
+mod reloading;
 mod sockets;
 mod state;
 mod terminal;

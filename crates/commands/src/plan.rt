@@ -6,16 +6,18 @@ ghost use Rattle.commands.specs.declared.ranged.Ranged.{Ranged};
 ghost use Rattle.commands.specs.Ranges.{ranges, IsFirstOut};
 ghost use Rattle.commands.specs.Plans as spec;
 ghost use Rattle.commands.specs.Plans.{IsCount, IsSeed, IsReached, IsPlan};
-ghost use Rattle.commands.specs.Refused.{IsRefusal};
+ghost use Rattle.arguments.specs.Choices.{state_of};
+ghost use Rattle.commands.specs.State.{IsState};
+ghost use Rattle.commands.specs.Refused.{IsOfNamedState, IsRefusal};
 
-use crate::admitting::{new_admission, secret};
+use crate::admitting::{check_watched, new_admission, secret};
 use crate::error::ServeError;
 use crate::mailboxes::{each_once, named_mailboxes};
 use crate::ranged::number_out;
 use crate::state::told_changes;
 use admission::{Admission, Network};
 use arguments::{
-    Choices, Numbers, control_networks, feed_networks, journal_folder, parse_settings,
+    Choices, Numbers, Setting, control_networks, feed_networks, journal_folder, parse_settings,
 };
 use notifier_model::{Limits, Setup};
 use package::Change;
@@ -111,6 +113,15 @@ fn is_reached(choices: &Choices) -> bool
     choices.contact.unwrap_or(choices.listen).ip != [0; 4]
 }
 
+/// When the words are read.
+#[derive(Clone, Copy)]
+enum Occasion {
+    /// The service starts.
+    Start,
+    /// It runs: its journal tells of its mailboxes, and the file of changes with which it started may be gone.
+    Reload,
+}
+
 /// What the words ask for, but for what stands in files.
 #[derive(Drop)]
 struct Read {
@@ -123,9 +134,28 @@ struct Read {
     journal: Option<Text>,
 }
 
+/// What is told of mailboxes before the first datagram is heard: what the file of the settings says at a start, and nothing more where a
+/// service goes on.
+#[tactic(auto, using(crate::proofs::Carried::state_none))]
+fn first_changes<R>(
+    rt: &R,
+    settings: &[Setting],
+    occasion: Occasion,
+) -> Result<Vec<Change>, ServeError>
+where
+    R: Files + AllocGlobal,
+    ensures state { IfOk result (λ changes. IsState (state_of settings.now) changes.items) }
+    ensures refused { IfErr result (IsOfNamedState settings.now) }
+{
+    match occasion {
+        Occasion::Start => told_changes(rt, settings),
+        Occasion::Reload => Ok(Vec::new(rt.alloc())),
+    }
+}
+
 /// What the words ask for, and what stands in the files that they name.
-#[tactic(auto, using(crate::proofs::Refused::of_one_is, crate::proofs::Refused::of_state_is, crate::proofs::Refused::of_admission_is))]
-fn read_words<R>(rt: &R, words: &[Text]) -> Result<Read, ServeError>
+#[tactic(auto, using(crate::proofs::Refused::of_one_is, crate::proofs::Refused::of_state_is, crate::proofs::Refused::of_admission_is, crate::proofs::Refused::of_further_is))]
+fn read_words<R>(rt: &R, words: &[Text], occasion: Occasion) -> Result<Read, ServeError>
 where
     R: Files + RandomSource + AllocGlobal,
     ensures read { IfOk result (λ r. spec.AreRead words.now r.choices r.mailboxes.items) }
@@ -138,8 +168,9 @@ where
 {
     let settings = parse_settings(rt.alloc(), words)?;
     let mailboxes = named_mailboxes(rt, settings.as_slice())?;
-    let changes = told_changes(rt, settings.as_slice())?;
+    let changes = first_changes(rt, settings.as_slice(), occasion)?;
     let admission = new_admission(rt, settings.as_slice())?;
+    check_watched(rt.alloc(), settings.as_slice(), mailboxes.as_slice())?;
     let operators = control_networks(rt.alloc(), settings.as_slice())?;
     let feeds = feed_networks(rt.alloc(), settings.as_slice())?;
     let journal = journal_folder(rt.alloc(), settings.as_slice())?;
@@ -154,9 +185,9 @@ where
     })
 }
 
-/// What the words ask for: files are read and the system is asked for randomness, and no socket is opened.
+/// What the words ask for on this occasion: files are read and the system is asked for randomness, and no socket is opened.
 #[tactic(auto, using(crate::proofs::Refused::other_is, crate::proofs::Refused::times_are, crate::proofs::Once::once_some))]
-pub fn new_plan<R>(rt: &R, words: &[Text]) -> Result<Plan, ServeError>
+fn plan_on<R>(rt: &R, words: &[Text], occasion: Occasion) -> Result<Plan, ServeError>
 where
     R: Threads + Files + RandomSource + AllocGlobal,
     ensures plan { IfOk result (IsPlan words.now) }
@@ -170,7 +201,7 @@ where
         operators,
         feeds,
         journal,
-    } = read_words(rt, words)?;
+    } = read_words(rt, words, occasion)?;
     if !is_reached(&choices) {
         return Err(ServeError::NoContact);
     }
@@ -190,6 +221,26 @@ where
         feeds,
         journal,
     })
+}
+
+/// What the words ask for: files are read and the system is asked for randomness, and no socket is opened.
+pub fn new_plan<R>(rt: &R, words: &[Text]) -> Result<Plan, ServeError>
+where
+    R: Threads + Files + RandomSource + AllocGlobal,
+    ensures plan { IfOk result (IsPlan words.now) }
+    ensures refused { IfErr result (IsRefusal words.now) }
+{
+    plan_on(rt, words, Occasion::Start)
+}
+
+/// The same while the service runs, whose journal tells of its mailboxes: no file of changes is read.
+pub(crate) fn next_plan<R>(rt: &R, words: &[Text]) -> Result<Plan, ServeError>
+where
+    R: Threads + Files + RandomSource + AllocGlobal,
+    ensures plan { IfOk result (IsPlan words.now) }
+    ensures refused { IfErr result (IsRefusal words.now) }
+{
+    plan_on(rt, words, Occasion::Reload)
 }
 
 /// The seed of a journal, where none was asked for; else the planned one.

@@ -1,5 +1,5 @@
 //! `notifyd serve`.
-ghost use Rattle.std.specs.Prelude.{◌≡◌, ◌<◌, ◌≤◌, ◌⊎◌, ℕ, List, None, true, false, get_or, vec_len, IfOk, IfErr, OnOk};
+ghost use Rattle.std.specs.Prelude.{◌≡◌, ◌<◌, ◌≤◌, ◌⊎◌, ℕ, List, None, true, false, get_or, vec_len, IfOk, IfErr, IfSome, OnOk};
 ghost use Rattle.crew.specs.Desks.{standing_of};
 ghost use Rattle.arguments.specs.Wanted.{Gives};
 ghost use Rattle.transport.specs.Sockets.{misses};
@@ -9,19 +9,22 @@ ghost use Rattle.commands.specs.UdpEnds.{Tells};
 ghost use Rattle.commands.specs.Refused.{AskForText, IsOther, IsRefusal, IsStatus, status_after, status_of};
 ghost use Rattle.commands.specs.declared.error.ServeError.TheVariants as error;
 ghost use Rattle.commands.specs.Plans.{IsPlan};
-ghost use Rattle.commands.specs.Serving.{AreOpen, BeginsAnew, EndedWell, IsWork, Ran, Serves, new_sink};
+ghost use Rattle.commands.specs.Reloading.{IsCarried, IsRereading};
+ghost use Rattle.commands.specs.Serving.{AreOpen, BeginsAnew, CanEndWell, IsWork, Ran, Serves, new_sink};
 
 use crate::error::ServeError;
-use crate::feed::open_feed;
+use crate::feed::{FeedDesk, open_feed};
 use crate::help::{HELP, asked_text};
 use crate::input::Watch;
-use crate::journal_start::{Opened, Started, found_header, open_journal, start};
+use crate::journal_folder::Folder;
+use crate::journal_start::{Opened, Started, found_header, held_folder, open_journal, start};
 use crate::logging::{
     say_goodbye, say_hello, say_journal, say_spent_worker, say_why, warn_of_control,
 };
 use crate::plan::{Plan, adopted, local_setup, new_plan};
 use crate::prompt::{Patience, Prompt};
-use crate::sockets::{Sockets, open};
+use crate::reloading::{Carried, Reloader, answer_reload};
+use crate::sockets::{Sockets, Standby, find};
 use crate::udp::all_closed;
 use crate::udp_printing::worker_lines;
 use arguments::{ExitStatus, Wanted};
@@ -30,7 +33,8 @@ use notifier::Desk;
 use package::{Change, Package};
 use scripts::write_page;
 use service::{
-    Begins, ControlPort, Exit, Journal, ServiceEnd, ServiceWork, Shared, SipDesk, run_crew,
+    Allowance, Begins, ControlPort, Exit, Journal, ServiceEnd, ServiceWork, Shared, SipDesk,
+    run_crew,
 };
 use sip_text::{Addr, NoMemory, Text};
 use std::alloc::{AllocError, Global};
@@ -68,15 +72,17 @@ fn begin<R: Clock + AllocGlobal>(
     Ok((shared, theirs))
 }
 
-/// Opens the sockets that a plan asks for, and says where they are.
+/// Opens the sockets that a plan asks for, unless they stand by, and says where they are.
 fn open_sockets<R: Wait + Net + Clock + Eprint + AllocGlobal>(
     rt: &R,
     plan: &Plan,
+    standby: Option<Standby>,
 ) -> Result<Sockets, ServeError>
+    requires open { IfSome standby (λ s. AreOpen s.choices s.sockets) }
     ensures opened { IfOk result (AreOpen plan.now.choices) }
     ensures refused { IfErr result IsOther }
 {
-    let sockets = open(rt, &plan.choices)?;
+    let sockets = find(rt, &plan.choices, standby)?;
     let (sip, control) = (sockets.sip.local(), sockets.lines.local());
     let is_json = plan.choices.log_json;
     say_hello(
@@ -92,17 +98,37 @@ fn open_sockets<R: Wait + Net + Clock + Eprint + AllocGlobal>(
     Ok(sockets)
 }
 
-/// What the words ask for, and the folder of the journal that they name, with what stands there. Seed and number of workers are then those of the
-/// journal, where the words ask for none.
+/// What the words ask for, as it was read last, if it was.
+fn known_plan<R>(rt: &R, words: &[Text], known: Option<Plan>) -> Result<Plan, ServeError>
+where
+    R: Threads + Files + RandomSource + AllocGlobal,
+    requires known { IfSome known (IsPlan words.now) }
+    ensures plan { IfOk result (IsPlan words.now) }
+    ensures refused { IfErr result (IsRefusal words.now) }
+{
+    match known {
+        Some(plan) => Ok(plan),
+        None => new_plan(rt, words),
+    }
+}
+
+/// What the words ask for, as it was read last, if it was, and the folder of the journal that they name, with what stands there. Seed and
+/// number of workers are then those of the journal, where the words ask for none.
 #[tactic(auto, using(crate::proofs::Refused::other_is, crate::proofs::Refused::of_journal_is))]
-fn plan_with_journal<R>(rt: &R, words: &[Text]) -> Result<(Plan, Option<Opened>), ServeError>
+fn plan_with_journal<R>(
+    rt: &R,
+    words: &[Text],
+    known: Option<Plan>,
+    held: Option<Folder>,
+) -> Result<(Plan, Option<Opened>), ServeError>
 where
     R: Threads + Files<File = File> + RandomSource + AllocGlobal + Clone + Drop,
+    requires known { IfSome known (IsPlan words.now) }
     ensures plan { IfOk result (λ r. IsPlan words.now r.0) }
     ensures refused { IfErr result (IsRefusal words.now) }
 {
-    let plan = new_plan(rt, words)?;
-    let opened = open_journal(rt, &plan)?;
+    let plan = known_plan(rt, words, known)?;
+    let opened = open_journal(rt, &plan, held)?;
     match found_header(&opened) {
         Some(header) => {
             let plan = adopted(plan, header.seed, header.workers);
@@ -145,6 +171,7 @@ fn fit_out<R, P, M>(
     rt: &R,
     plan: &Plan,
     opened: &mut Option<Opened>,
+    standby: Option<Standby>,
     make: &M,
 ) -> Result<Fitted<P>, ServeError>
 where
@@ -155,13 +182,14 @@ where
     requires few { plan.now.workers ≤ 256 }
     requires callable { M.IsAlwaysCallable make.now }
     requires gives { Gives P.seen (M.post make.now) }
+    requires open { IfSome standby (λ s. AreOpen s.choices s.sockets) }
     ensures opened { IfOk result (λ f. AreOpen plan.now.choices f.sockets) }
     ensures workers { IfOk result (λ f. vec_len f.desks ≡ plan.now.workers) }
     ensures anew { IfOk result (λ f. plan.now.journal ≡ None
         → BeginsAnew P.seen plan.now f.sockets.sip.local f.desks.items f.begins f.changes) }
     ensures refused { IfErr result IsOther }
 {
-    let sockets = open_sockets(rt, plan)?;
+    let sockets = open_sockets(rt, plan, standby)?;
     let Started {
         desks,
         begins,
@@ -224,7 +252,10 @@ fn new_work(
         desk,
         shared,
         begins,
-        repeats: numbers.repeats,
+        repeats: Allowance {
+            all: numbers.repeats,
+            per_tag: numbers.per_subscription,
+        },
         linger: numbers.linger,
         outage: numbers.outage,
     };
@@ -261,9 +292,141 @@ where
     })
 }
 
-/// Runs the service that the words behind `serve` ask for until a CLOSE, a fault or a worker that is gone, and says on standard error
-/// where it is. Each package is one that `make` gives.
+/// Has each line on standard error be as a plan asks for it.
+fn set_log<R: Clock>(rt: &R, plan: &Plan, shared: &Shared) {
+    if plan.choices.log_requests {
+        shared.log_requests();
+    }
+    if plan.choices.log_json {
+        shared.log_json(rt);
+    }
+}
+
+/// Further wires over these sockets, where a service has a journal from which a next run can go on.
+fn stand_by(plan: &Plan, sockets: &Sockets) -> Result<Option<Standby>, ServeError>
+    requires open { AreOpen plan.now.choices sockets.now }
+    ensures open { IfOk result (λ standby. IfSome standby (λ s. AreOpen s.choices s.sockets)) }
+    ensures refused { IfErr result IsOther }
+{
+    match &plan.journal {
+        Some(_) => Ok(Some(Standby::of(&plan.choices, sockets)?)),
+        None => Ok(None),
+    }
+}
+
+/// What looks for the end of standard input, and what reads files again.
+#[derive(Drop)]
+struct Aides {
+    watch: Watch,
+    reloader: Reloader,
+}
+
+/// Starts what a plan asks for beside the service.
+fn start_aides<R>(
+    rt: R,
+    words: &[Text],
+    plan: &Plan,
+    shared: &Arc<Shared, Global>,
+    feed: Option<FeedDesk>,
+) -> Result<Aides, ServeError>
+where
+    R: Threads
+        + Wait
+        + Clock
+        + Files<File = File>
+        + RandomSource
+        + AllocGlobal
+        + Copy
+        + Send
+        + 'static,
+    R::Dir: Send,
+    ensures reads { IfOk result (λ a. IsRereading words.now a.reloader) }
+    ensures refused { IfErr result IsOther }
+{
+    let reloader = Reloader::begin(rt, shared, words, plan.journal.is_some())?;
+    match Watch::begin(rt, shared, plan.choices.until_input_ends, feed) {
+        Ok(watch) => Ok(Aides { watch, reloader }),
+        Err(error) => {
+            drop(reloader.end(&rt));
+            Err(error)
+        }
+    }
+}
+
+/// Runs the service that the words behind `serve` ask for until a CLOSE, a RELOAD with good files, a fault or a worker that is gone, with what
+/// its last run left, and says on standard error where it is. Answers what the next run goes on with, where there is to be one.
 #[tactic(auto, using(crate::proofs::Refused::other_is))]
+fn serve_on<R, F, P, M>(
+    rt: R,
+    words: &[Text],
+    writer: F,
+    make: &M,
+    carried: Carried,
+) -> Result<(Served<F>, Carried), ServeError>
+where
+    R: Threads
+        + Wait
+        + Net
+        + Clock
+        + Files<File = File>
+        + RandomSource
+        + Eprint
+        + AllocGlobal
+        + Copy
+        + Clone
+        + Drop
+        + Send
+        + 'static,
+    R::Dir: Send,
+    F: Write + Drop,
+    P: Package + 'static,
+    M: Fn(Wanted) -> Result<P, NoMemory>,
+    requires callable { M.IsAlwaysCallable make.now }
+    requires gives { Gives P.seen (M.post make.now) }
+    requires carried { IsCarried words.now carried }
+    ensures served { IfOk result (λ r. Serves F.contents words.now (new_sink writer) r.0.sink r.0.outcome) }
+    ensures carried { IfOk result (λ r. IsCarried words.now r.1) }
+    ensures refused { IfErr result (IsRefusal words.now) }
+{
+    let Carried {
+        plan,
+        folder,
+        sockets,
+        caller,
+    } = carried;
+    let (plan, mut opened) = plan_with_journal(&rt, words, plan, folder)?;
+    let Fitted {
+        desks,
+        begins,
+        changes,
+        shared,
+        theirs,
+        sockets,
+    } = fit_out(&rt, &plan, &mut opened, sockets, make)?;
+    let standby = stand_by(&plan, &sockets)?;
+    set_log(&rt, &plan, &shared);
+    let feed = open_feed(&rt, &plan, sockets.lines.local())?;
+    let Aides { watch, reloader } = start_aides(rt, words, &plan, &shared, feed)?;
+    answer_reload(&rt, &shared, &sockets.replies, caller);
+    let (work, wire) = new_work(plan, sockets, theirs, begins, changes);
+    let sink = Sink::new(writer);
+    let served = run(rt, desks, work, shared, Exit { wire, sink });
+    watch.end(&rt);
+    let plan = reloader.end(&rt);
+    // No other service may write the folder till the next run has it.
+    let folder = held_folder(opened);
+    let served = served?;
+    let next = Carried {
+        plan,
+        folder,
+        sockets: standby,
+        caller: served.shared.reload_caller(&rt),
+    };
+    Ok((served, next))
+}
+
+/// Runs the service that the words behind `serve` ask for until a CLOSE, a RELOAD with good files, a fault or a worker that is gone, and says
+/// on standard error where it is. Each package is one that `make` gives.
 pub fn serve_words<R, F, P, M>(
     rt: R,
     words: &[Text],
@@ -284,6 +447,7 @@ where
         + Drop
         + Send
         + 'static,
+    R::Dir: Send,
     F: Write + Drop,
     P: Package + 'static,
     M: Fn(Wanted) -> Result<P, NoMemory>,
@@ -296,31 +460,13 @@ where
     // A cause that is in the words stands in them.
     ensures refused { IfErr result (IsRefusal words.now) }
 {
-    let (plan, mut opened) = plan_with_journal(&rt, words)?;
-    let Fitted {
-        desks,
-        begins,
-        changes,
-        shared,
-        theirs,
-        sockets,
-    } = fit_out(&rt, &plan, &mut opened, make)?;
-    let is_watched = plan.choices.until_input_ends;
-    if plan.choices.log_requests {
-        shared.log_requests();
+    match serve_on(rt, words, writer, make, Carried::new()) {
+        Ok((served, next)) => {
+            drop(next);
+            Ok(served)
+        }
+        Err(error) => Err(error),
     }
-    if plan.choices.log_json {
-        shared.log_json(&rt);
-    }
-    let feed = open_feed(&rt, &plan, sockets.lines.local())?;
-    let (work, wire) = new_work(plan, sockets, theirs, begins, changes);
-    let sink = Sink::new(writer);
-    let watch = Watch::begin(rt, &shared, is_watched, feed)?;
-    let served = run(rt, desks, work, shared, Exit { wire, sink });
-    watch.end(&rt);
-    // Up to here no other service may write the folder.
-    drop(opened);
-    served
 }
 
 /// Writes what the workers did, says goodbye, and tells whether all went well.
@@ -351,16 +497,10 @@ where
     }
 }
 
-/// Runs the service that the words ask for to its end, over this writer, and writes there what its workers did. It answers a service that
-/// ended well. Who reads is waited for once the service has ended.
+/// Runs the service that the words ask for to its end, one run behind the other, each over a writer of its own to standard output, and writes there
+/// what the workers of the last one did. It answers a service that ended well. Who reads is waited for once the service has ended.
 #[tactic(auto, using(crate::proofs::Refused::other_is))]
-fn attempt<R, F, P, M>(
-    rt: R,
-    words: &[Text],
-    writer: F,
-    patience: &Patience,
-    make: &M,
-) -> Result<Served<F>, ServeError>
+fn attempt<R, P, M>(rt: R, words: &[Text], patience: &Patience, make: &M) -> Result<(), ServeError>
 where
     R: Threads
         + Wait
@@ -368,6 +508,7 @@ where
         + Clock
         + Files<File = File>
         + RandomSource
+        + Print
         + Eprint
         + AllocGlobal
         + Copy
@@ -375,19 +516,26 @@ where
         + Drop
         + Send
         + 'static,
-    F: Write + Drop,
+    R::Dir: Send,
     P: Package + 'static,
     M: Fn(Wanted) -> Result<P, NoMemory>,
     requires callable { M.IsAlwaysCallable make.now }
     requires gives { Gives P.seen (M.post make.now) }
-    // It is this very run that ended well: what it left is answered.
-    ensures well { IfOk result (λ s. EndedWell F.contents words.now (new_sink writer) s.sink s.outcome) }
+    ensures well { OnOk result (CanEndWell words.now) }
     ensures refused { IfErr result (IsRefusal words.now) }
 {
-    let mut served = serve_words(rt, words, writer, make)?;
-    patience.wait();
-    close_off(&rt, &mut served)?;
-    Ok(served)
+    let mut carried = Carried::new();
+    for _ in rt.forever() {
+        let writer = Prompt::new(io::writer(&rt), patience)?;
+        let (mut served, next) = serve_on(rt, words, writer, make, carried)?;
+        if !served.shared.is_reloading() {
+            patience.wait();
+            close_off(&rt, &mut served)?;
+            return Ok(());
+        }
+        carried = next;
+    }
+    unreachable!()
 }
 
 /// Prints a text that the words asked for alone. Answers the exit status.
@@ -453,6 +601,7 @@ where
         + Drop
         + Send
         + 'static,
+    R::Dir: Send,
     P: Package + 'static,
     M: Fn(Wanted) -> Result<P, NoMemory>,
     // What `make` answers is a new package of those that are wanted.
@@ -469,9 +618,6 @@ where
     let Ok(patience) = Patience::new(rt.alloc()) else {
         return tell_why(&rt, is_json, &ServeError::NoMemory);
     };
-    let Ok(writer) = Prompt::new(io::writer(&rt), &patience) else {
-        return tell_why(&rt, is_json, &ServeError::NoMemory);
-    };
-    let came = attempt(rt, words, writer, &patience, make);
+    let came = attempt(rt, words, &patience, make);
     exit_status(&rt, is_json, &came)
 }

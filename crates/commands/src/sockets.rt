@@ -1,8 +1,9 @@
 //! The sockets of a service.
-ghost use Rattle.std.specs.Prelude.{◌≡◌, ◌↔◌, IsTrue, IfOk, IfErr};
+ghost use Rattle.std.specs.Prelude.{◌≡◌, ◌↔◌, true, IsTrue, IfOk, IfErr, IfSome};
 ghost use Rattle.std.specs.IoError.{error_kind, raw_os_error};
 ghost use Rattle.transport.specs.Ears.{no_misses};
 ghost use Rattle.transport.specs.Sockets.{misses};
+ghost use Rattle.arguments.specs.declared.choices.Choices.{Choices};
 ghost use Rattle.commands.specs.declared.error.ServeError.TheVariants as error;
 ghost use Rattle.commands.specs.Refused.{IsTooMany, IsNoSocket, IsOther};
 ghost use Rattle.commands.specs.Serving.{IsAt, AreOpen};
@@ -26,6 +27,13 @@ pub(crate) struct Sockets {
     pub(crate) outgoing: UdpWire,
     pub(crate) lines: UdpWire,
     pub(crate) replies: UdpWire,
+}
+
+/// Sockets that stand by for the next run of a service: further wires over those that were chosen so.
+#[derive(Drop)]
+pub(crate) struct Standby {
+    pub(crate) choices: Choices,
+    pub(crate) sockets: Sockets,
 }
 
 /// Whether the system says that the program, or all of them, have too many files open.
@@ -94,6 +102,7 @@ pub(crate) fn bind<R: Wait + Net>(
 /// A further wire over the socket of this one. The system says no cause where there is none.
 fn further(wire: &UdpWire) -> Result<UdpWire, ServeError>
     ensures same { IfOk result (λ w. w.local ≡ wire.now.local) }
+    ensures misses { IfOk result (λ w. misses w ≡ no_misses) }
     ensures refused { IfErr result IsOther }
 {
     match wire.further() {
@@ -142,4 +151,65 @@ where
         lines,
         replies,
     })
+}
+
+impl Sockets {
+    /// Further wires over the same sockets, none of which has failed yet.
+    pub(crate) fn again(&self) -> Result<Sockets, ServeError>
+        ensures opened { IfOk result (λ s. (choices : Choices) → AreOpen choices self.now → AreOpen choices s) }
+        ensures refused { IfErr result IsOther }
+    {
+        Ok(Sockets {
+            sip: further(&self.sip)?,
+            refusals: further(&self.refusals)?,
+            outgoing: further(&self.outgoing)?,
+            lines: further(&self.lines)?,
+            replies: further(&self.replies)?,
+        })
+    }
+}
+
+impl Standby {
+    /// Further wires over these sockets, of a service that chose so.
+    pub(crate) fn of(choices: &Choices, sockets: &Sockets) -> Result<Standby, ServeError>
+        requires open { AreOpen choices.now sockets.now }
+        ensures open { IfOk result (λ s. AreOpen s.choices s.sockets) }
+        ensures refused { IfErr result IsOther }
+    {
+        Ok(Standby {
+            choices: *choices,
+            sockets: sockets.again()?,
+        })
+    }
+
+    /// Whether these choices name the same addresses.
+    fn is_at(&self, choices: &Choices) -> bool
+        ensures listen { result ≡ true → self.now.choices.listen ≡ choices.now.listen }
+        ensures control { result ≡ true → self.now.choices.control ≡ choices.now.control }
+    {
+        self.choices.listen == choices.listen && self.choices.control == choices.control
+    }
+}
+
+/// The sockets that stand by, where these choices name their addresses, and else new ones.
+#[tactic(auto, using(crate::proofs::Carried::open_alike))]
+pub(crate) fn find<R>(
+    rt: &R,
+    choices: &Choices,
+    standby: Option<Standby>,
+) -> Result<Sockets, ServeError>
+where
+    R: Wait + Net + Clock + Eprint + AllocGlobal,
+    requires open { IfSome standby (λ s. AreOpen s.choices s.sockets) }
+    ensures opened { IfOk result (AreOpen choices.now) }
+    ensures refused { IfErr result IsOther }
+{
+    let Some(standby) = standby else {
+        return open(rt, choices);
+    };
+    if standby.is_at(choices) {
+        Ok(standby.sockets)
+    } else {
+        open(rt, choices)
+    }
 }

@@ -1,13 +1,14 @@
 -- The counts as MAIL lines, as a script has them.
 --
 --   show = "worker" SP number LF 5(MAIL line LF)            ; zeros for a class that was never told
+--          ["untold" 1*5(SP class) LF]                      ; these classes
 --   dump = *(MAIL line LF) ["more" SP mailbox LF]           ; the classes that were told; it goes on behind this mailbox
 use Rattle.std.specs.Prelude.{ℕ, ◌-◌, Bool, true, List, [], ◌∷◌, ◌++◌, length, drop, nat_le, Option, Some, None, unwrap_or, codes, decimal, if◌then◌else◌}
 use Rattle.package.specs.declared.counts.Class.{Class}
 use Rattle.package.specs.declared.counts.Class.TheVariants as class
 use Rattle.package.specs.declared.counts.Counts.{Counts}
 use Rattle.package.specs.declared.counts.MailCounts.{MailCounts}
-use Rattle.scripts.specs.Script.{lf, mail_text}
+use Rattle.scripts.specs.Script.{lf, class_text, mail_text}
 use Rattle.control_lines.specs.declared.pages.TheConstants.{BYTES}
 use Rattle.control_lines.specs.Told.{Row}
 
@@ -44,8 +45,28 @@ filled m = record {
   text = Some (or_zeros m.text);
 }
 
+-- the word of a class that it was never told of
+abbrev pub untold_class : Class → Option Counts → List ℕ
+untold_class which None = codes " " ++ class_text which
+untold_class which (Some counts) = []
+
+-- the words of all these classes
+unfoldable pub untold_classes : MailCounts → List ℕ
+untold_classes m =
+    untold_class class.Voice m.voice
+    ++ (untold_class class.Fax m.fax
+    ++ (untold_class class.Pager m.pager
+    ++ (untold_class class.Multimedia m.multimedia
+    ++ untold_class class.Text m.text)))
+
+-- the line of these classes, where there are any
+abbrev pub untold_line : List ℕ → List ℕ
+untold_line [] = []
+untold_line (octet ∷ classes) = codes "untold" ++ ((octet ∷ classes) ++ lf)
+
 abbrev pub show_text : ℕ → List ℕ → MailCounts → List ℕ
-show_text worker mailbox m = codes "worker " ++ (decimal worker ++ (lf ++ told_lines mailbox (filled m)))
+show_text worker mailbox m =
+    codes "worker " ++ (decimal worker ++ (lf ++ (told_lines mailbox (filled m) ++ untold_line (untold_classes m))))
 
 -- ---- all mailboxes, page by page
 

@@ -53,12 +53,23 @@ fn has_lines(octets: &[u8]) -> bool
     }
 }
 
+/// Whether they begin as a `no` with what refuses a RELOAD behind it.
+fn has_reason(octets: &[u8]) -> bool
+    ensures { result ≡ spec.has_reason octets.now }
+{
+    match octets {
+        [a, b, c, ..] => *a == b'n' && (*b == b'o' && *c == b'\n'),
+        _ => false,
+    }
+}
+
 /// Whether these bytes are an answer of a service. They are no line then, and nobody answers them: so two services that hear each
 /// other fall silent.
 pub fn is_answer(octets: &[u8]) -> bool
     ensures { result ≡ spec.is_answer octets.now }
 {
     has_lines(octets)
+        || has_reason(octets)
         || octets == b"ok".as_slice()
         || octets == b"bad line".as_slice()
         || octets == b"unknown mailbox".as_slice()

@@ -26,7 +26,7 @@ pub use answer::{ControlAnswer, is_answer};
 pub use asking::{Speaker, SpeakerFault, TRIES, TellOutcome, tell_line};
 pub use kept::{AnsweredLine, AnsweredLines};
 pub use line::{Asked, hear_line};
-pub use pages::{dump_page, show_page};
+pub use pages::{dump_page, show_page, write_counts};
 pub use question::Question;
 pub use sip_text::NoMemory;
 pub use token::{Token, cut_token};

@@ -1,12 +1,13 @@
 //! Control lines of a running service.
 ghost use Rattle.std.specs.Prelude.{◌≡◌, false, None};
-ghost use Rattle.control_lines.specs.Lines.{Asks, is_answer};
+ghost use Rattle.control_lines.specs.Lines as spec;
+ghost use Rattle.control_lines.specs.Lines.{Asks, is_answer, is_reload};
 ghost use Rattle.control_lines.specs.Questions.{question_in};
 
 use crate::answer::is_answer;
 use crate::question::{Question, parse_question};
 use package::Change;
-use scripts::{Control, ScriptError, one_reading, parse_control};
+use scripts::{Control, ScriptError, bare_line, one_reading, parse_control};
 use std::alloc::Global;
 
 /// What a control line asks of a running service.
@@ -16,6 +17,8 @@ pub enum Asked {
     Change(Change),
     /// To end.
     Close,
+    /// To read its files again, and to go on with what they say.
+    Reload,
     /// To be told something.
     Question(Question),
     /// Nothing, and no answer: it is an answer itself.
@@ -26,10 +29,22 @@ pub enum Asked {
     NoMemory,
 }
 
-/// The line of a script that the bytes are, where they are no answer and ask no question.
+/// Whether the bytes ask to read the files again, with a LF at the end or without.
+#[tactic(auto, unfolding(crate::specs::Lines::is_reload))]
+fn is_reload(octets: &[u8]) -> bool
+    ensures { result ≡ spec.is_reload octets.now }
+{
+    match bare_line(octets) {
+        Some(line) => line == b"RELOAD".as_slice(),
+        None => false,
+    }
+}
+
+/// The line of a script that the bytes are, where they are no answer, no RELOAD, and ask no question.
 #[tactic(auto, using(crate::proofs::Lines::tick_no_line, crate::proofs::Lines::none_no_line, crate::proofs::Lines::no_memory_no_close))]
 fn hear_control(alloc: Global, octets: &[u8]) -> Asked
     requires no_answer { is_answer octets.now ≡ false }
+    requires no_reload { is_reload octets.now ≡ false }
     requires no_question { question_in octets.now ≡ None }
     ensures { Asks octets.now result }
 {
@@ -43,12 +58,16 @@ fn hear_control(alloc: Global, octets: &[u8]) -> Asked
     }
 }
 
-/// What the bytes of a datagram ask for. Without memory, too, an answer asks for nothing, and a CLOSE closes.
+/// What the bytes of a datagram ask for. Without memory, too, an answer asks for nothing, a RELOAD is one, and a
+/// CLOSE closes.
 pub fn hear_line(alloc: Global, octets: &[u8]) -> Asked
     ensures { Asks octets.now result }
 {
     if is_answer(octets) {
         return Asked::Nothing;
+    }
+    if is_reload(octets) {
+        return Asked::Reload;
     }
     match parse_question(alloc, octets) {
         Ok(Some(question)) => Asked::Question(question),

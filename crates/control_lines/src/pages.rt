@@ -24,8 +24,8 @@ fn class_word(class: Class) -> &'static str
     }
 }
 
-/// Appends the MAIL line of a class.
-fn write_counts(
+/// Appends the MAIL line of a class, with its LF: the new ones first, then the old ones, and of both the urgent ones.
+pub fn write_counts(
     out: &mut String,
     mailbox: &str,
     class: Class,
@@ -102,7 +102,43 @@ fn filled(counts: &MailCounts) -> MailCounts
     }
 }
 
-/// What a mailbox was last told: which worker has it, and a MAIL line for each class, with zeros for one that was never told.
+/// Appends the word of a class behind a SP, if it was never told.
+fn write_untold(out: &mut String, class: Class, counts: Option<Counts>) -> Result<(), NoMemory>
+    ensures { OnOk result (string_bytes out.new ≡ string_bytes out.old ++ spec.untold_class class counts) }
+{
+    if counts.is_none() {
+        out.push_str(" ")?;
+        out.push_str(class_word(class))?;
+    }
+    Ok(())
+}
+
+/// The words of the classes that a mailbox was never told of, each behind a SP.
+#[tactic(auto, unfolding(crate::specs::Pages::untold_classes))]
+fn untold_classes(alloc: Global, counts: &MailCounts) -> Result<String, NoMemory>
+    ensures { IfOk result (λ text. string_bytes text ≡ spec.untold_classes counts.now) }
+{
+    let mut out = String::new(alloc);
+    write_untold(&mut out, Class::Voice, counts.voice)?;
+    write_untold(&mut out, Class::Fax, counts.fax)?;
+    write_untold(&mut out, Class::Pager, counts.pager)?;
+    write_untold(&mut out, Class::Multimedia, counts.multimedia)?;
+    write_untold(&mut out, Class::Text, counts.text)?;
+    Ok(out)
+}
+
+/// Appends the line that names these classes, if there are any.
+fn write_untold_line(out: &mut String, classes: &str) -> Result<(), NoMemory>
+    ensures { OnOk result (string_bytes out.new ≡ string_bytes out.old ++ spec.untold_line classes.now) }
+{
+    if !classes.is_empty() {
+        write!(out, "untold{classes}\n")?;
+    }
+    Ok(())
+}
+
+/// What a mailbox was last told: which worker has it, and a MAIL line for each class, with zeros for one that was never told. A last line
+/// names these, if there are any.
 pub fn show_page(
     alloc: Global,
     worker: u32,
@@ -112,8 +148,10 @@ pub fn show_page(
     ensures { IfOk result (λ text. string_bytes text ≡ spec.show_text worker mailbox.now counts.now) }
 {
     let lines = told_lines(alloc, mailbox, &filled(counts))?;
+    let untold = untold_classes(alloc, counts)?;
     let mut out = format!(in alloc; "worker {worker}\n")?;
     out.push_str(lines.as_str())?;
+    write_untold_line(&mut out, untold.as_str())?;
     Ok(out)
 }
 

@@ -13,6 +13,9 @@ use transport::system_addr;
 /// How long is waited for an answer, in milliseconds.
 const PATIENCE: u64 = 200;
 
+/// The same where files are read before it, and desks go on from them.
+const LONG_PATIENCE: u64 = 6000;
+
 /// A speaker over a UDP socket (IPv4) that hears one service alone.
 #[derive(Drop)]
 pub struct UdpSpeaker {
@@ -34,13 +37,33 @@ impl UdpSpeaker {
         ensures service { IfOk result (λ s. s.service ≡ service) }
         ensures unasked { IfOk result (λ s. s.asked ≡ 0) }
     {
+        UdpSpeaker::waiting(rt, service, PATIENCE)
+    }
+
+    /// The same, for a RELOAD: it waits longer for each answer, since the service begins anew before it.
+    pub fn to_reload<R: Wait + Net>(rt: &R, service: Addr) -> Result<UdpSpeaker, SpeakerFault>
+        ensures service { IfOk result (λ s. s.service ≡ service) }
+        ensures unasked { IfOk result (λ s. s.asked ≡ 0) }
+    {
+        UdpSpeaker::waiting(rt, service, LONG_PATIENCE)
+    }
+
+    /// One that waits for each answer for so many milliseconds.
+    fn waiting<R: Wait + Net>(
+        rt: &R,
+        service: Addr,
+        patience: u64,
+    ) -> Result<UdpSpeaker, SpeakerFault>
+        ensures service { IfOk result (λ s. s.service ≡ service) }
+        ensures unasked { IfOk result (λ s. s.asked ≡ 0) }
+    {
         let any = Addr {
             ip: [0; 4],
             port: 0,
         };
         let socket = UdpSocket::bind(rt, system_addr(any))?;
         socket.connect(system_addr(service))?;
-        socket.set_read_timeout(Some(Duration::from_millis(PATIENCE)))?;
+        socket.set_read_timeout(Some(Duration::from_millis(patience)))?;
         Ok(UdpSpeaker {
             socket,
             service,

@@ -1,15 +1,24 @@
 -- Frames: bytes behind their length and their checksum.
-use Rattle.std.specs.Prelude.{◌≡◌, ℕ, ◌*◌, ◌%◌, ◌^◌, ◌≤◌, List, [], ◌∷◌, ◌++◌, length, fold, bit_xor, All}
+use Rattle.std.specs.Prelude.{◌≡◌, ℕ, ◌*◌, ◌/◌, ◌%◌, ◌^◌, ◌≤◌, List, [], ◌∷◌, ◌++◌, length, drop, fold, bit_xor, All}
 use Rattle.std.specs.List.{flat_map}
-use Rattle.std.specs.Int.{w32, to_be_bytes}
+use Rattle.std.specs.Int.{w32, w64, to_be_bytes, from_be_bytes}
+use Rattle.std.specs.Simd.{first_chunks}
 use Rattle.journal.specs.declared.frames.TheConstants.{LONGEST}
 
--- FNV-1a with 32 bits
+-- FNV-1a with 64 bits
 abbrev pub mixed : ℕ → ℕ → ℕ
-mixed sum b = (bit_xor sum b * 16777619) % 2 ^ 32
+mixed sum word = (bit_xor sum word * 1099511628211) % 2 ^ 64
 
+-- of eight bytes at a time, each a number with the highest first, and then of each byte that is left
+abbrev pub sum_of : List ℕ → ℕ
+sum_of bytes =
+    let words = first_chunks 8 (length bytes / 8) bytes in
+    let rest = drop (length bytes / 8 * 8) bytes in
+    fold mixed (fold (λ sum word. mixed sum (from_be_bytes w64 word)) 14695981039346656037 words) rest
+
+-- the upper half of that, in which each bit of the bytes plays
 unfoldable pub checksum : List ℕ → ℕ
-checksum bytes = fold mixed 2166136261 bytes
+checksum bytes = sum_of bytes / 2 ^ 32
 
 -- what goes into a frame
 abbrev pub IsPayload : List ℕ → Type 0

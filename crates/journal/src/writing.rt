@@ -1,5 +1,5 @@
 //! Writes records.
-ghost use Rattle.std.specs.Prelude.{◌≡◌, ◌<◌, ◌++◌, false, length, OnOk, OnErr, Err};
+ghost use Rattle.std.specs.Prelude.{◌≡◌, ◌<◌, ◌++◌, [], false, length, IfOk, IfErr, OnOk, OnErr, Err};
 ghost use Rattle.notifier_model.specs.declared.saved.Saved.{Saved};
 ghost use Rattle.snapshots.specs.Books.{IsBook};
 ghost use Rattle.snapshots.specs.Events.{is_sound};
@@ -28,6 +28,20 @@ pub enum Unwritten {
     /// There is no memory for it.
     #[error("out of memory")]
     NoMemory,
+}
+
+/// So many bytes most records have at most.
+const ROOM: usize = 1024;
+
+/// No bytes, with room for most records, so that a record isn't moved while it is written.
+fn room(alloc: Global) -> Result<Vec<u8>, Unwritten>
+    ensures empty { IfOk result (λ payload. payload.items ≡ []) }
+    ensures memory { IfErr result (λ error. error ≡ unwritten.NoMemory) }
+{
+    match Vec::with_capacity(alloc, ROOM) {
+        Ok(payload) => Ok(payload),
+        Err(_) => Err(Unwritten::NoMemory),
+    }
 }
 
 /// Appends a payload in its frame. After an error the bytes are as they were.
@@ -84,7 +98,7 @@ pub fn put_handled(
     }
     worker.fits();
     event.fits();
-    let mut payload = Vec::new(alloc);
+    let mut payload = room(alloc)?;
     if put_event(alloc, worker, event, &mut payload).is_err() {
         return Err(Unwritten::NoMemory);
     }
@@ -100,7 +114,7 @@ pub fn put_line(alloc: Global, line: &Line, out: &mut Vec<u8>) -> Result<(), Unw
     ensures always_sound { result ≡ Err unwritten.Unsound → ⊥ }
 {
     line.fits();
-    let mut payload = Vec::new(alloc);
+    let mut payload = room(alloc)?;
     if put_answered(alloc, line, &mut payload).is_err() {
         return Err(Unwritten::NoMemory);
     }

@@ -11,9 +11,5 @@ join3 a b c d p q r e f g = join2 a b d p (q ++ r) e (join2 b c d q r f g)
 pub join4 : {A : Type 0} (a b c d x p q r s : List A) → b ≡ a ++ p → c ≡ b ++ q → d ≡ c ++ r → x ≡ d ++ s → x ≡ a ++ (p ++ (q ++ (r ++ s)))
 join4 a b c d x p q r s e f g h = join2 a b x p (q ++ (r ++ s)) e (join3 b c d x q r s f g h)
 
-pub join5 : {A : Type 0} (a b c d x y p q r s t : List A)
-    → b ≡ a ++ p → c ≡ b ++ q → d ≡ c ++ r → x ≡ d ++ s → y ≡ x ++ t → y ≡ a ++ (p ++ (q ++ (r ++ (s ++ t))))
-join5 a b c d x y p q r s t e f g h i = join2 a b y p (q ++ (r ++ (s ++ t))) e (join4 b c d x y q r s t f g h i)
-
 pub on_ok : {X Y : Type 0} (r : Result X Y) (P Q : Type 0) → (P → Q) → OnOk r P → OnOk r Q
 on_ok r P Q f = IfOk-weaker r (λ _. P) (λ _. Q) (λ _ p. f p)

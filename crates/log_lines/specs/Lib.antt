@@ -1,4 +1,3 @@
-pub mod Shown
 pub mod Utc
 pub mod Plain
 pub mod Objects

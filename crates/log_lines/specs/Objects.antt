@@ -32,6 +32,8 @@ use Rattle.log_lines.specs.declared.beginning.Beginning.{Beginning}
 use Rattle.log_lines.specs.declared.beginning.Beginning.TheVariants as beginning
 use Rattle.log_lines.specs.declared.request.Request.{Request}
 use Rattle.log_lines.specs.declared.request.Request.TheVariants as request
+use Rattle.log_lines.specs.declared.not_taken.Dialog.{Dialog}
+use Rattle.log_lines.specs.declared.not_taken.NotTaken.{NotTaken}
 use Rattle.log_lines.specs.declared.outage.Outage.{Outage}
 use Rattle.log_lines.specs.declared.outage.Outage.TheVariants as outage
 use Rattle.log_lines.specs.declared.trouble.Trouble.{Trouble}
@@ -41,7 +43,7 @@ use Rattle.log_lines.specs.declared.ending.Ending.{Ending}
 use Rattle.log_lines.specs.declared.ending.Ending.TheVariants as ending
 use Rattle.log_lines.specs.declared.record.Record.{Record}
 use Rattle.log_lines.specs.declared.record.Record.TheVariants as record_
-use Rattle.log_lines.specs.Shown.{shown}
+use Rattle.shown_text.specs.Shown as shown
 
 -- ---- members
 
@@ -49,9 +51,17 @@ use Rattle.log_lines.specs.Shown.{shown}
 abbrev pub word : List ℕ → List ℕ → List Token
 word name value = key name ∷ string value ∷ []
 
--- a text that somebody else may have written
+-- a text that a stranger may have written
 abbrev pub text : List ℕ → List ℕ → List Token
-text name value = word name (shown value)
+text name value = word name (shown.words value)
+
+-- such a text as one word
+abbrev pub one_word : List ℕ → List ℕ → List Token
+one_word name value = word name (shown.word value)
+
+-- a text of the operator's or the system's
+abbrev pub passage : List ℕ → List ℕ → List Token
+passage name value = word name (shown.passage value)
 
 abbrev pub place : List ℕ → Addr → List Token
 place name value = word name (addr_text value)
@@ -91,7 +101,7 @@ beginning_members (beginning.ControlReachable control) = place (codes "control")
 beginning_members (beginning.SmallBuffer option octets asked) =
     word (codes "option") option.now ++ (number (codes "octets") octets ++ number (codes "asked") asked)
 beginning_members (beginning.Journal folder course) =
-    text (codes "folder") folder.now ++ word (codes "course") (course_word course)
+    passage (codes "folder") folder.now ++ word (codes "course") (course_word course)
 
 -- ---- single requests
 
@@ -107,7 +117,7 @@ request_members (request.Answered address method user code) =
 request_members (request.Unanswered address mailbox tag) =
     place (codes "address") address ++ (word (codes "method") (codes "NOTIFY")
     ++ (text (codes "mailbox") mailbox.now ++ text (codes "tag") tag.now))
-request_members (request.Barred address user) = place (codes "address") address ++ word (codes "user") user.now
+request_members (request.Barred address user) = place (codes "address") address ++ one_word (codes "user") user.now
 
 -- ---- time that isn't counted
 
@@ -125,33 +135,39 @@ outage_members (outage.StoodStill seconds) = number (codes "seconds") seconds
 
 -- ---- what goes wrong
 
+-- NOTIFYs that nobody answered, or that phones refused
+abbrev pub not_taken_what : Option ℕ → List ℕ
+not_taken_what None = codes "given_up"
+not_taken_what (Some code) = codes "refused"
+
+abbrev pub code_member : Option ℕ → List Token
+code_member None = []
+code_member (Some code) = number (codes "code") code
+
+abbrev pub dialog_members : Option Dialog → List Token
+dialog_members None = []
+dialog_members (Some d) = text (codes "mailbox") d.mailbox.now ++ text (codes "tag") d.tag.now
+
+abbrev pub not_taken_members : NotTaken → List Token
+not_taken_members n =
+    number (codes "more") n.more ++ (place (codes "address") n.address ++ (code_member n.code ++ dialog_members n.dialog))
+
 abbrev pub trouble_what : Trouble → List ℕ
 trouble_what (trouble.Outage o) = outage_what o
 trouble_what (trouble.Counted more counter text) = codes "counted"
 trouble_what (trouble.Failed more counter text) = codes "not_done"
 trouble_what (trouble.FailedSince more counter text cause) = codes "not_done"
 trouble_what (trouble.ReceiveFailed address cause) = codes "receive_failed"
-trouble_what (trouble.GivenUp more address mailbox tag) = codes "given_up"
-trouble_what (trouble.GivenUpMore more address) = codes "given_up"
-trouble_what (trouble.PhoneRefuses more address code mailbox tag) = codes "refused"
-trouble_what (trouble.PhoneRefusesMore more address code) = codes "refused"
+trouble_what (trouble.NotTaken n) = not_taken_what n.code
 
 abbrev pub trouble_members : Trouble → List Token
 trouble_members (trouble.Outage o) = outage_members o
 trouble_members (trouble.Counted more counter what) = word (codes "counter") counter.now ++ number (codes "more") more
 trouble_members (trouble.Failed more counter what) = word (codes "counter") counter.now ++ number (codes "more") more
 trouble_members (trouble.FailedSince more counter what cause) =
-    word (codes "counter") counter.now ++ (number (codes "more") more ++ text (codes "cause") cause.now)
-trouble_members (trouble.ReceiveFailed address cause) = place (codes "address") address ++ text (codes "cause") cause.now
-trouble_members (trouble.GivenUp more address mailbox tag) =
-    number (codes "more") more ++ (place (codes "address") address
-    ++ (text (codes "mailbox") mailbox.now ++ text (codes "tag") tag.now))
-trouble_members (trouble.GivenUpMore more address) = number (codes "more") more ++ place (codes "address") address
-trouble_members (trouble.PhoneRefuses more address code mailbox tag) =
-    number (codes "more") more ++ (place (codes "address") address ++ (number (codes "code") code
-    ++ (text (codes "mailbox") mailbox.now ++ text (codes "tag") tag.now)))
-trouble_members (trouble.PhoneRefusesMore more address code) =
-    number (codes "more") more ++ (place (codes "address") address ++ number (codes "code") code)
+    word (codes "counter") counter.now ++ (number (codes "more") more ++ passage (codes "cause") cause.now)
+trouble_members (trouble.ReceiveFailed address cause) = place (codes "address") address ++ passage (codes "cause") cause.now
+trouble_members (trouble.NotTaken n) = not_taken_members n
 
 -- ---- as a service ends
 
@@ -163,7 +179,7 @@ ending_what (ending.Refused status text) = codes "not_running"
 abbrev pub ending_members : Ending → List Token
 ending_members (ending.OutOfMemory worker) = number (codes "worker") worker
 ending_members (ending.Ended line counters) = counts (codes "counters") counters.now
-ending_members (ending.Refused status why) = number (codes "status") status ++ text (codes "text") why.now
+ending_members (ending.Refused status why) = number (codes "status") status ++ passage (codes "text") why.now
 
 -- ---- all of them
 
@@ -195,10 +211,7 @@ level (record_.Trouble (trouble.Counted more counter text)) = None
 level (record_.Trouble (trouble.Failed more counter text)) = Some (codes "warning")
 level (record_.Trouble (trouble.FailedSince more counter text cause)) = Some (codes "warning")
 level (record_.Trouble (trouble.ReceiveFailed address cause)) = Some (codes "warning")
-level (record_.Trouble (trouble.GivenUp more address mailbox tag)) = None
-level (record_.Trouble (trouble.GivenUpMore more address)) = None
-level (record_.Trouble (trouble.PhoneRefuses more address code mailbox tag)) = None
-level (record_.Trouble (trouble.PhoneRefusesMore more address code)) = None
+level (record_.Trouble (trouble.NotTaken n)) = None
 level (record_.Ending (ending.OutOfMemory worker)) = Some (codes "error")
 level (record_.Ending (ending.Ended text counters)) = None
 level (record_.Ending (ending.Refused status text)) = Some (codes "error")

@@ -1,5 +1,7 @@
--- The plain form of each line, behind `notifyd: `.
-use Rattle.std.specs.Prelude.{ℕ, List, ◌++◌, codes, decimal}
+-- The plain form of each line, behind `notifyd: `. Texts of strangers are shown as `words` or one `word`, those of the operator or the system as
+-- a `passage`.
+use Rattle.std.specs.Prelude.{ℕ, List, [], ◌++◌, codes, decimal, Option, Some, None}
+use Rattle.shown_text.specs.Shown.{words, word, passage}
 use Rattle.sip_text.specs.Addresses.{addr_text}
 use Rattle.log_lines.specs.declared.beginning.Course.{Course}
 use Rattle.log_lines.specs.declared.beginning.Course.TheVariants as course
@@ -7,6 +9,8 @@ use Rattle.log_lines.specs.declared.beginning.Beginning.{Beginning}
 use Rattle.log_lines.specs.declared.beginning.Beginning.TheVariants as beginning
 use Rattle.log_lines.specs.declared.request.Request.{Request}
 use Rattle.log_lines.specs.declared.request.Request.TheVariants as request
+use Rattle.log_lines.specs.declared.not_taken.Dialog.{Dialog}
+use Rattle.log_lines.specs.declared.not_taken.NotTaken.{NotTaken}
 use Rattle.log_lines.specs.declared.outage.Outage.{Outage}
 use Rattle.log_lines.specs.declared.outage.Outage.TheVariants as outage
 use Rattle.log_lines.specs.declared.trouble.Trouble.{Trouble}
@@ -34,14 +38,35 @@ plain_beginning (beginning.ControlReachable control) =
 plain_beginning (beginning.SmallBuffer option octets asked) =
     codes "the system gives the socket of " ++ (option.now ++ (codes " room for " ++ (decimal octets
     ++ (codes " octets, not for " ++ decimal asked))))
-plain_beginning (beginning.Journal folder course) = codes "journal " ++ (folder.now ++ (codes ": " ++ course_text course))
+plain_beginning (beginning.Journal folder course) = codes "journal " ++ (passage folder.now ++ (codes ": " ++ course_text course))
 
 abbrev pub plain_request : Request → List ℕ
 plain_request (request.Answered address method user code) =
-    addr_text address ++ (codes " " ++ (method.now ++ (codes " " ++ (user.now ++ (codes " " ++ decimal code)))))
+    addr_text address ++ (codes " " ++ (words method.now ++ (codes " " ++ (words user.now ++ (codes " " ++ decimal code)))))
 plain_request (request.Unanswered address mailbox tag) =
-    addr_text address ++ (codes " NOTIFY " ++ (mailbox.now ++ (codes ";tag=" ++ (tag.now ++ codes " unanswered"))))
-plain_request (request.Barred address user) = codes "barred user=" ++ (user.now ++ (codes " source=" ++ addr_text address))
+    addr_text address ++ (codes " NOTIFY " ++ (words mailbox.now ++ (codes ";tag=" ++ (words tag.now ++ codes " unanswered"))))
+plain_request (request.Barred address user) = codes "barred user=" ++ (word user.now ++ (codes " source=" ++ addr_text address))
+
+-- in which way NOTIFYs were not taken
+abbrev pub not_taken_so : Option ℕ → List ℕ
+not_taken_so None = codes "nobody answered"
+not_taken_so (Some code) = codes "phones refused"
+
+abbrev pub plain_dialog : Dialog → List ℕ
+plain_dialog d = words d.mailbox.now ++ (codes ";tag=" ++ words d.tag.now)
+
+abbrev pub plain_code : Option ℕ → List ℕ
+plain_code None = []
+plain_code (Some code) = codes " with " ++ decimal code
+
+-- from which subscription the last of them was, where that is told
+abbrev pub plain_last : Option Dialog → List ℕ
+plain_last None = codes " more NOTIFYs, the last of them at "
+plain_last (Some d) = codes " NOTIFYs, the last of them from " ++ (plain_dialog d ++ codes " at ")
+
+abbrev pub plain_not_taken : NotTaken → List ℕ
+plain_not_taken n =
+    not_taken_so n.code ++ (codes " " ++ (decimal n.more ++ (plain_last n.dialog ++ (addr_text n.address ++ plain_code n.code))))
 
 abbrev pub plain_outage : Outage → List ℕ
 plain_outage (outage.Began most) =
@@ -56,25 +81,15 @@ plain_trouble (trouble.Outage o) = plain_outage o
 plain_trouble (trouble.Counted more counter text) = decimal more ++ (codes " " ++ text.now)
 plain_trouble (trouble.Failed more counter text) = decimal more ++ (codes " " ++ text.now)
 plain_trouble (trouble.FailedSince more counter text cause) =
-    decimal more ++ (codes " " ++ (text.now ++ (codes ", the last since: " ++ cause.now)))
+    decimal more ++ (codes " " ++ (text.now ++ (codes ", the last since: " ++ passage cause.now)))
 plain_trouble (trouble.ReceiveFailed address cause) =
-    codes "a receive at " ++ (addr_text address ++ (codes " failed: " ++ cause.now))
-plain_trouble (trouble.GivenUp more address mailbox tag) =
-    codes "nobody answered " ++ (decimal more ++ (codes " NOTIFYs, the last of them from " ++ (mailbox.now
-    ++ (codes ";tag=" ++ (tag.now ++ (codes " at " ++ addr_text address))))))
-plain_trouble (trouble.GivenUpMore more address) =
-    codes "nobody answered " ++ (decimal more ++ (codes " more NOTIFYs, the last of them at " ++ addr_text address))
-plain_trouble (trouble.PhoneRefuses more address code mailbox tag) =
-    codes "phones refused " ++ (decimal more ++ (codes " NOTIFYs, the last of them from " ++ (mailbox.now
-    ++ (codes ";tag=" ++ (tag.now ++ (codes " at " ++ (addr_text address ++ (codes " with " ++ decimal code))))))))
-plain_trouble (trouble.PhoneRefusesMore more address code) =
-    codes "phones refused " ++ (decimal more ++ (codes " more NOTIFYs, the last of them at " ++ (addr_text address
-    ++ (codes " with " ++ decimal code))))
+    codes "a receive at " ++ (addr_text address ++ (codes " failed: " ++ passage cause.now))
+plain_trouble (trouble.NotTaken n) = plain_not_taken n
 
 abbrev pub plain_ending : Ending → List ℕ
 plain_ending (ending.OutOfMemory worker) = codes "worker " ++ (decimal worker ++ codes " ran out of memory, and so the service closed")
 plain_ending (ending.Ended text counters) = codes "ended: " ++ text.now
-plain_ending (ending.Refused status text) = text.now
+plain_ending (ending.Refused status text) = passage text.now
 
 abbrev pub plain : Record → List ℕ
 plain (record_.Beginning b) = plain_beginning b

@@ -5,6 +5,7 @@ ghost use Rattle.log_lines.specs.Plain.{plain_beginning, course_text};
 
 use crate::object::Object;
 use crate::place::Place;
+use shown_text::Shown;
 use sip_text::{Addr, NoMemory};
 use std::fmt;
 use std::fmt::{Display, Formatter};
@@ -127,6 +128,7 @@ impl Display for Beginning<'_> {
             ),
             Beginning::Journal { folder, course } => {
                 let text = course.text();
+                let folder = Shown::passage(folder.as_bytes());
                 write!(f, "journal {folder}: {text}")
             }
         }
@@ -174,7 +176,7 @@ impl Beginning<'_> {
                 object.number("asked", asked)
             }
             Beginning::Journal { folder, course } => {
-                object.text("folder", folder)?;
+                object.passage("folder", folder)?;
                 object.word("course", course.word())
             }
         }

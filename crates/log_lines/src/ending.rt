@@ -4,6 +4,7 @@ ghost use Rattle.log_lines.specs.Objects.{ending_what, ending_members};
 ghost use Rattle.log_lines.specs.Plain.{plain_ending};
 
 use crate::object::Object;
+use shown_text::Shown;
 use sip_text::NoMemory;
 use std::fmt;
 use std::fmt::{Display, Formatter};
@@ -50,7 +51,10 @@ impl Display for Ending<'_> {
                 )
             }
             Ending::Ended { text, .. } => write!(f, "ended: {text}"),
-            Ending::Refused { text, .. } => write!(f, "{text}"),
+            Ending::Refused { text, .. } => {
+                let text = Shown::passage(text.as_bytes());
+                write!(f, "{text}")
+            }
         }
     }
 }
@@ -77,7 +81,7 @@ impl Ending<'_> {
             Ending::Ended { counters, .. } => object.counts("counters", counters),
             Ending::Refused { status, text } => {
                 object.number("status", status)?;
-                object.text("text", text)
+                object.passage("text", text)
             }
         }
     }

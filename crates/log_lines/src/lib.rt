@@ -5,8 +5,8 @@
 //! goes by `what` alone, and takes members that it doesn't know.
 //!
 //! Whatever a stranger wrote, a line is one line, and a JSON reader finds the members of this record in it and no others. A line has 4,096
-//! octets at most, so that lines of several threads don't mix in a pipe (PIPE_BUF). Texts of strangers are printable ASCII there
-//! ([`shown`]), the first 256 octets of each.
+//! octets at most, so that lines of several threads don't mix in a pipe (PIPE_BUF). Texts of strangers are printable ASCII in
+//! both forms, the first 64 octets of each, and so are those of the operator or the system, the first 256 (crate `shown_text`).
 //!
 //! What it isn't: whether there is room on standard error is its caller's, and no contract says that a line is written. Begin with
 //! `specs/Objects`: the members of each record; then `specs/Plain`: its plain text.
@@ -16,21 +16,21 @@ mod beginning;
 mod ending;
 mod form;
 mod moments;
+mod not_taken;
 mod object;
 mod outage;
 mod place;
 mod record;
 mod request;
-mod showing;
 mod trouble;
 
 pub use beginning::{Beginning, Course};
 pub use ending::{Count, Ending};
 pub use form::{Form, milliseconds, tell};
 pub use moments::utc;
+pub use not_taken::{Dialog, NotTaken};
 pub use outage::Outage;
 pub use record::{LOST, Record};
 pub use request::Request;
-pub use showing::shown;
 pub use sip_text::{Addr, NoMemory};
 pub use trouble::Trouble;

@@ -4,10 +4,11 @@ ghost use Rattle.json.specs.Token.{begin_object, end_object};
 ghost use Rattle.json.specs.Lex.{tokens};
 ghost use Rattle.json.specs.Print.{print};
 ghost use Rattle.log_lines.specs.Objects as spec;
+ghost use Rattle.shown_text.specs.Shown as spec_shown;
 
 use crate::ending::Count;
-use crate::showing::shown;
 use json::Writer;
+use shown_text::Shown;
 use sip_text::{Addr, NoMemory};
 use std::alloc::Global;
 
@@ -42,13 +43,37 @@ impl Object {
         Ok(())
     }
 
-    /// Adds a text that somebody else may have written.
+    /// Adds what is shown of a text.
+    fn shown(&mut self, name: &str, shown: Shown<'_>) -> Result<(), NoMemory>
+        ensures before { self.new.writer.before ≡ self.old.writer.before }
+        ensures tokens { OnOk result (self.new.writer.tokens ≡ self.old.writer.tokens ++ spec.word name.now (spec_shown.text shown.entry)) }
+    {
+        let text = format!(in self.alloc; "{shown}")?;
+        self.word(name, text.as_str())
+    }
+
+    /// Adds a text that a stranger may have written.
     pub(crate) fn text(&mut self, name: &str, text: &str) -> Result<(), NoMemory>
         ensures before { self.new.writer.before ≡ self.old.writer.before }
         ensures tokens { OnOk result (self.new.writer.tokens ≡ self.old.writer.tokens ++ spec.text name.now text.now) }
     {
-        let text = shown(self.alloc, text)?;
-        self.word(name, text.as_str())
+        self.shown(name, Shown::words(text.as_bytes()))
+    }
+
+    /// Adds such a text as one word.
+    pub(crate) fn one_word(&mut self, name: &str, text: &str) -> Result<(), NoMemory>
+        ensures before { self.new.writer.before ≡ self.old.writer.before }
+        ensures tokens { OnOk result (self.new.writer.tokens ≡ self.old.writer.tokens ++ spec.one_word name.now text.now) }
+    {
+        self.shown(name, Shown::word(text.as_bytes()))
+    }
+
+    /// Adds a text of the operator's or the system's.
+    pub(crate) fn passage(&mut self, name: &str, text: &str) -> Result<(), NoMemory>
+        ensures before { self.new.writer.before ≡ self.old.writer.before }
+        ensures tokens { OnOk result (self.new.writer.tokens ≡ self.old.writer.tokens ++ spec.passage name.now text.now) }
+    {
+        self.shown(name, Shown::passage(text.as_bytes()))
     }
 
     /// Adds an address.

@@ -78,13 +78,7 @@ impl Record<'_> {
                 },
             )
             | Record::Request(_)
-            | Record::Trouble(
-                Trouble::Counted { .. }
-                | Trouble::GivenUp { .. }
-                | Trouble::GivenUpMore { .. }
-                | Trouble::PhoneRefuses { .. }
-                | Trouble::PhoneRefusesMore { .. },
-            )
+            | Record::Trouble(Trouble::Counted { .. } | Trouble::NotTaken(_))
             | Record::Ending(Ending::Ended { .. }) => None,
             Record::Beginning(_) | Record::Trouble(_) => Some("warning"),
             Record::Ending(_) => Some("error"),

@@ -3,8 +3,10 @@ ghost use Rattle.std.specs.Prelude.{◌≡◌, ◌++◌, Some, OnOk};
 ghost use Rattle.log_lines.specs.Objects.{request_what, request_members};
 ghost use Rattle.log_lines.specs.Plain.{plain_request};
 
+use crate::not_taken::Dialog;
 use crate::object::Object;
 use crate::place::Place;
+use shown_text::Shown;
 use sip_text::{Addr, NoMemory};
 use std::fmt;
 use std::fmt::{Display, Formatter};
@@ -36,7 +38,7 @@ pub enum Request<'a> {
     Barred {
         /// Where the request came from.
         address: Addr,
-        /// Whose password it was, as one word of printable ASCII.
+        /// Whose password it was.
         user: &'a str,
     },
 }
@@ -53,6 +55,8 @@ impl Display for Request<'_> {
                 code,
             } => {
                 let place = Place(address);
+                let method = Shown::words(method.as_bytes());
+                let user = Shown::words(user.as_bytes());
                 write!(f, "{place} {method} {user} {code}")
             }
             Request::Unanswered {
@@ -61,10 +65,12 @@ impl Display for Request<'_> {
                 tag,
             } => {
                 let place = Place(address);
-                write!(f, "{place} NOTIFY {mailbox};tag={tag} unanswered")
+                let dialog = Dialog { mailbox, tag };
+                write!(f, "{place} NOTIFY {dialog} unanswered")
             }
             Request::Barred { address, user } => {
                 let place = Place(address);
+                let user = Shown::word(user.as_bytes());
                 write!(f, "barred user={user} source={place}")
             }
         }
@@ -112,7 +118,7 @@ impl Request<'_> {
             }
             Request::Barred { address, user } => {
                 object.place("address", address)?;
-                object.word("user", user)
+                object.one_word("user", user)
             }
         }
     }

@@ -3,9 +3,11 @@ ghost use Rattle.std.specs.Prelude.{◌≡◌, ◌++◌, Some, OnOk};
 ghost use Rattle.log_lines.specs.Objects.{trouble_what, trouble_members};
 ghost use Rattle.log_lines.specs.Plain.{plain_trouble};
 
+use crate::not_taken::NotTaken;
 use crate::object::Object;
 use crate::outage::Outage;
 use crate::place::Place;
+use shown_text::Shown;
 use sip_text::{Addr, NoMemory};
 use std::fmt;
 use std::fmt::{Display, Formatter};
@@ -51,39 +53,8 @@ pub enum Trouble<'a> {
         /// The system's words.
         cause: &'a str,
     },
-    /// Nobody answered so many NOTIFYs, of which this is the last one.
-    GivenUp {
-        more: u64,
-        /// Where it was sent.
-        address: Addr,
-        /// What its subscription watches.
-        mailbox: &'a str,
-        /// The local tag of its dialog.
-        tag: &'a str,
-    },
-    /// Nobody answered so many NOTIFYs more, of which the last one was sent there.
-    GivenUpMore {
-        more: u64,
-        address: Addr,
-    },
-    /// Phones refused so many NOTIFYs, of which this is the last one.
-    PhoneRefuses {
-        more: u64,
-        /// Where it was sent.
-        address: Addr,
-        /// The status code that came.
-        code: u16,
-        /// What its subscription watches.
-        mailbox: &'a str,
-        /// The local tag of its dialog.
-        tag: &'a str,
-    },
-    /// Phones refused so many NOTIFYs more, of which the last one was sent there, and was answered so.
-    PhoneRefusesMore {
-        more: u64,
-        address: Addr,
-        code: u16,
-    },
+    /// Phones didn't take NOTIFYs.
+    NotTaken(NotTaken<'a>),
 }
 
 impl Display for Trouble<'_> {
@@ -100,48 +71,16 @@ impl Display for Trouble<'_> {
                 text,
                 cause,
                 ..
-            } => write!(f, "{more} {text}, the last since: {cause}"),
+            } => {
+                let cause = Shown::passage(cause.as_bytes());
+                write!(f, "{more} {text}, the last since: {cause}")
+            }
             Trouble::ReceiveFailed { address, cause } => {
                 let place = Place(address);
+                let cause = Shown::passage(cause.as_bytes());
                 write!(f, "a receive at {place} failed: {cause}")
             }
-            Trouble::GivenUp {
-                more,
-                address,
-                mailbox,
-                tag,
-            } => {
-                let place = Place(address);
-                write!(f, "nobody answered {more} NOTIFYs, the last of them from ")?;
-                write!(f, "{mailbox};tag={tag} at {place}")
-            }
-            Trouble::GivenUpMore { more, address } => {
-                let place = Place(address);
-                write!(
-                    f,
-                    "nobody answered {more} more NOTIFYs, the last of them at {place}"
-                )
-            }
-            Trouble::PhoneRefuses {
-                more,
-                address,
-                code,
-                mailbox,
-                tag,
-            } => {
-                let place = Place(address);
-                write!(f, "phones refused {more} NOTIFYs, the last of them from ")?;
-                write!(f, "{mailbox};tag={tag} at {place} with {code}")
-            }
-            Trouble::PhoneRefusesMore {
-                more,
-                address,
-                code,
-            } => {
-                let place = Place(address);
-                write!(f, "phones refused {more} more NOTIFYs, the last of them")?;
-                write!(f, " at {place} with {code}")
-            }
+            Trouble::NotTaken(not_taken) => write!(f, "{not_taken}"),
         }
     }
 }
@@ -156,8 +95,7 @@ impl Trouble<'_> {
             Trouble::Counted { .. } => "counted",
             Trouble::Failed { .. } | Trouble::FailedSince { .. } => "not_done",
             Trouble::ReceiveFailed { .. } => "receive_failed",
-            Trouble::GivenUp { .. } | Trouble::GivenUpMore { .. } => "given_up",
-            Trouble::PhoneRefuses { .. } | Trouble::PhoneRefusesMore { .. } => "refused",
+            Trouble::NotTaken(not_taken) => not_taken.what(),
         }
     }
 
@@ -180,49 +118,13 @@ impl Trouble<'_> {
             } => {
                 object.word("counter", counter)?;
                 object.number("more", more)?;
-                object.text("cause", cause)
+                object.passage("cause", cause)
             }
             Trouble::ReceiveFailed { address, cause } => {
                 object.place("address", address)?;
-                object.text("cause", cause)
+                object.passage("cause", cause)
             }
-            Trouble::GivenUp {
-                more,
-                address,
-                mailbox,
-                tag,
-            } => {
-                object.number("more", more)?;
-                object.place("address", address)?;
-                object.text("mailbox", mailbox)?;
-                object.text("tag", tag)
-            }
-            Trouble::GivenUpMore { more, address } => {
-                object.number("more", more)?;
-                object.place("address", address)
-            }
-            Trouble::PhoneRefuses {
-                more,
-                address,
-                code,
-                mailbox,
-                tag,
-            } => {
-                object.number("more", more)?;
-                object.place("address", address)?;
-                object.number("code", code as u64)?;
-                object.text("mailbox", mailbox)?;
-                object.text("tag", tag)
-            }
-            Trouble::PhoneRefusesMore {
-                more,
-                address,
-                code,
-            } => {
-                object.number("more", more)?;
-                object.place("address", address)?;
-                object.number("code", code as u64)
-            }
+            Trouble::NotTaken(not_taken) => not_taken.add_members(object),
         }
     }
 }

@@ -40,7 +40,7 @@ impl OutageClock {
 
     /// One that begins at this reading, which is its first moment, and leaves out so much of all outages.
     pub fn new(limit: u64, reading: u64) -> OutageClock
-        ensures { spec.seen result ≡ spec.begun limit reading }
+        ensures begun { spec.seen result ≡ spec.begun limit reading }
     {
         OutageClock {
             limit,
@@ -54,14 +54,14 @@ impl OutageClock {
     /// Sends fail, and the next NOTIFY is due to be sent again at this moment: up to there it may run. `None` where a send succeeded
     /// since, or no NOTIFY waits for its answer: it runs on.
     pub fn hold(&mut self, stop: Option<u64>)
-        ensures { spec.seen self.new ≡ spec.held stop (spec.seen self.old) }
+        ensures held { spec.seen self.new ≡ spec.held stop (spec.seen self.old) }
     {
         self.stop = stop;
     }
 
     /// How much of this span lies behind the moment at which it is to stand.
     fn beyond(&self, span: u64) -> u64
-        ensures { result ≡ spec.beyond self.now.stop self.now.given span }
+        ensures beyond { result ≡ spec.beyond self.now.stop self.now.given span }
     {
         match self.stop {
             Some(stop) => span.saturating_sub(stop.saturating_sub(self.given)),
@@ -82,7 +82,7 @@ impl OutageClock {
     fn run_on(&mut self, reading: u64, counted: u64, lost: u64)
         requires passed { self.old.read + counted ≤ max self.old.read reading }
         requires lost { lost ≤ self.old.left }
-        ensures { spec.seen self.new ≡ spec.ran reading counted lost (spec.seen self.old) }
+        ensures ran { spec.seen self.new ≡ spec.ran reading counted lost (spec.seen self.old) }
     {
         self.left = self.budget(counted, lost);
         self.given += counted;
@@ -103,7 +103,7 @@ impl OutageClock {
 
     /// Whether it stands still: it has run as far as it may, and more of the outage may be left out.
     fn stands(&self) -> bool
-        ensures { result ≡ spec.stands (spec.seen self.now) }
+        ensures stands { result ≡ spec.stands (spec.seen self.now) }
     {
         match self.stop {
             Some(stop) => stop <= self.given && self.left > 0,

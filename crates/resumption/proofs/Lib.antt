@@ -4,3 +4,4 @@ pub mod Noting
 pub mod Replaying
 pub mod Renewing
 pub mod Ending
+pub mod Reloaded

@@ -3,3 +3,4 @@ pub mod Terms
 pub mod Accounts
 pub mod Noted
 pub mod Changed
+pub mod Reloaded

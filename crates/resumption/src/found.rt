@@ -23,6 +23,8 @@ pub struct Found {
     pub whole: u64,
     /// Whether something stands behind them: then what was written last may be lost.
     pub is_torn: bool,
+    /// Whether it follows the file before: its workers go on from the books that stand there.
+    pub follows: bool,
 }
 
 /// What came of reading a file.
@@ -127,27 +129,32 @@ fn together(
     Ok(chained(alloc, older, newer).ok())
 }
 
-/// What a file says: by itself, or with the one before where it follows that.
+/// What a file says by itself.
+fn alone(alloc: Global, version: &Text, records: Values<Record>) -> Option<(Generation, bool)> {
+    Some((said(alloc, version, records)?, false))
+}
+
+/// What a file says: by itself, or with the one before where it follows that. And whether it does.
 fn both(
     alloc: Global,
     version: &Text,
     contents: Contents,
     newer: &[u8],
     older: &[u8],
-) -> Result<Option<Generation>, NoMemory> {
+) -> Result<Option<(Generation, bool)>, NoMemory> {
     let belongs = match first_header(&contents) {
         Some(header) => is_before(alloc, header, older)?,
         None => false,
     };
     let found = contents.records;
     if !belongs {
-        return Ok(said(alloc, version, found));
+        return Ok(alone(alloc, version, found));
     }
     let before = records(alloc, older)?.records.into_vec();
     if let Some(generation) = together(alloc, version, before, found.into_vec())? {
-        return Ok(Some(generation));
+        return Ok(Some((generation, true)));
     }
-    Ok(said(alloc, version, records(alloc, newer)?.records))
+    Ok(alone(alloc, version, records(alloc, newer)?.records))
 }
 
 /// Under what desks worked that a file tells of, if a program of this version wrote it, and how it says so.
@@ -190,7 +197,7 @@ pub fn read_files(
     let Some((written, terms)) = written_under(alloc, version, &contents)? else {
         return Ok(Reading::Nothing { is_torn });
     };
-    let Some(generation) = both(alloc, &written, contents, newer, older)? else {
+    let Some((generation, follows)) = both(alloc, &written, contents, newer, older)? else {
         return Ok(Reading::Nothing { is_torn });
     };
     Ok(Reading::Found(Found {
@@ -199,5 +206,6 @@ pub fn read_files(
         begun,
         whole: whole as u64,
         is_torn,
+        follows,
     }))
 }

@@ -1,12 +1,14 @@
 //! How the desks of a service go on from what its journal says: as they stood, with other mailboxes and limits, or not at all.
 //!
 //! [`read_files`] reads what the files of a journal say together, [`replay`] has the desks go on over all that their workers had handled, and [`renew`]
-//! says what becomes of them where the service is another than it was. Begin with [`replay`].
+//! says what becomes of them where the service is another than it was. A reload of a service that runs is one, too (`specs/Reloaded`). Begin
+//! with [`replay`].
 #![tactic(auto)]
 
 pub mod changed;
 pub mod desks;
 pub mod found;
+pub mod laws;
 pub mod terms;
 pub mod told;
 

@@ -37,5 +37,8 @@ page_of {A = A} I W inquiry text made told t is =
 pub foreign_by : (desk : DeskSeen) (to : Addr) (taken : Option (List Datagram)) (failures : ℕ) → IsAnswered desk did.Foreign to taken taken failures failures
 foreign_by desk to taken failures = (None, tt, (grows_none taken, refl))
 
+pub ending_by : (desk : DeskSeen) (to : Addr) (taken : Option (List Datagram)) (failures : ℕ) → IsAnswered desk did.Ending to taken taken failures failures
+ending_by desk to taken failures = (None, tt, (grows_none taken, refl))
+
 pub unanswered_by : (desk : DeskSeen) (to : Addr) (taken : Option (List Datagram)) (failures : ℕ) → IsAnswered desk did.Unanswered to taken taken failures failures
 unanswered_by desk to taken failures = (None, tt, (grows_none taken, refl))

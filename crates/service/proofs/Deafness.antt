@@ -44,5 +44,7 @@ no_fault_after did.Counters end e = absurd cc
 no_fault_after (did.Shown n) end e = absurd cc
 no_fault_after (did.Dumped n) end e = absurd cc
 no_fault_after (did.Watched m n) end e = absurd cc
+no_fault_after did.Refused end e = absurd cc
 no_fault_after did.Closing end e = ap is_fault (sym (end_is ends.Done end e))
+no_fault_after did.Ending end e = ap is_fault (sym (end_is ends.Done end e))
 no_fault_after did.Gone end e = ap is_fault (sym (end_is ends.Gone end e))

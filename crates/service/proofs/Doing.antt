@@ -14,7 +14,7 @@ use Rattle.control_lines.specs.Lines.{Asks}
 use Rattle.control_lines.specs.Told.{Row, told}
 use Rattle.service.specs.declared.lines.Handled.{Handled}
 use Rattle.service.specs.declared.lines.Handled.TheVariants as did
-use Rattle.service.specs.Taken.{told_of, told_by, is_known, IsSent, IsChanged, IsFound, Means, IsDone}
+use Rattle.service.specs.Taken.{told_of, told_by, is_known, IsSent, IsChanged, IsFound, IsReload, Means, IsDone}
 
 -- what a change tells of mailboxes is what its event tells
 told_alike : (c : Change) (e : Event) (rows : List Row) → told_event c ≡ Some e → told_of c rows ≡ told_by e rows
@@ -52,7 +52,9 @@ changed_sent c e rows old new did.Counters is known sent = sent
 changed_sent c e rows old new (did.Shown n) is known sent = sent
 changed_sent c e rows old new (did.Dumped n) is known sent = sent
 changed_sent c e rows old new (did.Watched k n) is known sent = sent
+changed_sent c e rows old new did.Refused is known sent = sent
 changed_sent c e rows old new did.Closing is known sent = sent
+changed_sent c e rows old new did.Ending is known sent = sent
 changed_sent c e rows old new did.Gone is known sent = (e, is, known, refl, sent)
 
 module _ (octets : List ℕ) (rows rows' : List Row) (old new : PortSeats) where
@@ -70,7 +72,9 @@ module _ (octets : List ℕ) (rows rows' : List Row) (old new : PortSeats) where
   done_changed c (did.Shown n) asks is = absurd is
   done_changed c (did.Dumped n) asks is = absurd is
   done_changed c (did.Watched k n) asks is = absurd is
+  done_changed c did.Refused asks is = absurd is
   done_changed c did.Closing asks is = absurd is
+  done_changed c did.Ending asks is = absurd is
   done_changed c did.Gone asks is = (Some is.0, (is.0, refl, (c, asks, is.2, is.1)), is.3 ∙ told_alike c is.0 rows is.1, is.4)
 
 module _ (octets : List ℕ) (rows : List Row) (old new : PortSeats) where
@@ -92,8 +96,24 @@ module _ (octets : List ℕ) (rows : List Row) (old new : PortSeats) where
   done_found q (did.Shown n) asks is = (None, (refl, is.0, subst (λ (x : Question). Asks octets (asked.Question x)) is.1 asks, is.2), refl, refl)
   done_found q (did.Dumped n) asks is = (None, (refl, q, asks, is), refl, refl)
   done_found q (did.Watched k n) asks is = (None, (refl, q, asks, is), refl, refl)
+  done_found q did.Refused asks is = absurd is
   done_found q did.Closing asks is = absurd is
+  done_found q did.Ending asks is = absurd is
   done_found q did.Gone asks is = absurd is
+
+  pub done_reload : (d : Handled) → Asks octets asked.Reload → IsReload d → IsDone octets rows rows old old d
+  done_reload (did.Answered a) asks is = absurd is
+  done_reload (did.Repeated a) asks is = done_none (did.Repeated a) (refl, is, asks)
+  done_reload did.Unanswered asks is = done_none did.Unanswered (refl, inr asks)
+  done_reload did.Foreign asks is = absurd is
+  done_reload did.Counters asks is = absurd is
+  done_reload (did.Shown n) asks is = absurd is
+  done_reload (did.Dumped n) asks is = absurd is
+  done_reload (did.Watched k n) asks is = absurd is
+  done_reload did.Refused asks is = done_none did.Refused (refl, asks)
+  done_reload did.Closing asks is = absurd is
+  done_reload did.Ending asks is = done_none did.Ending (refl, asks)
+  done_reload did.Gone asks is = absurd is
 
 pub behind_is : (o : Option ℕ) (n : ℕ) → Some n ≡ option_map (λ k. k + 1) o → (before : ℕ) × (o ≡ Some before) × (n ≡ before + 1)
 behind_is None n e = absurd cc

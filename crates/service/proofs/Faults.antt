@@ -17,7 +17,7 @@ use Rattle.service.specs.declared.running.ServiceEnd.{ServiceEnd}
 use Rattle.service.specs.declared.running.Sources.{Sources}
 use Rattle.service.specs.Handing.{AreErrands}
 use Rattle.service.specs.Running.{IsLeftBehind, AreFaults, is_faulty}
-use Rattle.service.proofs.Deafness.{deaf_behind}
+use Rattle.service.proofs.Deafness.{deaf_behind, deaf_same}
 use Rattle.service.specs.Listening.{IsDeaf, IsDeafAsTold}
 
 same_phones : (a b : SipDesk UdpWire) → task.Datagrams a ≡ task.Datagrams b → a ≡ b
@@ -60,6 +60,12 @@ pub clock_failed : (stopwatch left : Stopwatch) (fed : Fed) → stopwatch.failur
 clock_failed stopwatch left fed none fails is =
     let P : Stopwatch → Type 0 = λ s. s.failures ≡ failures_at fed.end 0 in
     subst P (same_stopwatch fails.0 left (sym fails.1 ∙ is)) (fails.2 ∙ ap (failures_at fed.end) none)
+
+-- what hears nothing more is left as it was
+pub left_same : (t : Task) → IsLeftBehind t ends.Done false t
+left_same (task.Datagrams desk) = (desk, refl, deaf_same (misses desk.coming))
+left_same (task.Lines desk) = (desk, refl, deaf_same (misses desk.coming))
+left_same (task.Time stopwatch) = (stopwatch, refl, refl)
 
 -- what is left behind the end of a thread and what it hears then
 pub left_after : (t mid left : Task) (end : FeedEnd) (late : Bool) → IsLeftBehind t end false mid → IsLeftBehind mid ends.Done late left

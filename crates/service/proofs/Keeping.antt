@@ -41,17 +41,17 @@ module _ {s : State} {rows : List Row} {acts : List Act} {w : Waiting} (is : Are
   pub settled_state : w.transactions ≡ state_after (calls acts) s
   settled_state = is.open_now ∙ ap (λ (l : List Act). state_after (calls l) s) (sym all_kept)
 
-  pub settled_rows : AreRowed s acts rows w.watchers.rows
-  settled_rows = subst (λ (l : List Act). AreRowed s l rows w.watchers.rows) (sym all_kept) is.rowed
+  pub settled_rows : AreRowed acts rows w.watchers.rows
+  settled_rows = subst (λ (l : List Act). AreRowed l rows w.watchers.rows) (sym all_kept) is.rowed
 
   -- more was done then, and nothing is left of it
   pub kept_more : (more : List Act) (w' : Waiting) → w'.burst.items ≡ [] → w'.transactions ≡ state_after (calls more) w.transactions
-      → AreRowed w.transactions more w.watchers.rows w'.watchers.rows → AreKept s rows (acts ++ more) w'
+      → AreRowed more w.watchers.rows w'.watchers.rows → AreKept s rows (acts ++ more) w'
   kept_more more w' none' after rowed = record {
     kept = acts ++ more;
     all = sym (append-nil (acts ++ more)) ∙ ap (λ (l : List OutPut). (acts ++ more) ++ map act_of l) (sym none');
     open_now = after ∙ ap (state_after (calls more)) settled_state ∙ sym (state_more acts more s);
-    rowed = rowed_more acts more s w.transactions rows w.watchers.rows w'.watchers.rows settled_state settled_rows rowed;
+    rowed = rowed_more acts more rows w.watchers.rows w'.watchers.rows settled_rows rowed;
   }
 
 -- ---- the transactions once the burst is kept
@@ -84,7 +84,7 @@ kept_one {s = s} {rows = rows} {acts = acts} w w' p rest first then after seen i
   all = is.all ∙ ap (λ (l : List OutPut). is.kept ++ map act_of l) (first ∙ ap (λ (l : List OutPut). p ∷ l) (sym then))
       ∙ sym (append_assoc is.kept (act_of p ∷ []) (map act_of w'.burst.items));
   open_now = after ∙ ap (kept_after p.now p.out) is.open_now ∙ sym (state_put is.kept p.now p.out p.fate s);
-  rowed = rowed_more is.kept (act_of p ∷ []) s w.transactions rows w.watchers.rows w'.watchers.rows is.open_now is.rowed (w'.watchers.rows, seen, refl);
+  rowed = rowed_more is.kept (act_of p ∷ []) rows w.watchers.rows w'.watchers.rows is.rowed (w'.watchers.rows, seen, refl);
 }
 
 -- one comes behind the others
@@ -96,7 +96,7 @@ kept_last {s = s} {rows = rows} {acts = acts} w w' p more same_state same_rows i
       ∙ ap (λ (l : List Act). is.kept ++ l) (sym (map-append act_of w.burst.items (p ∷ [])))
       ∙ ap (λ (l : List OutPut). is.kept ++ map act_of l) (sym more);
   open_now = same_state ∙ is.open_now;
-  rowed = subst (λ (r : List Row). AreRowed s is.kept rows r) (sym same_rows) is.rowed;
+  rowed = subst (λ (r : List Row). AreRowed is.kept rows r) (sym same_rows) is.rowed;
 }
 
 -- the same by another name
@@ -106,7 +106,7 @@ kept_same {s = s} {rows = rows} w w' same_burst same_state same_rows is = record
   kept = is.kept;
   all = is.all ∙ ap (λ (l : List OutPut). is.kept ++ map act_of l) (sym same_burst);
   open_now = same_state ∙ is.open_now;
-  rowed = subst (λ (r : List Row). AreRowed s is.kept rows r) (sym same_rows) is.rowed;
+  rowed = subst (λ (r : List Row). AreRowed is.kept rows r) (sym same_rows) is.rowed;
 }
 
 -- ---- the first of the burst
@@ -134,7 +134,7 @@ goes_on_none w wire = record {
 -- all was kept first, and more was done then
 pub goes_on_more : (w mid w' : Waiting) (more : List Act) (wire wire' : WireSeen)
     → ((s : State) (rows : List Row) (acts : List Act) → AreKept s rows acts w → AreKept s rows acts mid) → mid.burst.items ≡ [] → w'.burst.items ≡ []
-    → fates more ≡ [] → Does more mid.transactions w'.transactions wire wire' → AreRowed mid.transactions more mid.watchers.rows w'.watchers.rows
+    → fates more ≡ [] → Does more mid.transactions w'.transactions wire wire' → AreRowed more mid.watchers.rows w'.watchers.rows
     → GoesOnBy more w w' wire wire'
 goes_on_more w mid w' more wire wire' settled none none' no_outs does rowed =
     let same : mid.transactions ≡ open_then w = settled_state (settled _ _ _ (from_here w)) none in

@@ -13,6 +13,7 @@ use Rattle.crew.specs.Joined.{IsJoined}
 use Rattle.crew.specs.declared.report.WorkerReport.{WorkerReport}
 use Rattle.feeds.specs.declared.sending.EmitReport.{EmitReport}
 use Rattle.feeds.specs.declared.feeding.FeedEnd.{FeedEnd}
+use Rattle.transactions.specs.declared.allowance.Allowance.{Allowance}
 use Rattle.transactions.specs.Machine.{State}
 use Rattle.service.specs.declared.feeding.Task.{Task}
 use Rattle.service.specs.declared.begins.Begins.{Begins}
@@ -139,9 +140,9 @@ abbrev pub begun : (ℕ → Standing) → State → ℕ → Beginning
 begun stands first tick = record { stands = stands; first = first; tick = tick }
 
 -- how a service begins whose crew was just started, by what it was given
-pub begun_is : (stands : ℕ → Standing) (first : State) (tick limit : ℕ) (given : Begins)
-    → first ≡ open_first limit given.unanswered.items → tick ≡ given.tick → begun stands first tick ≡ beginning stands limit given
-begun_is stands first tick limit given are on = λ i. record { stands = stands; first = are i; tick = on i }
+pub begun_is : (stands : ℕ → Standing) (first : State) (tick : ℕ) (allowance : Allowance) (given : Begins)
+    → first ≡ open_first allowance given.unanswered.items → tick ≡ given.tick → begun stands first tick ≡ beginning stands allowance given
+begun_is stands first tick allowance given are on = λ i. record { stands = stands; first = are i; tick = on i }
 
 -- the same desk, where the number of workers has another name
 pub fresh_with : {opened : Opening} {n m : ℕ} {desk : DeskSeen} → n ≡ m → IsFresh opened n desk → IsFresh opened m desk
@@ -150,7 +151,7 @@ fresh_with {opened = opened} {desk = desk} same fresh = let P : ℕ → Type 0 =
 -- ---- a service that begins anew
 
 pub begins_anew : BeginsAnewLaw
-begins_anew begins start workers limit opened admission flow o each none zeroth r =
+begins_anew begins start workers allowance opened admission flow o each none zeroth r =
     let T : ℕ → Type 0 = λ n. ThenCloses (SendsTicks n o.time) r.time r.time_closed in
     let S : State → Type 0 = λ s. IsSentOut s workers r.acts [] r.got flow r.counts in record {
       crew = r.crew;

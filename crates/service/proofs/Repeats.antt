@@ -8,6 +8,7 @@ use Rattle.notifier_model.specs.declared.event.Out.TheVariants as out
 use Rattle.feeds.specs.declared.sending.Fate.{Fate}
 use Rattle.transport.specs.declared.datagram.Datagram.{Datagram}
 use Rattle.transport.specs.Wires.{datagram}
+use Rattle.transactions.specs.declared.allowance.Allowance.{Allowance}
 use Rattle.transactions.specs.declared.open.Open.{Open}
 use Rattle.transactions.specs.Machine.{State, empty}
 use Rattle.transactions.specs.Runs.{Call, state_after, repeated, is_end, earliest, keeping, times}
@@ -102,16 +103,16 @@ half_a_second (suc (suc zero)) = omega arith
 half_a_second (suc (suc (suc n))) = omega arith
 
 -- what is asked for behind these, where none waited at the start
-of_notify : (limit : ℕ) (before : List Act) (now : ℕ) (sent : Datagram)
-    → ((t : Open) × (repeated (state_after (calls before) (empty limit)) now ≡ Some t) × (sent ≡ datagram t.to t.bytes)) → IsOfNotify before now sent
-of_notify limit before now sent here =
+of_notify : (allowance : Allowance) (before : List Act) (now : ℕ) (sent : Datagram)
+    → ((t : Open) × (repeated (state_after (calls before) (empty allowance)) now ≡ Some t) × (sent ≡ datagram t.to t.bytes)) → IsOfNotify before now sent
+of_notify allowance before now sent here =
     let t = here.0 in
-    let order = each_repeat limit (calls before) now t here.1 in
+    let order = each_repeat allowance (calls before) now t here.1 in
     let f = found before order.earlier (keeping t) order.since order.split in
     let put = put_is f.act t f.is in
     let P : Datagram → Type 0 = λ d. before ≡ f.before ++ met put.3 t.first (out.Notify d.peer t.number put.0 t.tag put.1 d.octets) put.2 ∷ f.after in
     let C : List Call → Type 0 = λ l. AllByRecursion (λ call. is_end t.tag t.number call ≡ false) l in
-    let long = half_a_second (times t.tag t.number order.since (state_after (order.earlier ++ keeping t ∷ []) (empty limit))) in
+    let long = half_a_second (times t.tag t.number order.since (state_after (order.earlier ++ keeping t ∷ []) (empty allowance))) in
     let waited = order.waited in record {
       earlier = f.before;
       since = f.after;
@@ -128,24 +129,24 @@ of_notify limit before now sent here =
       in_time = order.in_time;
     }
 
-each_put : (limit : ℕ) (before after : List Act) (now : ℕ) (sent : Datagram) (fails : Bool)
-    → AreAsked (empty limit) (before ++ Repeated now sent fails ∷ after) → IsOfNotify before now sent
-each_put limit before after now sent fails asked =
-    of_notify limit before now sent (asked_behind before (Repeated now sent fails ∷ after) (empty limit) asked).0
+each_put : (allowance : Allowance) (before after : List Act) (now : ℕ) (sent : Datagram) (fails : Bool)
+    → AreAsked (empty allowance) (before ++ Repeated now sent fails ∷ after) → IsOfNotify before now sent
+each_put allowance before after now sent fails asked =
+    of_notify allowance before now sent (asked_behind before (Repeated now sent fails ∷ after) (empty allowance) asked).0
 
-each_tried : (limit : ℕ) (before after : List Act) (now : ℕ) (sent : Datagram) (fails : Bool)
-    → AreAsked (empty limit) (before ++ Tried now sent fails ∷ after) → IsOfNotify before now sent
-each_tried limit before after now sent fails asked =
-    of_notify limit before now sent (asked_behind before (Tried now sent fails ∷ after) (empty limit) asked).0
+each_tried : (allowance : Allowance) (before after : List Act) (now : ℕ) (sent : Datagram) (fails : Bool)
+    → AreAsked (empty allowance) (before ++ Tried now sent fails ∷ after) → IsOfNotify before now sent
+each_tried allowance before after now sent fails asked =
+    of_notify allowance before now sent (asked_behind before (Tried now sent fails ∷ after) (empty allowance) asked).0
 
 pub each_try_is : EachTryIsOfANotify
-each_try_is limit unanswered before after now sent fails asked =
+each_try_is allowance unanswered before after now sent fails asked =
     let rest : List Act = before ++ Tried now sent fails ∷ after in
-    each_tried limit (went_out unanswered ++ before) after now sent fails
-    (subst (AreAsked (empty limit)) (sym (append_assoc (went_out unanswered) before (Tried now sent fails ∷ after))) (asked_anew unanswered rest (empty limit) asked))
+    each_tried allowance (went_out unanswered ++ before) after now sent fails
+    (subst (AreAsked (empty allowance)) (sym (append_assoc (went_out unanswered) before (Tried now sent fails ∷ after))) (asked_anew unanswered rest (empty allowance) asked))
 
 pub each_repeat_is : EachRepeatIsOfANotify
-each_repeat_is limit unanswered before after now sent fails asked =
+each_repeat_is allowance unanswered before after now sent fails asked =
     let rest : List Act = before ++ Repeated now sent fails ∷ after in
-    each_put limit (went_out unanswered ++ before) after now sent fails
-    (subst (AreAsked (empty limit)) (sym (append_assoc (went_out unanswered) before (Repeated now sent fails ∷ after))) (asked_anew unanswered rest (empty limit) asked))
+    each_put allowance (went_out unanswered ++ before) after now sent fails
+    (subst (AreAsked (empty allowance)) (sym (append_assoc (went_out unanswered) before (Repeated now sent fails ∷ after))) (asked_anew unanswered rest (empty allowance) asked))

@@ -20,7 +20,7 @@ use Rattle.service.specs.declared.lines.Handled.TheVariants as did
 use Rattle.control_lines.specs.Kept.{kept_answer}
 use Rattle.control_lines.specs.Tokens.{token, line}
 use Rattle.control_lines.specs.Told.{Row}
-use Rattle.service.specs.Taken.{DeskSeen, Line, is_near, IsForeign, IsLine, IsMeant, Reaches, IsDone, IsAgain, IsNews, IsPassed, IsTaken, kept_with, desk_after, desk_then, AreLines, end_after, MayReply, Replies, gets_answer, has_none, failures_then, datagrams_of, events, replies, reply_to, unanswered, AllGoOn, EndsWith, AreTaken, AreAnswered}
+use Rattle.service.specs.Taken.{DeskSeen, Line, is_near, IsForeign, IsLine, IsMeant, Reaches, IsDone, IsAgain, IsNews, IsPassed, IsTaken, kept_with, desk_after, desk_then, AreLines, end_after, MayReply, Replies, gets_answer, has_none, failures_then, datagrams_of, events, replies, reply_to, unanswered, AllGoOn, EndsTaking, EndsWith, AreTaken, AreAnswered}
 
 pub all_more : (P : Line → Type 0) (log more : List Line) → AllByRecursion P log → AllByRecursion P more → AllByRecursion P (log ++ more)
 all_more P [] more a b = b
@@ -226,20 +226,22 @@ module _ {desk at : DeskSeen} {old now : PortSeats} {given given' taken taken' :
         ⊎_elim (λ a. again h.0 x a on may replied) (λ n. news h.0 x n.0 n.1 n.2 n.3 n.4 may replied on) h.1)
         is
 
-  taken_close : is_near at d.peer ≡ true → (k : Bool) (rows' : List Row) (at' : DeskSeen) → at' ≡ record { workers = at.workers; hearing = at.hearing; rows = rows'; kept = kept_with k (token d.octets) did.Closing at.kept }
-      → kept_answer at.kept.lines.items (token d.octets) ≡ None → IsDone (line d.octets) at.rows rows' now next did.Closing
-      → MayReply at' did.Closing reply → Replies true d.peer reply taken' after' failures' more
+  -- by a CLOSE or a RELOAD
+  taken_close : is_near at d.peer ≡ true → (x : Handled) → end_after x ≡ Some ends.Done → ((log : List Line) → EndsWith x log → EndsTaking log ends.Done)
+      → (k : Bool) (rows' : List Row) (at' : DeskSeen) → at' ≡ record { workers = at.workers; hearing = at.hearing; rows = rows'; kept = kept_with k (token d.octets) x at.kept }
+      → kept_answer at.kept.lines.items (token d.octets) ≡ None → IsDone (line d.octets) at.rows rows' now next x
+      → MayReply at' x reply → Replies (gets_answer x) d.peer reply taken' after' failures' more
       → (log : List Line) × Grows given after (datagrams_of log) × AreTaken desk log old next ends.Done × AreAnswered log taken after' failures more × (at' ≡ desk_then log desk)
-  taken_close near k rows' at' knows new is may replied =
-      let l : Line = record { came = d; event = is.0; done = did.Closing; is_kept = k; reply = reply } in
-      let K : List Row → DeskSeen = λ rs. record { workers = at.workers; hearing = at.hearing; rows = rs; kept = kept_with k (token d.octets) did.Closing at.kept } in
-      let book = book_more is.0 did.Closing k at' (knows ∙ ap K is.2) (inr (near, inr (new, is.1))) may replied in
-      let last : EndsWith did.Closing (was.log ++ l ∷ []) = record { before = was.log; last = l; whole = refl; on = was.on; is = refl } in (
+  taken_close near x ends_it stops k rows' at' knows new is may replied =
+      let l : Line = record { came = d; event = is.0; done = x; is_kept = k; reply = reply } in
+      let K : List Row → DeskSeen = λ rs. record { workers = at.workers; hearing = at.hearing; rows = rs; kept = kept_with k (token d.octets) x at.kept } in
+      let book = book_more is.0 x k at' (knows ∙ ap K is.2) (inr (near, inr (new, is.1))) may replied in
+      let last : EndsWith x (was.log ++ l ∷ []) = record { before = was.log; last = l; whole = refl; on = was.on; is = refl } in (
         was.log ++ l ∷ [],
         book.came_are,
-        record { each = book.each; stops = inl last; sends = sends_reached is.0 did.Closing k (λ gone. absurd cc) is.3 },
+        record { each = book.each; stops = stops (was.log ++ l ∷ []) last; sends = sends_reached is.0 x k (λ gone. absurd (let z = sym ends_it ∙ gone in cc)) is.3 },
         book.answered,
-        knows_more is.0 did.Closing k at' (knows ∙ ap K is.2),
+        knows_more is.0 x k at' (knows ∙ ap K is.2),
       )
 
   taken_gone : is_near at d.peer ≡ true → (k : Bool) (rows' : List Row) (at' : DeskSeen) → at' ≡ record { workers = at.workers; hearing = at.hearing; rows = rows'; kept = kept_with k (token d.octets) did.Gone at.kept }
@@ -274,9 +276,13 @@ module _ {desk at : DeskSeen} {old now : PortSeats} {given given' taken taken' :
   last_news near (did.Shown n) end k rows' at' knows e new is may replied = absurd cc
   last_news near (did.Dumped n) end k rows' at' knows e new is may replied = absurd cc
   last_news near (did.Watched m n) end k rows' at' knows e new is may replied = absurd cc
+  last_news near did.Refused end k rows' at' knows e new is may replied = absurd cc
   last_news near did.Closing end k rows' at' knows e new is may replied =
       let P : FeedEnd → Type 0 = λ z. (log : List Line) × Grows given after (datagrams_of log) × AreTaken desk log old next z × AreAnswered log taken after' failures more × (at' ≡ desk_then log desk) in
-      subst P (end_is ends.Done end e) (taken_close near k rows' at' knows new is may replied)
+      subst P (end_is ends.Done end e) (taken_close near did.Closing refl (λ log with. inl with) k rows' at' knows new is may replied)
+  last_news near did.Ending end k rows' at' knows e new is may replied =
+      let P : FeedEnd → Type 0 = λ z. (log : List Line) × Grows given after (datagrams_of log) × AreTaken desk log old next z × AreAnswered log taken after' failures more × (at' ≡ desk_then log desk) in
+      subst P (end_is ends.Done end e) (taken_close near did.Ending refl (λ log with. inr (inl with)) k rows' at' knows new is may replied)
   last_news near did.Gone end k rows' at' knows e new is may replied =
       let P : FeedEnd → Type 0 = λ z. (log : List Line) × Grows given after (datagrams_of log) × AreTaken desk log old next z × AreAnswered log taken after' failures more × (at' ≡ desk_then log desk) in
       subst P (end_is ends.Gone end e) (taken_gone near k rows' at' knows new is may replied)
@@ -309,7 +315,7 @@ module _ {desk at : DeskSeen} {old now : PortSeats} {given given' taken taken' :
 
   -- the service closed for another cause than a line
   taken_done : (log : List Line) × Grows given given' (datagrams_of log) × AreTaken desk log old now ends.Done × AreAnswered log taken taken' failures failures' × (at ≡ desk_then log desk)
-  taken_done = (was.log, was.book.came_are, record { each = was.book.each; stops = inr was.on; sends = was.sends }, was.book.answered, was.knows)
+  taken_done = (was.log, was.book.came_are, record { each = was.book.each; stops = inr (inr was.on); sends = was.sends }, was.book.answered, was.knows)
 
   pub taking_open : now.is_open ≡ old.is_open
   taking_open = was.sends.still_open

@@ -19,7 +19,7 @@ pub record AreKept (s : State) (rows : List Row) (acts : List Act) (w : Waiting)
   pub kept : List Act
   pub all : acts ≡ kept ++ map act_of w.burst.items
   pub open_now : w.transactions ≡ state_after (calls kept) s
-  pub rowed : AreRowed s kept rows w.watchers.rows
+  pub rowed : AreRowed kept rows w.watchers.rows
 
 -- the open transactions once the outs of the burst are kept, too
 abbrev pub open_then : Waiting → State

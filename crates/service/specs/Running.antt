@@ -31,6 +31,7 @@ use Rattle.feeds.specs.Fed.{is_fault, failures_at}
 use Rattle.transport.specs.Ears.{Misses}
 use Rattle.transport.specs.Sockets.{misses}
 use Rattle.transport.specs.declared.udp.UdpWire.{UdpWire}
+use Rattle.transactions.specs.declared.allowance.Allowance.{Allowance}
 use Rattle.transactions.specs.Machine.{State, empty}
 use Rattle.service.specs.declared.begins.Begins.{Begins}
 use Rattle.service.specs.declared.clock.Stopwatch.{Stopwatch}
@@ -133,12 +134,12 @@ pub record Beginning : Type 0 where
   pub tick : ℕ
 
 -- where its desks stand so, and so many NOTIFYs may wait for their answers at once
-abbrev pub beginning : (ℕ → Standing) → ℕ → Begins → Beginning
-beginning stands limit begins = record { stands = stands; first = open_first limit begins.unanswered.items; tick = begins.tick }
+abbrev pub beginning : (ℕ → Standing) → Allowance → Begins → Beginning
+beginning stands allowance begins = record { stands = stands; first = open_first allowance begins.unanswered.items; tick = begins.tick }
 
 -- anew: with new desks of these starts, no NOTIFY waits, and no second was told
-abbrev pub anew : (ℕ → Start) → ℕ → Beginning
-anew start limit = record { stands = λ w. first_standing (start w); first = empty limit; tick = 0 }
+abbrev pub anew : (ℕ → Start) → Allowance → Beginning
+anew start allowance = record { stands = λ w. first_standing (start w); first = empty allowance; tick = 0 }
 
 -- ---- all of it
 
@@ -170,9 +171,9 @@ pub record Runs (begins : Beginning) (workers : ℕ) (opened : Opening) (admissi
 
 -- A service whose desks are new and which takes over nothing is one of the starts of these desks
 abbrev pub BeginsAnewLaw : Type 0
-BeginsAnewLaw = (begins : Beginning) (start : ℕ → Start) (workers limit : ℕ) (opened : Opening) (admission : Admission) (flow : Outflow) (outcome : ServiceEnd)
-    → ((w : ℕ) → w < workers → begins.stands w ≡ first_standing (start w)) → begins.first ≡ empty limit → begins.tick ≡ 0
-    → Runs begins workers opened admission flow outcome → Runs (anew start limit) workers opened admission flow outcome
+BeginsAnewLaw = (begins : Beginning) (start : ℕ → Start) (workers : ℕ) (allowance : Allowance) (opened : Opening) (admission : Admission) (flow : Outflow) (outcome : ServiceEnd)
+    → ((w : ℕ) → w < workers → begins.stands w ≡ first_standing (start w)) → begins.first ≡ empty allowance → begins.tick ≡ 0
+    → Runs begins workers opened admission flow outcome → Runs (anew start allowance) workers opened admission flow outcome
 
 -- ---- a service that doesn't run
 

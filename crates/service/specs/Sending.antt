@@ -18,6 +18,7 @@ use Rattle.feeds.specs.declared.sending.Fate.TheVariants as became
 use Rattle.feeds.specs.declared.sending.EmitReport.{EmitReport}
 use Rattle.feeds.specs.Emitted.{Fates, WireSeen, WriterSeen, wire_seen, writer_seen, AreMet, datagram_sent, sent_datagrams, fails_to_send}
 use Rattle.service.specs.declared.outs.Exit.{Exit}
+use Rattle.transactions.specs.declared.allowance.Allowance.{Allowance}
 use Rattle.transactions.specs.declared.open.Open.{Open}
 use Rattle.transactions.specs.declared.open.TheConstants.{GONE}
 use Rattle.transactions.specs.Timers.{is_over}
@@ -36,7 +37,8 @@ pub data Act : Type 0 where
   Noted : (tag : List ℕ) (number status : ℕ) → Act
   -- at this moment it sent this again, or the wire failed at it
   Repeated : (now : ℕ) (sent : Datagram) (fails : Bool) → Act
-  -- while no send succeeded it tried to send this again, which stays due, or the wire failed at it (specs/Moments of the crate outage_clock)
+  -- at this moment it sent this again, or the wire failed at it, and its transaction stays as it was: so the same is due again. It does so
+  -- while its clock stands (specs/Moments of the crate outage_clock), which no clause tells from other moments
   Tried : (now : ℕ) (sent : Datagram) (fails : Bool) → Act
   -- at this moment it gave up the NOTIFY that was due
   GaveUp : (now : ℕ) → Act
@@ -152,8 +154,8 @@ went_out outs = map (λ o. Put 0 o Sent) outs
 
 -- the open transactions at its start, of which there may be so many: those of the NOTIFYs among these outs, which went out before and wait
 -- for their answers
-abbrev pub open_first : ℕ → List Out → State
-open_first limit outs = state_after (calls (went_out outs)) (empty limit)
+abbrev pub open_first : Allowance → List Out → State
+open_first allowance outs = state_after (calls (went_out outs)) (empty allowance)
 
 -- ---- all of it
 
@@ -239,10 +241,10 @@ pub record IsOfNotify (before : List Act) (now : ℕ) (sent : Datagram) : Type 0
 
 -- One that waited for its answer at the start is put then. Where none did, `went_out []` is empty, and each was put by the service itself
 abbrev pub EachRepeatIsOfANotify : Type 0
-EachRepeatIsOfANotify = (limit : ℕ) (unanswered : List Out) (before after : List Act) (now : ℕ) (sent : Datagram) (fails : Bool)
-    → AreAsked (open_first limit unanswered) (before ++ Repeated now sent fails ∷ after) → IsOfNotify (went_out unanswered ++ before) now sent
+EachRepeatIsOfANotify = (allowance : Allowance) (unanswered : List Out) (before after : List Act) (now : ℕ) (sent : Datagram) (fails : Bool)
+    → AreAsked (open_first allowance unanswered) (before ++ Repeated now sent fails ∷ after) → IsOfNotify (went_out unanswered ++ before) now sent
 
--- so is what is tried while no send succeeds
+-- so is what is tried, whenever that is, and whether the wire fails at it or not
 abbrev pub EachTryIsOfANotify : Type 0
-EachTryIsOfANotify = (limit : ℕ) (unanswered : List Out) (before after : List Act) (now : ℕ) (sent : Datagram) (fails : Bool)
-    → AreAsked (open_first limit unanswered) (before ++ Tried now sent fails ∷ after) → IsOfNotify (went_out unanswered ++ before) now sent
+EachTryIsOfANotify = (allowance : Allowance) (unanswered : List Out) (before after : List Act) (now : ℕ) (sent : Datagram) (fails : Bool)
+    → AreAsked (open_first allowance unanswered) (before ++ Tried now sent fails ∷ after) → IsOfNotify (went_out unanswered ++ before) now sent

@@ -31,7 +31,7 @@ use Rattle.control_lines.specs.Lines.{Asks, is_answer, answer_text}
 use Rattle.control_lines.specs.Tokens.{token, line}
 use Rattle.control_lines.specs.Told.{Row, place, told, AreUntold}
 use Rattle.watchers.specs.declared.inquiry.Inquiry.{Inquiry}
-use Rattle.service.specs.Told.{IsReport, IsShown, IsInquiry, IsWatched, dumped}
+use Rattle.service.specs.Told.{IsRefusal, IsReport, IsShown, IsInquiry, IsWatched, dumped}
 use Rattle.service.specs.declared.lines.Handled.{Handled}
 use Rattle.service.specs.declared.operators.Operators.{Operators}
 use Rattle.service.specs.declared.lines.Handled.TheVariants as did
@@ -186,6 +186,14 @@ IsChanged c rows rows' old new did.Gone =
     (e : Event) × (told_event c ≡ Some e) × (is_known rows c ≡ true) × (rows' ≡ told_of c rows) × Misses old e new
 IsChanged c rows rows' old new other = ⊥
 
+-- what may be done with a RELOAD: it is the one by which this run began, its files are still being read, it is refused, or they are good
+abbrev pub IsReload : Handled → Type 0
+IsReload (did.Repeated a) = a ≡ answer.Done
+IsReload did.Unanswered = Unit {0}
+IsReload did.Refused = Unit {0}
+IsReload did.Ending = Unit {0}
+IsReload other = ⊥
+
 -- what a line means that was not answered before, behind its token: the event that it tells, if it tells one, and what is done
 abbrev pub Means : List Row → List ℕ → Option Event → Handled → Type 0
 Means rows octets event (did.Answered answer.Done) = (e : Event) × (event ≡ Some e) × Tells rows octets e
@@ -194,15 +202,17 @@ Means rows octets event (did.Answered answer.UnknownMailbox) = (event ≡ None) 
 Means rows octets event (did.Answered answer.Closed) = ⊥
 Means rows octets event (did.Answered answer.NoMemory) = (event ≡ None) × Asks octets asked.NoMemory
 Means rows octets event (did.Answered answer.Busy) = ⊥
-Means rows octets event (did.Repeated a) = ⊥
-Means rows octets event did.Unanswered = (event ≡ None) × Asks octets asked.Nothing
+Means rows octets event (did.Repeated a) = (event ≡ None) × (a ≡ answer.Done) × Asks octets asked.Reload
+Means rows octets event did.Unanswered = (event ≡ None) × (Asks octets asked.Nothing ⊎ Asks octets asked.Reload)
 Means rows octets event did.Foreign = ⊥
 Means rows octets event did.Counters = (event ≡ None) × Asks octets (asked.Question question.Status)
 Means rows octets event (did.Shown n) =
     (event ≡ None) × (name : List ℕ) × Asks octets (asked.Question (question.Show name)) × (place name rows ≡ Some n)
 Means rows octets event (did.Dumped n) = (event ≡ None) × (q : Question) × Asks octets (asked.Question q) × BeginsAt rows n q
 Means rows octets event (did.Watched m n) = (event ≡ None) × (q : Question) × Asks octets (asked.Question q) × AsksForWatchers rows m n q
+Means rows octets event did.Refused = (event ≡ None) × Asks octets asked.Reload
 Means rows octets event did.Closing = (event ≡ None) × Asks octets asked.Close
+Means rows octets event did.Ending = (event ≡ None) × Asks octets asked.Reload
 Means rows octets event did.Gone = (e : Event) × (event ≡ Some e) × Tells rows octets e
 
 -- the port has sent the event, or its worker is gone; without an event nothing was sent
@@ -253,6 +263,7 @@ IsTaken source octets desk desk' old new d =
 -- how the taking of lines ends after this, if it does
 abbrev pub end_after : Handled → Option FeedEnd
 end_after did.Closing = Some ends.Done
+end_after did.Ending = Some ends.Done
 end_after did.Gone = Some ends.Gone
 end_after other = None
 
@@ -272,7 +283,9 @@ IsReply desk (did.Shown n) octets = IsShown desk.rows desk.workers n octets ⊎ 
 IsReply desk (did.Dumped n) octets = (octets ≡ dumped desk.rows n) ⊎ (octets ≡ answer_text answer.NoMemory)
 IsReply desk (did.Watched m n) octets =
     ((q : Inquiry) × IsInquiry desk.rows m n q × IsWatched q octets) ⊎ (octets ≡ answer_text answer.Busy)
+IsReply desk did.Refused octets = IsRefusal octets ⊎ (octets ≡ answer_text answer.NoMemory)
 IsReply desk did.Closing octets = octets ≡ answer_text answer.Done
+IsReply desk did.Ending octets = ⊥
 IsReply desk did.Gone octets = octets ≡ answer_text answer.Closed
 
 -- an answer that was sent, or none: the line gets none, or the wire failed at it
@@ -280,10 +293,11 @@ abbrev pub MayReply : DeskSeen → Handled → Option (List ℕ) → Type 0
 MayReply desk d None = Unit {0}
 MayReply desk d (Some octets) = IsReply desk d octets
 
--- an answer itself gets none, nor does a line from elsewhere
+-- an answer itself gets none, nor does a line from elsewhere. A RELOAD with good files gets its answer by the next run
 abbrev pub gets_answer : Handled → Bool
 gets_answer did.Unanswered = false
 gets_answer did.Foreign = false
+gets_answer did.Ending = false
 gets_answer other = true
 
 -- a count of failures, after one more or none
@@ -409,9 +423,9 @@ pub record EndsWith (done : Handled) (log : List Line) : Type 0 where
   pub on : AllGoOn before
   pub is : last.done ≡ done
 
--- a CLOSE or a worker that is gone ends it at once, and so does a service that closes for another cause, or a fault
+-- a CLOSE, a RELOAD with good files or a worker that is gone ends it at once, and so does a service that closes for another cause, or a fault
 abbrev pub EndsTaking : List Line → FeedEnd → Type 0
-EndsTaking log ends.Done = EndsWith did.Closing log ⊎ AllGoOn log
+EndsTaking log ends.Done = EndsWith did.Closing log ⊎ (EndsWith did.Ending log ⊎ AllGoOn log)
 EndsTaking log ends.Fault = AllGoOn log
 EndsTaking log ends.Gone = EndsWith did.Gone log
 

@@ -14,6 +14,13 @@ report lines = codes "ok" ++ (lf ++ lines)
 abbrev pub IsReport : List ℕ → Type 0
 IsReport octets = (lines : List ℕ) × (octets ≡ report lines)
 
+-- why a RELOAD is refused, behind a `no`: a number, which is the exit status of a start with these files, and words
+abbrev pub refusal : List ℕ → List ℕ
+refusal why = codes "no" ++ (lf ++ why)
+
+abbrev pub IsRefusal : List ℕ → Type 0
+IsRefusal octets = (why : List ℕ) × (octets ≡ refusal why)
+
 -- the worker that has this mailbox, among so many
 abbrev pub worker_for : ℕ → List ℕ → ℕ
 worker_for workers mailbox = key_hash mailbox % workers

@@ -1,30 +1,33 @@
 -- The rows of the live subscriptions, as the thread that sends keeps them, and a page of some rows.
-use Rattle.std.specs.Prelude.{◌≡◌, ◌⊎◌, ℕ, true, false, List, [], ◌∷◌, unwrap_or, option_to_list}
+use Rattle.std.specs.Prelude.{◌≡◌, ◌⊎◌, ℕ, true, false, List, [], ◌∷◌, Option, unwrap_or}
 use Rattle.notifier_model.specs.declared.event.Note.{Note as KnownNote}
 use Rattle.notifier_model.specs.declared.event.Out.{Out}
 use Rattle.notifier_model.specs.declared.event.Out.TheVariants as out
-use Rattle.transactions.specs.Machine.{State}
-use Rattle.transactions.specs.Runs.{state_after}
 use Rattle.watchers.specs.declared.inquiry.Inquiry.{Inquiry}
 use Rattle.watchers.specs.Notifies.{Known}
-use Rattle.watchers.specs.Rows.{Row, begins, after_notify, without, answered_rows}
+use Rattle.watchers.specs.Rows.{Row, begins, after_notify, after_retarget, without, answered_rows}
 use Rattle.watchers.specs.Pages.{page, page_text}
 use Rattle.service.specs.declared.post.Note.{Note}
-use Rattle.service.specs.Sending.{Act, Put, Held, Released, Noted, Repeated, Tried, GaveUp, Gone, call_of}
+use Rattle.service.specs.Sending.{Act, Put, Held, Released, Noted, Repeated, Tried, GaveUp, Gone}
 
 -- ---- what one act makes of the rows
 
--- what a row is made of: what is known with a NOTIFY that isn't the last one
-abbrev pub known_from : KnownNote → Known
-known_from note = record { watcher = note.watcher; resource = note.resource; seconds = unwrap_or note.left 0 }
+-- what a row is made of: what is known with a NOTIFY that isn't the last one, and who is known to have made the dialog
+abbrev pub known_from : Option (List ℕ) → KnownNote → Known
+known_from user note = record { watcher = note.watcher; contact = note.target; user = user; resource = note.resource; seconds = unwrap_or note.left 0 }
+
+-- The row with this tag has this Contact. Where memory is wanting it keeps the one that it had
+abbrev pub IsRetargeted : List ℕ → List ℕ → List Row → List Row → Type 0
+IsRetargeted tag contact rows rows' = (rows' ≡ after_retarget tag contact rows) ⊎ (rows' ≡ rows)
 
 -- An out was put. The row of a subscription goes with its last NOTIFY, and begins with the first one that finds none, unless room or
--- memory is wanting
+-- memory is wanting. Whom it names, nothing is said of
 abbrev pub IsSeen : ℕ → Out → List Row → List Row → Type 0
 IsSeen now (out.Answer to octets) rows rows' = rows' ≡ rows
 IsSeen now (out.Notify to number true tag note octets) rows rows' = rows' ≡ without tag rows
 IsSeen now (out.Notify to number false tag note octets) rows rows' =
-    (rows' ≡ after_notify now tag number to (known_from note) rows) ⊎ ((begins tag rows ≡ true) × (rows' ≡ rows))
+    ((user : Option (List ℕ)) × IsRetargeted tag note.target (after_notify now tag number to (known_from user note) rows) rows')
+    ⊎ ((begins tag rows ≡ true) × (rows' ≡ rows))
 IsSeen now (out.Start tag refer_to) rows rows' = rows' ≡ rows
 
 -- The act makes these rows of those. A NOTIFY that nobody answers ends no row: its worker does, and says so
@@ -40,10 +43,9 @@ IsRowed (Gone tag) rows rows' = rows' ≡ without tag rows
 
 -- ---- what all acts make of them, one after the other
 
-abbrev pub AreRowed : State → List Act → List Row → List Row → Type 0
-AreRowed s [] rows rows' = rows' ≡ rows
-AreRowed s (act ∷ acts) rows rows' =
-    (next : List Row) × IsRowed act rows next × AreRowed (state_after (option_to_list (call_of act)) s) acts next rows'
+abbrev pub AreRowed : List Act → List Row → List Row → Type 0
+AreRowed [] rows rows' = rows' ≡ rows
+AreRowed (act ∷ acts) rows rows' = (next : List Row) × IsRowed act rows next × AreRowed acts next rows'
 
 -- the rows after these notes
 abbrev pub noted_rows : List Note → List Row → List Row

@@ -2,9 +2,8 @@
 
 use crate::logging::has_room;
 use crate::shared::Shared;
-use admission::word;
 use log_lines::{Record, Request};
-use sip_text::{Addr, Text, text_of};
+use sip_text::{Addr, Text};
 
 /// For how many milliseconds a source that was told isn't told again.
 const MINUTE: u64 = 60_000;
@@ -73,21 +72,14 @@ impl Barred {
     }
 }
 
-/// Says on standard error of which user and from where a request came whose password wasn't looked at. The user's name is one word there,
-/// whatever a stranger wrote. A line that nobody reads is dropped.
+/// Says on standard error of which user and from where a request came whose password wasn't looked at. A line that nobody reads is dropped.
 pub(crate) fn log_barred<R: Eprint>(rt: &R, shared: &Shared, user: &Text, source: Addr) {
     if !has_room() {
         return;
     }
-    let Ok(octets) = word(shared.alloc(), user.as_str().as_bytes()) else {
-        return;
-    };
-    let Some(user) = text_of(octets.as_slice()) else {
-        return;
-    };
     let request = Request::Barred {
         address: source,
-        user,
+        user: user.as_str(),
     };
     shared.tell(rt, &Record::Request(request));
 }

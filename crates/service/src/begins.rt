@@ -24,10 +24,12 @@ pub struct Living {
 }
 
 impl Living {
-    /// What its row tells.
+    /// What its row tells. Who showed a password isn't kept.
     fn known(&self) -> Known<'_> {
         Known {
             watcher: self.note.watcher.as_str(),
+            contact: self.note.target.as_str(),
+            user: None,
             resource: self.note.resource.as_str(),
             seconds: self.note.left.unwrap_or(0),
         }

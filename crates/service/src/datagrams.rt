@@ -16,7 +16,7 @@ ghost use Rattle.transport.specs.declared.datagram.Datagram.{Datagram};
 use crate::barred::log_barred;
 use crate::listening::{Came, Listening, ROOM};
 use crate::newcomers::Newcomer;
-use crate::request_log::log_answer;
+use crate::request_log::{Answer, log_answer};
 use crate::shared::{Counter, Shared};
 use admission::{Admission, Arrival, ChallengeCause, Reading, Verdict};
 use crew::Port;
@@ -87,13 +87,7 @@ fn refusal(verdict: Verdict) -> Option<Octets>
 }
 
 /// Sends a refusal to who is refused. One that can't be sent is counted: who asked asks again.
-fn send_refusal<R: Wait + Eprint, W: Wire>(
-    rt: &R,
-    wire: &mut W,
-    shared: &Shared,
-    to: Addr,
-    octets: &[u8],
-)
+fn send_refusal<R: Wait, W: Wire>(rt: &R, wire: &mut W, shared: &Shared, to: Addr, octets: &[u8])
     ensures refused { Refuses to (Some octets.now)
         (W.taken wire.old) (W.taken wire.new) (W.failures wire.old) (W.failures wire.new) }
     ensures given { Grows (W.given wire.old) (W.given wire.new) [] }
@@ -103,13 +97,10 @@ fn send_refusal<R: Wait + Eprint, W: Wire>(
     } else {
         shared.note_sent();
     }
-    if shared.logs_requests() {
-        log_answer(rt, shared, to, octets);
-    }
 }
 
 /// The same of a refusal, if there is one.
-fn refuse<R: Wait + Eprint, W: Wire>(
+fn refuse<R: Wait, W: Wire>(
     rt: &R,
     wire: &mut W,
     shared: &Shared,
@@ -123,6 +114,21 @@ fn refuse<R: Wait + Eprint, W: Wire>(
     match refusal {
         Some(octets) => send_refusal(rt, wire, shared, to, octets.as_slice()),
         None => {}
+    }
+}
+
+/// Tells the refusal of a request, where the operator wants to know of each.
+fn log_refusal<R: Eprint>(rt: &R, shared: &Shared, arrival: Arrival<'_>, refusal: &Option<Octets>) {
+    if !shared.logs_requests() {
+        return;
+    }
+    if let (Reading::Request(request), Some(refusal)) = (arrival.reading, refusal) {
+        let answer = Answer {
+            to: arrival.source,
+            octets: refusal.as_slice(),
+            whom: request.uri.as_str(),
+        };
+        log_answer(rt, shared, answer);
     }
 }
 
@@ -309,6 +315,7 @@ impl<W: Ear> SipDesk<W> {
         count_verdict(shared, &verdict);
         tell_barred(rt, shared, &verdict, arrival);
         let refusal = refusal(verdict);
+        log_refusal(rt, shared, arrival, &refusal);
         refuse(rt, &mut self.going, shared, arrival.source, refusal);
         false
     }

@@ -1,10 +1,11 @@
 //! What became of outs, counted and told.
 ghost use Rattle.std.specs.Prelude.{◌<◌, ◌^◌};
 
-use crate::request_log::log_answer;
+use crate::request_log::{Answer, log_answer};
 use crate::shared::{Counter, Shared};
 use feeds::Fate;
 use notifier_model::Out;
+use sip_text::Addr;
 use std::sync::Wait;
 
 /// An out that was sent or written at this moment, or at which the wire or the writer failed then.
@@ -24,17 +25,23 @@ pub(crate) struct Timed {
     ghost in_range: { now < 2 ^ 63 },
 }
 
-/// What an out counts as.
-fn counter(out: &Out, fate: Fate) -> Counter {
-    match fate {
-        Fate::Failed => Counter::Failed,
-        Fate::Started => Counter::Start,
-        Fate::Held => Counter::Held,
-        Fate::Sent => match out {
-            Out::Notify { .. } => Counter::Notify,
-            Out::Answer { .. } | Out::Start { .. } => Counter::Answer,
-        },
+/// Whom a request was sent to: `-` where that isn't known.
+fn known_whom<'a>(whom: &'a Option<String>) -> &'a str {
+    match whom {
+        Some(whom) => whom.as_str(),
+        None => "-",
     }
+}
+
+/// Tells of an answer that went to this address.
+fn tell_answer<R: Wait + Eprint>(rt: &R, shared: &Shared, to: Addr, octets: &[u8]) {
+    let whom = shared.asked.lock(rt).take(octets);
+    let answer = Answer {
+        to,
+        octets,
+        whom: known_whom(&whom),
+    };
+    log_answer(rt, shared, answer);
 }
 
 /// Counts and tells what became of an out: to whom an answer goes, where the operator wants to know of each. A transfer whose START line was
@@ -43,17 +50,23 @@ pub(crate) fn tell_fate<R: Wait + Eprint>(rt: &R, shared: &Shared, out: &Out, fa
     match out {
         Out::Answer { to, bytes } => {
             if fate == Fate::Sent {
-                shared.count_status(bytes.as_slice());
+                shared.count(Counter::Answer);
+                shared.sent.statuses.count(bytes.as_slice());
             }
             if shared.logs_requests() {
-                log_answer(rt, shared, *to, bytes.as_slice());
+                tell_answer(rt, shared, *to, bytes.as_slice());
             }
         }
         Out::Notify {
             number,
             terminated,
             ..
-        } => shared.count_notice(*number, *terminated),
+        } => {
+            if fate == Fate::Sent {
+                shared.count(Counter::Notify);
+            }
+            shared.count_notice(*number, *terminated);
+        }
         Out::Start { tag, .. } => {
             if fate == Fate::Failed {
                 shared.count(Counter::StartDropped);
@@ -61,5 +74,10 @@ pub(crate) fn tell_fate<R: Wait + Eprint>(rt: &R, shared: &Shared, out: &Out, fa
             }
         }
     }
-    shared.count(counter(out, fate));
+    match fate {
+        Fate::Failed => shared.count(Counter::Failed),
+        Fate::Started => shared.count(Counter::Start),
+        Fate::Held => shared.count(Counter::Held),
+        Fate::Sent => {}
+    }
 }

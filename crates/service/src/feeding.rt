@@ -56,6 +56,8 @@ impl Task {
     }
 
     /// Hears answers to NOTIFYs and refuses control lines while the service closes, until all was sent out or the wire is deaf: true then.
+    /// Where the next run is to begin what comes waits for that.
+    #[tactic(auto, using(crate::proofs::Faults::left_same))]
     fn listen_on<R: Wait + Clock + Eprint>(
         &mut self,
         rt: &R,
@@ -64,6 +66,9 @@ impl Task {
     ) -> bool
         ensures { IsLeftBehind self.old FeedEnd.Done result self.new }
     {
+        if shared.is_reloading() {
+            return false;
+        }
         match self {
             Task::Datagrams(desk) => desk.hear_answers(rt, alloc, shared),
             Task::Lines(desk) => desk.refuse_lines(rt, shared),

@@ -15,6 +15,7 @@ use package::MailChange;
 use sip_text::{NoMemory, Text};
 use std::alloc::Global;
 use std::fs::{File, OpenOptions};
+use std::os::unix::fs::OpenOptionsExt;
 use std::rt::Files;
 use std::sync::atomic::{AtomicBool, AtomicU32, AtomicU64, Ordering};
 use std::sync::{Mutex, Wait};
@@ -26,6 +27,10 @@ const NO_ERROR: u32 = 0;
 /// For how many seconds a file is the current one at least, where it misses nothing: by then each NOTIFY that was unanswered at its begin is
 /// answered or given up (RFC 3261 section 17.1.2.2), so the file before it may go.
 pub const SETTLED: u64 = 40;
+
+/// The permission bits of a file of a journal that is made: its user alone may read it, since it tells the seed, by which each tag can be
+/// known.
+pub const FILE_MODE: u32 = 0o600;
 
 /// When what was written is brought to the disk.
 #[derive(Clone, Copy)]
@@ -49,6 +54,8 @@ pub struct Upkeep {
     pub age: u64,
     /// For how many seconds the file in which a service goes on was the current one before. 0: it is new.
     pub been: u64,
+    /// The number of the oldest file that is there.
+    pub oldest: u64,
     /// When what was written is brought to the disk.
     pub sync: Syncing,
 }
@@ -93,7 +100,7 @@ impl Journal {
     ) -> Result<Journal, NoMemory> {
         let wanted = no_books(alloc, header.workers)?;
         let bytes = AtomicU64::new(current.length());
-        let shelf = Shelf::new(keeper, current, upkeep.been);
+        let shelf = Shelf::new(keeper, current, upkeep.been, upkeep.oldest);
         Ok(Journal {
             alloc,
             header,
@@ -220,6 +227,11 @@ impl Journal {
         self.note(&mut shelf)
     }
 
+    /// Whether the current file misses nothing, so that a service may go on from it.
+    pub(crate) fn is_whole<R: Wait>(&self, rt: &R) -> bool {
+        self.shelf.lock(rt).is_whole()
+    }
+
     /// Whether the book of this worker is wanted. It is asked behind each event, so it takes no lock.
     pub(crate) fn wants_book(&self, worker: u32) -> bool {
         match self.wanted.get(worker as usize) {
@@ -262,6 +274,7 @@ impl Journal {
         OpenOptions::new()
             .append(true)
             .create_new(true)
+            .mode(FILE_MODE)
             .open(rt, path)
     }
 

@@ -11,7 +11,7 @@ pub fn each_repeat()
     ensures { EachRepeatIsOfANotify }
 {}
 
-/// The same of what is tried while no send succeeds.
+/// The same of what is sent again though its transaction stays as it was, so that it is due again: as while the service's clock stands.
 pub fn each_try()
     ensures { EachTryIsOfANotify }
 {}

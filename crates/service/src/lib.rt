@@ -20,6 +20,9 @@
 //! Where a journal is kept ([`Journal`], put into [`Shared`]) each worker writes there what it handled before it posts anything of it, and the
 //! thread that takes lines writes a line before it answers `ok`. So a service that is killed can go on. No contract says what a file keeps.
 //!
+//! Where its files are to be read again ([`Rereader`]) and are good, its run ends as by such a kill: nobody is told of an end, and what was
+//! not sent is in the journal. Whoever runs it begins the next run from there.
+//!
 //! Where users show passwords, the thread that hears notes who sent a request that may make a dialog, and the worker that makes it which
 //! dialog that is: so a later request in it is its user's alone (`owners`).
 //!
@@ -28,6 +31,7 @@
 //! `specs/Admitted`, `specs/Taken` and `specs/Running`.
 #![tactic(auto)]
 
+mod asked;
 mod barred;
 mod begins;
 mod changes;
@@ -39,19 +43,20 @@ mod drops;
 mod error;
 mod fates;
 mod feeding;
-mod given_up;
 mod journaling;
 pub mod laws;
 mod lines;
 mod listening;
 mod logging;
 mod newcomers;
+mod not_taken;
 mod operators;
 mod outages;
 mod outs;
 mod owners;
 mod post;
 mod refusals;
+mod reload;
 mod reports;
 mod request_log;
 mod roll;
@@ -60,6 +65,8 @@ mod sending;
 mod shared;
 mod shelf;
 mod statuses;
+mod tallies;
+mod users;
 mod volume;
 mod window;
 
@@ -67,12 +74,14 @@ pub use begins::{Begins, Living};
 pub use clock::Stopwatch;
 pub use datagrams::SipDesk;
 pub use error::RunError;
-pub use journaling::{Journal, SETTLED, Syncing, Upkeep};
+pub use journaling::{FILE_MODE, Journal, SETTLED, Syncing, Upkeep};
 pub use lines::{ControlDesk, ControlPort, KeptAnswers};
 pub use logging::has_room_soon;
 pub use operators::Operators;
 pub use outs::Exit;
+pub use reload::{Caller, Rereader};
 pub use running::{ServiceEnd, ServiceWork, run_crew};
 pub use shared::{Counter, Shared};
 pub use sip_text::NoMemory;
+pub use transactions::Allowance;
 pub use volume::Volume;

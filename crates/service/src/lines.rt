@@ -8,13 +8,14 @@ ghost use Rattle.control_lines.specs.Lines.{answer_text};
 ghost use Rattle.control_lines.specs.declared.question.Question.TheVariants as questions;
 ghost use Rattle.service.specs.declared.lines.Handled.TheVariants as did;
 ghost use Rattle.service.specs.Taken as spec;
-ghost use Rattle.service.specs.Taken.{Line, IsSent, IsChanged, IsDone, IsFound, IsTaken, Offers, IsAnswered, WereTold, datagrams_of, desk_then, AreTaken, AreAnswered, AreTurnedAway, operators_in, seen};
+ghost use Rattle.service.specs.Taken.{Line, IsSent, IsChanged, IsDone, IsFound, IsReload, IsTaken, Offers, IsAnswered, WereTold, datagrams_of, desk_then, AreTaken, AreAnswered, AreTurnedAway, operators_in, seen};
 ghost use Rattle.feeds.specs.Fed.{is_fault};
 ghost use Rattle.service.specs.Listening.{IsDeafAsTold};
 
 use crate::listening::{Came, Listening, ROOM};
 use crate::operators::{Operators, is_known, tell, tell_each};
-use crate::reports::{counters, dumped, home, inquiry, shown, watched};
+use crate::reload::{Caller, Reloading};
+use crate::reports::{counters, dumped, home, inquiry, refusal, shown, watched};
 use crate::shared::{Counter, Shared};
 use admission::Network;
 use control_lines::{
@@ -40,9 +41,9 @@ pub const KEPT: usize = 4096;
 pub enum Handled {
     /// It is answered so, and the service goes on.
     Answered(ControlAnswer),
-    /// It came before, with the same token, and is answered so again.
+    /// It came before, with the same token, and is answered so again: in this run, or it is the RELOAD by which this run began.
     Repeated(ControlAnswer),
-    /// It is an answer itself, and gets none.
+    /// It gets no answer: it is one itself, or a RELOAD whose files are still being read, so who sent it asks again.
     Unanswered,
     /// It came from elsewhere than lines are heard from: it isn't read, and gets no answer.
     Foreign,
@@ -54,8 +55,12 @@ pub enum Handled {
     Dumped(usize),
     /// Who watches the mailbox at this place, or any, was asked for, from this place in the list of rows on.
     Watched(Option<usize>, u64),
+    /// A RELOAD is refused: the reason is kept for its token.
+    Refused,
     /// The service is to close.
     Closing,
+    /// The files of a RELOAD are good: the run is to end, and the next one answers.
+    Ending,
     /// A worker is gone.
     Gone,
 }
@@ -65,7 +70,7 @@ fn end_after(done: Handled) -> Option<FeedEnd>
     ensures { result ≡ spec.end_after done }
 {
     match done {
-        Handled::Closing => Some(FeedEnd::Done),
+        Handled::Closing | Handled::Ending => Some(FeedEnd::Done),
         Handled::Gone => Some(FeedEnd::Gone),
         Handled::Answered(_)
         | Handled::Repeated(_)
@@ -74,7 +79,8 @@ fn end_after(done: Handled) -> Option<FeedEnd>
         | Handled::Counters
         | Handled::Shown(_)
         | Handled::Dumped(_)
-        | Handled::Watched(_, _) => None,
+        | Handled::Watched(_, _)
+        | Handled::Refused => None,
     }
 }
 
@@ -154,10 +160,31 @@ fn find(told: &ToldCounts, question: &Question) -> Handled
     }
 }
 
+/// Who asks by a control line: what the threads of its service share, and who sent the line.
+#[derive(Clone, Copy)]
+pub struct Asking<'a> {
+    pub shared: &'a Shared,
+    pub caller: Caller,
+}
+
+/// What is done with a RELOAD.
+fn reload<R: Wait + Clock>(rt: &R, asking: Asking<'_>) -> Handled
+    ensures { IsReload result }
+{
+    if asking.shared.reloads.is_behind(rt, asking.caller.token) {
+        return Handled::Repeated(ControlAnswer::Done);
+    }
+    match asking.shared.reload(rt, asking.caller) {
+        Reloading::Waits => Handled::Unanswered,
+        Reloading::Refused => Handled::Refused,
+        Reloading::Begins => Handled::Ending,
+    }
+}
+
 /// Does what a control line asks. `ControlAnswer::Done` is answered once its event is in the worker's inbox.
-pub fn take_line<R: Wait>(
+pub fn take_line<R: Wait + Clock>(
     rt: &R,
-    alloc: Global,
+    asking: Asking<'_>,
     port: &mut Port,
     told: &mut ToldCounts,
     octets: &[u8],
@@ -166,9 +193,10 @@ pub fn take_line<R: Wait>(
     ensures done { IsDone octets.now told.old told.new port.old port.new result }
     ensures seats { SameSeats port.old port.new }
 {
-    match hear_line(alloc, octets) {
+    match hear_line(asking.shared.alloc(), octets) {
         Asked::Change(change) => send_change(rt, port, told, change),
         Asked::Close => Handled::Closing,
+        Asked::Reload => reload(rt, asking),
         Asked::Question(question) => find(told, &question),
         Asked::Nothing => Handled::Unanswered,
         Asked::Bad => Handled::Answered(ControlAnswer::BadLine),
@@ -211,7 +239,9 @@ fn keep(kept: &mut KeptAnswers, token: Option<Token>, done: Handled) -> bool
         | Handled::Shown(_)
         | Handled::Dumped(_)
         | Handled::Watched(_, _)
+        | Handled::Refused
         | Handled::Closing
+        | Handled::Ending
         | Handled::Gone => false,
     }
 }
@@ -345,7 +375,8 @@ impl<W: Wire> ControlDesk<W> {
         }
     }
 
-    /// Answers what was done. At CLOSE the service closes first.
+    /// Answers what was done. At CLOSE the service closes first. A RELOAD with good files closes it too, and is answered by the next run: so
+    /// nothing that comes behind that answer is taken by this one.
     fn answer<R: Wait + Clock>(&mut self, rt: &R, shared: &Shared, to: Addr, done: Handled)
         ensures answered { IsAnswered (seen self.old) done to
             (W.taken self.old.going) (W.taken self.new.going)
@@ -384,10 +415,15 @@ impl<W: Wire> ControlDesk<W> {
                 );
                 self.say_text(rt, shared, to, text, ControlAnswer::Busy);
             }
+            Handled::Refused => {
+                let text = refusal(rt, self.alloc, shared);
+                self.say_text(rt, shared, to, text, ControlAnswer::NoMemory);
+            }
             Handled::Closing => {
                 shared.close();
                 self.say(rt, shared, to, ControlAnswer::Done);
             }
+            Handled::Ending => shared.close(),
             Handled::Gone => self.say(rt, shared, to, ControlAnswer::Closed),
         }
     }
@@ -407,6 +443,7 @@ impl<W: Wire> ControlDesk<W> {
             Asked::NoMemory => shared.lose_line(rt),
             Asked::Change(Change::Begin(_) | Change::Step(_) | Change::Forget(_))
             | Asked::Close
+            | Asked::Reload
             | Asked::Question(_)
             | Asked::Nothing
             | Asked::Bad => {}
@@ -414,7 +451,14 @@ impl<W: Wire> ControlDesk<W> {
     }
 
     /// Does what a control line asks, unless it came before with the same token, or its source isn't heard.
-    fn take<R: Wait>(&mut self, rt: &R, port: &mut Port, source: Addr, octets: &[u8]) -> Handled
+    fn take<R: Wait + Clock>(
+        &mut self,
+        rt: &R,
+        shared: &Shared,
+        port: &mut Port,
+        source: Addr,
+        octets: &[u8],
+    ) -> Handled
         requires still_open { port.old.is_open ≡ true }
         ensures done { IsTaken source octets.now (seen self.old) (seen self.new) port.old port.new result }
         ensures coming { self.new.coming ≡ self.old.coming }
@@ -428,15 +472,17 @@ impl<W: Wire> ControlDesk<W> {
         if let Some(answer) = self.kept.lines.answer_to(token) {
             return Handled::Repeated(answer);
         }
-        let done = take_line(rt, self.alloc, port, &mut self.told, line);
+        let caller = Caller { token, source };
+        let asking = Asking { shared, caller };
+        let done = take_line(rt, asking, port, &mut self.told, line);
         keep(&mut self.kept, token, done);
         done
     }
 }
 
 impl<W: Ear> ControlDesk<W> {
-    /// Takes control lines of those who are heard and answers each to its sender, until one is CLOSE, the service closes for another cause, the wire
-    /// is deaf or a worker is gone. The port isn't closed.
+    /// Takes control lines of those who are heard and answers each to its sender, until one is CLOSE, or a RELOAD with good files, the service
+    /// closes for another cause, the wire is deaf or a worker is gone. The port isn't closed.
     pub fn take_lines<R: Wait + Clock + Eprint>(
         &mut self,
         rt: &R,
@@ -466,7 +512,7 @@ impl<W: Ear> ControlDesk<W> {
                 Came::Nothing => continue,
                 Came::End(end) => return end,
             };
-            let done = self.take(rt, port, source, &octets[..length]);
+            let done = self.take(rt, shared, port, source, &octets[..length]);
             self.write_down(rt, shared, &octets[..length], done);
             self.answer(rt, shared, source, done);
             if let Some(end) = end_after(done) {

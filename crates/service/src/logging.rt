@@ -7,10 +7,6 @@ use log_lines::{Form, milliseconds};
 use std::rt::Clock;
 use std::sync::atomic::{AtomicBool, AtomicU64, Ordering};
 
-/// How many octets of a text that somebody else wrote stand in a line. A pipe with room takes 4,096 (PIPE_BUF), and several threads may
-/// have seen the same room: so all of their lines fit there.
-const LONGEST: usize = 512;
-
 /// How many milliseconds room is waited for before a service begins and behind its end.
 const PATIENCE: i32 = 1000;
 
@@ -78,9 +74,4 @@ pub(crate) fn has_room() -> bool {
 /// The same where no phone waits for this thread: before a service begins and behind its end. Waits for a second at most.
 pub fn has_room_soon() -> bool {
     room_comes(PATIENCE)
-}
-
-/// The beginning of a text that somebody else wrote, as far as a line has room for it: 512 octets at most, in whole characters.
-pub(crate) fn beginning(text: &str) -> &str {
-    &text[..text.floor_char_boundary(LONGEST)]
 }

@@ -1,10 +1,11 @@
 //! The requests for new subscriptions that were let through lately: one that comes again asks for none more. Its worker answers it as it
 //! did before (RFC 3261 section 17.2.2).
 
-use indexmap::IndexMap;
+use sha2::{Digest, Sha256};
 use sip_read::Request;
 use sip_text::{Addr, NoMemory};
 use std::alloc::Global;
+use std::collections::{BTreeMap, VecDeque};
 use watchers::source;
 
 /// For how many milliseconds a request may come again (timer J of RFC 3261 section 17.2.2).
@@ -16,6 +17,12 @@ const MOST: usize = 65_536;
 /// How many are looked at beside each that comes.
 const LOOKS: u32 = 2;
 
+/// How the branch of a request begins whose sender chose it unique (RFC 3261 section 8.1.1.7). By no other branch a request is known again.
+const COOKIE: &str = "z9hG4bK";
+
+/// What names a request: the SHA-256 of its text. So a long text takes no more memory than a short one.
+type Name = [u8; 32];
+
 /// A request that came from this address at this moment, in milliseconds.
 #[derive(Clone, Copy)]
 pub(crate) struct Newcomer<'a> {
@@ -25,25 +32,30 @@ pub(crate) struct Newcomer<'a> {
 }
 
 impl Newcomer<'_> {
-    /// What names it: whose it is, and its transaction (RFC 3261 section 17.2.3). None where it has no branch, or memory is wanting.
-    fn name(&self, alloc: Global) -> Option<String> {
+    /// What names it: whose it is, what it asks for, and its transaction (RFC 3261 section 17.2.3). None where its branch doesn't begin with
+    /// the cookie, or memory is wanting.
+    fn name(&self, alloc: Global) -> Option<Name> {
         let branch = self.request.head.top.branch.as_ref()?.as_str();
+        if !branch.starts_with(COOKIE) {
+            return None;
+        }
         let sender = self.request.head.top.sent_by.as_str();
         let method = self.request.method.as_str();
+        let uri = self.request.uri.as_str();
         let call = self.request.head.call_id.as_str();
         let source = source(self.source);
-        let name = format!(in alloc; "{source} {method} {sender} {branch} {call}");
-        name.ok()
+        let text = format!(in alloc; "{source} {method} {uri} {sender} {branch} {call}").ok()?;
+        Some(<Sha256 as Digest>::digest(text.as_bytes()))
     }
 }
 
-/// Those that were let through, and when that was.
+/// Those that were let through, and when that was. The map is ordered: a stranger chooses the texts, and no choice makes it slow.
 #[derive(Drop)]
 pub(crate) struct Newcomers {
     alloc: Global,
-    passed: IndexMap<String, u64>,
-    /// The place of the one that is looked at next.
-    place: usize,
+    passed: BTreeMap<Name, u64>,
+    /// Their names in the order in which they came.
+    order: VecDeque<Name>,
 }
 
 impl Newcomers {
@@ -51,30 +63,30 @@ impl Newcomers {
     pub(crate) fn new(alloc: Global) -> Newcomers {
         Newcomers {
             alloc,
-            passed: IndexMap::new(alloc),
-            place: 0,
+            passed: BTreeMap::new(alloc),
+            order: VecDeque::new(alloc),
         }
     }
 
-    /// Whether the one at this place comes no more.
-    fn is_over(&self, place: usize, moment: u64) -> bool {
-        match self.passed.get_index(place) {
-            Some((_, passed)) => moment.saturating_sub(*passed) >= LIFE,
+    /// Whether it was let through, so lately that it may come again.
+    fn is_known(&self, name: &Name, now: u64) -> bool {
+        match self.passed.get(name) {
+            Some(moment) => now.saturating_sub(*moment) < LIFE,
             None => false,
         }
     }
 
-    /// Looks at some, and drops those of them that come no more.
-    fn sweep(&mut self, moment: u64) {
+    /// Looks at the first ones, and drops those of them that come no more.
+    fn sweep(&mut self, now: u64) {
         for _ in 0..LOOKS {
-            if self.place >= self.passed.len() {
-                self.place = 0;
+            let Some(name) = self.order.front().copied() else {
+                return;
+            };
+            if self.is_known(&name, now) {
+                return;
             }
-            if self.is_over(self.place, moment) {
-                self.passed.swap_remove_index(self.place);
-            } else {
-                self.place = self.place.saturating_add(1);
-            }
+            self.passed.remove(&name);
+            self.order.pop_front();
         }
     }
 
@@ -84,8 +96,11 @@ impl Newcomers {
         let Some(name) = newcomer.name(self.alloc) else {
             return Ok(());
         };
-        if self.passed.len() >= MOST || self.passed.contains_key(name.as_str()) {
+        if self.order.len() >= MOST || self.passed.contains_key(&name) {
             return Ok(());
+        }
+        if self.order.push_back(name).is_err() {
+            return Err(NoMemory);
         }
         match self.passed.insert(name, newcomer.moment) {
             Ok(_) => Ok(()),
@@ -95,11 +110,8 @@ impl Newcomers {
 
     /// Whether it was let through before, and comes again.
     pub(crate) fn is_again(&self, newcomer: Newcomer<'_>) -> bool {
-        let Some(name) = newcomer.name(self.alloc) else {
-            return false;
-        };
-        match self.passed.get(name.as_str()) {
-            Some(passed) => newcomer.moment.saturating_sub(*passed) < LIFE,
+        match newcomer.name(self.alloc) {
+            Some(name) => self.is_known(&name, newcomer.moment),
             None => false,
         }
     }

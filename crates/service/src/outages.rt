@@ -11,13 +11,37 @@ use std::sync::{Mutex, Wait};
 /// How many milliseconds a second has.
 const SECOND: u64 = 1000;
 
+/// The service's address isn't this machine's any more (Linux's number, as the next ones are).
+const EADDRNOTAVAIL: u32 = 99;
+
+/// The link is down.
+const ENETDOWN: u32 = 100;
+
+/// No way leads to the network.
+const ENETUNREACH: u32 = 101;
+
+/// The link takes no more.
+const ENOBUFS: u32 = 105;
+
+/// No way leads to the host.
+const EHOSTUNREACH: u32 = 113;
+
+/// Whether a send that fails so speaks of this machine's link or its way out. Any other error speaks of one datagram alone, whose address
+/// a stranger may have chosen.
+fn is_of_link(number: u32) -> bool {
+    matches!(
+        number,
+        EADDRNOTAVAIL | ENETDOWN | ENETUNREACH | ENOBUFS | EHOSTUNREACH
+    )
+}
+
 /// The clock of a service, and what is known of its sends. Its times are milliseconds.
 #[derive(Drop)]
 pub(crate) struct Outages {
     /// How much of outages is not counted at most.
     limit: AtomicU64,
     clock: Mutex<Hands>,
-    /// Whether the last send failed.
+    /// Whether the last send failed, of those that tell of this machine.
     fails: AtomicBool,
     /// Whether the clock was told how far it may run.
     is_held: AtomicBool,
@@ -131,11 +155,20 @@ impl Outages {
         self.limit.store(limit, Ordering::SeqCst);
     }
 
-    /// A send succeeded, or failed.
-    pub(crate) fn note_send(&self, is_sent: bool) {
-        // Most often as the last one: a look costs less than to write it.
-        if self.fails.load(Ordering::SeqCst) == is_sent {
-            self.fails.store(!is_sent, Ordering::SeqCst);
+    /// A send succeeded.
+    pub(crate) fn note_sent(&self) {
+        // Most often the last one did too: a look costs less than to write it.
+        if self.fails.load(Ordering::SeqCst) {
+            self.fails.store(false, Ordering::SeqCst);
+        }
+    }
+
+    /// A send failed, at which the system told this number, if it told one. Where that speaks of one datagram, or where none is told, an
+    /// outage neither begins nor ends.
+    pub(crate) fn note_failed(&self, number: Option<u32>) {
+        match number {
+            Some(number) if is_of_link(number) => self.fails.store(true, Ordering::SeqCst),
+            Some(_) | None => {}
         }
     }
 

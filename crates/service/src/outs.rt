@@ -14,6 +14,7 @@ ghost use Rattle.service.specs.Sending.{Act, IsSentOut, fates, outflow, taking};
 ghost use Rattle.service.specs.Watched.{AreRowed};
 
 use crate::fates::Put;
+use crate::owners::concerns_dialogs;
 use crate::sending::{Waiting, Watch};
 use crate::shared::{Counter, Shared};
 use crew::Gate;
@@ -26,6 +27,7 @@ use std::collections::VecDeque;
 use std::fs::File;
 use std::io::Write;
 use std::rt::{Clock, Files};
+use std::sync::atomic::Ordering;
 use std::sync::{Arc, Wait};
 use std::time::Duration;
 use transport::{Sink, Wire};
@@ -84,9 +86,21 @@ impl Gate for Waker {
     fn pass(&self, _worker: u32, _index: u64) {}
 
     fn handled<R: Wait>(&self, rt: &R, worker: u32, event: &Event, outs: &[Out]) {
-        self.shared.follow_dialogs(rt, event, outs);
-        self.shared
-            .note_handled(rt, worker, event, !outs.is_empty());
+        if self.shared.has_owners.load(Ordering::SeqCst) && concerns_dialogs(event, outs) {
+            self.shared.owners.lock(rt).follow(event, outs);
+        }
+        if self.shared.logs_requests() {
+            self.shared.asked.lock(rt).note(event, outs);
+        }
+        // The planned stop is no part of a run that the next one goes on from.
+        if matches!(event, Event::Shut) && self.shared.is_reloading() {
+            return;
+        }
+        // Nothing of it is posted yet: so its record waits before an out of it can be sent.
+        if let Some(journal) = self.shared.journal.get() {
+            let lost = journal.handled(rt, worker, event, !outs.is_empty());
+            self.shared.count_unwritten(lost);
+        }
     }
 
     fn posted(&self, _worker: u32) {
@@ -94,7 +108,14 @@ impl Gate for Waker {
     }
 
     fn wants_book(&self, worker: u32) -> bool {
-        self.shared.wants_book(worker)
+        // A book behind the planned stop would tell of no subscription.
+        if self.shared.is_reloading() {
+            return false;
+        }
+        match self.shared.journal.get() {
+            Some(journal) => journal.wants_book(worker),
+            None => false,
+        }
     }
 
     fn book<R: Wait>(&self, rt: &R, worker: u32, written: Vec<u8>) {
@@ -102,7 +123,7 @@ impl Gate for Waker {
     }
 
     fn asked<R: Wait>(&self, rt: &R, worker: u32) -> Option<Vec<String>> {
-        self.shared.roll_asked(rt, worker)
+        self.shared.roll.get()?.asked(rt, worker)
     }
 
     fn gone<R: Wait>(&self, rt: &R, _worker: u32, tags: Vec<String>) {
@@ -136,8 +157,11 @@ pub(crate) struct Outgoing {
 }
 
 impl Outgoing {
-    /// How many milliseconds the thread may sleep at this moment.
+    /// How many milliseconds the thread may sleep at this moment. Outs that are still to be kept have no moment yet.
     fn nap(&self, now: u64) -> u64 {
+        if !self.waiting.burst.is_empty() {
+            return PACED_NAP;
+        }
         match self.waiting.transactions.next_moment() {
             Some(moment) => moment.saturating_sub(now).clamp(PACED_NAP, NAP),
             None if self.waiting.is_off() => NAP,
@@ -368,7 +392,7 @@ pub(crate) fn send_outs<R: Wait + Clock + Files<File = File> + Eprint, W: Wire, 
         (outflow W.taken W.failures F.contents exit.old exit.new) report
         × (spec.count spec.fails_to_start (fates acts) ≡ 0
         → (exit.new.sink ≡ exit.old.sink) ⊎ (exit.new.sink.is_flushed ≡ true))
-        × AreRowed outgoing.old.waiting.transactions acts outgoing.old.waiting.watchers.rows outgoing.new.waiting.watchers.rows }
+        × AreRowed acts outgoing.old.waiting.watchers.rows outgoing.new.waiting.watchers.rows }
     ensures given { Grows (W.given exit.old.wire) (W.given exit.new.wire) [] }
     ensures outbox { outgoing.new.taker.outbox ≡ outgoing.old.taker.outbox }
     ensures ended { AllEnded outgoing.old.taker.workers outgoing.new.taker.got }

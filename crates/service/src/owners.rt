@@ -12,7 +12,7 @@ use std::alloc::Global;
 use std::collections::VecDeque;
 
 /// The number of a dialog's first NOTIFY.
-const FIRST: u32 = 1;
+pub(crate) const FIRST: u32 = 1;
 
 /// How many dialogs are looked at behind each that begins.
 const LOOKS: u32 = 2;

@@ -2,7 +2,7 @@
 ghost use Rattle.std.specs.Prelude.{◌≡◌, ◌%◌, IfOk, IfSome, Some, string_bytes};
 ghost use Rattle.std.specs.Int.NonZero.{non_zero_u32_get};
 ghost use Rattle.service.specs.Told as spec;
-ghost use Rattle.service.specs.Told.{IsReport, IsShown, IsInquiry, IsWatched};
+ghost use Rattle.service.specs.Told.{IsRefusal, IsReport, IsShown, IsInquiry, IsWatched};
 
 use crate::shared::Shared;
 use control_lines::{ToldCounts, dump_page, show_page};
@@ -107,4 +107,21 @@ pub(crate) fn watched<R: Wait + Clock>(
     let inquiry = inquiry?;
     let page = shared.window.ask(rt, alloc, &inquiry)?;
     report(alloc, page.as_str()).ok()
+}
+
+/// This number and these words behind a `no`.
+fn refused(alloc: Global, why: &str) -> Result<String, NoMemory>
+    ensures { IfOk result (λ text. string_bytes text ≡ spec.refusal why.now) }
+{
+    let mut text = String::from_str(alloc, "no\n")?;
+    text.push_str(why)?;
+    Ok(text)
+}
+
+/// Why a RELOAD is refused, behind a `no`. None where there is no memory for it.
+pub(crate) fn refusal<R: Wait>(rt: &R, alloc: Global, shared: &Shared) -> Option<String>
+    ensures { IfSome result (λ text. IsRefusal (string_bytes text)) }
+{
+    let why = shared.reloads.why(rt, alloc)?;
+    refused(alloc, why.as_str()).ok()
 }

@@ -24,6 +24,7 @@ use crate::outs::{Exit, Outgoing, Waker, send_outs};
 use crate::roll::RollCall;
 use crate::sending::Waiting;
 use crate::shared::Shared;
+use admission::Admission;
 use crew::{Crew, Port, Report};
 use feeds::FeedEnd;
 use first_contact::Contacts;
@@ -38,7 +39,7 @@ use std::io::Write;
 use std::rt::{Clock, Files};
 use std::sync::{Arc, Wait};
 use std::thread::Threads;
-use transactions::Transactions;
+use transactions::{Allowance, Transactions};
 use transport::{UdpWire, Wire};
 use watchers::Watchers;
 
@@ -53,8 +54,9 @@ pub struct ServiceWork {
     pub shared: Arc<Shared, Global>,
     /// What it begins with beside its desks.
     pub begins: Begins,
-    /// How many NOTIFYs may wait for their answers at once, and are sent again until these come. 0: each is sent once.
-    pub repeats: u32,
+    /// How many NOTIFYs may wait for their answers at once, of all and of one subscription, and are sent again until these come. 0: each
+    /// is sent once.
+    pub repeats: Allowance,
     /// For how many seconds at most it waits, at its end, for the answers to the last NOTIFYs.
     pub linger: u32,
     /// How many seconds at most its clock leaves out in which each send fails. 0: none.
@@ -355,20 +357,20 @@ pub(crate) struct Ready {
     pub(crate) sending: Sending,
 }
 
-/// No NOTIFY waits, and so many may. So many rows may be. It is told how many each source has, where it may have so many only.
+/// No NOTIFY waits, and so many may. So many rows may be. It is told how many each source has, where this admission lets it have so many only.
 fn new_waiting(
     alloc: Global,
-    repeats: u32,
+    repeats: Allowance,
     rows: u32,
-    per_source: Option<u32>,
+    admission: &Admission,
 ) -> Result<Waiting, NoMemory>
     ensures none { IfOk result (λ w. w.transactions ≡ empty repeats) }
     ensures none_put { IfOk result (λ w. w.burst.items ≡ []) }
 {
     let transactions = Transactions::new(alloc, repeats)?;
-    let contacts = Contacts::new(alloc, rows.saturating_add(repeats), repeats);
+    let contacts = Contacts::new(alloc, rows.saturating_add(repeats.all), repeats.all);
     let rows = Watchers::new(alloc, rows);
-    Waiting::new(alloc, transactions, rows, contacts, per_source)
+    Waiting::new(alloc, transactions, rows, contacts, admission)
 }
 
 /// What the ports of a service with so many workers are fed from, which goes on from this second. It took no line yet, and hears none
@@ -411,8 +413,7 @@ fn make_ready<R: Wait>(
     ensures none_put { IfOk result (λ r. r.sending.waiting.burst.items ≡ []) }
 {
     let rows = work.setup.limits.table().saturating_mul(workers);
-    let per_source = work.sip.admission.per_source;
-    let mut waiting = new_waiting(alloc, work.repeats, rows, per_source)?;
+    let mut waiting = new_waiting(alloc, work.repeats, rows, &work.sip.admission)?;
     let ServiceWork {
         setup: _,
         sip,
@@ -424,6 +425,7 @@ fn make_ready<R: Wait>(
         outage,
     } = work;
     let sources = new_sources(alloc, workers, sip, desk, begins.tick)?;
+    shared.watch_control(sources.desk.coming.local())?;
     shared.set_workers(workers);
     shared.allow_outages(outage);
     shared.set_roll(RollCall::new(alloc, workers)?);

@@ -1,6 +1,6 @@
 //! The NOTIFYs that nobody has answered yet, sent again (RFC 3261 section 17.1.2).
 ghost use Rattle.std.specs.Prelude.{◌≡◌, ◌<◌, ◌^◌, ℕ, List, [], ◌∷◌, ◌++◌, map, true, is_some, IfOk, IfSome, IfNone, OnSome};
-ghost use Rattle.service.specs.Watched.{IsSeen, AreRowed, noted_rows};
+ghost use Rattle.service.specs.Watched.{IsRetargeted, IsSeen, AreRowed, noted_rows};
 ghost use Rattle.watchers.specs.Rows.{without};
 ghost use Rattle.transport.specs.Wires.{Grows};
 ghost use Rattle.transport.specs.Devices.{rises};
@@ -18,11 +18,14 @@ ghost use Rattle.service.specs.declared.post.Note.{Note};
 
 use crate::doubts::{Doubts, NEVER_SENT};
 use crate::fates::{Put, Timed, tell_fate};
-use crate::given_up::GivenUp;
+use crate::not_taken::Losses;
+use crate::owners::FIRST;
 use crate::post::Note;
-use crate::refusals::{Refusals, refused};
+use crate::refusals::refused;
 use crate::request_log::{Unanswered, log_unanswered};
 use crate::shared::{Counter, LAST_MOMENT, Shared};
+use crate::users::Users;
+use admission::Admission;
 use circular_buffer::HeapCircularBuffer;
 use feeds::{Fate, Idle};
 use first_contact::{Contacts, Notice, Offered};
@@ -59,6 +62,9 @@ const OUTS_A_LOOK: u32 = 16;
 /// How many outs that follow one another are sent between two looks at the notes and what is due. They are kept behind the last of them.
 const OUTS_AT_ONCE: u32 = 512;
 
+/// In how many turns between two looks at the notes and what is due nothing is posted at most, though outs come in between.
+const FEW_EMPTY: u32 = 8;
+
 /// How many outs are kept as soon as no further one is posted. Behind more the thread waits a little: the worker may not be through yet.
 const FEW: usize = 4;
 
@@ -78,8 +84,8 @@ pub(crate) struct Watch {
     repeats: u32,
     /// How many outs followed one another since the last look at the notes.
     outs: u32,
-    /// Whether nothing was posted in a turn since then.
-    saw_none: bool,
+    /// In how many turns nothing was posted since then, in a row or not.
+    empty: u32,
     /// The turns in a row in which nothing was done.
     idle: Idle,
     /// For how many milliseconds at most the answers to the last NOTIFYs are waited for, and until when.
@@ -96,7 +102,7 @@ impl Watch {
             stands: false,
             repeats: PACE,
             outs: 0,
-            saw_none: false,
+            empty: 0,
             idle: Idle::new(),
             linger,
             until: None,
@@ -118,7 +124,7 @@ impl Watch {
 
     /// Nothing was posted in this turn. Where more is to be done all the same, the next turn goes on with it.
     pub(crate) fn pause(&mut self, has_more: bool) {
-        self.saw_none = true;
+        self.empty = self.empty.saturating_add(1);
         if has_more {
             self.idle.end();
         } else {
@@ -132,23 +138,28 @@ impl Watch {
     }
 
     /// Whether only what is posted counts in this turn: outs follow one another, and not too many yet, or the next one may be posted soon.
-    /// So neither a change to many phones nor a short wait costs much.
+    /// So neither a change to many phones nor a short wait costs much. Where outs trickle and the processors are busy, each turn without one
+    /// may take long: so only a few of them are waited for.
     pub(crate) fn is_busy(&self) -> bool {
         let is_first = self.outs == 0 && self.idle.is_none();
-        !is_first && self.outs < OUTS_AT_ONCE && self.idle.is_short()
+        let is_brief = self.idle.is_short() && self.empty < FEW_EMPTY;
+        !is_first && self.outs < OUTS_AT_ONCE && is_brief
     }
 
     /// The notes and what is due are looked at in this turn. Whether nothing was posted in one since the last time.
     fn begin_look(&mut self) -> bool {
         self.outs = 0;
-        let was_empty = self.saw_none;
-        self.saw_none = false;
+        let was_empty = self.empty > 0;
+        self.empty = 0;
         was_empty
     }
 
     /// Looks at the clock, unless outs follow one another: an out that comes behind a wait is of a moment of its own. Where the clock
-    /// can't be read no answer is waited for.
+    /// can't be read no answer is waited for, nor where the next run waits for them.
     pub(crate) fn look<R: Wait + Clock + Files<File = File>>(&mut self, rt: &R, shared: &Shared) {
+        if shared.is_reloading() {
+            self.linger = 0;
+        }
         if self.idle.is_none() && self.outs % OUTS_A_LOOK != 0 {
             return;
         }
@@ -231,13 +242,13 @@ fn send_again<R: Wait, W: Wire>(rt: &R, wire: &mut W, due: &Open, shared: &Share
 /// Counts and tells a NOTIFY that is given up at this moment.
 fn count_given_up<R: Eprint>(
     rt: &R,
-    given_up: &mut GivenUp,
+    given_up: &mut Losses,
     now: u64,
     unanswered: Unanswered<'_>,
     shared: &Shared,
 ) {
     shared.count(Counter::GivenUp);
-    given_up.add(rt, shared, now, unanswered);
+    given_up.add(rt, shared, now, unanswered.loss());
     if shared.logs_requests() {
         log_unanswered(rt, shared, unanswered);
     }
@@ -281,6 +292,50 @@ fn resource<'a>(watchers: &'a Watchers, due: &Open) -> &'a str {
     }
 }
 
+/// The name of the user who made the dialog with this tag, where its row is still to begin and that is known: else empty.
+fn new_user<'a, R: Wait>(
+    rt: &R,
+    users: &'a Users,
+    watchers: &Watchers,
+    tag: &str,
+    shared: &Shared,
+) -> &'a str {
+    if users.is_empty() || watchers.find(tag).is_some() {
+        return "";
+    }
+    match shared.owner(rt, tag) {
+        Some(number) => users.name(number),
+        None => "",
+    }
+}
+
+/// The user with this name, if it isn't empty, for as long as the Contact beside it is known.
+fn named<'a>(name: &'a str, _contact: &'a str) -> Option<&'a str> {
+    if name.is_empty() { None } else { Some(name) }
+}
+
+/// Whether the row with this tag has this Contact.
+fn has_contact(watchers: &Watchers, tag: &str, contact: &str) -> bool {
+    match watchers.find(tag) {
+        Some(row) => row.contact.is(contact),
+        None => false,
+    }
+}
+
+/// The row with this tag has this Contact from now on. Without memory for it, it keeps the one that it had.
+fn retarget_row(watchers: &mut Watchers, tag: &str, contact: &str)
+    ensures { IsRetargeted tag.now contact.now watchers.old.rows watchers.new.rows }
+{
+    // Most often it has: so no memory is taken.
+    if has_contact(watchers, tag, contact) {
+        return;
+    }
+    match watchers.retarget(tag, contact) {
+        Ok(()) => {}
+        Err(_) => {}
+    }
+}
+
 /// The row with this tag goes. Whose it was, if it was there.
 fn end_row(watchers: &mut Watchers, tag: &str) -> Option<u32>
     ensures rows { watchers.new.rows ≡ without tag.now watchers.old.rows }
@@ -314,9 +369,9 @@ fn send_late<R: Wait, W: Wire>(rt: &R, wire: &mut W, out: &Out, shared: &Shared)
     }
 }
 
-/// What waited for the answer to a NOTIFY that is given up is dropped.
-fn drop_held(contacts: &mut Contacts, due: &Open, shared: &Shared) {
-    let lost = contacts.give_up(due.tag.as_str(), due.number);
+/// What waited for the answer to this NOTIFY, which nobody waits for any more, is dropped.
+fn drop_held(contacts: &mut Contacts, tag: &str, number: u32, shared: &Shared) {
+    let lost = contacts.give_up(tag, number);
     shared.count_held_dropped(lost);
 }
 
@@ -344,6 +399,8 @@ pub(crate) struct Waiting {
     /// Which addresses have answered, and the NOTIFYs that wait for that.
     pub(crate) contacts: Contacts,
     pub(crate) watchers: Watchers,
+    /// Who may have made their dialogs.
+    users: Users,
     /// The last outs, which are still to be kept.
     pub(crate) burst: HeapCircularBuffer<Put>,
     /// Whether each NOTIFY is sent once, by the operator's word.
@@ -352,19 +409,19 @@ pub(crate) struct Waiting {
     counts_sources: bool,
     /// The subscriptions that their workers may have ended untold.
     doubts: Doubts,
-    pub(crate) given_up: GivenUp,
-    pub(crate) refusals: Refusals,
+    pub(crate) given_up: Losses,
+    pub(crate) refusals: Losses,
 }
 
 impl Waiting {
-    /// None, with the room of the contacts. Where there is room for none each NOTIFY is sent once. Where each source may have so many
-    /// subscriptions only, it is told how many it has.
+    /// None, with the room of the contacts. Where there is room for none each NOTIFY is sent once. Where this admission lets each source
+    /// have so many subscriptions only, it is told how many it has.
     pub(crate) fn new(
         alloc: Global,
         transactions: Transactions,
         watchers: Watchers,
         contacts: Contacts,
-        per_source: Option<u32>,
+        admission: &Admission,
     ) -> Result<Waiting, NoMemory>
         ensures transactions { IfOk result (λ w. w.transactions ≡ transactions) }
         ensures none { IfOk result (λ w. w.burst.items ≡ []) }
@@ -374,13 +431,14 @@ impl Waiting {
             alloc,
             transactions,
             watchers,
+            users: Users::new(alloc, admission)?,
             burst,
             is_off: contacts.places() == 0,
             contacts,
-            counts_sources: per_source.is_some(),
+            counts_sources: admission.per_source.is_some(),
             doubts: Doubts::new(alloc),
-            given_up: GivenUp::new(),
-            refusals: Refusals::new(),
+            given_up: Losses::new(),
+            refusals: Losses::new(),
         })
     }
 
@@ -394,7 +452,8 @@ impl Waiting {
         self.sent().saturating_add(self.contacts.waiting())
     }
 
-    /// Whether a NOTIFY that is sent now is kept, so that its answer is told, or its giving up.
+    /// Whether a NOTIFY that is sent now is kept, so that its answer is told, or its giving up. Where too many of its dialog are open alone
+    /// it isn't, but what waits behind it ends with its subscription: so a stranger who has so many open draws no more by it.
     fn has_room<R: Wait + Eprint>(&mut self, rt: &R, shared: &Shared) -> bool
         ensures kept { (s : State) (rows : List Row) (acts : List Act) → AreKept s rows acts self.old → AreKept s rows acts self.new }
     {
@@ -406,8 +465,27 @@ impl Waiting {
         self.sent() < room
     }
 
+    /// The out, unless it is a NOTIFY: that is left to the next run, which makes it anew of its event in the journal.
+    fn leave_notify<R: Wait + Eprint>(&mut self, rt: &R, out: Out, shared: &Shared) -> Option<Out>
+        ensures itself { IfSome result (λ o. o ≡ out) }
+        ensures notify { IfNone result (is_some (notice_of out) ≡ true) }
+        ensures through { OnSome result ((s : State) (rows : List Row) (acts : List Act)
+            → AreKept s rows acts self.old → AreKept s rows acts self.new) }
+        ensures held { IfNone result ((s : State) (rows : List Row) (acts : List Act) (now : ℕ)
+            → AreKept s rows acts self.old → AreKept s rows (acts ++ Held now out ∷ []) self.new) }
+    {
+        match Notice::new(out) {
+            Ok(notice) => {
+                drop(notice);
+                self.settle(rt, shared);
+                None
+            }
+            Err(out) => Some(out),
+        }
+    }
+
     /// The out, where it goes out now. A NOTIFY to an address that has not answered one of its dialog waits behind the first one, and is
-    /// dropped where there is no room for it, or no memory.
+    /// dropped where there is no room for it, or no memory. Where the next run is to begin each NOTIFY is left to that.
     pub(crate) fn let_through<R: Wait + Eprint>(
         &mut self,
         rt: &R,
@@ -421,6 +499,9 @@ impl Waiting {
         ensures held { IfNone result ((s : State) (rows : List Row) (acts : List Act) (now : ℕ)
             → AreKept s rows acts self.old → AreKept s rows (acts ++ Held now out ∷ []) self.new) }
     {
+        if shared.is_reloading() {
+            return self.leave_notify(rt, out, shared);
+        }
         if self.is_off {
             return Some(out);
         }
@@ -478,8 +559,8 @@ impl Waiting {
     }
 
     /// Notes in its row what an out tells of its subscription.
-    #[tactic(auto, using(crate::proofs::Rowing::seen_last, crate::proofs::Rowing::seen_renewed, crate::proofs::Rowing::seen_refused))]
-    fn watch(&mut self, now: u64, out: &Out)
+    #[tactic(auto, using(crate::proofs::Rowing::seen_last, crate::proofs::Rowing::seen_retargeted, crate::proofs::Rowing::seen_renewed, crate::proofs::Rowing::seen_refused))]
+    fn watch<R: Wait>(&mut self, rt: &R, now: u64, out: &Out, shared: &Shared)
         requires in_range { now < 2 ^ 63 }
         ensures seen { IsSeen now out.now self.old.watchers.rows self.new.watchers.rows }
         ensures transactions { self.new.transactions ≡ self.old.transactions }
@@ -500,16 +581,26 @@ impl Waiting {
             self.watchers.end(tag.as_str());
             return;
         }
+        let tag = tag.as_str();
+        let contact = note.target.as_str();
+        let name = new_user(rt, &self.users, &self.watchers, tag, shared);
+        let user = named(name, contact);
         let known = Known {
             watcher: note.watcher.as_str(),
+            contact,
+            user,
             resource: note.resource.as_str(),
             seconds: note.left.unwrap_or(0),
         };
-        match self.watchers.renew(now, tag.as_str(), *number, *to, known) {
-            Ok(()) => {}
+        let Ok(()) = self.watchers.renew(now, tag, *number, *to, known) else {
             // It stays without a row.
-            Err(_) => {}
+            return;
+        };
+        if *number == FIRST {
+            // The row that begins with it has its Contact.
+            return;
         }
+        retarget_row(&mut self.watchers, tag, contact);
     }
 
     /// Notes what an out tells of its subscription. A NOTIFY is kept from this moment on, any other out is dropped.
@@ -519,8 +610,15 @@ impl Waiting {
         ensures seen { IsSeen now out self.old.watchers.rows self.new.watchers.rows }
         ensures burst { self.new.burst ≡ self.old.burst }
     {
+        let is_last = matches!(
+            out,
+            Out::Notify {
+                terminated: true,
+                ..
+            }
+        );
         let before = self.told_source(&out);
-        self.watch(now, &out);
+        self.watch(rt, now, &out, shared);
         let after = self.told_source(&out);
         // A row begins, or goes.
         if before != after {
@@ -538,9 +636,12 @@ impl Waiting {
         else {
             return;
         };
-        if self.transactions.len() >= self.contacts.places() as usize {
+        if !self.transactions.has_room(tag.as_str()) {
             // It isn't sent again, so nobody is told that it stays unanswered.
             self.doubts.add(tag.as_str(), number, now);
+            if is_last {
+                drop_held(&mut self.contacts, tag.as_str(), number, shared);
+            }
         }
         let kept = self.transactions.keep(now, tag, number, to, bytes);
         if kept.is_err() && !self.is_off {
@@ -606,7 +707,7 @@ impl Waiting {
         }
         if let Some(refusal) = refused(&self.watchers, note) {
             shared.count_refusal(refusal.code);
-            self.refusals.add(rt, shared, now, refusal);
+            self.refusals.add(rt, shared, now, refusal.loss());
         }
         let gone = self.gone_source(note);
         if note.status >= FINAL {
@@ -683,7 +784,7 @@ impl Waiting {
         ensures does { (acts : List Act) × (fates acts ≡ [])
             × Does acts self.old.transactions self.new.transactions
             (wire_seen W.taken W.failures wire.old) (wire_seen W.taken W.failures wire.new)
-            × AreRowed self.old.transactions acts self.old.watchers.rows self.new.watchers.rows }
+            × AreRowed acts self.old.watchers.rows self.new.watchers.rows }
         ensures given { Grows (W.given wire.old) (W.given wire.new) [] }
         ensures burst { self.new.burst ≡ self.old.burst }
     {
@@ -712,7 +813,7 @@ impl Waiting {
     fn end_all<R: Wait>(&mut self, rt: &R, tags: Vec<String>, shared: &Shared)
         ensures ended { (acts : List Act) × (fates acts ≡ [])
             × ((wire : WireSeen) → Does acts self.old.transactions self.new.transactions wire wire)
-            × AreRowed self.old.transactions acts self.old.watchers.rows self.new.watchers.rows }
+            × AreRowed acts self.old.watchers.rows self.new.watchers.rows }
         ensures burst { self.new.burst ≡ self.old.burst }
     {
         for tag in tags {
@@ -732,7 +833,7 @@ impl Waiting {
         ensures does { (acts : List Act) × (fates acts ≡ [])
             × Does acts self.old.transactions self.new.transactions
             (wire_seen W.taken W.failures wire.old) (wire_seen W.taken W.failures wire.new)
-            × AreRowed self.old.transactions acts self.old.watchers.rows self.new.watchers.rows }
+            × AreRowed acts self.old.watchers.rows self.new.watchers.rows }
         ensures given { Grows (W.given wire.old) (W.given wire.new) [] }
         ensures burst { self.new.burst ≡ self.old.burst }
     {
@@ -754,7 +855,7 @@ impl Waiting {
         ensures does { (acts : List Act) × (fates acts ≡ [])
             × Does acts self.old.transactions self.new.transactions
             (wire_seen W.taken W.failures wire.old) (wire_seen W.taken W.failures wire.new)
-            × AreRowed self.old.transactions acts self.old.watchers.rows self.new.watchers.rows }
+            × AreRowed acts self.old.watchers.rows self.new.watchers.rows }
         ensures given { Grows (W.given wire.old) (W.given wire.new) [] }
         ensures burst { self.new.burst ≡ self.old.burst }
     {
@@ -765,7 +866,7 @@ impl Waiting {
             let resource = resource(&self.watchers, due);
             let unanswered = Unanswered { due, resource };
             count_given_up(rt, &mut self.given_up, now, unanswered, shared);
-            drop_held(&mut self.contacts, due, shared);
+            drop_held(&mut self.contacts, due.tag.as_str(), due.number, shared);
             self.doubts.add(due.tag.as_str(), due.number, due.first);
             self.transactions.turn(now);
             return true;
@@ -789,7 +890,7 @@ impl Waiting {
         ensures does { (acts : List Act) × (fates acts ≡ [])
             × Does acts self.old.transactions self.new.transactions
             (wire_seen W.taken W.failures wire.old) (wire_seen W.taken W.failures wire.new)
-            × AreRowed self.old.transactions acts self.old.watchers.rows self.new.watchers.rows }
+            × AreRowed acts self.old.watchers.rows self.new.watchers.rows }
         ensures given { Grows (W.given wire.old) (W.given wire.new) [] }
         ensures burst { self.new.burst ≡ self.old.burst }
     {
@@ -815,7 +916,7 @@ impl Waiting {
         ensures does { (acts : List Act) × (fates acts ≡ [])
             × Does acts self.old.transactions self.new.transactions
             (wire_seen W.taken W.failures wire.old) (wire_seen W.taken W.failures wire.new)
-            × AreRowed self.old.transactions acts self.old.watchers.rows self.new.watchers.rows }
+            × AreRowed acts self.old.watchers.rows self.new.watchers.rows }
         ensures given { Grows (W.given wire.old) (W.given wire.new) [] }
         ensures burst { self.new.burst ≡ self.old.burst }
     {

@@ -1,23 +1,23 @@
 //! What the threads of a service share: how far it is, what they counted, and the notes of answers to NOTIFYs.
 ghost use Rattle.std.specs.Prelude.{◌<◌, ◌^◌, IfSome};
 
+use crate::asked::Asked;
 use crate::barred::Barred;
 use crate::changes::ChangeCounts;
 use crate::complaints::Complaints;
-use crate::drops::kernel_drops;
+use crate::drops::{Drops, look_at_drops};
 use crate::journaling::Journal;
 use crate::logging::Log;
 use crate::newcomers::{Newcomer, Newcomers};
 use crate::outages::Outages;
-use crate::owners::{Owners, concerns_dialogs};
+use crate::owners::Owners;
 use crate::post::{LostStarts, Notes};
-use crate::refusals::RefusalCounts;
+use crate::reload::{Caller, Reloading, Reloads};
 use crate::roll::RollCall;
-use crate::statuses::Statuses;
+use crate::tallies::{HeardCounts, NO_ERROR, SentCounts};
 use crate::window::Window;
-use control_lines::ControlAnswer;
+use control_lines::{ControlAnswer, Token};
 use log_lines::{Record, tell};
-use notifier_model::{Event, Out};
 use outage_clock::Look;
 use package::MailChange;
 use sip_read::{ReadError, Request};
@@ -33,11 +33,15 @@ use watchers::Counts;
 /// The last moment, in milliseconds: no service is up for so long.
 pub(crate) const LAST_MOMENT: u64 = (1 << 63) - 1;
 
-/// No count is so high.
-const UNKNOWN: u64 = u64::MAX;
+/// At which sockets drops are counted.
+const SOCKETS: usize = 3;
 
-/// No error of the system has this number.
-const NO_ERROR: u32 = 0;
+/// The places of these: where SIP datagrams, control lines and NOTIFYs of voicemail systems come in.
+const SIP: usize = 0;
+
+const CONTROL: usize = 1;
+
+const FEED: usize = 2;
 
 /// No worker has this number.
 const NOBODY: u32 = u32::MAX;
@@ -47,13 +51,16 @@ const NOBODY: u32 = u32::MAX;
 pub struct Shared {
     began: Instant,
     alloc: Global,
-    /// Where SIP datagrams come in.
-    place: Addr,
-    /// What the system dropped there, or UNKNOWN.
-    kernel_drops: AtomicU64,
+    /// What the system dropped, by the socket.
+    drops: [Drops; SOCKETS],
     pub(crate) is_closing: AtomicBool,
     pub(crate) is_finished: AtomicBool,
+    /// Whether the run ends since the next one is to begin.
+    is_reloading: AtomicBool,
+    pub(crate) reloads: Reloads,
     logs_requests: AtomicBool,
+    /// The answers that weren't sent yet, where requests are logged.
+    pub(crate) asked: Mutex<Asked>,
     log: Log,
     pub(crate) notes: Notes,
     pub(crate) lost_starts: LostStarts,
@@ -61,61 +68,28 @@ pub struct Shared {
     /// The clock by which NOTIFYs are sent again and given up, and subscriptions end.
     pub(crate) outages: Outages,
     /// What workers are asked, once there are some.
-    roll: OnceLock<RollCall>,
+    pub(crate) roll: OnceLock<RollCall>,
     /// What is written of the workers, where that is kept.
-    journal: OnceLock<Journal>,
+    pub(crate) journal: OnceLock<Journal>,
     /// How many live subscriptions each source has, as the thread that sends told it last.
     sources: Mutex<Counts>,
     /// The requests for new ones that were let through lately, where each source may have so many only.
     newcomers: Mutex<Newcomers>,
     /// Who made which dialog, where users show passwords.
-    owners: Mutex<Owners>,
+    pub(crate) owners: Mutex<Owners>,
     /// Whether any user did.
-    has_owners: AtomicBool,
+    pub(crate) has_owners: AtomicBool,
     complaints: Mutex<Complaints>,
     barred_lately: Mutex<Barred>,
     live: AtomicU64,
-    datagrams: AtomicU64,
-    unread: [AtomicU64; 7],
-    events: AtomicU64,
-    answers: AtomicU64,
-    statuses: Statuses,
-    notifies: AtomicU64,
-    starts: AtomicU64,
-    failed: AtomicU64,
-    begun: AtomicU64,
-    over: AtomicU64,
-    repeats: AtomicU64,
-    given_up: AtomicU64,
-    once: AtomicU64,
-    held: AtomicU64,
-    held_dropped: AtomicU64,
-    lost: AtomicU64,
-    gone_by_481: AtomicU64,
-    refusals: RefusalCounts,
-    failed_receives: AtomicU64,
-    too_long: AtomicU64,
-    foreign: AtomicU64,
-    limited: AtomicU64,
-    challenged: AtomicU64,
-    wrong: AtomicU64,
-    stale: AtomicU64,
-    forbidden: AtomicU64,
-    barred: AtomicU64,
-    large: AtomicU64,
-    control_lines: AtomicU64,
+    heard: HeardCounts,
+    pub(crate) sent: SentCounts,
     changes: ChangeCounts,
     workers: AtomicU64,
     workers_ended: AtomicU64,
     // the number of the first worker that ran out of memory, or NOBODY
     spent_worker: AtomicU32,
-    control_foreign: AtomicU64,
-    bad_summaries: AtomicU64,
-    starts_dropped: AtomicU64,
-    per_source: AtomicU64,
     journal_lost: AtomicU64,
-    // the number of the system's error at the last send that failed, or NO_ERROR
-    send_error: AtomicU32,
 }
 
 /// The causes for which a datagram couldn't be read, by the number of the error, from 1.
@@ -192,19 +166,6 @@ pub enum Counter {
     Crowded,
 }
 
-/// No datagram that couldn't be read, of any cause.
-fn no_causes() -> [AtomicU64; 7] {
-    [
-        AtomicU64::new(0),
-        AtomicU64::new(0),
-        AtomicU64::new(0),
-        AtomicU64::new(0),
-        AtomicU64::new(0),
-        AtomicU64::new(0),
-        AtomicU64::new(0),
-    ]
-}
-
 /// Appends what was counted by this name, on a line of its own.
 fn add_line(
     alloc: Global,
@@ -232,19 +193,22 @@ impl Shared {
         let notes = Notes::new(alloc)?;
         let lost_starts = LostStarts::new(alloc)?;
         let window = Window::new(alloc)?;
-        let sources = Mutex::new(Counts::new(alloc));
-        let newcomers = Mutex::new(Newcomers::new(alloc));
-        let owners = Mutex::new(Owners::new(alloc));
-        let complaints = Mutex::new(Complaints::new());
-        let barred_lately = Mutex::new(Barred::new());
+        let drops = [
+            Drops::new("kernel_drops"),
+            Drops::new("control_drops"),
+            Drops::new("feed_drops"),
+        ];
+        drops[SIP].watch(alloc, place)?;
         Ok(Shared {
             began,
             alloc,
-            place,
-            kernel_drops: AtomicU64::new(UNKNOWN),
+            drops,
             is_closing: AtomicBool::new(false),
             is_finished: AtomicBool::new(false),
+            is_reloading: AtomicBool::new(false),
+            reloads: Reloads::new(),
             logs_requests: AtomicBool::new(false),
+            asked: Mutex::new(Asked::new(alloc)),
             log: Log::new(),
             notes,
             lost_starts,
@@ -252,52 +216,20 @@ impl Shared {
             outages: Outages::new(),
             roll: OnceLock::new(),
             journal: OnceLock::new(),
-            sources,
-            newcomers,
-            owners,
+            sources: Mutex::new(Counts::new(alloc)),
+            newcomers: Mutex::new(Newcomers::new(alloc)),
+            owners: Mutex::new(Owners::new(alloc)),
             has_owners: AtomicBool::new(false),
-            complaints,
-            barred_lately,
+            complaints: Mutex::new(Complaints::new()),
+            barred_lately: Mutex::new(Barred::new()),
             live: AtomicU64::new(0),
-            datagrams: AtomicU64::new(0),
-            unread: no_causes(),
-            events: AtomicU64::new(0),
-            answers: AtomicU64::new(0),
-            statuses: Statuses::new(),
-            notifies: AtomicU64::new(0),
-            starts: AtomicU64::new(0),
-            failed: AtomicU64::new(0),
-            begun: AtomicU64::new(0),
-            over: AtomicU64::new(0),
-            repeats: AtomicU64::new(0),
-            given_up: AtomicU64::new(0),
-            once: AtomicU64::new(0),
-            held: AtomicU64::new(0),
-            held_dropped: AtomicU64::new(0),
-            lost: AtomicU64::new(0),
-            gone_by_481: AtomicU64::new(0),
-            refusals: RefusalCounts::new(),
-            failed_receives: AtomicU64::new(0),
-            too_long: AtomicU64::new(0),
-            foreign: AtomicU64::new(0),
-            limited: AtomicU64::new(0),
-            challenged: AtomicU64::new(0),
-            wrong: AtomicU64::new(0),
-            stale: AtomicU64::new(0),
-            forbidden: AtomicU64::new(0),
-            barred: AtomicU64::new(0),
-            large: AtomicU64::new(0),
-            control_lines: AtomicU64::new(0),
+            heard: HeardCounts::new(),
+            sent: SentCounts::new(),
             changes: ChangeCounts::new(),
             workers: AtomicU64::new(0),
             workers_ended: AtomicU64::new(0),
             spent_worker: AtomicU32::new(NOBODY),
-            control_foreign: AtomicU64::new(0),
-            bad_summaries: AtomicU64::new(0),
-            starts_dropped: AtomicU64::new(0),
-            per_source: AtomicU64::new(0),
             journal_lost: AtomicU64::new(0),
-            send_error: AtomicU32::new(NO_ERROR),
         })
     }
 
@@ -383,6 +315,51 @@ impl Shared {
         self.is_finished.store(true, Ordering::SeqCst);
     }
 
+    /// Whether the run ends as by a kill that loses nothing, since the next one is to begin with files that were read again. Nobody is told
+    /// of an end then, and no more NOTIFYs are sent: their events are in the journal, so the next run sends them.
+    pub fn is_reloading(&self) -> bool {
+        self.is_reloading.load(Ordering::SeqCst)
+    }
+
+    /// Who asked for the RELOAD by which the next run begins. That run answers it.
+    pub fn reload_caller<R: Wait>(&self, rt: &R) -> Option<Caller> {
+        self.reloads.caller(rt)
+    }
+
+    /// This run began by the RELOAD with this token: where that comes again it is answered again, and not done again.
+    pub fn begin_behind<R: Wait>(&self, rt: &R, token: Option<Token>) {
+        self.reloads.begin_behind(rt, token);
+    }
+
+    /// The run has ended: who reads files reads no more.
+    pub fn finish_reading(&self) {
+        self.finish();
+        self.reloads.wake();
+    }
+
+    /// Why no next run could go on from the journal, behind the exit status that a start without it would have.
+    fn lack<R: Wait>(&self, rt: &R) -> Option<&'static str> {
+        match self.journal.get() {
+            Some(journal) if journal.is_whole(rt) => None,
+            Some(_) => Some("3 the journal misses records"),
+            None => Some("1 no journal: RELOAD needs --journal <folder>"),
+        }
+    }
+
+    /// Has the files read again for a RELOAD, and waits a while for it. Where they are good the run is to end.
+    pub(crate) fn reload<R: Wait + Clock>(&self, rt: &R, caller: Caller) -> Reloading {
+        if let Some(why) = self.lack(rt) {
+            let why = String::from_str(self.alloc, why).ok();
+            self.reloads.refuse(rt, caller, why);
+            return Reloading::Refused;
+        }
+        let came = self.reloads.ask(rt, caller);
+        if came == Reloading::Begins {
+            self.is_reloading.store(true, Ordering::SeqCst);
+        }
+        came
+    }
+
     /// From now on each request that is answered is told on standard error.
     pub fn log_requests(&self) {
         self.logs_requests.store(true, Ordering::SeqCst);
@@ -412,33 +389,33 @@ impl Shared {
     /// Counts one.
     pub fn count(&self, counter: Counter) {
         let counted = match counter {
-            Counter::Datagram => &self.datagrams,
-            Counter::Event => &self.events,
-            Counter::Answer => &self.answers,
-            Counter::Notify => &self.notifies,
-            Counter::Start => &self.starts,
-            Counter::Failed => &self.failed,
-            Counter::Repeat => &self.repeats,
-            Counter::GivenUp => &self.given_up,
-            Counter::Once => &self.once,
-            Counter::Held => &self.held,
-            Counter::Gone => &self.gone_by_481,
-            Counter::FailedReceive => &self.failed_receives,
-            Counter::TooLong => &self.too_long,
-            Counter::Foreign => &self.foreign,
-            Counter::Limited => &self.limited,
-            Counter::Challenged => &self.challenged,
-            Counter::Wrong => &self.wrong,
-            Counter::Stale => &self.stale,
-            Counter::Forbidden => &self.forbidden,
-            Counter::Barred => &self.barred,
-            Counter::Large => &self.large,
-            Counter::ControlLine => &self.control_lines,
+            Counter::Datagram => &self.heard.datagrams,
+            Counter::Event => &self.heard.events,
+            Counter::Answer => &self.sent.answers,
+            Counter::Notify => &self.sent.notifies,
+            Counter::Start => &self.sent.starts,
+            Counter::Failed => &self.sent.failed,
+            Counter::Repeat => &self.sent.repeats,
+            Counter::GivenUp => &self.sent.given_up,
+            Counter::Once => &self.sent.once,
+            Counter::Held => &self.sent.held,
+            Counter::Gone => &self.sent.gone_by_481,
+            Counter::FailedReceive => &self.heard.failed_receives,
+            Counter::TooLong => &self.heard.too_long,
+            Counter::Foreign => &self.heard.foreign,
+            Counter::Limited => &self.heard.limited,
+            Counter::Challenged => &self.heard.challenged,
+            Counter::Wrong => &self.heard.wrong,
+            Counter::Stale => &self.heard.stale,
+            Counter::Forbidden => &self.heard.forbidden,
+            Counter::Barred => &self.heard.barred,
+            Counter::Large => &self.heard.large,
+            Counter::ControlLine => &self.heard.control_lines,
             Counter::WorkerEnded => &self.workers_ended,
-            Counter::ForeignLine => &self.control_foreign,
-            Counter::BadSummary => &self.bad_summaries,
-            Counter::StartDropped => &self.starts_dropped,
-            Counter::Crowded => &self.per_source,
+            Counter::ForeignLine => &self.heard.control_foreign,
+            Counter::BadSummary => &self.heard.bad_summaries,
+            Counter::StartDropped => &self.sent.starts_dropped,
+            Counter::Crowded => &self.heard.per_source,
         };
         counted.fetch_add(1, Ordering::SeqCst);
     }
@@ -472,13 +449,6 @@ impl Shared {
         self.journal.get()?.error()
     }
 
-    /// A worker handled an event, and posts outs of it next, or has none: its record waits to be written, where a journal is kept.
-    pub(crate) fn note_handled<R: Wait>(&self, rt: &R, worker: u32, event: &Event, has_outs: bool) {
-        if let Some(journal) = self.journal.get() {
-            self.count_unwritten(journal.handled(rt, worker, event, has_outs));
-        }
-    }
-
     /// Writes the records that wait, where a journal is kept and one of them is of an event with outs. What was taken of the outbox before may
     /// be sent behind that: its events were noted before it was posted.
     pub(crate) fn write_journal<R: Wait>(&self, rt: &R) {
@@ -508,14 +478,6 @@ impl Shared {
         }
     }
 
-    /// Whether the journal wants the book of this worker.
-    pub(crate) fn wants_book(&self, worker: u32) -> bool {
-        match self.journal.get() {
-            Some(journal) => journal.wants_book(worker),
-            None => false,
-        }
-    }
-
     /// The book of this worker after all that it handled, for the journal.
     pub(crate) fn write_book<R: Wait>(&self, rt: &R, worker: u32, written: &[u8]) {
         if let Some(journal) = self.journal.get() {
@@ -542,14 +504,14 @@ impl Shared {
 
     /// A send succeeded.
     pub(crate) fn note_sent(&self) {
-        self.outages.note_send(true);
+        self.outages.note_sent();
     }
 
     /// A send failed, at which the system told this number, if it told one.
     pub(crate) fn note_send_error(&self, number: Option<u32>) {
-        self.outages.note_send(false);
+        self.outages.note_failed(number);
         if let Some(number) = number {
-            self.send_error.store(number, Ordering::SeqCst);
+            self.sent.send_error.store(number, Ordering::SeqCst);
         }
     }
 
@@ -561,12 +523,12 @@ impl Shared {
 
     /// How much was not sent or written.
     pub(crate) fn unsent(&self) -> u64 {
-        self.failed.load(Ordering::SeqCst)
+        self.sent.failed.load(Ordering::SeqCst)
     }
 
     /// The number of the system's error at the last send that failed. None where it told none yet.
     pub(crate) fn send_error(&self) -> Option<u32> {
-        match self.send_error.load(Ordering::SeqCst) {
+        match self.sent.send_error.load(Ordering::SeqCst) {
             NO_ERROR => None,
             number => Some(number),
         }
@@ -575,11 +537,6 @@ impl Shared {
     /// Counts a control line that was done and answered so.
     pub(crate) fn count_change<R: Clock>(&self, rt: &R, answer: ControlAnswer) {
         self.changes.count(answer, self.seconds(rt));
-    }
-
-    /// Counts an answer to a request by its status code.
-    pub(crate) fn count_status(&self, answer: &[u8]) {
-        self.statuses.count(answer);
     }
 
     /// The service has so many workers.
@@ -599,11 +556,6 @@ impl Shared {
         if let Some(roll) = self.roll.get() {
             roll.ask(rt, self.alloc, tags);
         }
-    }
-
-    /// For which subscriptions this worker is asked, if for any.
-    pub(crate) fn roll_asked<R: Wait>(&self, rt: &R, worker: u32) -> Option<Vec<String>> {
-        self.roll.get()?.asked(rt, worker)
     }
 
     /// A worker has these no more.
@@ -658,17 +610,10 @@ impl Shared {
         self.owners.lock(rt).pass(request, user);
     }
 
-    /// A worker handled this event, which made these outs. Nobody is told of them yet.
-    pub(crate) fn follow_dialogs<R: Wait>(&self, rt: &R, event: &Event, outs: &[Out]) {
-        if self.has_owners.load(Ordering::SeqCst) && concerns_dialogs(event, outs) {
-            self.owners.lock(rt).follow(event, outs);
-        }
-    }
-
     /// Counts a datagram that couldn't be read for this reason.
     pub fn count_unread(&self, error: &ReadError) {
         let place = (error.number() as usize).saturating_sub(1);
-        if let Some(counted) = self.unread.get(place) {
+        if let Some(counted) = self.heard.unread.get(place) {
             counted.fetch_add(1, Ordering::SeqCst);
         }
     }
@@ -676,10 +621,10 @@ impl Shared {
     /// Counts the subscriptions that began, and those whose last NOTIFY was made, by the NOTIFY with this number.
     pub fn count_notice(&self, number: u32, is_terminated: bool) {
         if number == 1 && !is_terminated {
-            self.begun.fetch_add(1, Ordering::SeqCst);
+            self.sent.begun.fetch_add(1, Ordering::SeqCst);
         }
         if number > 1 && is_terminated {
-            self.over.fetch_add(1, Ordering::SeqCst);
+            self.sent.over.fetch_add(1, Ordering::SeqCst);
         }
     }
 
@@ -687,47 +632,47 @@ impl Shared {
     /// sent is told apart.
     pub(crate) fn complaints(&self) -> [(&'static str, &'static str, u64); COMPLAINTS] {
         let told = |counted: &AtomicU64| counted.load(Ordering::SeqCst);
-        let challenged = told(&self.challenged).saturating_add(told(&self.stale));
-        let forbidden = told(&self.forbidden).saturating_add(self.statuses.sent("403"));
-        let sent = |code: &str| self.statuses.sent(code);
+        let challenged = told(&self.heard.challenged).saturating_add(told(&self.heard.stale));
+        let forbidden = told(&self.heard.forbidden).saturating_add(self.sent.statuses.sent("403"));
+        let sent = |code: &str| self.sent.statuses.sent(code);
         [
             ("unread", "datagrams were no SIP messages", self.unread()),
             (
                 "foreign",
                 "datagrams came from none of the networks of --allow",
-                told(&self.foreign),
+                told(&self.heard.foreign),
             ),
             (
                 "limited",
                 "datagrams were more than --rate",
-                told(&self.limited),
+                told(&self.heard.limited),
             ),
             (
                 "too_long",
                 "datagrams were longer than --max-datagram",
-                told(&self.too_long),
+                told(&self.heard.too_long),
             ),
             ("challenged", "requests were answered 401", challenged),
             ("forbidden", "requests were answered 403", forbidden),
             (
                 "barred",
                 "passwords were more than --guesses",
-                told(&self.barred),
+                told(&self.heard.barred),
             ),
             (
                 "large",
                 "requests were more than --max-texts",
-                told(&self.large),
+                told(&self.heard.large),
             ),
             (
                 "per_source",
                 "requests were more than --per-source",
-                told(&self.per_source),
+                told(&self.heard.per_source),
             ),
             (
                 "bad_summaries",
                 "datagrams at --feed-listen told nothing",
-                told(&self.bad_summaries),
+                told(&self.heard.bad_summaries),
             ),
             ("answers_400", "requests were answered 400", sent("400")),
             ("answers_404", "requests were answered 404", sent("404")),
@@ -760,28 +705,30 @@ impl Shared {
 
     /// Counts the NOTIFYs that nobody had answered when the service ended.
     pub(crate) fn count_lost(&self, count: usize) {
-        self.lost.fetch_add(count as u64, Ordering::SeqCst);
+        self.sent.lost.fetch_add(count as u64, Ordering::SeqCst);
     }
 
     /// Counts NOTIFYs that waited, or were to wait, for the answer to another one, and are never sent.
     pub(crate) fn count_held_dropped(&self, count: usize) {
-        self.held_dropped.fetch_add(count as u64, Ordering::SeqCst);
+        self.sent
+            .held_dropped
+            .fetch_add(count as u64, Ordering::SeqCst);
     }
 
     /// Counts a NOTIFY that was refused with this status code.
     pub(crate) fn count_refusal(&self, code: u16) {
-        self.refusals.count(code);
+        self.sent.refusals.count(code);
     }
 
     /// How many NOTIFYs were given up.
     pub(crate) fn given_up(&self) -> u64 {
-        self.given_up.load(Ordering::SeqCst)
+        self.sent.given_up.load(Ordering::SeqCst)
     }
 
     /// How many datagrams couldn't be read.
     pub fn unread(&self) -> u64 {
         let mut sum = 0u64;
-        for counted in &self.unread {
+        for counted in &self.heard.unread {
             sum = sum.saturating_add(counted.load(Ordering::SeqCst));
         }
         sum
@@ -790,39 +737,39 @@ impl Shared {
     /// Appends what is counted by a name.
     fn add_named(&self, alloc: Global, text: &mut String) -> Result<(), NoMemory> {
         let named = [
-            ("datagrams", &self.datagrams),
-            ("events", &self.events),
-            ("answers", &self.answers),
-            ("notifies", &self.notifies),
-            ("starts", &self.starts),
-            ("failed", &self.failed),
-            ("begun", &self.begun),
-            ("over", &self.over),
-            ("repeats", &self.repeats),
-            ("given_up", &self.given_up),
-            ("once", &self.once),
-            ("lost", &self.lost),
-            ("gone_by_481", &self.gone_by_481),
-            ("failed_receives", &self.failed_receives),
-            ("too_long", &self.too_long),
-            ("foreign", &self.foreign),
-            ("limited", &self.limited),
-            ("challenged", &self.challenged),
-            ("wrong", &self.wrong),
-            ("stale", &self.stale),
-            ("forbidden", &self.forbidden),
-            ("barred", &self.barred),
-            ("large", &self.large),
-            ("control_lines", &self.control_lines),
+            ("datagrams", &self.heard.datagrams),
+            ("events", &self.heard.events),
+            ("answers", &self.sent.answers),
+            ("notifies", &self.sent.notifies),
+            ("starts", &self.sent.starts),
+            ("failed", &self.sent.failed),
+            ("begun", &self.sent.begun),
+            ("over", &self.sent.over),
+            ("repeats", &self.sent.repeats),
+            ("given_up", &self.sent.given_up),
+            ("once", &self.sent.once),
+            ("lost", &self.sent.lost),
+            ("gone_by_481", &self.sent.gone_by_481),
+            ("failed_receives", &self.heard.failed_receives),
+            ("too_long", &self.heard.too_long),
+            ("foreign", &self.heard.foreign),
+            ("limited", &self.heard.limited),
+            ("challenged", &self.heard.challenged),
+            ("wrong", &self.heard.wrong),
+            ("stale", &self.heard.stale),
+            ("forbidden", &self.heard.forbidden),
+            ("barred", &self.heard.barred),
+            ("large", &self.heard.large),
+            ("control_lines", &self.heard.control_lines),
             ("workers", &self.workers),
             ("workers_ended", &self.workers_ended),
-            ("control_foreign", &self.control_foreign),
-            ("bad_summaries", &self.bad_summaries),
-            ("starts_dropped", &self.starts_dropped),
-            ("per_source", &self.per_source),
+            ("control_foreign", &self.heard.control_foreign),
+            ("bad_summaries", &self.heard.bad_summaries),
+            ("starts_dropped", &self.sent.starts_dropped),
+            ("per_source", &self.heard.per_source),
             ("journal_lost", &self.journal_lost),
-            ("held", &self.held),
-            ("held_dropped", &self.held_dropped),
+            ("held", &self.sent.held),
+            ("held_dropped", &self.sent.held_dropped),
         ];
         for (name, counted) in named {
             add_line(alloc, text, name, counted)?;
@@ -833,7 +780,7 @@ impl Shared {
     /// Appends the datagrams that couldn't be read, by the number of the error, from 1.
     fn add_unread(&self, alloc: Global, text: &mut String) -> Result<(), NoMemory> {
         text.push_str("unread")?;
-        for counted in &self.unread {
+        for counted in &self.heard.unread {
             add_word(alloc, text, counted)?;
         }
         text.push_str("\n")?;
@@ -842,7 +789,7 @@ impl Shared {
 
     /// Appends the datagrams that couldn't be read, a line for each cause.
     fn add_causes(&self, alloc: Global, text: &mut String) -> Result<(), NoMemory> {
-        for (cause, counted) in CAUSES.iter().zip(self.unread.iter()) {
+        for (cause, counted) in CAUSES.iter().zip(self.heard.unread.iter()) {
             let count = counted.load(Ordering::SeqCst);
             let line = format!(in alloc; "unread_{cause} {count}\n")?;
             text.push_str(line.as_str())?;
@@ -850,19 +797,27 @@ impl Shared {
         Ok(())
     }
 
-    /// Looks at what the system dropped before it could be heard. Where it doesn't tell that the last look counts.
-    pub(crate) fn look_at_drops<R: Files>(&self, rt: &R) {
-        if let Some(count) = kernel_drops(rt, self.alloc, self.place) {
-            self.kernel_drops.store(count, Ordering::SeqCst);
-        }
+    /// Control lines come in at this address.
+    pub(crate) fn watch_control(&self, place: Addr) -> Result<(), NoMemory> {
+        self.drops[CONTROL].watch(self.alloc, place)
     }
 
-    /// Appends what the system dropped until the last look, where it told that.
+    /// NOTIFYs of voicemail systems come in at this address. Without memory nobody looks at what is dropped there.
+    pub fn watch_feed(&self, place: Addr) {
+        let _ = self.drops[FEED].watch(self.alloc, place);
+    }
+
+    /// Looks at what the system dropped before it could be heard. Where it doesn't tell that the last look counts.
+    pub(crate) fn look_at_drops<R: Files>(&self, rt: &R) {
+        look_at_drops(rt, self.alloc, &self.drops);
+    }
+
+    /// Appends what the system dropped until the last look, by the socket, where it told that.
     fn add_drops(&self, alloc: Global, text: &mut String) -> Result<(), NoMemory> {
-        if self.kernel_drops.load(Ordering::SeqCst) == UNKNOWN {
-            return Ok(());
+        for drops in &self.drops {
+            drops.add_line(alloc, text)?;
         }
-        add_line(alloc, text, "kernel_drops", &self.kernel_drops)
+        Ok(())
     }
 
     /// Appends how many bytes the current file of the journal has: 0 without one.
@@ -883,7 +838,7 @@ impl Shared {
 
     /// The counters, each on a line of its own, behind the seconds that the service is up. The datagrams that couldn't be
     /// read are counted by the number of the error, from 1, on one line, and by cause, the answers and the NOTIFYs that were
-    /// refused by status code. What the system dropped at the socket of SIP stands there where it tells that.
+    /// refused by status code. What the system dropped at each socket stands there where it tells that.
     pub fn lines(&self, alloc: Global, seconds: u64) -> Result<String, NoMemory> {
         let mut text = format!(in alloc; "up {seconds}\n")?;
         self.add_named(alloc, &mut text)?;
@@ -892,8 +847,8 @@ impl Shared {
         self.add_outages(alloc, &mut text)?;
         self.add_journal(alloc, &mut text)?;
         self.changes.add_lines(alloc, &mut text, seconds)?;
-        self.statuses.add_lines(alloc, &mut text)?;
-        self.refusals.add_lines(alloc, &mut text)?;
+        self.sent.statuses.add_lines(alloc, &mut text)?;
+        self.sent.refusals.add_lines(alloc, &mut text)?;
         self.add_causes(alloc, &mut text)?;
         self.add_drops(alloc, &mut text)?;
         Ok(text)

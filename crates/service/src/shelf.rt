@@ -100,11 +100,10 @@ pub(crate) struct Shelf {
 }
 
 impl Shelf {
-    /// One that goes on in this file, which was the current one for so many seconds before.
-    pub(crate) fn new(keeper: Keeper, current: Volume, been: u64) -> Shelf
+    /// One that goes on in this file, which was the current one for so many seconds before. The oldest file that is there has this number.
+    pub(crate) fn new(keeper: Keeper, current: Volume, been: u64, oldest: u64) -> Shelf
         ensures { result.is_behind ≡ false }
     {
-        let oldest = current.number().saturating_sub(1);
         Shelf {
             keeper,
             current,
@@ -127,6 +126,11 @@ impl Shelf {
         ensures { result.now ≡ self.now.current }
     {
         &self.current
+    }
+
+    /// Whether it misses no record, and no count was lost.
+    pub(crate) fn is_whole(&self) -> bool {
+        !self.is_behind && !self.is_over
     }
 
     /// Whether that misses a record.
@@ -375,8 +379,8 @@ impl Shelf {
         }
     }
 
-    /// What is to be done in this second. Two files are kept: a reader goes on from the one before the current one where it can, since what
-    /// was unanswered as that one ended is known from there.
+    /// What is to be done in this second. The file before the current one is kept, since what was unanswered as it ended is known from there.
+    /// Older ones are too until the current one is settled: where mailboxes were changed that doesn't go on from the one before.
     pub(crate) fn chore(&mut self, now: u64, limits: Limits) -> Chore
         ensures current { self.new.current ≡ self.old.current }
         ensures kept { (n : ℕ) → result ≡ chore.Remove n → n + 1 < self.old.current.number }
@@ -384,7 +388,7 @@ impl Shelf {
     {
         let sight = self.sight(now);
         let number = self.current.number();
-        if self.oldest < number.saturating_sub(1) {
+        if self.oldest < number.saturating_sub(1) && limits.age <= sight.age {
             let oldest = self.oldest;
             self.oldest = oldest.saturating_add(1);
             return Chore::Remove(oldest);

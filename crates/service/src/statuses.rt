@@ -19,14 +19,6 @@ pub(crate) struct Statuses {
     counts: [AtomicU64; KINDS],
 }
 
-/// The status code of an answer, as it stands behind the version and a space.
-fn code(answer: &[u8]) -> &[u8] {
-    match answer {
-        [_, _, _, _, _, _, _, b' ', rest @ ..] if rest.len() >= 3 => &rest[..3],
-        _ => b"".as_slice(),
-    }
-}
-
 impl Statuses {
     /// None yet.
     pub(crate) fn new() -> Statuses {
@@ -50,9 +42,12 @@ impl Statuses {
         }
     }
 
-    /// Counts an answer that was sent.
+    /// Counts an answer that was sent, by the status code that stands in it behind the version and a space.
     pub(crate) fn count(&self, answer: &[u8]) {
-        let code = code(answer);
+        let code = match answer {
+            [_, _, _, _, _, _, _, b' ', rest @ ..] if rest.len() >= 3 => &rest[..3],
+            _ => b"".as_slice(),
+        };
         for (known, counted) in CODES.iter().zip(self.counts.iter()) {
             if known.as_bytes() == code {
                 counted.fetch_add(1, Ordering::SeqCst);

@@ -2,4 +2,3 @@ pub mod Input
 pub mod Kinds
 pub mod Hearing
 pub mod Taken
-pub mod Shown

@@ -5,7 +5,7 @@
 //! Each asking has a token of its own, by which the service tells repeats from news. How a run ends is a [`LinesEnd`].
 //!
 //! What it isn't: how one line is asked, and when again, is `control_lines`'s. It never sends a CLOSE or a question, whatever the
-//! input says. Of what it says on standard error no contract tells but for a line's text there, which is [`shown`]. Begin with
+//! input says. Of what it says on standard error no contract tells; a line's text there is a [`shown_text::Shown`]. Begin with
 //! `specs/Taken`: what becomes of each line, and how a run ends; then `specs/Input`, `specs/Kinds` and `specs/Hearing`.
 #![tactic(auto)]
 
@@ -13,7 +13,6 @@ mod end;
 mod hearing;
 mod input;
 mod kinds;
-mod showing;
 mod speaker;
 mod tally;
 mod teller;
@@ -23,7 +22,6 @@ pub use end::{Fate, LinesEnd};
 pub use hearing::Heard;
 pub use input::{InputLine, LONGEST, ReadFault};
 pub use kinds::LineKind;
-pub use showing::shown;
 pub use sip_text::NoMemory;
 pub use speaker::{LineSpeaker, UdpLineSpeaker};
 pub use tally::Tally;

@@ -5,8 +5,7 @@ ghost use Rattle.std.specs.Prelude.{◌≡◌};
 use crate::end::{Fate, LinesEnd};
 use crate::hearing::Heard;
 use crate::input::InputLine;
-use crate::showing::shown;
-use sip_text::{NoMemory, text_of};
+use shown_text::Shown;
 use std::rt::Clock;
 use std::time::{Duration, Instant};
 
@@ -26,18 +25,10 @@ pub struct Tally {
 }
 
 /// Says this of a line, and what stands there.
-fn say_refused<R: Eprint + AllocGlobal>(
-    rt: &R,
-    number: u64,
-    why: &[u8],
-    line: &InputLine,
-) -> Result<(), NoMemory> {
-    let why = shown(rt.alloc(), why)?;
-    let line = shown(rt.alloc(), line.octets.as_slice())?;
-    let why = text_of(why.as_slice()).unwrap_or("");
-    let line = text_of(line.as_slice()).unwrap_or("");
+fn say_refused<R: Eprint>(rt: &R, number: u64, why: &[u8], line: &InputLine) {
+    let why = Shown::words(why);
+    let line = Shown::words(line.octets.as_slice());
     let _ = eprintln!(rt; "notifyd: line {number}: {why}: {line}");
-    Ok(())
 }
 
 impl Tally {
@@ -73,7 +64,7 @@ impl Tally {
     }
 
     /// Counts a line, and says why it was refused, if it was.
-    pub(crate) fn note<R: Clock + Eprint + AllocGlobal>(
+    pub(crate) fn note<R: Clock + Eprint>(
         &mut self,
         rt: &R,
         line: &InputLine,
@@ -86,7 +77,7 @@ impl Tally {
         }
         if fate.is_refused() {
             self.refused = self.refused.saturating_add(1);
-            let _ = say_refused(rt, self.read, why, line);
+            say_refused(rt, self.read, why, line);
         }
         self.tell_now_and_then(rt);
     }

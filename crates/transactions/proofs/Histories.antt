@@ -5,13 +5,14 @@ use Rattle.std.specs.List.{list_any, AllByRecursion}
 use Rattle.std.proofs.lemmas.Bool.Decides.{nat_tests}
 use Rattle.sip_text.specs.declared.address.Addr.{Addr}
 use Rattle.transactions.specs.declared.unkept.Unkept.{Unkept}
-use Rattle.transactions.specs.declared.unkept.Unkept.TheVariants.{Twice, Full}
+use Rattle.transactions.specs.declared.unkept.Unkept.TheVariants.{Twice, Full, Many}
+use Rattle.transactions.specs.declared.allowance.Allowance.{Allowance}
 use Rattle.transactions.specs.declared.open.Open.{Open}
 use Rattle.transactions.specs.declared.open.TheConstants.{GONE}
 use Rattle.transactions.specs.declared.open.Phase.{Phase}
 use Rattle.transactions.specs.declared.open.Phase.TheVariants.{Trying, Proceeding}
 use Rattle.transactions.specs.Timers.{has_name, is_named, alarm, sent, again, proceeding, longer, is_over}
-use Rattle.transactions.specs.Machine.{State, empty, refusal, is_open, is_full, with_sent, keep, wherever, without, at_name, answered, answer, sooner, soonest, if_up, due, turned, with_turned, turn, next_moment}
+use Rattle.transactions.specs.Machine.{State, empty, refusal, is_open, is_full, is_crowded, with_sent, keep, wherever, without, at_name, answered, answer, sooner, soonest, if_up, due, turned, with_turned, turn, next_moment}
 use Rattle.transactions.specs.Runs.{Call, Keep, Answer, Turn, after, state_after, unless_over, repeated, repeat_made, times, repeats, is_end, earliest, keeping, EachRepeatIsDue, NoneIsPassedOver, NextIsInTime}
 use Rattle.std.proofs.lemmas.List.{append-nil}
 use Rattle.transactions.proofs.Listing.{same_some}
@@ -49,27 +50,27 @@ least (suc zero) = 1000
 least (suc (suc zero)) = 2000
 least (suc (suc (suc n))) = 4000
 
-pub record History (limit : ℕ) (past : List Call) (t : Open) : Type 0 where
+pub record History (allowance : Allowance) (past : List Call) (t : Open) : Type 0 where
   pub earlier : List Call
   pub since : List Call
   pub split : past ≡ earlier ++ keeping t ∷ since
-  pub kept : refusal (state_after earlier (empty limit)) t.tag t.number ≡ None
+  pub kept : refusal (state_after earlier (empty allowance)) t.tag t.number ≡ None
   pub unanswered : AllByRecursion (λ call. is_end t.tag t.number call ≡ false) since
-  pub planned : t.first + earliest (repeats limit earlier since t) ≤ t.next
-  pub paced : least (repeats limit earlier since t) ≤ t.interval
+  pub planned : t.first + earliest (repeats allowance earlier since t) ≤ t.next
+  pub paced : least (repeats allowance earlier since t) ≤ t.interval
 
 -- each open transaction has one, and no two have one name
-pub record Known (limit : ℕ) (past : List Call) (s : State) : Type 0 where
-  pub history : (t : Open) → Among t s.live → History limit past t
+pub record Known (allowance : Allowance) (past : List Call) (s : State) : Type 0 where
+  pub history : (t : Open) → Among t s.live → History allowance past t
   pub names : (t u : Open) → Among t s.live → Among u s.live → has_name t.tag t.number u ≡ true → t ≡ u
 
 split_more : (earlier since past : List Call) (k call : Call) → past ≡ earlier ++ k ∷ since → past ++ call ∷ [] ≡ earlier ++ k ∷ (since ++ call ∷ [])
 split_more earlier since past k call e = ap (λ xs. xs ++ call ∷ []) e ∙ append_assoc earlier (k ∷ since) (call ∷ [])
 
 -- the state in which the next call is made
-state_is : (limit : ℕ) (past earlier since : List Call) (k : Call) → past ≡ earlier ++ k ∷ since → state_after since (state_after (earlier ++ k ∷ []) (empty limit)) ≡ state_after past (empty limit)
-state_is limit past earlier since k e =
-    sym (ap (λ xs. state_after xs (empty limit)) (e ∙ sym (append_assoc earlier (k ∷ []) since)) ∙ state_append (earlier ++ k ∷ []) since (empty limit))
+state_is : (allowance : Allowance) (past earlier since : List Call) (k : Call) → past ≡ earlier ++ k ∷ since → state_after since (state_after (earlier ++ k ∷ []) (empty allowance)) ≡ state_after past (empty allowance)
+state_is allowance past earlier since k e =
+    sym (ap (λ xs. state_after xs (empty allowance)) (e ∙ sym (append_assoc earlier (k ∷ []) since)) ∙ state_append (earlier ++ k ∷ []) since (empty allowance))
 
 -- what a call leaves of a transaction: its name, its first send and what is sent
 record Leaves (t u : Open) : Type 0 where
@@ -78,24 +79,24 @@ record Leaves (t u : Open) : Type 0 where
   number : u.number ≡ t.number
   first : u.first ≡ t.first
 
-module _ (limit : ℕ) (past : List Call) (call : Call) (t u : Open) (h : History limit past t) (l : Leaves t u) where
+module _ (allowance : Allowance) (past : List Call) (call : Call) (t u : Open) (h : History allowance past t) (l : Leaves t u) where
   -- the history goes on: the call didn't end it, and it was sent again with it so often
-  goes_on : (n : ℕ) → is_end t.tag t.number call ≡ false → once t.tag t.number call (state_after past (empty limit)) ≡ n
-      → ((m : ℕ) → t.first + earliest m ≤ t.next → least m ≤ t.interval → (u.first + earliest (m + n) ≤ u.next) × (least (m + n) ≤ u.interval)) → History limit (past ++ call ∷ []) u
+  goes_on : (n : ℕ) → is_end t.tag t.number call ≡ false → once t.tag t.number call (state_after past (empty allowance)) ≡ n
+      → ((m : ℕ) → t.first + earliest m ≤ t.next → least m ≤ t.interval → (u.first + earliest (m + n) ≤ u.next) × (least (m + n) ≤ u.interval)) → History allowance (past ++ call ∷ []) u
   goes_on n final many timing =
-      let start = state_after (h.earlier ++ keeping t ∷ []) (empty limit) in
+      let start = state_after (h.earlier ++ keeping t ∷ []) (empty allowance) in
       let m = times t.tag t.number h.since start in
       let count : times t.tag t.number (h.since ++ call ∷ []) start ≡ m + n =
-      times_push t.tag t.number h.since call start ∙ ap (λ s. m + once t.tag t.number call s) (state_is limit past h.earlier h.since (keeping t) h.split) ∙ ap (λ (k : ℕ). m + k) many in
+      times_push t.tag t.number h.since call start ∙ ap (λ s. m + once t.tag t.number call s) (state_is allowance past h.earlier h.since (keeping t) h.split) ∙ ap (λ (k : ℕ). m + k) many in
       let timed = timing m h.planned h.paced in
-      let same : times u.tag u.number (h.since ++ call ∷ []) (state_after (h.earlier ++ keeping u ∷ []) (empty limit)) ≡ m + n =
-      ap (λ (k : Call). times u.tag u.number (h.since ++ call ∷ []) (state_after (h.earlier ++ k ∷ []) (empty limit))) l.keeps
+      let same : times u.tag u.number (h.since ++ call ∷ []) (state_after (h.earlier ++ keeping u ∷ []) (empty allowance)) ≡ m + n =
+      ap (λ (k : Call). times u.tag u.number (h.since ++ call ∷ []) (state_after (h.earlier ++ k ∷ []) (empty allowance))) l.keeps
       ∙ ap (λ tag. times tag u.number (h.since ++ call ∷ []) start) l.tag ∙ ap (λ number. times t.tag number (h.since ++ call ∷ []) start) l.number ∙ count in
       record {
         earlier = h.earlier;
         since = h.since ++ call ∷ [];
         split = split_more h.earlier h.since past (keeping t) call h.split ∙ ap (λ (k : Call). h.earlier ++ k ∷ (h.since ++ call ∷ [])) (sym l.keeps);
-        kept = ap (λ tag. refusal (state_after h.earlier (empty limit)) tag u.number) l.tag ∙ ap (refusal (state_after h.earlier (empty limit)) t.tag) l.number ∙ h.kept;
+        kept = ap (λ tag. refusal (state_after h.earlier (empty allowance)) tag u.number) l.tag ∙ ap (refusal (state_after h.earlier (empty allowance)) t.tag) l.number ∙ h.kept;
         unanswered =
             subst (λ (x : List ℕ). AllByRecursion (λ c. is_end x u.number c ≡ false) (h.since ++ call ∷ [])) (sym l.tag)
             (subst (λ (n : ℕ). AllByRecursion (λ c. is_end t.tag n c ≡ false) (h.since ++ call ∷ [])) (sym l.number)
@@ -105,9 +106,9 @@ module _ (limit : ℕ) (past : List Call) (call : Call) (t u : Open) (h : Histor
       }
 
 -- where a call changes nothing of it
-untouched : (limit : ℕ) (past : List Call) (call : Call) (t : Open) → History limit past t → is_end t.tag t.number call ≡ false → once t.tag t.number call (state_after past (empty limit)) ≡ 0 → History limit (past ++ call ∷ []) t
-untouched limit past call t h final none =
-    goes_on limit past call t t h (record { keeps = refl; tag = refl; number = refl; first = refl }) 0 final none (λ m p q. (subst (λ (k : ℕ). t.first + earliest k ≤ t.next) (plus m) p, subst (λ (k : ℕ). least k ≤ t.interval) (plus m) q))
+untouched : (allowance : Allowance) (past : List Call) (call : Call) (t : Open) → History allowance past t → is_end t.tag t.number call ≡ false → once t.tag t.number call (state_after past (empty allowance)) ≡ 0 → History allowance (past ++ call ∷ []) t
+untouched allowance past call t h final none =
+    goes_on allowance past call t t h (record { keeps = refl; tag = refl; number = refl; first = refl }) 0 final none (λ m p q. (subst (λ (k : ℕ). t.first + earliest k ≤ t.next) (plus m) p, subst (λ (k : ℕ). least k ≤ t.interval) (plus m) q))
   where
     plus : (m : ℕ) → m ≡ m + 0
     plus m = omega arith
@@ -118,17 +119,17 @@ refusal_cases : (s : State) (tag : List ℕ) (number : ℕ) → refusal s tag nu
 unfolding refusal
 refusal_cases s tag number e = by (is_open tag number s) refl e
   where
-    by : (b : Bool) → is_open tag number s ≡ b → (if b then Some Twice else if is_full s then Some Full else None) ≡ None → list_any (has_name tag number) s.live ≡ false
+    by : (b : Bool) → is_open tag number s ≡ b → (if b then Some Twice else if is_full s then Some Full else if is_crowded tag s then Some Many else None) ≡ None → list_any (has_name tag number) s.live ≡ false
     by true k q = absurd (cc)
     by false k q = k
 
-abbrev run_state : ℕ → List Call → State
-run_state limit past = state_after past (empty limit)
+abbrev run_state : Allowance → List Call → State
+run_state allowance past = state_after past (empty allowance)
 
-begun : (limit : ℕ) (past : List Call) (serial now : ℕ) (tag : List ℕ) (number : ℕ) (to : Addr) (bytes : List ℕ) → refusal (run_state limit past) tag number ≡ None
-    → History limit (past ++ Keep now tag number to bytes ∷ []) (sent serial now tag number to bytes)
+begun : (allowance : Allowance) (past : List Call) (serial now : ℕ) (tag : List ℕ) (number : ℕ) (to : Addr) (bytes : List ℕ) → refusal (run_state allowance past) tag number ≡ None
+    → History allowance (past ++ Keep now tag number to bytes ∷ []) (sent serial now tag number to bytes)
 unfolding sent
-begun limit past serial now tag number to bytes e = record {
+begun allowance past serial now tag number to bytes e = record {
   earlier = past;
   since = [];
   split = refl;
@@ -142,27 +143,27 @@ sent_name : (serial now : ℕ) (tag : List ℕ) (number : ℕ) (to : Addr) (byte
 unfolding sent
 sent_name serial now tag number to bytes = (refl, refl)
 
-known_keep : (limit : ℕ) (past : List Call) (now : ℕ) (tag : List ℕ) (number : ℕ) (to : Addr) (bytes : List ℕ)
-    → Known limit past (run_state limit past) → Known limit (past ++ Keep now tag number to bytes ∷ []) (keep (run_state limit past) now tag number to bytes)
+known_keep : (allowance : Allowance) (past : List Call) (now : ℕ) (tag : List ℕ) (number : ℕ) (to : Addr) (bytes : List ℕ)
+    → Known allowance past (run_state allowance past) → Known allowance (past ++ Keep now tag number to bytes ∷ []) (keep (run_state allowance past) now tag number to bytes)
 unfolding keep
-known_keep limit past now tag number to bytes known = by (refusal (run_state limit past) tag number) refl
+known_keep allowance past now tag number to bytes known = by (refusal (run_state allowance past) tag number) refl
   where
-    same : (t : Open) → Among t (run_state limit past).live → History limit (past ++ Keep now tag number to bytes ∷ []) t
-    same t a = untouched limit past (Keep now tag number to bytes) t (known.history t a) refl refl
+    same : (t : Open) → Among t (run_state allowance past).live → History allowance (past ++ Keep now tag number to bytes ∷ []) t
+    same t a = untouched allowance past (Keep now tag number to bytes) t (known.history t a) refl refl
 
-    by : (o : Option Unkept) → refusal (run_state limit past) tag number ≡ o → Known limit (past ++ Keep now tag number to bytes ∷ []) (with_sent o (sent (run_state limit past).kept now tag number to bytes) (run_state limit past))
+    by : (o : Option Unkept) → refusal (run_state allowance past) tag number ≡ o → Known allowance (past ++ Keep now tag number to bytes ∷ []) (with_sent o (sent (run_state allowance past).kept now tag number to bytes) (run_state allowance past))
     by (Some why) e = record { history = same; names = known.names }
     by None e = record {
-      history = λ t a. elim (among_push t new (run_state limit past).live a) [
+      history = λ t a. elim (among_push t new (run_state allowance past).live a) [
         | inl before ↦ same t before
-        | inr is ↦ subst (History limit (past ++ Keep now tag number to bytes ∷ [])) (sym is) (begun limit past (run_state limit past).kept now tag number to bytes e)
+        | inr is ↦ subst (History allowance (past ++ Keep now tag number to bytes ∷ [])) (sym is) (begun allowance past (run_state allowance past).kept now tag number to bytes e)
       ];
-      names = λ t u a b named. (let both = name_is t.tag t.number u named in elim (among_push t new (run_state limit past).live a) [
-        | inl before ↦ elim (among_push u new (run_state limit past).live b) [
+      names = λ t u a b named. (let both = name_is t.tag t.number u named in elim (among_push t new (run_state allowance past).live a) [
+        | inl before ↦ elim (among_push u new (run_state allowance past).live b) [
           | inl other ↦ known.names t u before other named
           | inr is ↦ fresh t before (sym both.0 ∙ ap (λ (x : Open). x.tag) is ∙ own.0) (sym both.1 ∙ ap (λ (x : Open). x.number) is ∙ own.1)
         ]
-        | inr is ↦ elim (among_push u new (run_state limit past).live b) [
+        | inr is ↦ elim (among_push u new (run_state allowance past).live b) [
           | inl other ↦ fresh u other (both.0 ∙ ap (λ (x : Open). x.tag) is ∙ own.0) (both.1 ∙ ap (λ (x : Open). x.number) is ∙ own.1)
           | inr other ↦ is ∙ sym other
         ]
@@ -170,39 +171,39 @@ known_keep limit past now tag number to bytes known = by (refusal (run_state lim
     }
       where
         new : Open
-        new = sent (run_state limit past).kept now tag number to bytes
+        new = sent (run_state allowance past).kept now tag number to bytes
 
         own : (new.tag ≡ tag) × (new.number ≡ number)
-        own = sent_name (run_state limit past).kept now tag number to bytes
+        own = sent_name (run_state allowance past).kept now tag number to bytes
 
-        fresh : {P : Type 0} (x : Open) → Among x (run_state limit past).live → x.tag ≡ tag → x.number ≡ number → P
+        fresh : {P : Type 0} (x : Open) → Among x (run_state allowance past).live → x.tag ≡ tag → x.number ≡ number → P
         fresh x a p q =
-            let no = none_among (has_name tag number) (run_state limit past).live (refusal_cases (run_state limit past) tag number e) x a in
+            let no = none_among (has_name tag number) (run_state allowance past).live (refusal_cases (run_state allowance past) tag number e) x a in
             let yes = is_name tag number x p q in
             absurd (cc)
 
 -- ---- those with one name change by a rule
 
-module _ (limit : ℕ) (past : List Call) (call : Call) (tag : List ℕ) (number : ℕ) (rule : Open → Option Open) (known : Known limit past (run_state limit past))
-    (touched : (t u : Open) → Among t (run_state limit past).live → has_name tag number t ≡ true → rule t ≡ Some u → History limit past t → History limit (past ++ call ∷ []) u)
+module _ (allowance : Allowance) (past : List Call) (call : Call) (tag : List ℕ) (number : ℕ) (rule : Open → Option Open) (known : Known allowance past (run_state allowance past))
+    (touched : (t u : Open) → Among t (run_state allowance past).live → has_name tag number t ≡ true → rule t ≡ Some u → History allowance past t → History allowance (past ++ call ∷ []) u)
     (named : (t u : Open) → rule t ≡ Some u → (u.tag ≡ t.tag) × (u.number ≡ t.number))
-    (others : (t : Open) → has_name tag number t ≡ false → (is_end t.tag t.number call ≡ false) × (once t.tag t.number call (run_state limit past) ≡ 0)) where
-  by_rule : (t u : Open) → Among t (run_state limit past).live → wherever tag number rule t ≡ Some u → History limit (past ++ call ∷ []) u × (u.tag ≡ t.tag) × (u.number ≡ t.number)
+    (others : (t : Open) → has_name tag number t ≡ false → (is_end t.tag t.number call ≡ false) × (once t.tag t.number call (run_state allowance past) ≡ 0)) where
+  by_rule : (t u : Open) → Among t (run_state allowance past).live → wherever tag number rule t ≡ Some u → History allowance (past ++ call ∷ []) u × (u.tag ≡ t.tag) × (u.number ≡ t.number)
   by_rule t u a e = by (has_name tag number t) refl e
     where
-      by : (b : Bool) → has_name tag number t ≡ b → (if b then rule t else Some t) ≡ Some u → History limit (past ++ call ∷ []) u × (u.tag ≡ t.tag) × (u.number ≡ t.number)
+      by : (b : Bool) → has_name tag number t ≡ b → (if b then rule t else Some t) ≡ Some u → History allowance (past ++ call ∷ []) u × (u.tag ≡ t.tag) × (u.number ≡ t.number)
       by true k q = let names = named t u q in (touched t u a k q (known.history t a), names.0, names.1)
       by false k q =
           let is : t ≡ u = same_some refl q in
           let h = others t k in
-          (subst (History limit (past ++ call ∷ [])) is (untouched limit past call t (known.history t a) h.0 h.1), ap (λ (x : Open). x.tag) (sym is), ap (λ (x : Open). x.number) (sym is))
+          (subst (History allowance (past ++ call ∷ [])) is (untouched allowance past call t (known.history t a) h.0 h.1), ap (λ (x : Open). x.tag) (sym is), ap (λ (x : Open). x.number) (sym is))
 
-  known_rule : Known limit (past ++ call ∷ []) (at_name tag number rule (run_state limit past))
+  known_rule : Known allowance (past ++ call ∷ []) (at_name tag number rule (run_state allowance past))
   known_rule = record {
-    history = λ u a. (let it = among_filter (wherever tag number rule) u (run_state limit past).live a in (by_rule it.0 u it.1 it.2).0);
+    history = λ u a. (let it = among_filter (wherever tag number rule) u (run_state allowance past).live a in (by_rule it.0 u it.1 it.2).0);
     names = λ u v a b same.
-        (let x = among_filter (wherever tag number rule) u (run_state limit past).live a in
-        let y = among_filter (wherever tag number rule) v (run_state limit past).live b in
+        (let x = among_filter (wherever tag number rule) u (run_state allowance past).live a in
+        let y = among_filter (wherever tag number rule) v (run_state allowance past).live b in
         let p = by_rule x.0 u x.1 x.2 in
         let q = by_rule y.0 v y.1 y.2 in
         let names = name_is u.tag u.number v same in
@@ -241,19 +242,19 @@ quiet false b c d h e = refl
 quiet true b true d h e = absurd (cc)
 quiet true b false d h e = and_false d b (inr h)
 
-known_gone : (limit : ℕ) (past : List Call) (tag : List ℕ) (number status : ℕ) → Known limit past (run_state limit past)
-    → Known limit (past ++ Answer tag number status ∷ []) (record (run_state limit past) { live = without tag (run_state limit past).live })
-known_gone limit past tag number status known = record {
+known_gone : (allowance : Allowance) (past : List Call) (tag : List ℕ) (number status : ℕ) → Known allowance past (run_state allowance past)
+    → Known allowance (past ++ Answer tag number status ∷ []) (record (run_state allowance past) { live = without tag (run_state allowance past).live })
+known_gone allowance past tag number status known = record {
   history = λ t a.
-      (let it = among_without tag t (run_state limit past).live a in
-      untouched limit past (Answer tag number status) t (known.history t it.0)
+      (let it = among_without tag t (run_state allowance past).live a in
+      untouched allowance past (Answer tag number status) t (known.history t it.0)
       (and_false (bytes_eq t.tag tag) ((status == GONE) || (nat_le 200 status && (t.number == number))) (inl it.1)) refl);
-  names = λ t u a b. known.names t u (among_without tag t (run_state limit past).live a).0 (among_without tag u (run_state limit past).live b).0;
+  names = λ t u a b. known.names t u (among_without tag t (run_state allowance past).live a).0 (among_without tag u (run_state allowance past).live b).0;
 }
 
-known_one : (limit : ℕ) (past : List Call) (tag : List ℕ) (number status : ℕ) → (status == GONE) ≡ false → Known limit past (run_state limit past)
-    → Known limit (past ++ Answer tag number status ∷ []) (at_name tag number (answered status) (run_state limit past))
-known_one limit past tag number status one known = known_rule limit past (Answer tag number status) tag number (answered status) known touched named others
+known_one : (allowance : Allowance) (past : List Call) (tag : List ℕ) (number status : ℕ) → (status == GONE) ≡ false → Known allowance past (run_state allowance past)
+    → Known allowance (past ++ Answer tag number status ∷ []) (at_name tag number (answered status) (run_state allowance past))
+known_one allowance past tag number status one known = known_rule allowance past (Answer tag number status) tag number (answered status) known touched named others
   where
     named : (t u : Open) → answered status t ≡ Some u → (u.tag ≡ t.tag) × (u.number ≡ t.number)
     named t u e =
@@ -266,25 +267,25 @@ known_one limit past tag number status one known = known_rule limit past (Answer
         ap (λ b. bytes_eq t.tag tag && (b || (nat_le 200 status && (t.number == number)))) one ∙ ap (λ b. bytes_eq t.tag tag && (b && (t.number == number))) e
         ∙ and_false (bytes_eq t.tag tag) false (inr refl)
 
-    touched : (t u : Open) → Among t (run_state limit past).live → has_name tag number t ≡ true → answered status t ≡ Some u → History limit past t → History limit (past ++ Answer tag number status ∷ []) u
+    touched : (t u : Open) → Among t (run_state allowance past).live → has_name tag number t ≡ true → answered status t ≡ Some u → History allowance past t → History allowance (past ++ Answer tag number status ∷ []) u
     touched t u a k e h =
         let it = answered_is status t u e in
         let same = proceeding_times t in
-        subst (History limit (past ++ Answer tag number status ∷ [])) it.1
-        (goes_on limit past (Answer tag number status) t (proceeding t) h (proceeding_leaves t) 0 (provisional t it.0) refl
+        subst (History allowance (past ++ Answer tag number status ∷ [])) it.1
+        (goes_on allowance past (Answer tag number status) t (proceeding t) h (proceeding_leaves t) 0 (provisional t it.0) refl
         (λ m p q. (omega (arith, p, same.0, same.1, ap earliest (zero_more m)), omega (arith, q, same.2, ap least (zero_more m)))))
 
-    others : (t : Open) → has_name tag number t ≡ false → (is_end t.tag t.number (Answer tag number status) ≡ false) × (once t.tag t.number (Answer tag number status) (run_state limit past) ≡ 0)
+    others : (t : Open) → has_name tag number t ≡ false → (is_end t.tag t.number (Answer tag number status) ≡ false) × (once t.tag t.number (Answer tag number status) (run_state allowance past) ≡ 0)
     others t k = (quiet (bytes_eq t.tag tag) (t.number == number) (status == GONE) (nat_le 200 status) k one, refl)
 
-known_answer : (limit : ℕ) (past : List Call) (tag : List ℕ) (number status : ℕ) → Known limit past (run_state limit past) → Known limit (past ++ Answer tag number status ∷ []) (answer (run_state limit past) tag number status)
+known_answer : (allowance : Allowance) (past : List Call) (tag : List ℕ) (number status : ℕ) → Known allowance past (run_state allowance past) → Known allowance (past ++ Answer tag number status ∷ []) (answer (run_state allowance past) tag number status)
 unfolding answer
-known_answer limit past tag number status known = by (status == GONE) refl
+known_answer allowance past tag number status known = by (status == GONE) refl
   where
     by : (b : Bool) → (status == GONE) ≡ b
-        → Known limit (past ++ Answer tag number status ∷ []) (if b then record (run_state limit past) { live = without tag (run_state limit past).live } else at_name tag number (answered status) (run_state limit past))
-    by true e = known_gone limit past tag number status known
-    by false e = known_one limit past tag number status e known
+        → Known allowance (past ++ Answer tag number status ∷ []) (if b then record (run_state allowance past) { live = without tag (run_state allowance past).live } else at_name tag number (answered status) (run_state allowance past))
+    by true e = known_gone allowance past tag number status known
+    by false e = known_one allowance past tag number status e known
 
 -- ---- time
 
@@ -338,19 +339,19 @@ unless_is now d t e = by (is_over now d) refl e
     by true k q = absurd (cc)
     by false k q = let is : d ≡ t = same_some refl q in (ap (is_over now) (sym is) ∙ k, is)
 
-known_turn : (limit : ℕ) (past : List Call) (now : ℕ) → Known limit past (run_state limit past) → Known limit (past ++ Turn now ∷ []) (turn (run_state limit past) now)
+known_turn : (allowance : Allowance) (past : List Call) (now : ℕ) → Known allowance past (run_state allowance past) → Known allowance (past ++ Turn now ∷ []) (turn (run_state allowance past) now)
 unfolding turn
-known_turn limit past now known = by (due (run_state limit past) now) refl
+known_turn allowance past now known = by (due (run_state allowance past) now) refl
   where
-    by : (o : Option Open) → due (run_state limit past) now ≡ o → Known limit (past ++ Turn now ∷ []) (with_turned now o (run_state limit past))
+    by : (o : Option Open) → due (run_state allowance past) now ≡ o → Known allowance (past ++ Turn now ∷ []) (with_turned now o (run_state allowance past))
     by None e = record {
-      history = λ t a. untouched limit past (Turn now) t (known.history t a) refl (ap (λ o. if is_named t.tag t.number (option_and_then (unless_over now) o) then 1 else 0) e);
+      history = λ t a. untouched allowance past (Turn now) t (known.history t a) refl (ap (λ o. if is_named t.tag t.number (option_and_then (unless_over now) o) then 1 else 0) e);
       names = known.names;
     }
-    by (Some d) e = known_rule limit past (Turn now) d.tag d.number (turned now) known touched named others
+    by (Some d) e = known_rule allowance past (Turn now) d.tag d.number (turned now) known touched named others
       where
-        among : Among d (run_state limit past).live
-        among = among_soonest d (run_state limit past).live (due_is (run_state limit past) now d e).0
+        among : Among d (run_state allowance past).live
+        among = among_soonest d (run_state allowance past).live (due_is (run_state allowance past) now d e).0
 
         named : (t u : Open) → turned now t ≡ Some u → (u.tag ≡ t.tag) × (u.number ≡ t.number)
         named t u q =
@@ -358,22 +359,22 @@ known_turn limit past now known = by (due (run_state limit past) now) refl
             let l = again_leaves now t in
             (ap (λ (x : Open). x.tag) (sym is) ∙ l.tag, ap (λ (x : Open). x.number) (sym is) ∙ l.number)
 
-        given : repeated (run_state limit past) now ≡ unless_over now d
+        given : repeated (run_state allowance past) now ≡ unless_over now d
         given = ap (option_and_then (unless_over now)) e
 
-        touched : (t u : Open) → Among t (run_state limit past).live → has_name d.tag d.number t ≡ true → turned now t ≡ Some u → History limit past t → History limit (past ++ Turn now ∷ []) u
+        touched : (t u : Open) → Among t (run_state allowance past).live → has_name d.tag d.number t ≡ true → turned now t ≡ Some u → History allowance past t → History allowance (past ++ Turn now ∷ []) u
         touched t u a k q h =
             let is : d ≡ t = known.names d t among a k in
             let it = turned_is now t u q in
             let same = again_times now t in
-            let up = ap (λ (x : Open). nat_le (alarm x) now) (sym is) ∙ (due_is (run_state limit past) now d e).1 in
+            let up = ap (λ (x : Open). nat_le (alarm x) now) (sym is) ∙ (due_is (run_state allowance past) now d e).1 in
             let fires = fired t now up it.0 in
             let early = fires.0 in
-            let here : repeated (run_state limit past) now ≡ Some t = given ∙ ap (unless_over now) is ∙ ap (λ b. if b then None else Some t) it.0 in
-            let many : once t.tag t.number (Turn now) (run_state limit past) ≡ 1 =
+            let here : repeated (run_state allowance past) now ≡ Some t = given ∙ ap (unless_over now) is ∙ ap (λ b. if b then None else Some t) it.0 in
+            let many : once t.tag t.number (Turn now) (run_state allowance past) ≡ 1 =
             ap (λ o. if is_named t.tag t.number o then 1 else 0) here ∙ ap (λ b. if b then 1 else 0) (is_name t.tag t.number t refl refl) in
-            subst (History limit (past ++ Turn now ∷ [])) it.1
-            (goes_on limit past (Turn now) t (again now t) h (again_leaves now t) 1 refl many
+            subst (History allowance (past ++ Turn now ∷ [])) it.1
+            (goes_on allowance past (Turn now) t (again now t) h (again_leaves now t) 1 refl many
             (λ m p r.
             (let more = earliest_more m in
             let long = longer_least t.phase t.interval m r in
@@ -381,7 +382,7 @@ known_turn limit past now known = by (due (run_state limit past) now) refl
             let pace = ap least (add-one m) in
             (omega (arith, p, same.0, same.1, more, long, next, early), omega (arith, long, same.2, pace)))))
 
-        others : (t : Open) → has_name d.tag d.number t ≡ false → (is_end t.tag t.number (Turn now) ≡ false) × (once t.tag t.number (Turn now) (run_state limit past) ≡ 0)
+        others : (t : Open) → has_name d.tag d.number t ≡ false → (is_end t.tag t.number (Turn now) ≡ false) × (once t.tag t.number (Turn now) (run_state allowance past) ≡ 0)
         others t k = (refl, ap (λ o. if is_named t.tag t.number o then 1 else 0) given ∙ ap (λ b. if b then 1 else 0) (not_it (unless_over now d) refl))
           where
             not_it : (o : Option Open) → unless_over now d ≡ o → is_named t.tag t.number o ≡ false
@@ -400,20 +401,20 @@ known_turn limit past now known = by (due (run_state limit past) now) refl
 
 -- ---- every run
 
-known_after : (limit : ℕ) (past : List Call) (call : Call) → Known limit past (run_state limit past) → Known limit (past ++ call ∷ []) (run_state limit (past ++ call ∷ []))
-known_after limit past call known = subst (Known limit (past ++ call ∷ [])) (sym (state_push past call (empty limit))) (by call)
+known_after : (allowance : Allowance) (past : List Call) (call : Call) → Known allowance past (run_state allowance past) → Known allowance (past ++ call ∷ []) (run_state allowance (past ++ call ∷ []))
+known_after allowance past call known = subst (Known allowance (past ++ call ∷ [])) (sym (state_push past call (empty allowance))) (by call)
   where
-    by : (c : Call) → Known limit (past ++ c ∷ []) (after c (run_state limit past))
-    by (Keep now tag number to bytes) = known_keep limit past now tag number to bytes known
-    by (Answer tag number status) = known_answer limit past tag number status known
-    by (Turn now) = known_turn limit past now known
+    by : (c : Call) → Known allowance (past ++ c ∷ []) (after c (run_state allowance past))
+    by (Keep now tag number to bytes) = known_keep allowance past now tag number to bytes known
+    by (Answer tag number status) = known_answer allowance past tag number status known
+    by (Turn now) = known_turn allowance past now known
 
-known_from : (limit : ℕ) (rest past : List Call) → Known limit past (run_state limit past) → Known limit (past ++ rest) (run_state limit (past ++ rest))
-known_from limit [] past known = subst (λ (xs : List Call). Known limit xs (run_state limit xs)) (sym (append-nil past)) known
-known_from limit (call ∷ rest) past known = subst (λ (xs : List Call). Known limit xs (run_state limit xs)) (append_assoc past (call ∷ []) rest) (known_from limit rest (past ++ call ∷ []) (known_after limit past call known))
+known_from : (allowance : Allowance) (rest past : List Call) → Known allowance past (run_state allowance past) → Known allowance (past ++ rest) (run_state allowance (past ++ rest))
+known_from allowance [] past known = subst (λ (xs : List Call). Known allowance xs (run_state allowance xs)) (sym (append-nil past)) known
+known_from allowance (call ∷ rest) past known = subst (λ (xs : List Call). Known allowance xs (run_state allowance xs)) (append_assoc past (call ∷ []) rest) (known_from allowance rest (past ++ call ∷ []) (known_after allowance past call known))
 
-known_all : (limit : ℕ) (past : List Call) → Known limit past (run_state limit past)
-known_all limit past = known_from limit past [] (record { history = λ t a. absurd a; names = λ t u a b named. absurd a })
+known_all : (allowance : Allowance) (past : List Call) → Known allowance past (run_state allowance past)
+known_all allowance past = known_from allowance past [] (record { history = λ t a. absurd a; names = λ t u a b named. absurd a })
 
 ten : (m : ℕ) → earliest m < 32000 → m < 10
 ten zero h = omega arith
@@ -429,13 +430,13 @@ repeated_is s now t e = by (due s now) refl e
     by (Some d) k q = let it = unless_is now d t q in (k ∙ ap (λ (x : Open). Some x) it.1, it.0)
 
 pub each_repeat : EachRepeatIsDue
-each_repeat limit before now t e =
-    let it = repeated_is (run_state limit before) now t e in
-    let is_due = due_is (run_state limit before) now t it.0 in
+each_repeat allowance before now t e =
+    let it = repeated_is (run_state allowance before) now t e in
+    let is_due = due_is (run_state allowance before) now t it.0 in
     let fires = fired t now is_due.1 it.1 in
     let early = fires.0 in
     let soon = fires.1 in
-    let h = (known_all limit before).history t (among_soonest t (run_state limit before).live is_due.0) in
+    let h = (known_all allowance before).history t (among_soonest t (run_state allowance before).live is_due.0) in
     let planned = h.planned in
     record {
       earlier = h.earlier;
@@ -444,7 +445,7 @@ each_repeat limit before now t e =
       kept = h.kept;
       unanswered = h.unanswered;
       waited = omega (arith, planned, early);
-      seldom = ten (repeats limit h.earlier h.since t) (omega (arith, planned, early, soon));
+      seldom = ten (repeats allowance h.earlier h.since t) (omega (arith, planned, early, soon));
       in_time = soon;
     }
 

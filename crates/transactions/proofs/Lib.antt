@@ -10,3 +10,4 @@ pub mod Histories
 pub mod Among
 pub mod Fewer
 pub mod Tagged
+pub mod Crowds

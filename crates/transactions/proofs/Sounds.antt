@@ -6,16 +6,17 @@ use Rattle.std.proofs.lemmas.Bool.{and_parts, and_from}
 use Rattle.std.proofs.lemmas.Bool.Decides.{nat_tests}
 use Rattle.std.proofs.lemmas.Slice.Eq.{bytes_eq-Decides}
 use Rattle.slab.specs.Slab.{Slab, slab_len, Updates, with_value}
+use Rattle.transactions.specs.declared.allowance.Allowance.{Allowance}
 use Rattle.transactions.specs.declared.open.Open.{Open}
 use Rattle.transactions.specs.declared.book.Book.{Book}
 use Rattle.transactions.specs.Timers.{has_name, is_named, alarm, again, proceeding, longer, is_over, sent}
 use Rattle.transactions.specs.Tournament.{is_first}
 use Rattle.sip_text.specs.declared.address.Addr.{Addr}
 use Rattle.transactions.specs.declared.unkept.Unkept.{Unkept}
-use Rattle.transactions.specs.declared.unkept.Unkept.TheVariants.{Twice, Full}
+use Rattle.transactions.specs.declared.unkept.Unkept.TheVariants.{Twice, Full, Many}
 use Rattle.transactions.specs.declared.open.Phase.{Phase}
 use Rattle.transactions.specs.declared.open.Phase.TheVariants.{Trying, Proceeding}
-use Rattle.transactions.specs.Machine.{State, wherever, sooner, soonest, due, turn, turned, refusal, is_full, keep, with_sent}
+use Rattle.transactions.specs.Machine.{State, wherever, sooner, soonest, due, turn, turned, refusal, is_full, is_crowded, keep, with_sent}
 use Rattle.transactions.specs.Stored.{at, slot_alarm, with_serial, opened, live_list, book_state, IsBook, IsTimely, IsSound}
 use Rattle.transactions.proofs.Tournaments.{first_tells}
 use Rattle.transactions.proofs.Slots.{updates_one, count_set}
@@ -390,43 +391,55 @@ few_sends t now h up over =
     let longest = h.longest in
     (omega (arith, due, soon, apart), omega (arith, longest))
 
-pub same_state : (limit : ℕ) (kept : ℕ) (live : List Open) (b : Book) → b.kept ≡ kept → live_list b ≡ live → book_state limit b ≡ record { limit = limit; kept = kept; live = live }
-same_state limit kept live b p q = ap (λ (n : ℕ). record { limit = limit; kept = n; live = live_list b }) p ∙ ap (λ (xs : List Open). record { limit = limit; kept = kept; live = xs }) q
+pub same_state : (allowance : Allowance) (kept : ℕ) (live : List Open) (b : Book) → b.kept ≡ kept → live_list b ≡ live → book_state allowance b ≡ record { allowance = allowance; kept = kept; live = live }
+same_state allowance kept live b p q = ap (λ (n : ℕ). record { allowance = allowance; kept = n; live = live_list b }) p ∙ ap (λ (xs : List Open). record { allowance = allowance; kept = kept; live = xs }) q
 
 -- ---- turns
 
-pub turn_none : (limit now : ℕ) (b : Book) → None ≡ soonest (live_list b) → book_state limit b ≡ turn (book_state limit b) now
+pub turn_none : (allowance : Allowance) (now : ℕ) (b : Book) → None ≡ soonest (live_list b) → book_state allowance b ≡ turn (book_state allowance b) now
 unfolding turn due
-turn_none limit now b e = rw (← e) refl
+turn_none allowance now b e = rw (← e) refl
 
-pub turn_early : (limit now : ℕ) (b : Book) (t : Open) → Some t ≡ soonest (live_list b) → nat_le (alarm t) now ≡ false → book_state limit b ≡ turn (book_state limit b) now
+pub turn_early : (allowance : Allowance) (now : ℕ) (b : Book) (t : Open) → Some t ≡ soonest (live_list b) → nat_le (alarm t) now ≡ false → book_state allowance b ≡ turn (book_state allowance b) now
 unfolding turn due
-turn_early limit now b t e early = rw (← e) (rw early refl)
+turn_early allowance now b t e early = rw (← e) (rw early refl)
 
-pub turn_up : (limit now : ℕ) (old new : Book) (t : Open) → Some t ≡ soonest (live_list old) → nat_le (alarm t) now ≡ true → new.kept ≡ old.kept
-    → live_list new ≡ filter_map (wherever t.tag t.number (turned now)) (live_list old) → book_state limit new ≡ turn (book_state limit old) now
+pub turn_up : (allowance : Allowance) (now : ℕ) (old new : Book) (t : Open) → Some t ≡ soonest (live_list old) → nat_le (alarm t) now ≡ true → new.kept ≡ old.kept
+    → live_list new ≡ filter_map (wherever t.tag t.number (turned now)) (live_list old) → book_state allowance new ≡ turn (book_state allowance old) now
 unfolding turn due
-turn_up limit now old new t e up kept live = same_state limit old.kept (filter_map (wherever t.tag t.number (turned now)) (live_list old)) new kept live ∙ rw (← e) (rw up refl)
+turn_up allowance now old new t e up kept live = same_state allowance old.kept (filter_map (wherever t.tag t.number (turned now)) (live_list old)) new kept live ∙ rw (← e) (rw up refl)
 
 -- ---- refusals
 
-pub refusal_twice : (limit : ℕ) (b : Book) (tag : List ℕ) (number : ℕ) → list_any (has_name tag number) (live_list b) ≡ true → Some Twice ≡ refusal (book_state limit b) tag number
-unfolding refusal
-refusal_twice limit b tag number e = sym (ap (λ c. if c then Some Twice else if is_full (book_state limit b) then Some Full else None) e)
+-- why it is not kept, where it is open already, all are or those with its tag are
+abbrev reason : Bool → Bool → Bool → Option Unkept
+reason twice full many = if twice then Some Twice else if full then Some Full else if many then Some Many else None
 
-pub refusal_full : (limit : ℕ) (b : Book) (tag : List ℕ) (number : ℕ) → list_any (has_name tag number) (live_list b) ≡ false → is_full (book_state limit b) ≡ true → Some Full ≡ refusal (book_state limit b) tag number
-unfolding refusal
-refusal_full limit b tag number e full = sym (ap (λ c. if c then Some Twice else if is_full (book_state limit b) then Some Full else None) e ∙ ap (λ c. if c then Some Full else None) full)
+module _ (allowance : Allowance) (b : Book) (tag : List ℕ) (number : ℕ) where
+  abbrev stored : State
+  stored = book_state allowance b
 
-pub refusal_none : (limit : ℕ) (b : Book) (tag : List ℕ) (number : ℕ) → list_any (has_name tag number) (live_list b) ≡ false → is_full (book_state limit b) ≡ false → None ≡ refusal (book_state limit b) tag number
-unfolding refusal
-refusal_none limit b tag number e full = sym (ap (λ c. if c then Some Twice else if is_full (book_state limit b) then Some Full else None) e ∙ ap (λ c. if c then Some Full else None) full)
+  pub refusal_twice : list_any (has_name tag number) (live_list b) ≡ true → Some Twice ≡ refusal stored tag number
+  unfolding refusal
+  refusal_twice e = sym (ap (λ x. reason x (is_full stored) (is_crowded tag stored)) e)
 
-pub full_is : (limit : ℕ) (b : Book) → IsSound b → (limit ≤ slab_len b.slab) ⊎ (b.kept ≡ 2 ^ 64 - 1) → is_full (book_state limit b) ≡ true
-full_is limit b h full = let counted = h.counted in grind (arith, nat_tests)
+  pub refusal_full : list_any (has_name tag number) (live_list b) ≡ false → is_full stored ≡ true → Some Full ≡ refusal stored tag number
+  unfolding refusal
+  refusal_full e full = sym (ap (λ x. reason x (is_full stored) (is_crowded tag stored)) e ∙ ap (λ x. reason false x (is_crowded tag stored)) full)
 
-pub not_full : (limit : ℕ) (b : Book) → IsSound b → slab_len b.slab < limit → b.kept ≢ 2 ^ 64 - 1 → is_full (book_state limit b) ≡ false
-not_full limit b h some more = let counted = h.counted in grind (arith, nat_tests)
+  pub refusal_many : list_any (has_name tag number) (live_list b) ≡ false → is_full stored ≡ false → is_crowded tag stored ≡ true → Some Many ≡ refusal stored tag number
+  unfolding refusal
+  refusal_many e full many = sym (ap (λ x. reason x (is_full stored) (is_crowded tag stored)) e ∙ ap (λ x. reason false x (is_crowded tag stored)) full ∙ ap (reason false false) many)
+
+  pub refusal_none : list_any (has_name tag number) (live_list b) ≡ false → is_full stored ≡ false → is_crowded tag stored ≡ false → None ≡ refusal stored tag number
+  unfolding refusal
+  refusal_none e full many = sym (ap (λ x. reason x (is_full stored) (is_crowded tag stored)) e ∙ ap (λ x. reason false x (is_crowded tag stored)) full ∙ ap (reason false false) many)
+
+pub full_is : (allowance : Allowance) (b : Book) → IsSound b → (allowance.all ≤ slab_len b.slab) ⊎ (b.kept ≡ 2 ^ 64 - 1) → is_full (book_state allowance b) ≡ true
+full_is allowance b h full = let counted = h.counted in grind (arith, nat_tests)
+
+pub not_full : (allowance : Allowance) (b : Book) → IsSound b → slab_len b.slab < allowance.all → b.kept ≢ 2 ^ 64 - 1 → is_full (book_state allowance b) ≡ false
+not_full allowance b h some more = let counted = h.counted in grind (arith, nat_tests)
 
 -- ---- what is kept
 

@@ -2,20 +2,21 @@
 use Rattle.std.specs.Prelude.{ℕ, ◌+◌, ◌-◌, ◌^◌, Bool, not, ◌||◌, ◌==◌, nat_le, Option, Some, None, option_map, option_and_then, List, [], ◌∷◌, ◌++◌, length, filter_map, if◌then◌else◌}
 use Rattle.std.specs.List.{list_any, filter}
 use Rattle.sip_text.specs.declared.address.Addr.{Addr}
+use Rattle.transactions.specs.declared.allowance.Allowance.{Allowance}
 use Rattle.transactions.specs.declared.open.Open.{Open}
 use Rattle.transactions.specs.declared.open.TheConstants.{GONE}
 use Rattle.transactions.specs.declared.unkept.Unkept.{Unkept}
-use Rattle.transactions.specs.declared.unkept.Unkept.TheVariants.{Twice, Full}
+use Rattle.transactions.specs.declared.unkept.Unkept.TheVariants.{Twice, Full, Many}
 use Rattle.transactions.specs.Timers.{has_name, has_tag, sent, proceeding, again, is_over, alarm}
 
--- how many may be open, how many were ever kept, and those that are open, in the order of keeping
+-- how many may be open, of all and with one tag, how many were ever kept, and those that are open, in the order of keeping
 pub record State : Type 0 where
-  pub limit : ℕ
+  pub allowance : Allowance
   pub kept : ℕ
   pub live : List Open
 
-abbrev pub empty : ℕ → State
-empty limit = record { limit = limit; kept = 0; live = [] }
+abbrev pub empty : Allowance → State
+empty allowance = record { allowance = allowance; kept = 0; live = [] }
 
 -- ---- a NOTIFY was sent, and is kept
 
@@ -23,11 +24,19 @@ abbrev pub is_open : List ℕ → ℕ → State → Bool
 is_open tag number s = list_any (has_name tag number) s.live
 
 abbrev pub is_full : State → Bool
-is_full s = nat_le s.limit (length s.live) || (s.kept == 2 ^ 64 - 1)
+is_full s = nat_le s.allowance.all (length s.live) || (s.kept == 2 ^ 64 - 1)
+
+-- as many with this tag are open as may be
+abbrev pub is_crowded : List ℕ → State → Bool
+is_crowded tag s = nat_le s.allowance.per_tag (length (filter (has_tag tag) s.live))
 
 -- why it is not kept, if it is not
 unfoldable pub refusal : State → List ℕ → ℕ → Option Unkept
-refusal s tag number = if is_open tag number s then Some Twice else if is_full s then Some Full else None
+refusal s tag number = if is_open tag number s then Some Twice else if is_full s then Some Full else if is_crowded tag s then Some Many else None
+
+-- one more with this tag is kept, if its number is not open
+unfoldable pub has_room : State → List ℕ → Bool
+has_room s tag = not (is_full s || is_crowded tag s)
 
 abbrev pub with_sent : Option Unkept → Open → State → State
 with_sent None t s = record s { kept = s.kept + 1; live = s.live ++ t ∷ [] }

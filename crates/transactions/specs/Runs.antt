@@ -2,6 +2,7 @@
 use Rattle.std.specs.Prelude.{◌≡◌, ℕ, zero, suc, ◌+◌, ◌*◌, ◌<◌, ◌≤◌, Bool, false, ◌&&◌, ◌||◌, ◌==◌, nat_le, bytes_eq, Option, Some, None, option_and_then, List, [], ◌∷◌, ◌++◌, if◌then◌else◌}
 use Rattle.std.specs.List.{AllByRecursion, Contains}
 use Rattle.sip_text.specs.declared.address.Addr.{Addr}
+use Rattle.transactions.specs.declared.allowance.Allowance.{Allowance}
 use Rattle.transactions.specs.declared.open.Open.{Open}
 use Rattle.transactions.specs.declared.open.TheConstants.{PATIENCE, GONE}
 use Rattle.transactions.specs.Timers.{is_named, is_over, alarm}
@@ -58,26 +59,26 @@ abbrev pub keeping : Open → Call
 keeping t = Keep t.first t.tag t.number t.to t.bytes
 
 -- how often the NOTIFY of t came again, where it was kept behind these calls and those came since
-abbrev pub repeats : ℕ → List Call → List Call → Open → ℕ
-repeats limit earlier since t = times t.tag t.number since (state_after (earlier ++ keeping t ∷ []) (empty limit))
+abbrev pub repeats : Allowance → List Call → List Call → Open → ℕ
+repeats allowance earlier since t = times t.tag t.number since (state_after (earlier ++ keeping t ∷ []) (empty allowance))
 
 -- what holds where the NOTIFY of t is sent again at this moment, after these calls
-pub record IsDueRepeat (limit : ℕ) (before : List Call) (now : ℕ) (t : Open) : Type 0 where
+pub record IsDueRepeat (allowance : Allowance) (before : List Call) (now : ℕ) (t : Open) : Type 0 where
   -- it was kept
   pub earlier : List Call
   pub since : List Call
   pub split : before ≡ earlier ++ keeping t ∷ since
-  pub kept : refusal (state_after earlier (empty limit)) t.tag t.number ≡ None
+  pub kept : refusal (state_after earlier (empty allowance)) t.tag t.number ≡ None
   -- and no answer that ends it came since
   pub unanswered : AllByRecursion (λ call. is_end t.tag t.number call ≡ false) since
   -- it is time, and it came again less than ten times
-  pub waited : t.first + earliest (repeats limit earlier since t) ≤ now
-  pub seldom : repeats limit earlier since t < 10
+  pub waited : t.first + earliest (repeats allowance earlier since t) ≤ now
+  pub seldom : repeats allowance earlier since t < 10
   -- and not too late
   pub in_time : now < t.first + PATIENCE
 
 abbrev pub EachRepeatIsDue : Type 0
-EachRepeatIsDue = (limit : ℕ) (before : List Call) (now : ℕ) (t : Open) → repeated (state_after before (empty limit)) now ≡ Some t → IsDueRepeat limit before now t
+EachRepeatIsDue = (allowance : Allowance) (before : List Call) (now : ℕ) (t : Open) → repeated (state_after before (empty allowance)) now ≡ Some t → IsDueRepeat allowance before now t
 
 -- ---- none is forgotten
 

@@ -2,6 +2,7 @@
 use Rattle.std.specs.Prelude.{◌≡◌, ℕ, zero, suc, ◌+◌, ◌*◌, ◌<◌, ◌≤◌, ◌^◌, Bool, true, false, ◌==◌, ◌&&◌, nat_le, Option, Some, None, option_to_list, List, [], ◌∷◌, ◌++◌, length, if◌then◌else◌}
 use Rattle.slab.specs.Slab as slab
 use Rattle.slab.specs.Slab.{Slab, slab_len}
+use Rattle.transactions.specs.declared.allowance.Allowance.{Allowance}
 use Rattle.transactions.specs.declared.open.Open.{Open}
 use Rattle.transactions.specs.declared.alarms.Alarm.{Alarm}
 use Rattle.transactions.specs.declared.book.Book.{Book}
@@ -84,5 +85,5 @@ passes test None = false
 passes test (Some t) = test t
 
 -- what it stands for
-abbrev pub book_state : ℕ → Book → State
-book_state limit b = record { limit = limit; kept = b.kept; live = live_list b }
+abbrev pub book_state : Allowance → Book → State
+book_state allowance b = record { allowance = allowance; kept = b.kept; live = live_list b }

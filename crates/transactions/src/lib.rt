@@ -31,6 +31,7 @@
 #![tactic(auto)]
 
 mod alarms;
+mod allowance;
 mod book;
 pub mod laws;
 mod open;
@@ -40,6 +41,7 @@ mod steps;
 mod transactions;
 mod unkept;
 
+pub use allowance::Allowance;
 pub use open::{Open, Phase};
 pub use sip_text::NoMemory;
 pub use transactions::Transactions;

@@ -1,32 +1,89 @@
 //! What each call makes of the book, as the list that it stands for.
 
-ghost use Rattle.std.specs.Prelude.{◌≡◌, ◌≢◌, ◌<◌, ◌≤◌, ◌+◌, ◌-◌, ◌^◌, ℕ, false, IfSome, IsSome, ◌++◌, ◌∷◌, [], filter_map, None, option_copied, option_map, option_and_then, length};
+ghost use Rattle.std.specs.Prelude.{◌≡◌, ◌≢◌, ◌<◌, ◌≤◌, ◌+◌, ◌-◌, ◌^◌, ℕ, false, IfSome, IsSome, ◌++◌, ◌∷◌, [], filter_map, None, option_copied, option_map, option_and_then, length, if◌then◌else◌};
 ghost use Rattle.std.specs.List.{list_any};
 ghost use Rattle.slab.specs.Slab.{HasRoomFor, slab_len};
+ghost use Rattle.transactions.specs.declared.allowance.Allowance.{Allowance};
 ghost use Rattle.transactions.specs.Timers as timers;
 ghost use Rattle.transactions.specs.Machine as machine;
 ghost use Rattle.transactions.specs.Stored.{at, live_list, book_state, passes, IsTimely, IsSound};
 
+use crate::allowance::Allowance;
 use crate::book::{Book, named_place};
 use crate::open::{GONE, Open};
 use crate::places::tag_head;
 use crate::unkept::Unkept;
 
-/// Why one with this name would not be kept.
-pub fn refusal(book: &Book, limit: u32, tag: &str, number: u32) -> Option<Unkept>
+/// Whether as many are open as may be, or 2^64 - 1 were kept.
+fn is_full(book: &Book, allowance: Allowance) -> bool
     requires { IsSound book.now }
-    ensures value { result ≡ machine.refusal (book_state limit book.now) tag.now number }
-    ensures room { result ≡ None → slab_len book.now.slab < limit }
+    ensures value { result ≡ machine.is_full (book_state allowance book.now) }
+    ensures room { result ≡ false → slab_len book.now.slab < allowance.all }
+    ensures more { result ≡ false → book.now.kept + 1 < 2 ^ 64 }
+{
+    if allowance.all as usize <= book.slab.len() {
+        return true;
+    }
+    book.kept == u64::MAX
+}
+
+/// 1 where the transaction at this place has this tag, else 0.
+fn count_tagged(book: &Book, place: usize, tag: &str) -> u32
+    ensures one { result ≡ (if timers.is_tagged tag.now (at book.now place) then 1 else 0) }
+    ensures few { result ≤ 1 }
+{
+    if is_tagged(book, place, tag) { 1 } else { 0 }
+}
+
+/// Whether as many with this tag are open as may be. Where so few are open at all, none is counted.
+fn is_crowded(book: &Book, allowance: Allowance, tag: &str) -> bool
+    requires { IsSound book.now }
+    ensures { result ≡ machine.is_crowded tag.now (book_state allowance book.now) }
+{
+    let most = allowance.per_tag;
+    if book.slab.len() < most as usize {
+        return false;
+    }
+    let head = tag_head(book.size, tag);
+    let mut node = book.tags.next_older(head);
+    let mut count = 0;
+    while node != head {
+        if count >= most {
+            return true;
+        }
+        count += count_tagged(book, node, tag);
+        node = book.tags.next_older(node);
+    }
+    count >= most
+}
+
+/// Why one with this name would not be kept.
+pub fn refusal(book: &Book, allowance: Allowance, tag: &str, number: u32) -> Option<Unkept>
+    requires { IsSound book.now }
+    ensures value { result ≡ machine.refusal (book_state allowance book.now) tag.now number }
+    ensures room { result ≡ None → slab_len book.now.slab < allowance.all }
     ensures more { result ≡ None → book.now.kept + 1 < 2 ^ 64 }
     ensures none { result ≡ None → (p : ℕ) → timers.is_named tag.now number (at book.now p) ≡ false }
 {
     if let Some(_place) = named_place(book, tag, number) {
         return Some(Unkept::Twice);
     }
-    if limit as usize <= book.slab.len() || book.kept == u64::MAX {
+    if is_full(book, allowance) {
         return Some(Unkept::Full);
     }
+    if is_crowded(book, allowance, tag) {
+        return Some(Unkept::Many);
+    }
     None
+}
+
+/// Whether one more with this tag is kept, if its number isn't open.
+#[tactic(auto, unfolding(crate::specs::Machine::has_room))]
+pub fn has_room(book: &Book, allowance: Allowance, tag: &str) -> bool
+    requires { IsSound book.now }
+    ensures { result ≡ machine.has_room (book_state allowance book.now) tag.now }
+{
+    !(is_full(book, allowance) || is_crowded(book, allowance, tag))
 }
 
 /// One comes.
@@ -51,7 +108,7 @@ pub fn add(book: &mut Book, sent: Open)
 pub fn answer(book: &mut Book, tag: &str, number: u32, status: u16)
     requires sound { IsSound book.old }
     ensures sound { IsSound book.new }
-    ensures answered { (limit : ℕ) → book_state limit book.new ≡ machine.answer (book_state limit book.old) tag.now number status }
+    ensures answered { (allowance : Allowance) → book_state allowance book.new ≡ machine.answer (book_state allowance book.old) tag.now number status }
     ensures capacity { book.new.slab.capacity ≡ book.old.slab.capacity }
 {
     if status == GONE {
@@ -172,7 +229,7 @@ pub fn turn(book: &mut Book, now: u64)
     requires in_range { now < 2 ^ 63 }
     ensures sound { IsSound book.new }
     ensures fewer { IsSome (machine.due_among (live_list book.old) now) → machine.ups now (live_list book.new) < machine.ups now (live_list book.old) }
-    ensures turned { (limit : ℕ) → book_state limit book.new ≡ machine.turn (book_state limit book.old) now }
+    ensures turned { (allowance : Allowance) → book_state allowance book.new ≡ machine.turn (book_state allowance book.old) now }
     ensures capacity { book.new.slab.capacity ≡ book.old.slab.capacity }
 {
     let Some(place) = soonest(book) else {

@@ -3,6 +3,7 @@
 ghost use Rattle.std.specs.Prelude.{◌≡◌, ◌<◌, ◌^◌, IfOk, MatchResult, Some, None, IsSome, option_copied, length};
 ghost use Rattle.transactions.specs.Machine as machine;
 
+use crate::allowance::Allowance;
 use crate::book::Book;
 use crate::open::Open;
 use crate::steps;
@@ -23,10 +24,11 @@ use std::marker::Model;
 ///   }
 /// ```
 ///
-/// No call's time grows with what is open, but for the logarithm of the limit; that of a 481 grows with what its tag has open.
+/// No call's time grows with what is open, but for the logarithm of what may be. That of a NOTIFY that comes and that of a 481 grow
+/// with what its tag has open.
 #[derive(Drop)]
 pub struct Transactions {
-    limit: u32,
+    allowance: Allowance,
     book: Book,
 }
 
@@ -38,18 +40,18 @@ impl Model for Transactions {
 
     ghost use Rattle.transactions.specs.Stored.{book_state, IsSound};
 
-    ghost view = { λ t. book_state t.limit t.book };
+    ghost view = { λ t. book_state t.allowance t.book };
 
-    ghost invariant = { λ t. IsSound t.book × (t.limit ≤ t.book.slab.capacity) };
+    ghost invariant = { λ t. IsSound t.book × (t.allowance.all ≤ t.book.slab.capacity) };
 }
 
 impl Transactions {
     /// None is open, and so many may be. All memory is taken here. An `Err` says that an allocation failed.
-    pub fn new(alloc: Global, limit: u32) -> Result<Transactions, NoMemory>
-        ensures { IfOk result (λ t. t ≡ machine.empty limit) }
+    pub fn new(alloc: Global, allowance: Allowance) -> Result<Transactions, NoMemory>
+        ensures { IfOk result (λ t. t ≡ machine.empty allowance) }
     {
-        let book = Book::new(alloc, limit)?;
-        Ok(Transactions { limit, book })
+        let book = Book::new(alloc, allowance.all)?;
+        Ok(Transactions { allowance, book })
     }
 
     /// A NOTIFY was sent for the first time at this moment, from a dialog with this local tag, with this number in its CSeq. It is
@@ -67,13 +69,20 @@ impl Transactions {
             (λ why. machine.refusal self.old tag number ≡ Some why) }
         ensures kept { self.new ≡ machine.keep self.old now tag number to bytes }
     {
-        if let Some(why) = steps::refusal(&self.book, self.limit, tag.as_str(), number) {
+        if let Some(why) = steps::refusal(&self.book, self.allowance, tag.as_str(), number) {
             return Err(why);
         }
         let serial = self.book.kept;
         let sent = Open::sent(serial, now, tag, number, to, bytes);
         steps::add(&mut self.book, sent);
         Ok(())
+    }
+
+    /// Whether one more with this tag is kept, if its number isn't open.
+    pub fn has_room(&self, tag: &str) -> bool
+        ensures { result ≡ machine.has_room self.now tag.now }
+    {
+        steps::has_room(&self.book, self.allowance, tag)
     }
 
     /// An answer with this status came to the NOTIFY with this tag and this number. A provisional one sets timer E to T2, a final

@@ -11,4 +11,7 @@ pub enum Unkept {
     /// As many as may be open are, or 2^64 - 1 were kept.
     #[error("too many open")]
     Full,
+    /// As many with its tag as may be open are.
+    #[error("too many open with its tag")]
+    Many,
 }

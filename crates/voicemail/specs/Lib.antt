@@ -1,2 +1,3 @@
+pub mod Kept
 pub mod Notices
 pub mod Served

@@ -4,7 +4,8 @@
 --                MAIL <mailbox> <class> ..          each class whose counts that doesn't show, in order, until one isn't taken
 --            <-  200, or 404 where a line is answered `unknown mailbox`, or 503 where it isn't taken for another cause
 --
--- A NOTIFY tells all that a mailbox holds: a class that its body doesn't name has no messages.
+-- A NOTIFY tells all that a mailbox holds: a class that its body doesn't name has no messages. One that comes again, also behind a newer one, is
+-- answered by the same bytes, and nobody is asked (RFC 3261 section 17.2.2).
 use Rattle.std.specs.Prelude.{◌≡◌, ◌⊎◌, ◌≤◌, length, ℕ, Bool, true, false, List, [], ◌∷◌, ◌++◌, take, Option, Some, None, unwrap_or, codes, bytes_eq, if◌then◌else◌, Result, Ok, Err}
 use Rattle.sip_text.specs.declared.address.Addr.{Addr}
 use Rattle.admission.specs.declared.network.Network.{Network}
@@ -14,8 +15,11 @@ use Rattle.package.specs.declared.counts.Class.TheVariants as class
 use Rattle.package.specs.declared.counts.Counts.{Counts}
 use Rattle.package.specs.declared.counts.MailCounts.{MailCounts}
 use Rattle.package.specs.Changes.{counts_of}
-use Rattle.scripts.specs.Script.{lf, mail_text}
 use Rattle.memchr.specs.Find.{OccursAt}
+use Rattle.circular_buffer.specs.Buffer.{Buffer}
+use Rattle.notifier_model.specs.declared.row.Kept.{Kept}
+use Rattle.notifier_model.specs.Answers.{kept_answer}
+use Rattle.notifier_model.specs.Requests.{key_of_request}
 use Rattle.sip_read.specs.declared.message.Request.{Request}
 use Rattle.sip_read.specs.declared.message.Message.{Message}
 use Rattle.sip_read.specs.declared.message.Message.TheVariants as message
@@ -31,15 +35,13 @@ use Rattle.control_lines.specs.declared.asking.TellOutcome.{TellOutcome}
 use Rattle.control_lines.specs.declared.asking.TellOutcome.TheVariants as outcome
 use Rattle.control_lines.specs.Asking.{SpeakerSeen, Turn, ComesOf}
 use Rattle.control_lines.specs.Lines.{answer_text as control_text}
+use Rattle.control_lines.specs.Pages.{counts_line}
 use Rattle.voicemail.specs.declared.desk.TheConstants.{TAG}
+use Rattle.voicemail.specs.Kept.{with_answer}
 use Rattle.voicemail.specs.Notices as notices
 use Rattle.voicemail.specs.Notices.{Asked, Notice, OfNothing, OfRefusal, OfNotice}
 
 -- ---- lines
-
--- the MAIL line of a class
-abbrev pub mail_line : List ℕ → Class → Counts → List ℕ
-mail_line mailbox which counts = mail_text (record { mailbox = mailbox; class = which; counts = counts }) ++ lf
 
 -- the line that asks what a mailbox was last told
 abbrev pub show_line : List ℕ → List ℕ
@@ -52,9 +54,9 @@ no_messages = record { new_count = 0; old_count = 0; urgent_new = 0; urgent_old 
 abbrev pub counts_told : Notice → Class → Counts
 counts_told n which = unwrap_or (counts_of which n.counts) no_messages
 
--- the line by which a class of a notice is told
+-- the MAIL line by which a class of a notice is told
 abbrev pub class_line : Notice → Class → List ℕ
-class_line n which = mail_line n.mailbox which (counts_told n which)
+class_line n which = counts_line n.mailbox which (counts_told n which)
 
 abbrev pub classes : List Class
 classes = class.Voice ∷ class.Fax ∷ class.Pager ∷ class.Multimedia ∷ class.Text ∷ []
@@ -142,21 +144,51 @@ answer r source s = answer_text (record (bare r.head source (Some TAG.now) s) { 
 abbrev pub IsAnswered : Request → Addr → Status → Option (List Datagram) → Option (List Datagram) → Type 0
 IsAnswered r source s taken taken' = Grows taken taken' (datagram source (answer r source s) ∷ []) ⊎ Grows taken taken' []
 
+-- the wire has taken these bytes, or couldn't send them: who asks asks again
+abbrev pub IsSent : Addr → List ℕ → Option (List Datagram) → Option (List Datagram) → Type 0
+IsSent to bytes taken taken' = Grows taken taken' (datagram to bytes ∷ []) ⊎ Grows taken taken' []
+
 -- ---- one request
 
--- nothing was told or answered
-abbrev pub Stays : SpeakerSeen → SpeakerSeen → Option (List Datagram) → Option (List Datagram) → Type 0
-Stays old new taken taken' = (new ≡ old) × Grows taken taken' []
+-- what a desk asked, what its wire took, and the answers that it keeps
+pub record DeskSeen : Type 0 where
+  pub speaker : SpeakerSeen
+  pub taken : Option (List Datagram)
+  pub kept : Buffer Kept
 
--- what a request asks for was done and answered. Was the service told of it?
-abbrev pub Does : Asked → Request → Addr → SpeakerSeen → SpeakerSeen → Option (List Datagram) → Option (List Datagram) → Bool → Type 0
-Does OfNothing r source old new taken taken' is_told = Stays old new taken taken' × (is_told ≡ true)
-Does (OfRefusal s) r source old new taken taken' is_told = (new ≡ old) × IsAnswered r source s taken taken' × (is_told ≡ false)
-Does (OfNotice n) r source old new taken taken' is_told =
-    (s : Status) × Tells n old new s × IsAnswered r source s taken taken' × (is_told ≡ is_done s)
+abbrev pub desk : {S W : Type 0} → (S → ℕ) → (S → Option (List Turn)) → (W → Option (List Datagram)) → S → W → Buffer Kept → DeskSeen
+desk asked turns taken s w kept = record { speaker = speaker asked turns s; taken = taken w; kept = kept }
 
-abbrev pub IsServed : Request → Addr → SpeakerSeen → SpeakerSeen → Option (List Datagram) → Option (List Datagram) → Bool → Type 0
-IsServed r source old new taken taken' is_told = Does (notices.meaning r) r source old new taken taken' is_told
+-- nothing was told, answered or kept
+abbrev pub Stays : DeskSeen → DeskSeen → Type 0
+Stays old new = (new.speaker ≡ old.speaker) × Grows old.taken new.taken [] × (new.kept ≡ old.kept)
+
+-- the answer to a request from there is kept, unless memory is wanting
+abbrev pub IsKept : Request → Addr → Status → Buffer Kept → Buffer Kept → Type 0
+IsKept r source s kept kept' = (kept' ≡ with_answer kept (key_of_request r) (answer r source s)) ⊎ (kept' ≡ kept)
+
+-- what a request asks for was done and answered. Was the service told of it? What isn't asked of the service is answered the same each time, so
+-- that isn't kept
+abbrev pub Does : Asked → Request → Addr → DeskSeen → DeskSeen → Bool → Type 0
+Does OfNothing r source old new is_told = Stays old new × (is_told ≡ true)
+Does (OfRefusal s) r source old new is_told =
+    (new.speaker ≡ old.speaker) × IsAnswered r source s old.taken new.taken × (new.kept ≡ old.kept) × (is_told ≡ false)
+Does (OfNotice n) r source old new is_told =
+    (s : Status) × Tells n old.speaker new.speaker s × IsAnswered r source s old.taken new.taken × IsKept r source s old.kept new.kept
+    × (is_told ≡ is_done s)
+
+-- the kept answer was sent once more, and nobody was asked
+abbrev pub Repeats : List ℕ → Addr → DeskSeen → DeskSeen → Bool → Type 0
+Repeats bytes source old new is_told =
+    (new.speaker ≡ old.speaker) × IsSent source bytes old.taken new.taken × (new.kept ≡ old.kept) × (is_told ≡ true)
+
+-- a request whose transaction has a kept answer is a retransmission (RFC 3261 section 17.2.2). Any other one is new
+abbrev pub Serves : Option (List ℕ) → Request → Addr → DeskSeen → DeskSeen → Bool → Type 0
+Serves (Some bytes) r source old new is_told = Repeats bytes source old new is_told
+Serves None r source old new is_told = Does (notices.meaning r) r source old new is_told
+
+abbrev pub IsServed : Request → Addr → DeskSeen → DeskSeen → Bool → Type 0
+IsServed r source old new is_told = Serves (kept_answer old.kept.items (key_of_request r)) r source old new is_told
 
 -- the bytes are no request, or there was no memory to read them
 abbrev pub IsNoRequest : Result Message ReadError → Type 0
@@ -166,9 +198,9 @@ IsNoRequest (Err e) = Unit {0}
 
 -- a datagram that came from there was taken: what comes from none of these networks isn't read, what is no request is dropped, and what a
 -- request asks for is done
-abbrev pub IsTaken : List Network → Addr → List ℕ → SpeakerSeen → SpeakerSeen → Option (List Datagram) → Option (List Datagram) → Bool → Type 0
-IsTaken networks source octets old new taken taken' is_told =
-    ((is_one_of networks source.ip ≡ false) × Stays old new taken taken' × (is_told ≡ false))
-    ⊎ (((m : Result Message ReadError) × IsReading octets m × IsNoRequest m × Stays old new taken taken' × (is_told ≡ false))
+abbrev pub IsTaken : List Network → Addr → List ℕ → DeskSeen → DeskSeen → Bool → Type 0
+IsTaken networks source octets old new is_told =
+    ((is_one_of networks source.ip ≡ false) × Stays old new × (is_told ≡ false))
+    ⊎ (((m : Result Message ReadError) × IsReading octets m × IsNoRequest m × Stays old new × (is_told ≡ false))
     ⊎ ((is_one_of networks source.ip ≡ true) × (r : Request) × IsReading octets (Ok (message.Request r))
-    × IsServed r source old new taken taken' is_told))
+    × IsServed r source old new is_told))

@@ -2,10 +2,11 @@
 ghost use Rattle.std.specs.Prelude.{◌≡◌, ◌≤◌, ◌⊎◌, ◌∷◌, [], List, true, false, length, take, map, option_map, IfOk, IfSome, MatchOption};
 ghost use Rattle.admission.specs.Verdicts.{is_one_of};
 ghost use Rattle.transport.specs.Wires.{datagram, Grows};
-ghost use Rattle.voicemail.specs.Notices.{notice_seen};
+ghost use Rattle.voicemail.specs.Notices.{notice_seen, meaning};
 ghost use Rattle.voicemail.specs.Served as spec;
-ghost use Rattle.voicemail.specs.Served.{Shows, IsTold, AreTold, Tells, IsAnswered, IsServed, IsTaken};
+ghost use Rattle.voicemail.specs.Served.{Shows, IsTold, AreTold, Tells, IsAnswered, IsKept, Does, IsServed, IsTaken};
 
+use crate::kept::KeptAnswers;
 use crate::line::{mail_line, show_line};
 use crate::notice::{Asked, Notice, hear_request};
 use admission::Network;
@@ -152,6 +153,8 @@ pub struct VoicemailDesk<W, S> {
     pub speaker: S,
     /// The networks whose NOTIFYs are heard. No other is read.
     pub networks: Vec<Network>,
+    /// The answers to the last NOTIFYs that the service was asked of, for those that come again.
+    pub kept: KeptAnswers,
 }
 
 /// The counts of a class of a notice: one that isn't named has no messages.
@@ -243,18 +246,32 @@ impl<W: Ear, S: Speaker> VoicemailDesk<W, S> {
     /// Answers a request. One whose answer can't be sent comes again.
     fn answer<R: Wait>(&mut self, rt: &R, request: &Request, to: Addr, status: Status)
         ensures answered { IsAnswered request.now to status (W.taken self.old.going) (W.taken self.new.going) }
-        ensures stays { (self.new.coming ≡ self.old.coming) × (self.new.speaker ≡ self.old.speaker) × (self.new.networks ≡ self.old.networks) }
+        ensures stays { (self.new.coming ≡ self.old.coming) × (self.new.speaker ≡ self.old.speaker) × (self.new.networks ≡ self.old.networks)
+            × (self.new.kept ≡ self.old.kept) }
     {
         if let Ok(octets) = answer_bytes(self.alloc, request, to, status) {
             let _ = self.going.send(rt, to, octets.as_slice());
         }
     }
 
-    /// Does what a request asks for, and answers it. Tells whether the service was told of it, or nothing was to be done.
-    fn serve<R: Wait>(&mut self, rt: &R, request: &Request, source: Addr) -> bool
-        ensures served { IsServed request.now source
-            (spec.speaker S.asked S.turns self.old.speaker) (spec.speaker S.asked S.turns self.new.speaker)
-            (W.taken self.old.going) (W.taken self.new.going) result }
+    /// Answers a request that the service was asked of, and keeps the answer for retransmissions. Where memory is wanting it is sent and not
+    /// kept.
+    fn conclude<R: Wait>(&mut self, rt: &R, request: &Request, to: Addr, status: Status)
+        ensures answered { IsAnswered request.now to status (W.taken self.old.going) (W.taken self.new.going) }
+        ensures kept { IsKept request.now to status self.old.kept self.new.kept }
+        ensures stays { (self.new.coming ≡ self.old.coming) × (self.new.speaker ≡ self.old.speaker) × (self.new.networks ≡ self.old.networks) }
+    {
+        if let Ok(octets) = answer_bytes(self.alloc, request, to, status) {
+            let _ = self.going.send(rt, to, octets.as_slice());
+            let _ = self.kept.keep(self.alloc, request, octets);
+        }
+    }
+
+    /// Does what a new request asks for, and answers it. Tells whether the service was told of it, or nothing was to be done.
+    fn serve_new<R: Wait>(&mut self, rt: &R, request: &Request, source: Addr) -> bool
+        ensures served { Does (meaning request.now) request.now source
+            (spec.desk S.asked S.turns W.taken self.old.speaker self.old.going self.old.kept)
+            (spec.desk S.asked S.turns W.taken self.new.speaker self.new.going self.new.kept) result }
         ensures stays { (self.new.coming ≡ self.old.coming) × (self.new.networks ≡ self.old.networks) }
     {
         match hear_request(request) {
@@ -265,9 +282,26 @@ impl<W: Ear, S: Speaker> VoicemailDesk<W, S> {
             }
             Asked::Notice(notice) => {
                 let status = tell(rt, self.alloc, &mut self.speaker, &notice);
-                self.answer(rt, request, source, status);
+                self.conclude(rt, request, source, status);
                 is_done(status)
             }
+        }
+    }
+
+    /// Answers a request again that was answered, and does what a new one asks for. Tells whether the service was told of it, or nothing was to
+    /// be done.
+    fn serve<R: Wait>(&mut self, rt: &R, request: &Request, source: Addr) -> bool
+        ensures served { IsServed request.now source
+            (spec.desk S.asked S.turns W.taken self.old.speaker self.old.going self.old.kept)
+            (spec.desk S.asked S.turns W.taken self.new.speaker self.new.going self.new.kept) result }
+        ensures stays { (self.new.coming ≡ self.old.coming) × (self.new.networks ≡ self.old.networks) }
+    {
+        match self.kept.answer_to(request) {
+            Some(octets) => {
+                let _ = self.going.send(rt, source, octets.as_slice());
+                true
+            }
+            None => self.serve_new(rt, request, source),
         }
     }
 
@@ -275,8 +309,8 @@ impl<W: Ear, S: Speaker> VoicemailDesk<W, S> {
     /// read.
     fn take_one<R: Wait>(&mut self, rt: &R, source: Addr, octets: &[u8]) -> bool
         ensures taken { IsTaken self.old.networks.items source octets.now
-            (spec.speaker S.asked S.turns self.old.speaker) (spec.speaker S.asked S.turns self.new.speaker)
-            (W.taken self.old.going) (W.taken self.new.going) result }
+            (spec.desk S.asked S.turns W.taken self.old.speaker self.old.going self.old.kept)
+            (spec.desk S.asked S.turns W.taken self.new.speaker self.new.going self.new.kept) result }
         ensures stays { (self.new.coming ≡ self.old.coming) × (self.new.networks ≡ self.old.networks) }
     {
         if !any_contains(self.networks.as_slice(), source.ip) {

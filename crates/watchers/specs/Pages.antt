@@ -1,12 +1,14 @@
 -- The rows as lines, page by page.
 --
 --   page = *row ["more" SP place LF]         ; where more rows are to be looked at: those before this place
---   row  = mailbox SP watcher SP address SP tag SP sent SP answered SP age SP left SP "code=" code LF
+--   row  = mailbox SP watcher SP address SP tag SP sent SP answered SP age SP left SP "code=" code SP "contact=" contact [SP "user=" user] LF
 --
--- `sent` and `answered` are numbers of NOTIFYs; `age` and `left` are seconds: since its first NOTIFY, and until it ends. `code` is the
--- status code of the answer to the last NOTIFY that was answered (RFC 3261 section 7.2), 0 where none was.
+-- `watcher` and `contact` are what is shown of the URIs that a stranger wrote, `user` of the name whose password was shown. `sent` and `answered` are numbers of NOTIFYs; `age` and `left` are seconds:
+-- since its first NOTIFY, and until it ends. `code` is the status code of the answer to the last NOTIFY that was answered (RFC 3261
+-- section 7.2), 0 where none was.
 -- The rows of a page go from the last of those that it may tell to the first.
 use Rattle.std.specs.Prelude.{◌≤◌, ℕ, zero, suc, ◌+◌, ◌-◌, ◌/◌, min, Bool, true, false, ◌&&◌, ◌==◌, nat_lt, nat_le, List, [], ◌++◌, length, slice_get, Option, Some, None, codes, decimal, bytes_eq, string_bytes, if◌then◌else◌}
+use Rattle.shown_text.specs.Shown.{word, words}
 use Rattle.sip_text.specs.Addresses.{addr_text}
 use Rattle.watchers.specs.declared.row.Watcher.{Watcher}
 use Rattle.watchers.specs.declared.page.RowPage.{RowPage}
@@ -16,12 +18,17 @@ use Rattle.watchers.specs.Rows.{Row}
 abbrev pub seconds : ℕ → ℕ → ℕ
 seconds from to = (to - from) / 1000
 
+-- who showed a password, if somebody did
+abbrev pub user_word : Option (List ℕ) → List ℕ
+user_word None = []
+user_word (Some user) = codes " user=" ++ word user
+
 -- the line of a row that began so many seconds ago, and lasts for so many more
 abbrev pub line : List ℕ → Watcher → ℕ → ℕ → List ℕ
 line tag w age left =
-    w.mailbox ++ (codes " " ++ (w.watcher ++ (codes " " ++ (addr_text w.to ++ (codes " " ++ (tag ++ (codes " " ++ (decimal w.sent
+    w.mailbox ++ (codes " " ++ (words w.watcher ++ (codes " " ++ (addr_text w.to ++ (codes " " ++ (tag ++ (codes " " ++ (decimal w.sent
     ++ (codes " " ++ (decimal w.answered ++ (codes " " ++ (decimal age ++ (codes " " ++ (decimal left
-    ++ (codes " code=" ++ (decimal w.code ++ codes "\n"))))))))))))))))
+    ++ (codes " code=" ++ (decimal w.code ++ (codes " contact=" ++ (word w.contact ++ (user_word w.user ++ codes "\n")))))))))))))))))))
 
 -- its line at this moment
 abbrev pub row_text : ℕ → List ℕ → Watcher → List ℕ

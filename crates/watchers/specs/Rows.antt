@@ -5,7 +5,7 @@ use Rattle.indexmap.specs.IndexMap.{swap_remove_by}
 use Rattle.std.specs.Option.{option_map_or}
 use Rattle.std.specs.declared.alloc.Global.{Global}
 use Rattle.sip_text.specs.declared.address.Addr.{Addr}
-use Rattle.watchers.specs.Notifies.{Known, until, first_row}
+use Rattle.watchers.specs.Notifies.{Known, word, until, first_row}
 use Rattle.watchers.specs.declared.row.Watcher.{Watcher}
 use Rattle.watchers.specs.declared.watchers.TheConstants.{GONE, FINAL, REFUSED}
 
@@ -49,6 +49,14 @@ abbrev pub after_notify : ℕ → List ℕ → ℕ → Addr → Known → List R
 after_notify now tag number to known rows =
     if begins tag rows then rows ++ (tag, first_row now number to known) ∷ []
     else changed tag (renewed number to (until now known.seconds)) rows
+
+-- ---- it went to another Contact: its request in the dialog had that (a target refresh, RFC 3261 section 12.2)
+
+abbrev pub retargeted : List ℕ → Watcher → Watcher
+retargeted contact w = record w { contact = contact }
+
+abbrev pub after_retarget : List ℕ → List ℕ → List Row → List Row
+after_retarget tag contact rows = changed tag (retargeted (word contact)) rows
 
 -- ---- one ended
 

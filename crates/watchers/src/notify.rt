@@ -5,7 +5,7 @@ ghost use Rattle.watchers.specs.Notifies as spec;
 
 use crate::counts::source;
 use crate::row::Watcher;
-use sip_text::{Addr, Class, NoMemory, Text, cut_at, quoted_at, split_front, word_of};
+use sip_text::{Addr, Class, NoMemory, Text, cut_at, quoted_at, some_copy, split_front, word_of};
 use std::alloc::Global;
 
 /// How many bytes of a URI or a mailbox are told at most: so each row has its bound. `-` is told of a longer one.
@@ -36,7 +36,7 @@ fn uri(party: &[u8]) -> Option<&[u8]>
 }
 
 /// The bytes as a word of a row.
-fn word(bytes: &[u8]) -> &str
+pub(crate) fn word(bytes: &[u8]) -> &str
     ensures { result.now ≡ spec.word bytes.now }
 {
     if bytes.len() > LONGEST {
@@ -53,6 +53,10 @@ fn word(bytes: &[u8]) -> &str
 pub struct Known<'a> {
     /// Who watches: the subscriber's address, as its From has it (RFC 3261 section 20.20).
     pub watcher: &'a str,
+    /// Its Contact: the remote target of the dialog (RFC 3261 section 12.1.1).
+    pub contact: &'a str,
+    /// The user whose password it showed, where that is known.
+    pub user: Option<&'a str>,
     /// What is watched: a mailbox, or the tag of a transfer.
     pub resource: &'a str,
     /// How many seconds are left of it, unless it is refreshed.
@@ -86,11 +90,12 @@ pub fn first_row(
     known: Known<'_>,
 ) -> Result<Watcher, NoMemory>
     requires in_range { now < 2 ^ 63 }
-    ensures { IfOk result (λ w. w ≡ spec.first_row now number to
-        (record { watcher = known.entry.watcher.now; resource = known.entry.resource.now; seconds = known.entry.seconds })) }
+    ensures { IfOk result (λ w. w ≡ spec.first_row now number to (spec.known_seen known.entry)) }
 {
     Ok(Watcher {
         watcher: Text::of(alloc, watcher(known.watcher.as_bytes()))?,
+        contact: Text::of(alloc, word(known.contact.as_bytes()))?,
+        user: some_copy(alloc, known.user)?,
         mailbox: Text::of(alloc, word(known.resource.as_bytes()))?,
         source: source(to),
         to,

@@ -1,12 +1,15 @@
 //! The rows as lines, page by page.
-ghost use Rattle.std.specs.Prelude.{◌≡◌, ◌<◌, ◌++◌, OnOk, IfOk, string_bytes};
+ghost use Rattle.std.specs.Prelude.{◌≡◌, ◌<◌, ◌++◌, Some, OnOk, IfOk, string_bytes};
 ghost use Rattle.watchers.specs.Pages as spec;
 
 use crate::inquiry::Inquiry;
 use crate::row::Watcher;
 use crate::watchers::Watchers;
+use shown_text::Shown;
 use sip_text::{NoMemory, Text};
 use std::alloc::Global;
+use std::fmt;
+use std::fmt::{Display, Formatter};
 
 /// How many rows a page tells at most.
 pub const LINES: u32 = 500;
@@ -15,10 +18,10 @@ pub const LINES: u32 = 500;
 pub const LOOKS: u32 = 2048;
 
 /// A page with so many bytes of rows tells no further row.
-pub const FULL: usize = 7000;
+pub const FULL: usize = 6800;
 
 /// How many bytes of a row are told at most. A row with a longer tag isn't told.
-pub const ROW: usize = 1000;
+pub const ROW: usize = 1200;
 
 /// A page, as far as it is written. It goes from the last row of those that it may tell to the first: so a row that lives all the time is
 /// told, though others go between two pages.
@@ -40,6 +43,26 @@ fn seconds(from: u64, to: u64) -> u64
     to.saturating_sub(from) / 1000
 }
 
+/// Who showed a password, as the last word of a row.
+#[derive(Clone, Copy)]
+struct UserWord<'a> {
+    user: &'a Option<Text>,
+}
+
+impl Display for UserWord<'_> {
+    ghost output = { λ s. Some (spec.user_word s.user.now) };
+
+    fn fmt<W: fmt::Write>(&self, f: &mut Formatter<W>) -> fmt::Result {
+        match self.user {
+            Some(user) => {
+                let shown = Shown::word(user.as_str().as_bytes());
+                write!(f, " user={shown}")
+            }
+            None => Ok(()),
+        }
+    }
+}
+
 /// Appends the line of a row that began so many seconds ago, and lasts for so many more.
 fn write_row(
     text: &mut String,
@@ -52,11 +75,13 @@ fn write_row(
 {
     let [a, b, c, d] = row.to.ip;
     let port = row.to.port;
-    let watcher = row.watcher.as_str();
+    let watcher = Shown::words(row.watcher.as_str().as_bytes());
+    let contact = Shown::word(row.contact.as_str().as_bytes());
+    let user = UserWord { user: &row.user };
     let mailbox = row.mailbox.as_str();
     write!(
         text,
-        "{mailbox} {watcher} {a}.{b}.{c}.{d}:{port} {tag} {} {} {age} {left} code={}\n",
+        "{mailbox} {watcher} {a}.{b}.{c}.{d}:{port} {tag} {} {} {age} {left} code={} contact={contact}{user}\n",
         row.sent, row.answered, row.code
     )?;
     Ok(())

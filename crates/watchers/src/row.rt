@@ -10,6 +10,10 @@ use sip_text::{Addr, Text};
 pub struct Watcher {
     /// Who watches: the URI of the subscriber's address, as it was known with the NOTIFY with which its row began.
     pub watcher: Text,
+    /// Its Contact, as the last NOTIFY was known to go there.
+    pub contact: Text,
+    /// The user whose password it showed, where that was known with the NOTIFY with which its row began.
+    pub user: Option<Text>,
     /// What it watches: the mailbox, or the tag of its transfer.
     pub mailbox: Text,
     /// Who asked for it: the IPv4 address to which that NOTIFY went, as a number.
@@ -36,6 +40,13 @@ impl Watcher {
         self.sent = number;
         self.to = to;
         self.until = until;
+    }
+
+    /// The NOTIFYs go to this Contact from now on.
+    pub(crate) fn retarget(&mut self, contact: Text)
+        ensures { self.new ≡ spec.retargeted contact self.old }
+    {
+        self.contact = contact;
     }
 
     /// The NOTIFY with this number was answered with this status code, if it went out.

@@ -1,15 +1,15 @@
 //! The rows of the live subscriptions, each found by its tag.
 ghost use Rattle.std.specs.Prelude.{◌≡◌, ◌↔◌, ◌<◌, ◌^◌, ℕ, true, false, [], ◌∷◌, ◌++◌, nat_lt, not, is_some, length, option_map, string_bytes, if◌then◌else◌, OnOk, OnErr, IsErr, Err, slice_get};
 ghost use Rattle.watchers.specs.Rows as spec;
-ghost use Rattle.watchers.specs.Notifies.{first_row};
+ghost use Rattle.watchers.specs.Notifies.{first_row, known_seen, word};
 ghost use Rattle.watchers.specs.Rows.{rows_in};
 ghost use Rattle.watchers.specs.Tallies.{AreCounted, rows_from};
 
 use crate::counts::Counts;
-use crate::notify::{Known, first_row, until};
+use crate::notify::{Known, first_row, until, word};
 use crate::row::Watcher;
 use indexmap::IndexMap;
-use sip_text::{Addr, NoMemory};
+use sip_text::{Addr, NoMemory, Text};
 use std::alloc::Global;
 use std::marker::Model;
 use thiserror::Error;
@@ -79,6 +79,17 @@ fn renew_row(rows: &mut IndexMap<String, Watcher>, tag: &str, number: u32, to: A
         return;
     };
     watcher.renew(number, to, until);
+}
+
+/// The NOTIFYs of a subscription go to this Contact from now on.
+fn retarget_row(rows: &mut IndexMap<String, Watcher>, tag: &str, contact: Text)
+    ensures retargeted { rows_in rows.new.entries ≡ spec.changed tag.now (spec.retargeted contact) (rows_in rows.old.entries) }
+    ensures sources { (k : ℕ) → rows_from (rows_in rows.new.entries) k ≡ rows_from (rows_in rows.old.entries) k }
+{
+    let Some(watcher) = rows.get_mut(tag) else {
+        return;
+    };
+    watcher.retarget(contact);
 }
 
 /// The NOTIFY with this number was answered with this status code, if it went out.
@@ -235,11 +246,8 @@ impl Watchers {
     ) -> Result<(), NoRow>
         requires in_range { now < 2 ^ 63 }
         requires new { spec.has tag.now self.old.rows ≡ false }
-        ensures begun { OnOk result (self.new.rows ≡ self.old.rows ++ (
-          tag.now,
-          first_row now number to
-              (record { watcher = known.entry.watcher.now; resource = known.entry.resource.now; seconds = known.entry.seconds }),
-        ) ∷ []) }
+        ensures begun { OnOk result (self.new.rows
+            ≡ self.old.rows ++ (tag.now, first_row now number to (known_seen known.entry)) ∷ []) }
         ensures unchanged { OnErr result (self.new ≡ self.old) }
         ensures limit { self.new.limit ≡ self.old.limit }
         ensures full { result ≡ Err NoRow.Full ↔ nat_lt (length self.old.rows) self.old.limit ≡ false }
@@ -271,8 +279,7 @@ impl Watchers {
         known: Known<'_>,
     ) -> Result<(), NoRow>
         requires in_range { now < 2 ^ 63 }
-        ensures renewed { OnOk result (self.new.rows ≡ spec.after_notify now tag.now number to
-            (record { watcher = known.entry.watcher.now; resource = known.entry.resource.now; seconds = known.entry.seconds }) self.old.rows) }
+        ensures renewed { OnOk result (self.new.rows ≡ spec.after_notify now tag.now number to (known_seen known.entry) self.old.rows) }
         ensures unchanged { OnErr result (self.new ≡ self.old) }
         ensures refused { IsErr result → spec.begins tag.now self.old.rows ≡ true }
         ensures full { result ≡ Err NoRow.Full
@@ -283,6 +290,18 @@ impl Watchers {
             return self.begin(now, tag, number, to, known);
         }
         renew_row(&mut self.rows, tag, number, to, until(now, known.seconds));
+        Ok(())
+    }
+
+    /// The NOTIFYs with this tag go to this Contact from now on (a target refresh, RFC 3261 section 12.2). Its only error is out of memory:
+    /// the row keeps the Contact that it had then.
+    pub fn retarget(&mut self, tag: &str, contact: &str) -> Result<(), NoMemory>
+        ensures retargeted { OnOk result (self.new.rows ≡ spec.after_retarget tag.now contact.now self.old.rows) }
+        ensures unchanged { OnErr result (self.new ≡ self.old) }
+        ensures limit { self.new.limit ≡ self.old.limit }
+    {
+        let contact = Text::of(self.alloc, word(contact.as_bytes()))?;
+        retarget_row(&mut self.rows, tag, contact);
         Ok(())
     }
 

@@ -4,7 +4,7 @@ use crate::packages::table::{Line, error_of, line_of, number_of, tell};
 use sip_text::{Addr, NoMemory, Octets, Text};
 use std::alloc::Global;
 use std::io;
-use transactions::{Transactions, Unkept};
+use transactions::{Allowance, Transactions, Unkept};
 
 /// What a line tells of a NOTIFY: its tag, its number, and the moment at which it is sent or the status that answers it.
 #[derive(Clone, Copy)]
@@ -41,6 +41,7 @@ fn keep(
         Ok(()) => "kept",
         Err(Unkept::Twice) => "twice",
         Err(Unkept::Full) => "full",
+        Err(Unkept::Many) => "many",
     })
 }
 
@@ -135,13 +136,21 @@ fn goes(alloc: Global, open: &mut Transactions, text: &str) -> Result<bool, NoMe
     })
 }
 
+/// How many NOTIFYs may be open: of all, and behind a space of one tag, if fewer.
+fn allowance(text: &str) -> Allowance {
+    let (all, per_tag) = text.split_once(' ').unwrap_or((text, text));
+    Allowance {
+        all: number_of(all).unwrap_or(0),
+        per_tag: number_of(per_tag).unwrap_or(0),
+    }
+}
+
 /// Plays a scene: its title, how many NOTIFYs may be open, and its lines.
 pub(crate) fn tell_scene(rt: &(impl Print + AllocGlobal), scene: &str) -> io::Result<()> {
     let (title, lines) = scene.split_once('\n').unwrap_or((scene, ""));
     println!(rt; "- {title}")?;
     let (room, lines) = lines.split_once('\n').unwrap_or((lines, ""));
-    let limit = number_of(room).unwrap_or(0);
-    let mut open = Transactions::new(rt.alloc(), limit).map_err(error_of)?;
+    let mut open = Transactions::new(rt.alloc(), allowance(room)).map_err(error_of)?;
     for text in lines.lines() {
         let is_so = goes(rt.alloc(), &mut open, text);
         tell(rt, text, is_so)?;

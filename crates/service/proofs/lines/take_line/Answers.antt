@@ -1,7 +1,7 @@
-use Rattle.std.proofs.Common.{refl}
+use Rattle.std.proofs.Common.{refl, inl}
 use Rattle.service.specs.declared.lines.Handled.TheVariants as did
 use Rattle.control_lines.specs.declared.answer.ControlAnswer.TheVariants as answer
-use Rattle.service.proofs.Doing.{done_changed, done_found, done_none}
+use Rattle.service.proofs.Doing.{done_changed, done_found, done_none, done_reload}
 use Rattle.service.proofs.lines.take_line.Goals as goal
 
 pub returns-in-Change-clause-done : goal.returns-in-Change-clause-done
@@ -16,10 +16,13 @@ pub returns-in-Close-clause-done : goal.returns-in-Close-clause-done
 returns-in-Close-clause-done g c = done_none c.args.octets.now c.args.told.now c.args.port.now c.args.port.now did.Closing (refl, c.in-Close.ensures)
 
 pub returns-in-Nothing-clause-done : goal.returns-in-Nothing-clause-done
-returns-in-Nothing-clause-done g c = done_none c.args.octets.now c.args.told.now c.args.port.now c.args.port.now did.Unanswered (refl, c.in-Nothing.ensures)
+returns-in-Nothing-clause-done g c = done_none c.args.octets.now c.args.told.now c.args.port.now c.args.port.now did.Unanswered (refl, inl c.in-Nothing.ensures)
 
 pub returns-in-Bad-clause-done : goal.returns-in-Bad-clause-done
 returns-in-Bad-clause-done g c = done_none c.args.octets.now c.args.told.now c.args.port.now c.args.port.now (did.Answered answer.BadLine) (refl, c.in-Bad.ensures)
 
 pub returns-in-NoMemory-clause-done : goal.returns-in-NoMemory-clause-done
 returns-in-NoMemory-clause-done g c = done_none c.args.octets.now c.args.told.now c.args.port.now c.args.port.now (did.Answered answer.NoMemory) (refl, c.in-NoMemory.ensures)
+
+pub returns-in-Reload-clause-done : goal.returns-in-Reload-clause-done
+returns-in-Reload-clause-done g c = done_reload c.args.octets.now c.args.told.now c.args.port.now c.args.port.now c.reload.result c.in-Reload.ensures c.reload.ensures

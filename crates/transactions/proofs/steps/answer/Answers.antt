@@ -16,19 +16,19 @@ unfolding answer
 one s tag number status e = sym (ap (λ b. if b then record s { live = without tag s.live } else at_name tag number (answered status) s) e)
 
 pub returns-then-status-eq-GONE-clause-answered : goal.returns-then-status-eq-GONE-clause-answered
-returns-then-status-eq-GONE-clause-answered c = λ limit.
+returns-then-status-eq-GONE-clause-answered c = λ allowance.
     let old = c.args.book.now in
     let tag = c.args.tag.now in
     let test : (c.args.status == GONE) ≡ true = grind (arith, nat_tests) in
-    same_state limit old.kept (without tag (live_list old)) c.end_tag.new.book c.end_tag.ensures.kept c.end_tag.ensures.live
-    ∙ gone (book_state limit old) tag c.args.number c.args.status test
+    same_state allowance old.kept (without tag (live_list old)) c.end_tag.new.book c.end_tag.ensures.kept c.end_tag.ensures.live
+    ∙ gone (book_state allowance old) tag c.args.number c.args.status test
 
 pub returns-else-status-eq-GONE-clause-answered : goal.returns-else-status-eq-GONE-clause-answered
-returns-else-status-eq-GONE-clause-answered c = λ limit.
+returns-else-status-eq-GONE-clause-answered c = λ allowance.
     let old = c.args.book.now in
     let tag = c.args.tag.now in
     let number = c.args.number in
     let status = c.args.status in
     let test : (status == GONE) ≡ false = grind (arith, nat_tests) in
-    same_state limit old.kept (filter_map (wherever tag number (answered status)) (live_list old)) c.answer_one.new.book c.answer_one.ensures.kept c.answer_one.ensures.live
-    ∙ one (book_state limit old) tag number status test
+    same_state allowance old.kept (filter_map (wherever tag number (answered status)) (live_list old)) c.answer_one.new.book c.answer_one.ensures.kept c.answer_one.ensures.live
+    ∙ one (book_state allowance old) tag number status test

@@ -30,15 +30,15 @@ early_due now b t e early some =
     absurd (let x = sym (ap is_some none) ∙ some in cc)
 
 pub returns-in_default-clause-turned : goal.returns-in_default-clause-turned
-returns-in_default-clause-turned c = λ limit. turn_none limit c.args.now c.args.book.now c.in_default.ensures.soonest
+returns-in_default-clause-turned c = λ allowance. turn_none allowance c.args.now c.args.book.now c.in_default.ensures.soonest
 
 pub returns-then-not-is_up-clause-turned : goal.returns-then-not-is_up-clause-turned
-returns-then-not-is_up-clause-turned c = λ limit.
+returns-then-not-is_up-clause-turned c = λ allowance.
     let b = c.args.book.now in
     let it = is_there (at b c.in-Some.place) c.in-Some.ensures.some in
     let result : c.is_up.result ≡ false = search rules in
     let early : nat_le (alarm it.0) c.args.now ≡ false = sym (ap (passes (is_up c.args.now)) it.1) ∙ sym c.is_up.ensures ∙ result in
-    turn_early limit c.args.now b it.0 (sym it.1 ∙ c.in-Some.ensures.soonest) early
+    turn_early allowance c.args.now b it.0 (sym it.1 ∙ c.in-Some.ensures.soonest) early
 
 pub returns-then-is_over-clause-sound : goal.returns-then-is_over-clause-sound
 returns-then-is_over-clause-sound c =
@@ -55,7 +55,7 @@ returns-then-is_over-clause-sound c =
     sound_step b c.take.new.self place it.0 (turned now) c.requires.sound step
 
 pub returns-then-is_over-clause-turned : goal.returns-then-is_over-clause-turned
-returns-then-is_over-clause-turned c = λ limit.
+returns-then-is_over-clause-turned c = λ allowance.
     let b = c.args.book.now in
     let place = c.in-Some.place in
     let now = c.args.now in
@@ -66,7 +66,7 @@ returns-then-is_over-clause-turned c = λ limit.
     let over : is_over now it.0 ≡ true = sym (ap (passes (is_over now)) it.1) ∙ sym c.is_over.ensures ∙ ended in
     let step : Step b c.take.new.self place it.0 (turned now) =
     take_step b c.take.new.self place it.0 (turned now) it.1 (gone now it.0 over) c.take.ensures.book c.take.ensures.kept c.take.ensures.taken c.take.ensures.len in
-    turn_up limit now b c.take.new.self it.0 (sym it.1 ∙ c.in-Some.ensures.soonest) up step.kept
+    turn_up allowance now b c.take.new.self it.0 (sym it.1 ∙ c.in-Some.ensures.soonest) up step.kept
     (live_step b c.take.new.self place it.0 (turned now) c.requires.sound step it.0.tag it.0.number (is_name it.0.tag it.0.number it.0 refl refl))
 
 pub returns-else-is_over-clause-sound : goal.returns-else-is_over-clause-sound
@@ -85,7 +85,7 @@ returns-else-is_over-clause-sound c =
     sound_step b c.again.new.self place it.0 (turned now) c.requires.sound step
 
 pub returns-else-is_over-clause-turned : goal.returns-else-is_over-clause-turned
-returns-else-is_over-clause-turned c = λ limit.
+returns-else-is_over-clause-turned c = λ allowance.
     let b = c.args.book.now in
     let place = c.in-Some.place in
     let now = c.args.now in
@@ -97,7 +97,7 @@ returns-else-is_over-clause-turned c = λ limit.
     let step : Step b c.again.new.self place it.0 (turned now) =
     put_step b c.again.new.self place it.0 (again now it.0) (turned now) it.1 (stays now it.0 over) (again_kin it.0 now (c.requires.sound.timely place it.0 it.1) up over)
     c.again.ensures.book c.again.ensures.kept (if_some (λ t. c.again.new.self.slab ≡ with_value b.slab place (again now t)) it.1 c.again.ensures.slab) in
-    turn_up limit now b c.again.new.self it.0 (sym it.1 ∙ c.in-Some.ensures.soonest) up step.kept
+    turn_up allowance now b c.again.new.self it.0 (sym it.1 ∙ c.in-Some.ensures.soonest) up step.kept
     (live_step b c.again.new.self place it.0 (turned now) c.requires.sound step it.0.tag it.0.number (is_name it.0.tag it.0.number it.0 refl refl))
 
 pub returns-then-is_over-clause-fewer : goal.returns-then-is_over-clause-fewer

@@ -4,8 +4,8 @@ use Rattle.control_lines.specs.declared.answer.ControlAnswer.TheVariants as answ
 use Rattle.control_lines.specs.Lines.{answer_text}
 use Rattle.service.specs.declared.lines.Handled.TheVariants as did
 use Rattle.service.specs.Taken.{IsReply, seen}
-use Rattle.service.specs.Told.{IsReport, IsShown, IsInquiry, IsWatched, dumped}
-use Rattle.service.proofs.Answering.{answered_by, foreign_by, unanswered_by, either_text, page_of}
+use Rattle.service.specs.Told.{IsRefusal, IsReport, IsShown, IsInquiry, IsWatched, dumped}
+use Rattle.service.proofs.Answering.{answered_by, ending_by, foreign_by, unanswered_by, either_text, page_of}
 use Rattle.service.proofs.lines.ControlDesk.answer.Goals as goal
 
 pub returns-in-Answered-clause-answered : goal.returns-in-Answered-clause-answered
@@ -55,6 +55,10 @@ pub returns-in-Closing-clause-answered : goal.returns-in-Closing-clause-answered
 returns-in-Closing-clause-answered g c =
     rw c.in-Closing.is (answered_by (seen c.args.self.now) did.Closing c.args.to (answer_text answer.Done) _ _ _ _ refl refl c.say-in-Closing.ensures.offered)
 
+pub returns-in-Ending-clause-answered : goal.returns-in-Ending-clause-answered
+returns-in-Ending-clause-answered g c =
+    rw c.in-Ending.is (ending_by (seen c.args.self.now) c.args.to (g.W.Wire.taken c.args.self.now.going) (g.W.Wire.failures c.args.self.now.going))
+
 pub returns-in-Gone-clause-answered : goal.returns-in-Gone-clause-answered
 returns-in-Gone-clause-answered g c =
     rw c.in-Gone.is (answered_by (seen c.args.self.now) did.Gone c.args.to (answer_text answer.Closed) _ _ _ _ refl refl c.say-in-Gone.ensures.offered)
@@ -67,3 +71,10 @@ returns-in-Watched-clause-answered g c =
     (either_text (IsReply desk (did.Watched m n)) c.watched-text.result answer.Busy
     (λ t is. inl (page_of (IsInquiry desk.rows m n) IsWatched c.inquiry.result c.watched-text.result c.inquiry.ensures c.watched-text.ensures t is)) (inr refl))
     c.say_text-in-Watched.ensures.offered)
+
+pub returns-in-Refused-clause-answered : goal.returns-in-Refused-clause-answered
+returns-in-Refused-clause-answered g c =
+    rw c.in-Refused.is (answered_by (seen c.args.self.now) did.Refused c.args.to _ _ _ _ _ refl
+    (either_text (IsReply (seen c.args.self.now) did.Refused) c.refusal-text.result answer.NoMemory
+    (λ t is. inl (subst (λ (o : Option (String Global)). IfSome o (λ x. IsRefusal (string_bytes x))) is c.refusal-text.ensures)) (inr refl))
+    c.say_text-in-Refused.ensures.offered)

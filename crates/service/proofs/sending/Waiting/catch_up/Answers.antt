@@ -9,5 +9,5 @@ returns-clause-does g c =
       late.0 ++ gone.0,
       none_more late.0 gone.0 late.1 gone.1,
       does_more late.2 (gone.2 _),
-      rowed_more late.0 gone.0 _ _ _ _ _ late.2.open_now late.3 gone.3,
+      rowed_more late.0 gone.0 _ _ _ late.3 gone.3,
     )

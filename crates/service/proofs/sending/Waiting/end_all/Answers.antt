@@ -1,14 +1,9 @@
-use Rattle.std.proofs.Common.{◌++◌, ◌∷◌, [], None, refl, ◌∙◌}
-use Rattle.feeds.specs.Emitted.{WireSeen}
+use Rattle.std.proofs.Common.{◌++◌, ◌∷◌, [], refl, ◌∙◌}
 use Rattle.std.specs.Prelude.{string_bytes}
 use Rattle.service.specs.Sending.{Gone}
 use Rattle.service.proofs.Acts.{does_none, does_more, does_gone, none_more}
 use Rattle.service.proofs.Rowing.{rowed_more, rowed_gone}
 use Rattle.service.proofs.sending.Waiting.end_all.Goals as goal
-
--- a wire of which nothing is told
-blank : WireSeen
-blank = record { taken = None; failures = 0 }
 
 pub loop-tag-init : goal.loop-tag-init
 loop-tag-init g c = record { acts = []; none = refl; does = λ wire. does_none _ wire; rowed = refl; burst = refl }
@@ -19,7 +14,7 @@ loop-tag-preserved g c =
       acts = was.acts ++ more;
       none = none_more was.acts more was.none refl;
       does = λ wire. does_more (was.does wire) (does_gone tag _ _ wire (rw c.as_str.ensures.value at one.transactions));
-      rowed = rowed_more was.acts more _ _ _ _ _ (was.does blank).open_now was.rowed (rowed_gone c.loop-tag.self.transactions tag _ _ (rw c.as_str.ensures.value at one.rows));
+      rowed = rowed_more was.acts more _ _ _ was.rowed (rowed_gone tag _ _ (rw c.as_str.ensures.value at one.rows));
       burst = one.burst ∙ was.burst;
     }
 

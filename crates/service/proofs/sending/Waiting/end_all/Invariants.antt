@@ -9,6 +9,6 @@ invariant-loop-tag g l = record {
   acts : List Act;
   none : fates acts ≡ [];
   does : (wire : WireSeen) → Does acts l.fn.self.transactions l.self.transactions wire wire;
-  rowed : AreRowed l.fn.self.transactions acts l.fn.self.watchers.rows l.self.watchers.rows;
+  rowed : AreRowed acts l.fn.self.watchers.rows l.self.watchers.rows;
   burst : l.self.burst ≡ l.fn.self.burst;
 }

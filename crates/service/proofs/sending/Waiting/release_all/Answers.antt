@@ -15,7 +15,7 @@ loop-notice-preserved g c =
       acts = was.acts ++ more;
       none = none_more was.acts more was.none refl;
       does = does_more was.does one.does.1;
-      rowed = rowed_more was.acts more _ _ _ _ _ was.does.open_now was.rowed (c.release.new.self.watchers.rows, one.seen, refl);
+      rowed = rowed_more was.acts more _ _ _ was.rowed (c.release.new.self.watchers.rows, one.seen, refl);
       given = grows_same _ _ _ [] was.given one.given;
       burst = one.burst ∙ was.burst;
     }

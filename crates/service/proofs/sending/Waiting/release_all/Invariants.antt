@@ -11,7 +11,7 @@ invariant-loop-notice g l = record {
   none : fates acts ≡ [];
   does : Does acts l.fn.self.transactions l.self.transactions
       (wire_seen g.W.Wire.taken g.W.Wire.failures l.fn.wire) (wire_seen g.W.Wire.taken g.W.Wire.failures l.wire);
-  rowed : AreRowed l.fn.self.transactions acts l.fn.self.watchers.rows l.self.watchers.rows;
+  rowed : AreRowed acts l.fn.self.watchers.rows l.self.watchers.rows;
   given : Grows (g.W.Wire.given l.fn.wire) (g.W.Wire.given l.wire) [];
   burst : l.self.burst ≡ l.fn.self.burst;
 }

@@ -10,7 +10,7 @@ returns-then-is_over-clause-does g c = (
   GaveUp c.args.now ∷ [],
   refl,
   does_give_up c.args.now c.in-Some.due.now _ _ (sym c.in-Some.ensures) c.turn.ensures.turned _ (sym c.is_over.ensures ∙ c.if-is_over.true),
-  rowed_give_up c.args.self.now.transactions c.args.now _,
+  rowed_give_up c.args.now _,
 )
 
 pub returns-clause-does : goal.returns-clause-does
@@ -20,5 +20,5 @@ returns-clause-does g c =
       refl,
       does_repeat c.args.now due _ _ (sym c.in-Some.ensures) c.turn-2.ensures.turned again.result _ _ (sym c.is_over.ensures ∙ c.if-is_over.false)
           again.ensures.taken again.ensures.failures,
-      rowed_repeat c.args.self.now.transactions c.args.now (datagram due.to due.bytes) again.result _,
+      rowed_repeat c.args.now (datagram due.to due.bytes) again.result _,
     )

@@ -14,7 +14,7 @@ returns-then-taken-clause-does g c =
       goes_on_more _ _ _ (map noted notes.0 ++ sent.0) _ _ first.kept first.none (ap (λ b. b.items) (late.burst ∙ all.burst) ∙ first.none)
           (none_more (map noted notes.0) sent.0 (noted_fates notes.0) sent.1)
           (does_more (does_notes notes.0 _ _ _ notes.1) sent.2)
-          (rowed_after_notes notes.0 sent.0 _ _ _ _ _ notes.1 notes.2 sent.3),
+          (rowed_after_notes notes.0 sent.0 _ _ _ notes.2 sent.3),
     )
 
 pub returns-then-watch-eq0-clause-does : goal.returns-then-watch-eq0-clause-does
@@ -24,7 +24,7 @@ returns-then-watch-eq0-clause-does g c =
       goes_on_more _ _ _ (map noted notes.0 ++ sent.0) _ _ first.kept first.none (ap (λ b. b.items) (late.burst ∙ all.burst) ∙ first.none)
           (none_more (map noted notes.0) sent.0 (noted_fates notes.0) sent.1)
           (does_more (does_notes notes.0 _ _ _ notes.1) sent.2)
-          (rowed_after_notes notes.0 sent.0 _ _ _ _ _ notes.1 notes.2 sent.3),
+          (rowed_after_notes notes.0 sent.0 _ _ _ notes.2 sent.3),
     )
 
 pub returns-then-was_due-clause-does : goal.returns-then-was_due-clause-does
@@ -35,7 +35,7 @@ returns-then-was_due-clause-does g c =
       goes_on_more _ _ _ (map noted notes.0 ++ rest) _ _ first.kept first.none (ap (λ b. b.items) (more.burst ∙ late.burst ∙ all.burst) ∙ first.none)
           (none_more (map noted notes.0) rest (noted_fates notes.0) (none_more sent.0 again.0 sent.1 again.1))
           (does_more (does_notes notes.0 _ _ _ notes.1) (does_more sent.2 again.2))
-          (rowed_after_notes notes.0 rest _ _ _ _ _ notes.1 notes.2 (rowed_more sent.0 again.0 _ _ _ _ _ sent.2.open_now sent.3 again.3)),
+          (rowed_after_notes notes.0 rest _ _ _ notes.2 (rowed_more sent.0 again.0 _ _ _ sent.3 again.3)),
     )
 
 pub returns-else-was_due-clause-does : goal.returns-else-was_due-clause-does
@@ -46,5 +46,5 @@ returns-else-was_due-clause-does g c =
       goes_on_more _ _ _ (map noted notes.0 ++ rest) _ _ first.kept first.none (ap (λ b. b.items) (more.burst ∙ late.burst ∙ all.burst) ∙ first.none)
           (none_more (map noted notes.0) rest (noted_fates notes.0) (none_more sent.0 again.0 sent.1 again.1))
           (does_more (does_notes notes.0 _ _ _ notes.1) (does_more sent.2 again.2))
-          (rowed_after_notes notes.0 rest _ _ _ _ _ notes.1 notes.2 (rowed_more sent.0 again.0 _ _ _ _ _ sent.2.open_now sent.3 again.3)),
+          (rowed_after_notes notes.0 rest _ _ _ notes.2 (rowed_more sent.0 again.0 _ _ _ sent.3 again.3)),
     )

@@ -9,7 +9,7 @@ pub returns-in-Some-clause-kept : goal.returns-in-Some-clause-kept
 returns-in-Some-clause-kept c =
     let tag : c.as_str.result.now ≡ c.args.tag = search rules in
     keep_some c.args.self.now c.args.now c.args.tag c.args.number c.args.to c.args.bytes c.in-Some.why
-    (c.in-Some.ensures.value ∙ ap (λ x. refusal (book_state c.self.inside.limit c.self.inside.book) x c.args.number) tag ∙ ap (λ s. refusal s c.args.tag c.args.number) c.self.view_is)
+    (c.in-Some.ensures.value ∙ ap (λ x. refusal (book_state c.self.inside.allowance c.self.inside.book) x c.args.number) tag ∙ ap (λ s. refusal s c.args.tag c.args.number) c.self.view_is)
 
 pub add-requires-clause-room : goal.add-requires-clause-room
 add-requires-clause-room c = let room = c.refusal.ensures.room c.in_default.is in let holds = c.self.invariant.1 in omega (arith, room, holds)
@@ -36,10 +36,10 @@ add-requires-clause-in_range c = let first = (begins _ _ _ _ _ _ _ c.sent-sent.e
 pub returns-clause-kept : goal.returns-clause-kept
 returns-clause-kept c =
     let old = c.self.inside.book in
-    let limit = c.self.inside.limit in
-    let s = book_state limit old in
+    let allowance = c.self.inside.allowance in
+    let s = book_state allowance old in
     let tag : c.as_str.result.now ≡ c.args.tag = search rules in
     let none : None ≡ refusal s c.args.tag c.args.number = sym c.in_default.is ∙ c.refusal.ensures.value ∙ ap (λ x. refusal s x c.args.number) tag in
-    same_state limit _ _ c.add.new.book c.add.ensures.kept (c.add.ensures.live ∙ ap (λ t. live_list old ++ t ∷ []) c.sent-sent.ensures)
+    same_state allowance _ _ c.add.new.book c.add.ensures.kept (c.add.ensures.live ∙ ap (λ t. live_list old ++ t ∷ []) c.sent-sent.ensures)
     ∙ keep_none s c.args.now c.args.tag c.args.number c.args.to c.args.bytes none
     ∙ ap (λ x. keep x c.args.now c.args.tag c.args.number c.args.to c.args.bytes) c.self.view_is

@@ -1,0 +1,222 @@
+//! The files of a service, read again at a RELOAD, and what goes on from one run of it to the next.
+//!
+//! A thread of its own reads them while the service runs, so that it is known whether they are good before anything ends. Where they are, the
+//! run ends, and the next one begins from the journal as a start would, with the plan that this thread made. The lock on the folder of the
+//! journal is held from run to run, and the sockets stay open: what comes meanwhile waits there. The next run answers the RELOAD.
+ghost use Rattle.std.specs.Prelude.{◌≡◌, None, IfOk, IfErr, IfSome};
+ghost use Rattle.commands.specs.Plans.{IsPlan};
+ghost use Rattle.commands.specs.Refused.{IsOther};
+ghost use Rattle.commands.specs.Reloading.{IsRereading};
+
+use crate::error::ServeError;
+use crate::journal_folder::Folder;
+use crate::plan::{Plan, next_plan};
+use crate::sockets::Standby;
+use control_lines::ControlAnswer;
+use service::{Caller, Rereader, Shared};
+use sip_text::{NoMemory, Text};
+use std::alloc::{AllocError, Global};
+use std::fs::File;
+use std::random::RandomSource;
+use std::rt::{Clock, Files};
+use std::snapshot::Snapshot;
+use std::sync::{Arc, Wait};
+use std::thread;
+use std::thread::{Promise, PromisedHandle, Threads};
+use transport::{UdpWire, Wire};
+
+/// What goes on from one run of a service to the next.
+#[derive(Drop)]
+pub(crate) struct Carried {
+    /// What the words ask for, and what stands in the files that they name, as they were read last.
+    pub(crate) plan: Option<Plan>,
+    /// The folder of the journal, which no other service writes meanwhile.
+    pub(crate) folder: Option<Folder>,
+    pub(crate) sockets: Option<Standby>,
+    /// Who asked for the RELOAD by which the next run begins.
+    pub(crate) caller: Option<Caller>,
+}
+
+impl Carried {
+    /// Nothing: the service starts.
+    pub(crate) fn new() -> Carried
+        ensures plan { result.plan ≡ None }
+        ensures sockets { result.sockets ≡ None }
+    {
+        Carried {
+            plan: None,
+            folder: None,
+            sockets: None,
+            caller: None,
+        }
+    }
+}
+
+/// Answers who asked for the RELOAD by which a run begins, if it begins by one, by a further wire over this one: whatever comes behind the answer
+/// is taken by this run. Where it can't be sent who asks asks again, and is answered then.
+pub(crate) fn answer_reload<R: Wait>(
+    rt: &R,
+    shared: &Shared,
+    replies: &UdpWire,
+    caller: Option<Caller>,
+) {
+    let Some(caller) = caller else {
+        return;
+    };
+    shared.begin_behind(rt, caller.token);
+    let Ok(mut wire) = replies.further() else {
+        return;
+    };
+    let answer = ControlAnswer::Done.text().as_bytes();
+    let _ = wire.send(rt, caller.source, answer);
+}
+
+/// Why files are refused: the exit status of a start with them, and the words that such a start has for it. None where memory runs out.
+fn refusal(alloc: Global, error: &ServeError) -> Option<String> {
+    let status = error.status();
+    let text: Result<String, AllocError> = format!(in alloc; "{status} {error}");
+    text.ok()
+}
+
+/// Reads the files that the words name whenever that is asked for, until the service has ended. Answers what was read last, if it was good.
+fn read_again<R>(rt: &R, words: &[Text], rereader: &Rereader) -> Option<Plan>
+where
+    R: Threads + Wait + Clock + Files + RandomSource + AllocGlobal,
+    ensures { IfSome result (IsPlan words.now) }
+{
+    let mut last = None;
+    for _ in rt.forever() {
+        let Some(number) = rereader.next(rt) else {
+            return last;
+        };
+        match next_plan(rt, words) {
+            Ok(plan) => {
+                last = Some(plan);
+                rereader.accept(rt, number);
+            }
+            Err(error) => {
+                last = None;
+                rereader.refuse(rt, number, refusal(rt.alloc(), &error));
+            }
+        }
+    }
+    unreachable!()
+}
+
+/// What a thread promises that reads files again: what it leaves is what these words ask for.
+#[derive(Drop)]
+pub(crate) struct Rereading {
+    pub(crate) words: Snapshot<Vec<Text>>,
+}
+
+impl Promise<Option<Plan>> for Rereading {
+    ghost use Rattle.std.specs.Prelude.{IfSome};
+    ghost use Rattle.commands.specs.Plans.{IsPlan};
+
+    ghost kept_by = { λ rereading plan. IfSome plan (IsPlan rereading.words.value.items) };
+}
+
+/// A thread that reads files again.
+pub(crate) type Reader = PromisedHandle<Option<Plan>, Rereading>;
+
+/// What reads the files of a service again, where it has a journal from which the next run can go on.
+#[derive(Drop)]
+pub(crate) struct Reloader {
+    shared: Arc<Shared, Global>,
+    pub(crate) reader: Option<Reader>,
+}
+
+/// Copies of these words.
+fn copies(alloc: Global, words: &[Text]) -> Result<Vec<Text>, NoMemory>
+    ensures { IfOk result (λ copies. copies.items ≡ words.now) }
+{
+    let mut copies = Vec::new(alloc);
+    for word in words {
+        copies.push(word.copy(alloc)?)?;
+    }
+    Ok(copies)
+}
+
+/// Starts a thread that reads the files that these words name.
+fn start_reader<R>(
+    rt: R,
+    shared: &Arc<Shared, Global>,
+    words: &[Text],
+) -> Result<Reader, ServeError>
+where
+    R: Threads
+        + Wait
+        + Clock
+        + Files<File = File>
+        + RandomSource
+        + AllocGlobal
+        + Copy
+        + Send
+        + 'static,
+    R::Dir: Send,
+    ensures words { IfOk result (λ h. h.promise.words.value.items ≡ words.now) }
+    ensures refused { IfErr result IsOther }
+{
+    let rereader = Rereader::new(rt.alloc(), shared)?;
+    let words = copies(rt.alloc(), words)?;
+    let rereading = Rereading {
+        words: Snapshot::of(&words),
+    };
+    match thread::spawn_with(
+        &rt,
+        rereading,
+        move || -> Option<Plan>
+            ensures { IfSome result (IsPlan words.items) }
+        { read_again(&rt, words.as_slice(), &rereader) },
+    ) {
+        Ok(reader) => Ok(reader),
+        Err(_) => Err(ServeError::System),
+    }
+}
+
+impl Reloader {
+    /// Begins to wait for a RELOAD, where the service has a journal.
+    pub(crate) fn begin<R>(
+        rt: R,
+        shared: &Arc<Shared, Global>,
+        words: &[Text],
+        has_journal: bool,
+    ) -> Result<Reloader, ServeError>
+    where
+        R: Threads
+            + Wait
+            + Clock
+            + Files<File = File>
+            + RandomSource
+            + AllocGlobal
+            + Copy
+            + Send
+            + 'static,
+        R::Dir: Send,
+        ensures words { IfOk result (IsRereading words.now) }
+        ensures refused { IfErr result IsOther }
+    {
+        let ours = Arc::try_clone(shared)?;
+        let reader = if has_journal {
+            Some(start_reader(rt, shared, words)?)
+        } else {
+            None
+        };
+        Ok(Reloader {
+            shared: ours,
+            reader,
+        })
+    }
+
+    /// Waits no more: the run has ended. Answers what was read last for it, if that was good.
+    pub(crate) fn end<R: Threads + Wait>(self, rt: &R) -> Option<Plan>
+        ensures { (words : _) → IsRereading words self → IfSome result (IsPlan words) }
+    {
+        let Reloader { shared, reader } = self;
+        shared.finish_reading();
+        match reader {
+            Some(reader) => reader.join(rt),
+            None => None,
+        }
+    }
+}

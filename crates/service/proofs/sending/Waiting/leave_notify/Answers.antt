@@ -1,0 +1,13 @@
+use Rattle.std.proofs.Common.{◌∷◌, [], refl, ap}
+use Rattle.std.specs.Prelude.{is_some}
+use Rattle.service.specs.Sending.{Held}
+use Rattle.service.proofs.Keeping.{kept_more}
+use Rattle.service.proofs.sending.Waiting.leave_notify.Goals as goal
+
+pub returns-in-Ok-clause-notify : goal.returns-in-Ok-clause-notify
+returns-in-Ok-clause-notify g c = ap is_some c.in-Ok.ensures.notify
+
+pub returns-in-Ok-clause-held : goal.returns-in-Ok-clause-held
+returns-in-Ok-clause-held g c = λ s rows acts now is.
+    let last = c.settle.ensures in
+    kept_more (last.kept s rows acts is) last.none (Held now c.args.out ∷ []) _ last.none refl (c.settle.new.self.watchers.rows, refl, refl)

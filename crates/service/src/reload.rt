@@ -1,0 +1,254 @@
+//! RELOAD: the files of a service are read again while it runs. Where they are good its run ends as by a kill that loses nothing, and the
+//! next one goes on from the journal with what they say.
+//!
+//! The thread that takes lines asks for it, and waits a while. One that whoever runs the service has started reads the files and tells what
+//! came of it (`Rereader`). So a service begins its next run only once its files are known to be good.
+
+use crate::shared::Shared;
+use control_lines::Token;
+use crossbeam_utils::sync::{Parker, Unparker};
+use sip_text::{Addr, NoMemory};
+use std::alloc::Global;
+use std::rt::Clock;
+use std::sync::{Arc, Mutex, OnceLock, Wait};
+use std::thread;
+use std::time::Duration;
+
+/// How often it is looked at most whether the files were read. Together that is shorter than the time for which other lines are asked.
+const LOOKS: u32 = 200;
+
+/// How many milliseconds pass between two looks.
+const NAP: u64 = 2;
+
+/// For how many milliseconds who reads sleeps at most. Whoever asks wakes it.
+const SLEEP: u64 = 1000;
+
+/// Who sent a control line.
+#[derive(Clone, Copy)]
+pub struct Caller {
+    /// The token before the line.
+    pub token: Option<Token>,
+    /// Where the line came from, and the answer goes.
+    pub source: Addr,
+}
+
+/// What became of a RELOAD so far.
+#[derive(Clone, Copy, PartialEq, Eq)]
+pub(crate) enum Reloading {
+    /// The files are still being read.
+    Waits,
+    /// It is refused.
+    Refused,
+    /// The files are good: the run ends.
+    Begins,
+}
+
+/// What was asked last.
+#[derive(Drop)]
+struct Wish {
+    /// Who asks.
+    caller: Option<Caller>,
+    /// How many were asked before.
+    number: u64,
+    stage: Reloading,
+    /// Why it is refused. None where there was no memory for it.
+    why: Option<String>,
+    /// The token of the line by which this run began.
+    done: Option<Token>,
+}
+
+impl Wish {
+    /// Nothing is asked.
+    fn new() -> Wish {
+        Wish {
+            caller: None,
+            number: 0,
+            stage: Reloading::Waits,
+            why: None,
+            done: None,
+        }
+    }
+
+    /// Whether a line with this token asked last.
+    fn is_asked_by(&self, token: Option<Token>) -> bool {
+        match self.caller {
+            Some(caller) => token.is_some() && caller.token == token,
+            None => false,
+        }
+    }
+
+    /// Somebody asks. A line that came before, with the same token, asks for nothing new.
+    fn ask(&mut self, caller: Caller) {
+        if !self.is_asked_by(caller.token) {
+            self.number = self.number.wrapping_add(1);
+            self.stage = Reloading::Waits;
+            self.why = None;
+        }
+        self.caller = Some(caller);
+    }
+
+    /// The line with this token is that by which this run began.
+    fn begin_behind(&mut self, token: Option<Token>) {
+        self.done = token;
+    }
+
+    /// Whether it is.
+    fn is_behind(&self, token: Option<Token>) -> bool {
+        token.is_some() && self.done == token
+    }
+
+    /// Why what was asked last is refused.
+    fn reason(&self) -> Option<&str> {
+        match &self.why {
+            Some(why) => Some(why.as_str()),
+            None => None,
+        }
+    }
+
+    /// The number of what is to be read for, if something is.
+    fn wanted(&self) -> Option<u64> {
+        if self.caller.is_some() && self.stage == Reloading::Waits {
+            Some(self.number)
+        } else {
+            None
+        }
+    }
+
+    /// The files are good, as was asked by this number. What is asked since is read for anew.
+    fn accept(&mut self, number: u64) {
+        if self.number == number {
+            self.stage = Reloading::Begins;
+        }
+    }
+
+    /// They are not, or can't be read again, and this is why.
+    fn refuse(&mut self, number: u64, why: Option<String>) {
+        if self.number == number {
+            self.stage = Reloading::Refused;
+            self.why = why;
+        }
+    }
+}
+
+/// What was asked last, and who reads the files.
+#[derive(Drop)]
+pub(crate) struct Reloads {
+    wish: Mutex<Wish>,
+    /// What wakes the thread that reads, once there is one.
+    reader: OnceLock<Unparker>,
+}
+
+impl Reloads {
+    /// Nothing is asked, and nobody reads.
+    pub(crate) fn new() -> Reloads {
+        Reloads {
+            wish: Mutex::new(Wish::new()),
+            reader: OnceLock::new(),
+        }
+    }
+
+    /// From now on this wakes the thread that reads.
+    fn set_reader(&self, reader: Unparker) {
+        if let Err(other) = self.reader.try_set(reader) {
+            drop(other);
+        }
+    }
+
+    /// Wakes the thread that reads.
+    pub(crate) fn wake(&self) {
+        if let Some(reader) = self.reader.get() {
+            reader.unpark();
+        }
+    }
+
+    /// The line with this token is that by which this run began.
+    pub(crate) fn begin_behind<R: Wait>(&self, rt: &R, token: Option<Token>) {
+        self.wish.lock(rt).begin_behind(token);
+    }
+
+    /// Whether it is.
+    pub(crate) fn is_behind<R: Wait>(&self, rt: &R, token: Option<Token>) -> bool {
+        self.wish.lock(rt).is_behind(token)
+    }
+
+    /// Who asked last.
+    pub(crate) fn caller<R: Wait>(&self, rt: &R) -> Option<Caller> {
+        self.wish.lock(rt).caller
+    }
+
+    /// Refuses what is asked, since no next run could go on.
+    pub(crate) fn refuse<R: Wait>(&self, rt: &R, caller: Caller, why: Option<String>) {
+        let mut wish = self.wish.lock(rt);
+        wish.ask(caller);
+        let number = wish.number;
+        wish.refuse(number, why);
+    }
+
+    /// How far it is.
+    fn stage<R: Wait>(&self, rt: &R) -> Reloading {
+        self.wish.lock(rt).stage
+    }
+
+    /// Asks who reads to read, and waits a while for what comes of it.
+    pub(crate) fn ask<R: Wait + Clock>(&self, rt: &R, caller: Caller) -> Reloading {
+        self.wish.lock(rt).ask(caller);
+        self.wake();
+        for _ in 0..LOOKS {
+            match self.stage(rt) {
+                Reloading::Waits => thread::sleep(rt, Duration::from_millis(NAP)),
+                came => return came,
+            }
+        }
+        Reloading::Waits
+    }
+
+    /// Why the last one is refused. None where there is no memory for it.
+    pub(crate) fn why<R: Wait>(&self, rt: &R, alloc: Global) -> Option<String> {
+        let wish = self.wish.lock(rt);
+        match wish.reason() {
+            Some(why) => String::from_str(alloc, why).ok(),
+            None => None,
+        }
+    }
+}
+
+/// Who reads the files of a service again.
+#[derive(Drop)]
+pub struct Rereader {
+    shared: Arc<Shared, Global>,
+    parker: Parker,
+}
+
+impl Rereader {
+    /// One for the service whose threads share this.
+    pub fn new(alloc: Global, shared: &Arc<Shared, Global>) -> Result<Rereader, NoMemory> {
+        let parker = Parker::new(alloc)?;
+        let shared = Arc::try_clone(shared)?;
+        shared.reloads.set_reader(parker.unparker().clone()?);
+        Ok(Rereader { shared, parker })
+    }
+
+    /// Waits until the files are to be read, and answers the number of who asks. None once all was sent out.
+    pub fn next<R: Wait + Clock>(&self, rt: &R) -> Option<u64> {
+        for _ in rt.forever() {
+            if self.shared.is_finished() {
+                return None;
+            }
+            if let Some(number) = self.shared.reloads.wish.lock(rt).wanted() {
+                return Some(number);
+            }
+            self.parker.park_timeout(rt, Duration::from_millis(SLEEP));
+        }
+        unreachable!()
+    }
+
+    /// The files that were read for who has this number are good.
+    pub fn accept<R: Wait>(&self, rt: &R, number: u64) {
+        self.shared.reloads.wish.lock(rt).accept(number);
+    }
+
+    /// They are not, or memory ran out: why, if there is memory to say so.
+    pub fn refuse<R: Wait>(&self, rt: &R, number: u64, why: Option<String>) {
+        self.shared.reloads.wish.lock(rt).refuse(number, why);
+    }
+}
