@@ -4,6 +4,7 @@
     .ci/edits.py --check              says what is wrong with them; the status is 1 where something is
     .ci/edits.py --mend               writes each crates/NAME/wrong.edits anew, in order
     .ci/edits.py --print CRATE/NAME   prints one as a file of must-fail/, to be tried or to be moved there
+    .ci/edits.py --move CRATE         moves those of must-fail/ into the list, for each landing
 
 crates/NAME/wrong.edits has each wrong body of a crate that the prover must refuse, with an empty line between two:
 
@@ -13,13 +14,17 @@ crates/NAME/wrong.edits has each wrong body of a crate that the prover must refu
     old: return Err(SendError::Closed(event));  stands once in that file
     new: drop(event); return Ok(());            stands in its place
 
-Further pairs of `old:` and `new:`, also of other files, apply to what the earlier ones made. Those that `rt ci` tries at each landing stand
-in files of their own, must-fail/NAME.edit, since it looks for them there: they are listed with `must-fail: yes` in place of their texts.
+Further pairs of `old:` and `new:`, also of other files, apply to what the earlier ones made. Each landing tries some:
+
+- `rt ci` those in files of their own, must-fail/NAME.edit, since it looks for them there. They are listed with `must-fail: yes` in place of
+  their texts. For these it proves the crate a second time.
+- `.ci/wrong --landing` those that have the line `at-landing: yes` behind `of:`. Each changes functions alone, and only these are checked.
 
 --check tells of a text to be changed that doesn't stand there once, of a wrong `of:`, of a name that stands twice, of a file of
-must-fail/ that isn't listed, and of other numbers in docs/testing.md than there are. --mend writes these numbers, `of:` as it is, lists
-what stands in must-fail/, takes in what stands in files crates/NAME/wrong/NAME.edit, as one writes a new one or another text of an old one,
-and removes these. It leaves a list as it is that has a line which is none of an edit, or a name twice.
+must-fail/ that isn't listed, of one for each landing that changes more than functions, and of other numbers in docs/testing.md than there
+are. --mend writes these numbers, `of:` as it is, lists what stands in must-fail/, takes in what stands in files crates/NAME/wrong/NAME.edit,
+as one writes a new one or another text of an old one, and removes these. It leaves a list as it is that has a line which is none of an edit,
+or a name twice.
 """
 import glob
 import os
@@ -27,13 +32,12 @@ import re
 import sys
 
 sys.dont_write_bytecode = True
+import paths
 from copies import TOP, graph, read, write
 
 LIST = "wrong.edits"
 
 HEAD = "# Wrong bodies of {}: the prover must refuse each. `.ci/edits.py` says how they are written.\n"
-
-FUNCTION = re.compile(r"^( *)(?:pub(?:\([a-z]+\))? )?(?:const )?fn (\w+)", re.M)
 
 # What begins something that has a name: in code a function, a type, a trait or a constant, in definitions a line that isn't indented, or
 # one that begins a definition of a module without a name.
@@ -47,7 +51,8 @@ OWNER = re.compile(r"^(?:unsafe )?(?:impl\b(?:<.*?>)? (?:[^{\n]* for )?|(?:pub )
 PAGE = f"{TOP}/docs/testing.md"
 
 # How that page counts them.
-COUNTS = re.compile(r"\*\*(\d+) stand in `must-fail/`, (\d+) in `wrong\.edits` alone, (\d+) in `run-refuses/`\.\*\*")
+COUNTED = "**{} stand in `must-fail/`, {} in `wrong.edits` alone ({} for each landing), {} in `run-refuses/`.**"
+COUNTS = re.compile(re.escape(COUNTED).replace(r"\{\}", r"\d+"))
 
 
 class Edit:
@@ -55,6 +60,7 @@ class Edit:
 
     def __init__(self, crate, title, lines):
         self.crate, self.title, self.name, self.changes = crate, title, f"{crate}/{title}", []
+        self.at_landing, self.changes_contract = "at-landing: yes" in lines, False
         file = old = ""
         for line in lines:
             if line.startswith("file: "):
@@ -80,18 +86,19 @@ class Edit:
         return bool(self.changes) and all(text.count(old) == 1 for _, text, old in self.steps(folder, texts))
 
     def functions(self, folder):
-        """The functions that it changes, as (file, name), or None where it changes something else too."""
-        found = set()
-        for file, old, _ in self.changes:
-            text = read(f"{folder}/crates/{self.crate}/{file}")
+        """The functions that it changes, by their paths in the crate, or None where it changes something else too. Notes whether it changes
+        what stands before a body: others rest on that, so that what the prover says of them may not be theirs."""
+        top = f"{folder}/crates/{self.crate}/"
+        every = {it[len(top) :]: read(it) for it in glob.glob(f"{top}src/**/*.rt", recursive=True)}
+        found, texts = set(), {}
+        for file, text, old in self.steps(folder, texts):
             at = text.find(old)
-            before = [it for it in FUNCTION.finditer(text) if it.start() <= at + len(old)] if file.endswith(".rt") else []
-            if at < 0 or not before:
+            before = [it for it in paths.FUNCTION.finditer(text) if it.start() <= at + len(old)] if file in every else []
+            end = before and re.compile(f"^{before[-1][1]}}}", re.M).search(text, before[-1].end())
+            if at < 0 or not end or end.start() < at:
                 return None
-            end = re.compile(f"^{before[-1][1]}}}", re.M).search(text, before[-1].end())
-            if not end or end.start() < at:
-                return None
-            found.add((file, before[-1][2]))
+            found.add(paths.path({**every, file: text}, file, before[-1]))
+            self.changes_contract = self.changes_contract or at < paths.body(text, before[-1])
         return found
 
     def of(self, folder):
@@ -151,7 +158,7 @@ def unread(folder, crate):
     """What of a crate's list can't be read, or stands twice, as lines."""
     path, landing, seen = f"{folder}/crates/{crate}/{LIST}", {it.title: it for it in files(folder, crate, "must-fail")}, set()
     for number, line in enumerate(read(path).split("\n") if os.path.isfile(path) else [], 1):
-        if line and not re.match(r"name: \w+$|of: .|must-fail: yes$|file: .|old: .|new:(?: |$)", line) and (number > 1 or line[0] != "#"):
+        if line and not re.match(r"name: \w+$|of: .|must-fail: yes$|at-landing: yes$|file: .|old: .|new:(?: |$)", line) and (number > 1 or line[0] != "#"):
             yield f"{crate}/{LIST}:{number}: no line of an edit: {line[:60]}"
     for title, _, edit in entries(folder, crate):
         if title in seen or edit and title in landing and edit.changes != landing[title].changes:
@@ -174,6 +181,8 @@ def faults(folder, crate):
             yield f"{crate}/{title}: what it changes doesn't stand there once"
         elif edit.of(folder) != of:
             yield f"{crate}/{title}: it is of {edit.of(folder)}, and not of {of}"
+        elif edit.at_landing and not edit.functions(folder):
+            yield f"{crate}/{title}: it changes more than functions, so no landing can try these alone"
     yield from (f"{crate}/{it}: it isn't in {LIST}" for it in landing if it not in seen)
     for edit in files(folder, crate, "wrong"):
         yield f"{edit.name}: it stands in a file of wrong/, and not in {LIST}"
@@ -188,10 +197,10 @@ def mend(folder, crate):
         return
     new = {it.title: it for it in files(folder, crate, "wrong")}
     landing = {it.title: it for it in files(folder, crate, "must-fail")}
-    rows = []
-    for title, edit in ({it.title: it for it in listed(folder, crate)} | new | landing).items():
-        of = edit.of(folder)
-        texts = ["must-fail: yes"] if title in landing else edit.lines()
+    rows, old = [], {it.title: it for it in listed(folder, crate)}
+    for title, edit in (old | new | landing).items():
+        of, is_marked = edit.of(folder), any(it[title].at_landing for it in (old, new) if title in it)
+        texts = ["must-fail: yes"] if title in landing else ["at-landing: yes"] * is_marked + [*edit.lines()]
         place = edit.changes[0][0] if edit.changes else ""
         rows.append(((place, of, title), "".join(f"{it}\n" for it in ["", f"name: {title}", f"of: {of}", *texts])))
     if rows:
@@ -202,15 +211,24 @@ def mend(folder, crate):
         os.rmdir(f"{folder}/crates/{crate}/wrong")
 
 
+def move(crate):
+    """Makes those of a crate's must-fail/ files of wrong/, so that --mend takes them in for each landing."""
+    os.makedirs(f"{TOP}/crates/{crate}/wrong", exist_ok=True)
+    for path in glob.glob(f"{TOP}/crates/{crate}/must-fail/*.edit"):
+        write(f"{TOP}/crates/{crate}/wrong/{os.path.basename(path)}", "at-landing: yes\n" + read(path))
+        os.remove(path)
+
+
 def counts():
-    """How many wrong bodies stand in must-fail/, in the lists alone, and in run-refuses/."""
+    """How many wrong bodies stand in must-fail/, in the lists alone, how many of these each landing tries, and how many in run-refuses/."""
     landing, run = (sum(len(files(TOP, crate, kind)) for crate in graph()) for kind in ("must-fail", "run-refuses"))
-    return landing, sum(len(listed(TOP, crate)) for crate in graph()), run
+    alone = [it for crate in graph() for it in listed(TOP, crate)]
+    return landing, len(alone), sum(it.at_landing for it in alone), run
 
 
 def counted(page):
     """The page with these numbers in their place."""
-    return COUNTS.sub(lambda _: "**{} stand in `must-fail/`, {} in `wrong.edits` alone, {} in `run-refuses/`.**".format(*counts()), page)
+    return COUNTS.sub(lambda _: COUNTED.format(*counts()), page)
 
 
 def main(words):
@@ -219,6 +237,9 @@ def main(words):
         found = [it for it in edits_of(TOP, words[1].partition("/")[0]) if it.name == words[1] and it.changes]
         print("\n".join(found[0].lines()) if found else f"no wrong body {words[1]}")
         return 0 if found else 1
+    if len(words) == 2 and words[0] == "--move" and words[1] in graph():
+        move(words[1])
+        words = ["--mend"]
     if words == ["--mend"]:
         for crate in graph():
             mend(TOP, crate)
@@ -229,8 +250,7 @@ def main(words):
     wrong += [] if COUNTS.search(read(PAGE)) and counted(read(PAGE)) == read(PAGE) else ["docs/testing.md: it counts them otherwise: .ci/edits.py --mend"]
     for line in wrong:
         print(line)
-    landing, later, run = counts()
-    print(f"{landing} wrong bodies in must-fail/, {later} in {LIST} alone, {run} in run-refuses/; {len(wrong)} faults")
+    print("{} wrong bodies in must-fail/, {} in wrong.edits alone, {} of these for each landing, {} in run-refuses/".format(*counts()) + f"; {len(wrong)} faults")
     return 1 if wrong else 0
 
 
