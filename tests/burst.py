@@ -9,7 +9,7 @@ import time
 
 from phone import PATIENCE, open_socket
 from service import SUBSCRIBE, Service, counters_become
-from suite import same
+from suite import comes_true, same
 from watchers import Crowd, Feeder, Network, Watcher
 
 WATCHERS = 60
@@ -25,6 +25,9 @@ INBOX, SURE, MORE, CHUNK = 1024, 960, 160, 64
 
 # Seconds in which the thread that hears takes what it may.
 PAUSE = 0.5
+
+# A thread's number is less.
+MOST_THREADS = 1 << 22
 
 # The requests of ptrace(2), and what waits for a thread as for a process.
 SEIZE, INTERRUPT, DETACH, ALL = 0x4206, 0x4207, 17, 0x40000000
@@ -98,7 +101,9 @@ def a_worker_stands_still(program, folder):
     count = SURE + MORE
     with Service(program, "--workers", "1", "--linger", "0", "--keep-subscriptions", "alice") as service, service.operator() as operator:
         operator.counters()
-        _sender, worker, *_others = sorted(int(thread) for thread in os.listdir(f"/proc/{service.running.process.pid}/task"))
+        number = service.running.process.pid
+        # In the order in which they began, also where the numbers of threads begin anew.
+        _sender, worker, *_others = sorted(map(int, os.listdir(f"/proc/{number}/task")), key=lambda thread: (thread - number) % MOST_THREADS)
         with open_socket(("127.0.0.1", service.sip)) as phone:
             with held(worker):
                 for number in range(1, SURE + 1):
@@ -107,6 +112,7 @@ def a_worker_stands_still(program, folder):
                         counters_become(operator, lambda: {"datagrams": str(number)})
                 for number in range(SURE + 1, count + 1):
                     phone.send(request(number))
+                comes_true(lambda: int(operator.counters()["datagrams"]) > SURE)
                 time.sleep(PAUSE)
                 told = operator.counters()
                 same("how many were answered meanwhile", "0", told["answers"])

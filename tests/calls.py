@@ -10,11 +10,10 @@ import re
 import resource
 import socket
 import sys
-import time
 
 from pages import SEED, data
 from phone import Message
-from suite import LONG_LIMIT, Ended, Running, brief, ended_with, free_port, run, same, shown, sip_block
+from suite import LIMIT, LONG_LIMIT, Ended, Running, brief, comes_true, ended_with, free_port, run, same, shown, sip_block, tell
 
 BAD_ARGUMENTS = Ended(1, b"", b"notifyd: bad arguments\n")
 BAD_SCRIPT = Ended(2, b"", b"notifyd: bad script\n")
@@ -161,6 +160,9 @@ BAD_SERVICES = [
     (["--linger", ""], 1, "a bad value: --linger <0 to 32>"),
     (["alice", "--repeats"], 1, "a value is missing: --repeats <0 to 65536>"),
     (["--repeats", "all"], 1, "a bad value: --repeats <0 to 65536>"),
+    (["--open", "0"], 1, "a bad value: --open <1 to 65536>"),
+    (["--open", "65537"], 1, "a bad value: --open <1 to 65536>"),
+    (["alice", "--open"], 1, "a value is missing: --open <1 to 65536>"),
     (["--linger", "0.5"], 1, "a bad value: --linger <0 to 32>"),
     (["alice", "--linger"], 1, "a value is missing: --linger <0 to 32>"),
     (["--guesses", "5"], 1, "a bad value: --guesses <at once>/<a minute>, each 1 to 65536"),
@@ -204,6 +206,8 @@ GOOD_SERVICES = [
     ["--min-time", "3600", "alice"],
     ["--repeats", "0", "--linger", "0", "alice"],
     ["--repeats", "65536", "--linger", "32", "alice"],
+    ["--open", "1", "alice"],
+    ["--open=65536", "--repeats", "0", "alice"],
     ["--linger", "32", "--linger", "1", "--repeats", "1", "alice"],
     ["--linger=32", "--linger", "1", "--repeats=1", "--no-refer", "alice"],
 ]
@@ -373,7 +377,7 @@ def service_words(words):
 def ask(port, line):
     """What a service at this port answers to a datagram."""
     with socket.socket(socket.AF_INET, socket.SOCK_DGRAM) as asker:
-        asker.settimeout(60)
+        asker.settimeout(LIMIT)
         asker.connect(("127.0.0.1", port))
         asker.send(line)
         return asker.recv(65536)
@@ -416,7 +420,7 @@ def a_service_as_asked(program, _):
     with Running(program, words) as service, socket.socket(socket.AF_INET, socket.SOCK_DGRAM) as phone:
         same("the first line", hello.encode(), service.lines_until(b"listening"))
         phone.bind(("127.0.0.1", 0))
-        phone.settimeout(60)
+        phone.settimeout(LIMIT)
         phone.sendto(subscribe("bob"), ("127.0.0.1", sip))
         outs = phone.recv(65536), phone.recv(65536)
         same("a grant of 600 seconds", True, b"\r\nExpires: 600\r\n" in outs[0])
@@ -439,7 +443,7 @@ def the_greatest_time_alone(program, _):
     with Running(program, words) as service, socket.socket(socket.AF_INET, socket.SOCK_DGRAM) as phone:
         service.lines_until(b"listening")
         phone.bind(("127.0.0.1", 0))
-        phone.settimeout(60)
+        phone.settimeout(LIMIT)
         phone.sendto(subscribe("alice").replace(b"Expires: 3600\r\n", b""), ("127.0.0.1", sip))
         same("a grant of 300 seconds", True, b"\r\nExpires: 300\r\n" in phone.recv(65536))
         same("the answer to CLOSE", b"ok", ask(control, b"CLOSE"))
@@ -508,15 +512,19 @@ def tell_all(port, lines):
     """Sends these lines to a port of 127.0.0.1 once somebody listens there. Until then the system refuses what is sent."""
     with socket.socket(socket.AF_INET, socket.SOCK_DGRAM) as teller:
         teller.connect(("127.0.0.1", port))
-        for _ in range(400):
-            teller.settimeout(0.05)
+        teller.settimeout(0.05)
+
+        def is_there():
             try:
                 teller.send(b"nothing that a notifier does")
                 teller.recv(1)
             except ConnectionRefusedError:
-                time.sleep(0.01)
+                return False
             except TimeoutError:
-                break
+                return True
+
+        if not comes_true(is_there):
+            raise AssertionError(f"nobody listens at port {port}")
         for line in lines:
             teller.send(line)
 
@@ -556,8 +564,76 @@ def fake_service():
     """A socket at which a service might be, and the words of `notifyd tell` that name it."""
     service = socket.socket(socket.AF_INET, socket.SOCK_DGRAM)
     service.bind(("127.0.0.1", 0))
-    service.settimeout(60)
+    service.settimeout(LIMIT)
     return service, ["tell", "--control", f"127.0.0.1:{service.getsockname()[1]}"]
+
+
+# How often `notifyd tell` asks a line within its second, and how often a check is made that plays the service, where this machine was too late.
+ASKED, TRIES = 5, 20
+
+
+class Late(Exception):
+    """This machine was so late with an answer that `notifyd tell` had given up: it had asked five times by then."""
+
+
+def in_time(check):
+    """A check that plays a service, made again where this machine was too late."""
+
+    def made(program, folder):
+        for _ in range(TRIES):
+            try:
+                return check(program, folder)
+            except Late:
+                pass
+        raise AssertionError(f"{TRIES} times nobody was answered within a second")
+
+    return made
+
+
+class Lines:
+    """The lines that come to a service which a check plays. One that comes again, since it wasn't answered soon enough, is the same."""
+
+    def __init__(self, service):
+        self.service = service
+        self.copies = {}  # how often each came
+
+    def take(self):
+        """What comes next, and from where."""
+        line, source = self.service.recvfrom(65536)
+        self.copies[line] = self.copies.get(line, 0) + 1
+        return line, source
+
+    def next(self, teller):
+        """The next line that didn't come before, and from where. None where the process that tells them ends."""
+        self.service.settimeout(0.05)
+        try:
+            while True:
+                is_over = teller.poll() is not None
+                try:
+                    line, source = self.take()
+                    if self.copies[line] == 1:
+                        return line, source
+                except TimeoutError:
+                    if is_over:
+                        return None
+        finally:
+            self.service.settimeout(LIMIT)
+
+    def late(self):
+        """A line doesn't come: the one before was answered too late, or nobody asked it often enough."""
+        if ASKED in self.copies.values():
+            raise Late
+        raise AssertionError(f"no line more; these came: {self.copies}")
+
+    def end(self, teller):
+        """How whoever tells them ends, who tells no line more."""
+        ended = teller.end()
+        more = self.next(teller.process)
+        if b"nobody answered" in ended.err and ASKED in self.copies.values():
+            raise Late
+        if more is not None:
+            raise AssertionError(f"one line more: {shown(more[0])}")
+        return ended
 
 
 def answered_at_the_third_try(answer, status):
@@ -566,13 +642,15 @@ def answered_at_the_third_try(answer, status):
     def check(program, _):
         service, words = fake_service()
         with service, Running(program, [*words, "MAIL", "alice", "voice 1 0", "0", "0"]) as teller:
+            lines = Lines(service)
             for _ in range(3):
-                line, source = service.recvfrom(65536)
+                line, source = lines.take()
                 same("the line", b"@N MAIL alice voice 1 0 0 0", untokened(line))
+            same("how many lines there are", 1, len(lines.copies))
             service.sendto(answer, source)
-            ended_with(teller.end(), status, answer + b"\n", b"")
+            ended_with(lines.end(teller), status, answer + b"\n", b"")
 
-    return check
+    return in_time(check)
 
 
 def untokened(line):
@@ -598,7 +676,7 @@ def never_answered(program, _):
 def nobody_listens(program, _):
     for port in (1, free_port()):
         words = ["tell", "--control", f"127.0.0.1:{port}", "STATUS"]
-        ended_with(run(program, words, limit=60), 3, b"", b"notifyd: nobody answered\n")
+        ended_with(run(program, words), 3, b"", b"notifyd: nobody answered\n")
 
 
 def why_a_line_is_bad(program, _):
@@ -610,7 +688,7 @@ def why_a_line_is_bad(program, _):
     with Running(program, words) as service:
         service.lines_until(b"listening")
         for line, why in lines:
-            ended = run(program, ["tell", "--control", f"127.0.0.1:{control}", "MAIL", *line.split(" ")])
+            ended = tell(program, "--control", f"127.0.0.1:{control}", "MAIL", *line.split(" "))
             same(f"what comes of MAIL {line}", Ended(1, b"bad line\n", why), ended)
         same("the answer to CLOSE", b"ok", ask(control, b"CLOSE"))
         same("the status", 0, service.end().status)

@@ -16,6 +16,7 @@ import re
 import selectors
 import signal
 import socket
+import stat
 import subprocess
 import sys
 import tempfile
@@ -28,11 +29,11 @@ import journal_file
 from suite import free_port, run, same, started
 
 # Seconds within which lamps are right behind the last start, once it answers, and within which a phone's request is answered.
-SETTLED, PATIENCE = 5.0, 60.0
+SETTLED, PATIENCE = 5.0, 120.0
 
 # Seconds within which lamps are right and no number is wanting where the machine is busy: a lamp that isn't told stays wrong, and a NOTIFY
 # is sent again for 32 seconds (RFC 3261 section 17.1.2.2).
-SLOW = 30.0
+SLOW = 60.0
 
 # Seconds behind which a request or a line is sent again that nothing answered (RFC 3261 section 17.1.1.1).
 AGAIN = 0.5
@@ -224,6 +225,7 @@ class Town:
         self.chance = random.Random(seed)
         self.mailboxes = MAILBOXES
         self.words = ["--workers", "3"]
+        self.umask = -1  # that of whoever runs this
         self.count = phones
         self.phones = []
         self.selector = selectors.DefaultSelector()
@@ -245,7 +247,7 @@ class Town:
     def start(self, *words):
         """Starts the service. It hears at once what waits at its ports, so nobody waits for it here."""
         places = ["--listen", "%s:%d" % self.sip, "--control", "%s:%d" % self.control]
-        how = {"stdin": subprocess.DEVNULL, "stdout": self.log, "stderr": self.log}
+        how = {"stdin": subprocess.DEVNULL, "stdout": self.log, "stderr": self.log, "umask": self.umask}
         self.service = started([self.program, "serve", *places, "--journal", self.journal, *(words or self.words), *self.mailboxes], **how)
 
     def kill(self):
@@ -306,6 +308,15 @@ class Town:
     def lost(self):
         """How many records were not written."""
         return int(re.search(r"^journal_lost (\d+)", self.ask("STATUS"), re.M).group(1))
+
+    def lose(self):
+        """What came to the phones and is not taken in yet is lost."""
+        for phone in self.phones:
+            try:
+                while phone.socket.recv(65535):
+                    pass
+            except OSError:
+                pass
 
     def tell_all(self):
         """Tells each mailbox anew what it holds, as one does where the end of a journal may be lost."""
@@ -393,10 +404,16 @@ def each_on_the_disk(program, folder):
     killed_often(program, folder, 24, 3, words=["--sync", "always"])
 
 
+def mode(path):
+    """Who may do what with it."""
+    return stat.S_IMODE(os.stat(path).st_mode)
+
+
 def another_file(program, folder):
-    """A journal whose first file is full goes on in the second, and a restart finds both."""
+    """A journal whose first file is full goes on in the second, and a restart finds both. Whatever the umask, nobody else may read them."""
     with Town(program, folder, 24) as town:
         town.words += ["--journal-bytes", "65536"]
+        town.umask = 0
         town.operator.pause = 0.1
         town.start()
         town.subscribe()
@@ -405,6 +422,8 @@ def another_file(program, folder):
             if time.monotonic() > end:
                 raise AssertionError(f"no second file after a minute: {os.listdir(town.journal)}; {town.said()}")
             town.turn(time.monotonic() + 0.3, True)
+        same("the folder's mode", 0o700, mode(town.journal))
+        same("the modes in it", {0o600}, {mode(os.path.join(town.journal, name)) for name in os.listdir(town.journal)})
         town.operator.pause = 0
         for _ in range(6):
             town.hear()
@@ -658,6 +677,25 @@ def one_more_mailbox(program, folder):
         assert "MAIL new voice 1 0 0 0" in town.ask("SHOW new").splitlines(), town.ask("SHOW new")
 
 
+def a_kill_behind_another(program, folder):
+    """What nobody answered before a start with other mailboxes is sent again behind a kill of that, too."""
+    with left_behind(program, folder) as town:
+        town.start()
+        town.operator.truth = {mailbox: not is_on for mailbox, is_on in town.operator.truth.items()}
+        town.tell_all()
+        town.kill()
+        town.lose()
+        for name in ("new", "newer"):
+            town.mailboxes = (*town.mailboxes, name)
+            town.start()
+            town.ask("STATUS")
+            town.kill()
+            town.lose()
+        town.start()
+        town.come_right(0)
+        town.all_stay()
+
+
 def no_folder(program, folder):
     """Where no journal can be written the service says so, and runs without."""
     with Town(program, folder, 3) as town:
@@ -728,7 +766,7 @@ def a_planned_stop(program, folder):
         town.start()
         same("CLOSE", "ok", town.ask("CLOSE"))
         town.wait("all are told of the end", lambda: all(phone.is_over for phone in town.phones) or town.service is None)
-        same("the exit status", 0, town.service.wait(20))
+        same("the exit status", 0, town.service.wait(PATIENCE))
         town.start()
         for phone in town.phones:
             phone.begin()
@@ -797,6 +835,7 @@ def checks():
     yield "other limits", other_limits
     yield "a mailbox that is gone", fewer_mailboxes
     yield "a new mailbox", one_more_mailbox
+    yield "a kill behind a start with other mailboxes", a_kill_behind_another
     yield "no folder", no_folder
     yield "a read-only folder", a_read_only_folder
     yield "a planned stop", a_planned_stop

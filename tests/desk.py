@@ -6,7 +6,7 @@ import threading
 import time
 
 # Bytes of rows with which a page is full, and rows of one at most, as of `notifyd`.
-FULL, LINES = 7000, 500
+FULL, LINES = 6800, 500
 
 COUNTERS = {
     "up": 4000, "datagrams": 50, "events": 49, "answers": 20, "notifies": 19, "repeats": 5, "given_up": 3, "once": 4, "per_source": 2, "forbidden": 1,

@@ -16,7 +16,8 @@ What the crates' wrong bodies change stands there (`.ci/edits.py`), and those wh
 docs/definitions.md names each file of definitions that a clause cites of a call which can be made from outside its crate, but for the
 crates BESIDE: which these are is read off the code. How far docs/decisions.md says that a SUBSCRIBE goes is what `walk.py` counts, and each
 line of its list names a function. What docs/operating.md says of options and counters is compared with the program's texts, and the pictures
-with the tables that they are drawn from. Beside these it says what the pages may not become: without a list of their headings, longer than
+with the tables that they are drawn from. So is README's table with what `bench/peers` wrote, and each commit that a figure names with the
+history. Beside these it says what the pages may not become: without a list of their headings, longer than
 WORDS in README and docs/, README longer than LINES, a sentence outside tables and code longer than SENTENCE words. Names that stand nowhere
 in the repository, since they are of a tool, a language or a protocol, stand in FOREIGN.
 """
@@ -53,13 +54,13 @@ ANYWHERE = {"Errors", "Codes", "Numbers", "Views", "LineViews"}
 # Crates of the edge and of the programs, whose definitions stand beside their code: `tests/cited.py` prints them.
 BESIDE = {
     "admission", "arguments", "commands", "control_lines", "digest", "feeds", "keeper", "log_lines", "outage_clock", "restarts", "resumption",
-    "scripts", "server", "service", "summary_bodies", "telling", "transactions", "transport", "voicemail", "watchers",
+    "scripts", "server", "service", "shown_text", "summary_bodies", "telling", "transactions", "transport", "voicemail", "watchers",
 }
 
 # Programs of the system that a block of commands may name.
 PROGRAMS = {
     "apt", "cat", "cd", "echo", "htdigest", "install", "journalctl", "make", "notifyd", "nstat", "podman", "printf", "read", "rt", "ss",
-    "sysctl", "systemctl", "wc", "inotifywait", "maildir-notify", "export",
+    "sysctl", "systemctl", "wc", "inotifywait", "maildir-notify", "export", "touch", "chmod",
 }
 
 # Where a path may begin that is one of this repository.
@@ -70,6 +71,9 @@ ENDINGS = ("", ".antt", ".rt", ".edit", ".py", ".page", ".script", ".md")
 NAME = re.compile(r"[A-Za-z_][A-Za-z0-9_]*(?:::[A-Za-z_][A-Za-z0-9_]*)*(?:\(\))?$")
 
 FUNCTION = re.compile(r"\bfn (\w+)")
+
+# A commit by its first digits, in a text.
+COMMIT = re.compile(r"(?<![\w.-])(?=\w*[a-f])(?=\w*\d)[0-9a-f]{7,8}(?![\w-])")
 
 SPAN = re.compile(r"(?<!`)(`+)(?!`)(.+?)(?<!`)\1(?!`)")
 
@@ -210,6 +214,56 @@ def sizes_are_right(_program, _folder):
 def pictures_are_drawn(_program, _folder):
     ended = subprocess.run(["bench/draw", "--check"], cwd=TOP, capture_output=True, text=True)
     assert ended.returncode == 0, ended.stdout.strip() + ended.stderr.strip()
+
+
+# The rows of README's table beside peers, each by its beginning, with the rows of docs/figures/peers.tsv that its numbers are from.
+PEER_ROWS = {
+    "microseconds of a processor a subscription": [f"microseconds of a processor a subscription, {it} at a time" for it in (1, 16, 64)],
+    "microseconds of a processor a whole life": ["microseconds of a processor a whole life"],
+    "subscriptions a second": [f"subscriptions a second, {it} at a time" for it in (1, 16, 64)],
+    "memory after": ["memory after 44,000 subscriptions, MB"],
+    "300 NOTIFYs": ["300 NOTIFYs of one change, first to last, ms"],
+    "20 changes": ["20 changes at once: wrong of 300, NOTIFYs"],
+    "subscriptions lost of 300": [f"{it} % of datagrams lost: dead of 300" for it in (20, 30)],
+}
+
+
+def numbers_of(text):
+    return [float(it.replace(",", "")) for it in re.findall(r"\d[\d,]*(?:\.\d+)?", text)]
+
+
+def peers_are_the_measured(_program, _folder):
+    """README's table is of the day and the commit that bench/peers wrote, and has its numbers, rounded."""
+    written = {cells[0]: cells[1:] for cells in (it.split("\t") for it in read("docs/figures/peers.tsv").splitlines())}
+    said = re.search(r"Measured by `bench/peers` \(([\d-]+), (\w+)\)", read("README.md"))
+    assert said and [*said.groups()] == [written["date"][0], written["commit"][0]], f"README.md says {said and said.groups()} of bench/peers"
+    wrong, there = [], list(rows("README.md"))
+    for begin, names in PEER_ROWS.items():
+        cells = next((it[1:] for it in there if it[0].startswith(begin)), [])
+        for place, cell in enumerate(cells):
+            wanted = [numbers_of(written[it][place])[0] for it in names]
+            came = numbers_of(cell)
+            if len(came) != len(wanted) or any(abs(it - want) > 0.01 * want for it, want in zip(came, wanted)):
+                wrong.append(f"{begin}: {cell}, where bench/peers has {wanted}")
+        wrong += [] if cells else [f"no row {begin}"]
+    told(wrong)
+
+
+def figures_say_how(_program, _folder):
+    """Each section of figures says by which script they were measured, and of which commit the program was."""
+    wrong = []
+    for section in re.split(r"^## ", read("docs/measurements.md"), flags=re.M)[2:]:
+        scripts = [it for it in spans(section) if it.split("/")[0] in ("bench", "field")]
+        wrong += [] if scripts and COMMIT.search(prose(section)) else [f"no script or no commit under {section.splitlines()[0]}"]
+    told(wrong)
+
+
+def commits_are_here(_program, _folder):
+    """Each commit that a page names is one of this history. A copy whose history was cut off says nothing."""
+    history = subprocess.run(["git", "rev-list", "HEAD"], cwd=TOP, capture_output=True, text=True).stdout.split()
+    is_cut = subprocess.run(["git", "rev-parse", "--is-shallow-repository"], cwd=TOP, capture_output=True, text=True).stdout.strip() != "false"
+    named = [(page, it) for page in pages() for it in COMMIT.findall(prose(read(page)))]
+    told([] if is_cut or len(history) < 100 else [f"{page}: no commit {it} in this history" for page, it in named if not any(full.startswith(it) for full in history)])
 
 
 def links_lead_somewhere(page):
@@ -542,14 +596,17 @@ def last_words_are_written(_program, _folder):
     crates_there, last = crates(), script_of("last.py")
     wrong = [it for it in last.lines() for said in [last.LINE.fullmatch(it)] if not said or said[2] not in crates_there or len((said[8] or "").split(", ")) != max(1, int(said[5]))]
     told([f"tests/wrong-last.txt has a line that .ci/last.py doesn't write: {it}" for it in wrong])
+    page = read("docs/testing.md")
+    assert last.SUM.search(page) and last.summed(page) == page, "docs/testing.md sums them up otherwise: .ci/last.py --mend"
 
 
-# Lists of named wrong bodies, or what `rt ci` said of them, with a fault each, and what `.ci/named` says of it.
+# Lists of named wrong bodies with a fault each, and what `.ci/named` says of it.
 FAULTS = {
     "- A: `life/must-fail/one_counter_is_isolated` (the law).": "no edit that is tried changes code",
     "- A: `life/must-fail/no_such_edit` (`f`).": "it isn't there",
     "- A: nothing at all.": "it has no edit",
-    "- A: `notifier/wrong.edits/an_edit` (`f`).": "it is tried by no landing",
+    "- A: `notifier/wrong.edits/an_edit` (`f`).": "it isn't there",
+    "- A: `service/wrong.edits/a_tick_is_told_twice` (`tell_time`).": "it is tried by no landing",
     "- A: `notifier/must-fail/an_id_has_no_case`; in `notifier/wrong.edits`, `another`.": "`notifier/wrong.edits` is no path of an edit",
     "- A: `notifier/must-fail/an_id_has_no_case`; of the same, `the_ring_never_drops`.": "`the_ring_never_drops` is no path of an edit",
 }
@@ -563,11 +620,13 @@ def named_tells_faults(_program, _folder):
 
     wanted = sum(len(glob.glob(f"{TOP}/crates/{it}/must-fail/*.edit")) for it in named.graph())
     ended = "rt: ok; handles allowed: none; must-fail edits: {} refused{}; every proof and must-fail edit was done in this run"
+    ended += "".join(f"\n{it.name}: refused" for it in named.marked())
     limit = "rt: must-fail notifier/an_id_has_no_case.edit: refused, as it must be (only by a limit of the prover, which gave no verdict): x\n"
     wrong = faults(good) + faults(good, ended.format(wanted, ""))
     for items, fault in FAULTS.items():
         wrong += [] if any(fault in it for it in faults(items)) else [f"{items} isn't told as: {fault}"]
-    for said in (limit + ended.format(wanted, ", 1 of them only by a limit"), ended.format(wanted - 1, ""), ended.format(wanted, ", 1 bad"), "rt: not ok"):
+    untold = ended.format(wanted, "").replace(f"{named.marked()[0].name}: refused", f"{named.marked()[0].name}: NOT REFUSED: the crate is proved with it")
+    for said in (limit + ended.format(wanted, ", 1 of them only by a limit"), ended.format(wanted - 1, ""), ended.format(wanted, ", 1 bad"), "rt: not ok", untold):
         wrong += [] if faults(good, said) else [f"nothing is told of: {said}"]
     told(wrong)
 
@@ -600,6 +659,9 @@ def checks_apart():
     yield "docs/proofs.md: its clause and definitions are the code's", the_clause_is_the_codes
     yield "docs/proofs.md: what there is to be read is counted", sizes_are_right
     yield "the pictures are what the measured tables give", pictures_are_drawn
+    yield "README.md: its table beside peers is what bench/peers wrote", peers_are_the_measured
+    yield "docs/measurements.md: each section says by which script, and of which commit", figures_say_how
+    yield "each commit that a page names is of this history", commits_are_here
     yield "each option stands in the manual", options_stand_in_the_manual
     yield "each option that a page names exists", options_exist
     yield "what options are without a number is what --help says", defaults_are_the_programs

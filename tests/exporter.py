@@ -15,15 +15,16 @@ import urllib.parse
 
 from contrib import COUNTERS, VALUES, values
 from desk import Desk, Watched
-from service import Service
+from service import Service, address
 from suite import LONG_LIMIT, Ended, Running, free_port, run, same
 
 TOP = os.path.dirname(os.path.dirname(os.path.abspath(__file__)))
 
 EXPORTER = os.path.join(TOP, "contrib", "notifyd-exporter")
 
-# Seconds for what takes a moment, and for what is looked at each two seconds and told at the second look.
-SOON, LOOKS = 3, 15
+# Seconds for what takes a moment, and for what is looked at each two seconds and told at the second look: far more than either takes, since
+# the machine may be busy.
+SOON, LOOKS = 10, 60
 
 # Places of the exporter, and the seconds that it gives a request.
 AT_ONCE, LIMIT = 64, 10
@@ -58,7 +59,7 @@ class Exporter:
 
     def ask(self, place, method="GET", body=None, **lines):
         """The answer at this place, with its text as `text`."""
-        connection = http.client.HTTPConnection("127.0.0.1", self.port, timeout=30)
+        connection = http.client.HTTPConnection("127.0.0.1", self.port, timeout=LOOKS)
         connection.request(method, place, body, {name.replace("_", "-"): value for name, value in lines.items()})
         answer = connection.getresponse()
         answer.text = answer.read().decode()
@@ -80,7 +81,7 @@ class Exporter:
 
     def raw(self, octets):
         """All that is answered to these bytes."""
-        with socket.create_connection(("127.0.0.1", self.port), timeout=30) as own:
+        with socket.create_connection(("127.0.0.1", self.port), timeout=LOOKS) as own:
             own.sendall(octets)
             found = b""
             while came := own.recv(65535):
@@ -148,10 +149,10 @@ def a_service_goes_and_comes(program, folder):
 
 def the_last_hour(program, folder):
     with Desk(live=7, notifies=100, answers_404=5, per_source=0, forbidden=3, answers_503=0) as desk, Exporter(desk.port) as exporter:
-        becomes("how many samples there are", lambda: len(exporter.json("/history.json")["samples"]), 2)
+        becomes("whether there are two samples", lambda: len(exporter.json("/history.json")["samples"]) >= 2, True)
         told = exporter.json("/history.json")
         same("the names", ["number", "moment", "up", "live", "notifies", "repeats", "given_up", "refused"], told["names"])
-        first, second = told["samples"]
+        first, second, *_ = told["samples"]
         same("numbers and values", ([1, 7, 100, 5, 3, 8], 2), ([first[0], *first[3:]], second[0]))
         same("the seconds between", True, 1 < second[1] - first[1] < SOON)
         same("what comes behind the first", [second], exporter.json("/history.json", since=1)["samples"][:1])
@@ -485,17 +486,17 @@ def bad_words(program, folder):
         (["--textfile", "a.prom", "--control"], 1, "--textfile stands alone"),
         (["--textfile", "--control"], 1, "--textfile stands alone"),
     ):
-        ended = run(EXPORTER, words, limit=20)
+        ended = run(EXPORTER, words)
         same(f"status and output of {words}", (status, b""), (ended.status, ended.out))
         same(f"whether {ended.err} says {said}", True, re.search(said, ended.err.decode()) is not None)
     words = ["--read-write", "--password-file", password_file(folder, mode=0o604)]
-    same("its end", Ended(1, b"", f"notifyd-exporter: everybody may read {good}: chmod 600\n".encode()), run(EXPORTER, words, limit=20))
+    same("its end", Ended(1, b"", f"notifyd-exporter: everybody may read {good}: chmod 600\n".encode()), run(EXPORTER, words))
     words = ["--read-write", "--password-file", password_file(folder, "short")]
     said = f"notifyd-exporter: the password in {good} has fewer than 8 characters\n".encode()
-    same("its end", Ended(1, b"", said), run(EXPORTER, words, limit=20))
+    same("its end", Ended(1, b"", said), run(EXPORTER, words))
     with Exporter(free_port()) as exporter:
         place = f"127.0.0.1:{exporter.port}"
-        same("its end", Ended(3, b"", f"notifyd-exporter: {place}: Address already in use\n".encode()), run(EXPORTER, ["--listen", place], limit=20))
+        same("its end", Ended(3, b"", f"notifyd-exporter: {place}: Address already in use\n".encode()), run(EXPORTER, ["--listen", place]))
         same("what is said of who reaches it", True, "this machine alone reaches it" in exporter.said)
     with Running(EXPORTER, ["--listen", "0.0.0.0:0"]) as running:
         same("what is said of who reaches it", True, b"ALL who reach this address see who watches what" in running.lines_until(b"listening at"))
@@ -605,7 +606,8 @@ def told_mail(exporter, mailbox):
 def the_program_is_shown(program, folder):
     """A phone of the program, which answers and then doesn't, and a lamp that is turned on from here."""
     words = ["--read-write", "--password-file", password_file(folder)]
-    with Service(program, "--linger", "0", "alice", "bob") as service, service.phone("alice") as phone, Exporter(service.control, *words) as exporter:
+    feed = ["--feed-from", "127.0.0.0/8", "--feed-listen", address(free_port())]
+    with Service(program, "--linger", "0", *feed, "alice", "bob") as service, service.phone("alice") as phone, Exporter(service.control, *words) as exporter:
         phone.subscribe()
         def told():
             return values(exporter.ask("/metrics").text.encode())

@@ -8,14 +8,16 @@ import re
 import resource
 import shutil
 import signal
+import socket
 import subprocess
 import sys
 import time
+from contextlib import suppress
 
-from phone import PATIENCE, open_socket, persist
+from phone import PATIENCE, Message, open_socket, persist
 from repeats import ends_within
 from service import HEARD, SUBSCRIBE, Service, address, counters_become, last_counters
-from suite import LONG_LIMIT, Running, free_port, run, same
+from suite import LONG_LIMIT, Running, comes_true, free_port, run, same, tell, tell_close
 from tags import home_of
 
 # A seldom receive of a thread fails: each one looks up some times a second.
@@ -58,31 +60,53 @@ MOST = 3000
 SET_PIPE_SIZE, PAGE = 1031, 4096
 
 
+# How `strace` follows all threads and writes nothing. By a filter of the system it stops no call but those that it is asked for, so the
+# program is hardly slower.
+TRACE = ("-f", "--seccomp-bpf", "-qq", "-o", "/dev/null")
+
+
+def traced(call, inject):
+    """The words of `strace` by which a call of the system fails so."""
+    return [*TRACE, "-e", f"trace={call}", "-e", f"inject={call}:{inject}"]
+
+
+class Traced(Running):
+    """A program in which a call of the system fails as `strace` is asked for."""
+
+    def __init__(self, program, call, inject, words):
+        super().__init__("strace", [*traced(call, inject), program, *words], LONG_LIMIT, start_new_session=True)
+
+    def kill(self):
+        """The program too: it would go on, unseen, where `strace` alone were killed."""
+        if self.process.poll() is None:
+            os.killpg(self.process.pid, signal.SIGKILL)
+
+
 class Failing(Service):
     """A service whose receives fail as `strace` is asked for."""
 
     def __init__(self, program, inject, *words):
         self.program, self.sip, self.control = program, free_port(), free_port()
-        traced = ["-f", "-qq", "-o", "/dev/null", "-e", "trace=recvfrom", "-e", f"inject=recvfrom:{inject}"]
         places = ("--listen", address(self.sip), "--control", address(self.control))
-        self.running = Running("strace", [*traced, program, "serve", *places, *words])
+        self.running = Traced(program, "recvfrom", inject, ["serve", *places, *words])
 
 
 def failing(*errors):
-    """A check of receives that fail by each of these errors, once in a while, and that of no more than a line."""
+    """A check of receives that fail by each of these errors, once in a while, and that of no more than a line a minute. Two sockets are
+    listened at, and anew while the service closes."""
 
     def passes(program, folder):
         for error in errors:
+            began = time.monotonic()
             with Failing(program, f"error={error}:when=3+4", "alice") as service, service.phone("alice") as phone, service.operator() as operator:
                 phone.subscribe()
                 operator.tell("MAIL alice voice 2 8 0 2")
                 phone.expect_notify("active", "Messages-Waiting: yes\r\nVoice-Message: 2/8 (0/2)\r\n")
-                until = time.monotonic() + PATIENCE
-                while operator.counters()["failed_receives"] == "0" and time.monotonic() < until:
-                    time.sleep(0.1)
+                comes_true(lambda: operator.counters()["failed_receives"] != "0")
                 ended = service.close(lambda: phone.hear_farewell("Messages-Waiting: yes\r\nVoice-Message: 2/8 (0/2)\r\n"))
             lines = [line for line in ended.err.decode().splitlines() if "a receive at" in line]
-            same(f"whether {error} is told with its number and the address, and seldom", True, 1 <= len(lines) <= 4)
+            most = 4 + 2 * int((time.monotonic() - began) / 60)
+            same(f"whether {error} is told with its number and the address, and seldom", True, 1 <= len(lines) <= most)
             same(f"whether {error} is counted", True, last_counters(ended)["failed_receives"] != "0")
 
     return passes
@@ -110,20 +134,20 @@ def a_lost_socket_ends_it(program, folder):
 
 
 def a_deaf_socket_ends_it(program, folder):
-    """Each receive fails from the third on: that is borne for ten seconds."""
+    """Each receive fails from the third on: that is borne for ten seconds. So long are a thousand that fail, with ten milliseconds behind each;
+    on a busy machine they take longer."""
     began = time.monotonic()
     with Failing(program, "error=ENOBUFS:when=3+", "alice") as service:
         ended = service.running.end()
     same("the exit status", 3, ended.status)
     same("whether it bore that for ten seconds", True, time.monotonic() - began >= 10)
+    same("whether a thousand receives failed", True, int(re.search(rb", failed_receives (\d+),", ended.err).group(1)) >= 1000)
 
 
 def long_datagrams_are_dropped(program, folder):
     with Service(program, "alice") as service, service.phone("alice") as phone, service.operator() as operator:
         phone.send(SUBSCRIBE.replace(b"Max-Forwards: 70\r\n", b"Max-Forwards: 70\r\nSubject: " + b"s" * 8000 + b"\r\n"))
-        until = time.monotonic() + PATIENCE
-        while operator.counters()["too_long"] != "1" and time.monotonic() < until:
-            time.sleep(0.05)
+        comes_true(lambda: operator.counters()["too_long"] == "1")
         counted = operator.counters()
         same("what is counted of a long datagram", ("1", "1", "0"), (counted["datagrams"], counted["too_long"], counted["events"]))
         phone.leave(phone.subscribe(), "Messages-Waiting: no\r\n")
@@ -155,15 +179,60 @@ def drops_of_the_system_are_told(program, folder):
         for _ in range(count):
             phone.send(b"s" * 1000)
         service.running.process.send_signal(signal.SIGCONT)
-        until = time.monotonic() + PATIENCE
         heard = dropped = 0
-        while heard + dropped != count and time.monotonic() < until:
+
+        def all_are_counted():
+            nonlocal heard, dropped
             told = operator.counters()
             heard, dropped = int(told["datagrams"]), int(told["kernel_drops"])
+            return heard + dropped == count
+
+        comes_true(all_are_counted)
         same("how many came or were dropped", count, heard + dropped)
         same("whether some were dropped", True, dropped > 0)
         ended = service.close()
     same("what is told at the end", str(dropped), last_counters(ended)["kernel_drops"])
+
+
+def asked_again(operator, line, seconds=1):
+    """What a line is answered that may be dropped, and so is asked again until it is answered, and how often it was asked. An answer that
+    comes behind the next question isn't taken for one to that."""
+    asked, until = 0, time.monotonic() + PATIENCE
+    while time.monotonic() < until:
+        with open_socket(operator.socket.getpeername()) as other:
+            other.settimeout(seconds)
+            other.send(line.encode())
+            asked += 1
+            try:
+                return other.recv(65535).decode(), asked
+            except socket.timeout:
+                pass
+    raise AssertionError(f"the line {line} is not answered, asked {asked} times")
+
+
+def drops_at_the_control_socket_are_told(program, folder):
+    """So are control lines: each came or is counted, in a counter of its own. So are the questions, which may be dropped too."""
+    count = 400
+    with Service(program, "--receive-buffer", "4096", "alice") as service, service.operator() as operator, service.operator() as feeder:
+        counters_become(operator, lambda: {"control_drops": "0"})
+        before = int(operator.counters()["control_lines"])
+        service.running.process.send_signal(signal.SIGSTOP)
+        for _ in range(count):
+            feeder.say("x" * 1000)
+        service.running.process.send_signal(signal.SIGCONT)
+        told, sent = {}, count
+
+        def all_are_counted():
+            nonlocal told, sent
+            answer, asked = asked_again(operator, "STATUS")
+            told, sent = dict(line.split(" ", 1) for line in answer.splitlines()[1:]), sent + asked
+            return int(told["control_lines"]) - before + int(told["control_drops"]) == sent
+
+        comes_true(all_are_counted)
+        same("how many came or were dropped", sent, int(told["control_lines"]) - before + int(told["control_drops"]))
+        same("whether some were dropped", True, int(told["control_drops"]) > 0)
+        same("what SIP datagrams were dropped", "0", told["kernel_drops"])
+        service.close()
 
 
 class Place:
@@ -194,8 +263,7 @@ def an_address_is_taken_away(program, folder):
         with Running("ip", place.inside(program, *words)) as running:
             running.lines_until(b"listening at")
             place.ip("address", "delete", f"{PLACE}/32", "dev", "lo")
-            told = run("ip", place.inside(program, "tell", "CLOSE"))
-            same("the answer to CLOSE", b"ok\n", told.out)
+            tell_close(program, running.process, inside=("ip", *place.inside()))
             began = time.monotonic()
             same("the exit status", 0, running.end().status)
             same("whether it ended at once", True, time.monotonic() - began < 10)
@@ -217,10 +285,10 @@ def lines_from_elsewhere_are_dropped(program, folder):
             for line in "MAIL alice voice 2 0 0 0", "STATUS", "CLOSE":
                 same(f"the answer to {line} from elsewhere", "nothing", ask(FAR, line, 1))
             same("what was told", "MAIL alice voice 1 0 0 0", ask("127.0.0.1", "SHOW alice").splitlines()[2])
-            told_here = run("ip", place.inside(program, "tell", "--control", f"{PLACE}:5061", "SHOW", "alice"))
-            same("what this machine is told at the control address", b"MAIL alice voice 1 0 0 0", told_here.out.splitlines()[2])
             counted = dict(line.split(" ", 1) for line in ask(NEAR, "STATUS").splitlines()[1:])
-            same("what is counted", ("7", "3"), (counted["control_lines"], counted["control_foreign"]))
+            same("what is counted", ("6", "3"), (counted["control_lines"], counted["control_foreign"]))
+            told_here = tell(program, "--control", f"{PLACE}:5061", "SHOW", "alice", inside=("ip", *place.inside()))
+            same("what this machine is told at the control address", b"MAIL alice voice 1 0 0 0", told_here.out.splitlines()[2])
             same("the answer to CLOSE", "ok", ask("127.0.0.1", "CLOSE"))
             ended = running.end()
             same("the exit status", 0, ended.status)
@@ -249,16 +317,32 @@ class Bounded(Service):
 
 
 def has_closed(operator, number):
-    """Waits until a service has taken so many datagrams: whether it closed before, when each line is answered `closed`."""
+    """Waits until a service has answered so many requests, so that nothing of them waits in its memory: whether it closed before, when each
+    line is answered `closed`, or ended."""
     until = time.monotonic() + PATIENCE
     while time.monotonic() < until:
-        told = operator.ask("STATUS")
+        try:
+            told = operator.ask("STATUS")
+        except ConnectionRefusedError:
+            return True
         if told.startswith("closed"):
             return True
-        if int(re.search(r"^datagrams (\d+)$", told, re.M).group(1)) >= number:
+        if int(re.search(r"^answers (\d+)$", told, re.M).group(1)) >= number:
             return False
         time.sleep(0.1)
-    raise AssertionError(f"it doesn't take {number} datagrams")
+    raise AssertionError(f"it doesn't answer {number} requests")
+
+
+def answer_what_came(stranger):
+    """Answers the NOTIFYs that came: who answers none for 32 seconds is subscribed no more."""
+    usual = stranger.gettimeout()
+    stranger.settimeout(0)
+    with suppress(BlockingIOError):
+        while True:
+            octets = persist(stranger.recv, 65535)
+            if octets.startswith(b"NOTIFY "):
+                persist(stranger.send, Message(octets).answer("200 OK"))
+    stranger.settimeout(usual)
 
 
 def fill(service, operator, mailbox):
@@ -268,10 +352,12 @@ def fill(service, operator, mailbox):
     with open_socket(("127.0.0.1", service.sip)) as stranger:
         for number in range(1, MANY):
             persist(stranger.send, request.replace(b"Call-ID: c1", b"Call-ID: c%d" % number).replace(b"bKa1", b"bK%d" % number))
+            answer_what_came(stranger)
             if number % 1000 == 0:
                 operator.ask(f"MAIL {mailbox} voice {number} 0 0 0")
             is_near = number >= TABLE - FEW
-            if (is_near or number % 50 == 0) and has_closed(operator, number):
+            # One more was answered before, that of the phone.
+            if (is_near or number % 50 == 0) and has_closed(operator, number + 1):
                 return
             if number == TABLE - FEW:
                 service.bound()
@@ -307,7 +393,7 @@ def answers_are_not_logged(service, count):
         phone.expect_notify("active", HEARD)
         operator.tell("CLOSE")
         phone.hear_farewell(HEARD)
-        ends_within(service, 10)
+        ends_within(service, PATIENCE)
     return service.running.end()
 
 
@@ -318,7 +404,7 @@ def a_log_that_nobody_reads_is_dropped(program, folder):
         ended = answers_are_not_logged(service, count)
     same("the exit status", 0, ended.status)
     lines = [line for line in ended.err.decode().split("\n") if "OPTIONS" in line]
-    form = r"notifyd: 127\.0\.0\.1:\d+ OPTIONS <sip:bob@127\.0\.0\.1>;tag=\S+ 405"
+    form = r"notifyd: 127\.0\.0\.1:\d+ OPTIONS sip:bob@127\.0\.0\.1;tag=\S+ 405"
     same("lines that aren't whole", [], [line for line in lines if not re.fullmatch(form, line)])
     same("whether some were written, and some dropped", True, 0 < len(lines) < count)
 
@@ -345,8 +431,7 @@ def can_trace():
     """Whether `strace` may make calls fail here."""
     if not shutil.which("strace"):
         return False
-    words = ["strace", "-qq", "-o", "/dev/null", "-e", "inject=getcwd:error=EIO", "true"]
-    return subprocess.run(words, capture_output=True, check=False).returncode == 0
+    return subprocess.run(["strace", *traced("getcwd", "error=EIO"), "true"], capture_output=True, check=False).returncode == 0
 
 
 def can_separate():
@@ -365,6 +450,7 @@ def checks():
     yield "serve: less room for datagrams than asked for is told", less_room_is_told
     yield "serve: a worker without memory ends it", a_worker_without_memory_ends_it
     yield "serve: what the system dropped is told", drops_of_the_system_are_told
+    yield "serve: what it dropped at the control socket is told", drops_at_the_control_socket_are_told
     yield "serve: a log that nobody reads keeps nobody waiting", a_log_that_nobody_reads_is_dropped
     yield "serve: nor do both streams that nobody reads", neither_stream_is_read
     if can_trace():

@@ -1,6 +1,8 @@
 """The files of a journal, read: records behind their length and their checksum.
 
-    frame = length (4 bytes) checksum (4 bytes, FNV-1a of the payload) payload
+    frame = length (4 bytes) checksum (4 bytes) payload
+
+The checksum is the upper half of FNV-1a with 64 bits, over words of eight bytes and then over the bytes that are left.
 
 A payload begins with the letter of its kind: h header, b book, e event handled, l line answered, c clocks. Behind a frame that is cut off or
 whose checksum is another nothing is read.
@@ -12,11 +14,12 @@ LONGEST = 1 << 30
 
 
 def checksum(payload):
-    """FNV-1a, of 32 bits."""
-    value = 0x811C9DC5
-    for octet in payload:
-        value = (value ^ octet) * 0x01000193 & 0xFFFFFFFF
-    return value
+    """The upper half of FNV-1a with 64 bits, over words of eight bytes and then over the bytes that are left."""
+    value = 0xCBF29CE484222325
+    whole = len(payload) // 8
+    for word in (*struct.unpack_from(f">{whole}Q", payload), *payload[whole * 8:]):
+        value = (value ^ word) * 0x100000001B3 & 0xFFFFFFFFFFFFFFFF
+    return value >> 32
 
 
 def payloads(octets):

@@ -8,8 +8,8 @@ import socket
 import subprocess
 import time
 
-from calls import ask, fake_service, service_words, untokened
-from suite import LONG_LIMIT, SLOWER, Ended, Running, ended_with, free_port, run, same, shown, started
+from calls import ASKED, Late, Lines, ask, fake_service, in_time, service_words, untokened
+from suite import LIMIT, LONG_LIMIT, SLOWER, Ended, Running, comes_true, ended_with, free_port, run, same, started, tell
 
 # A line that is longer than a datagram, and what is shown of it.
 LONG = b"MAIL " + b"a" * 70_000 + b" voice 1 0 0 0"
@@ -56,65 +56,65 @@ def told_to_a_fake(given, answers, status, err, options=()):
     def check(program, _):
         service, words = fake_service()
         with service, teller(program, [*words, "-", *options], given) as telling:
-            tokens = []
+            lines, tokens = Lines(service), []
             for line, answer in answers:
-                came, source = service.recvfrom(65536)
+                came, source = lines.next(telling.process) or (None, None)
+                if came is None:
+                    break
                 same("the line", b"@N " + line, untokened(came))
                 tokens.append(int(came[1:17], 16))
                 service.sendto(answer, source)
-            same("the tokens", [(tokens[0] + at) % 2**64 for at in range(len(tokens))] if tokens else [], tokens)
-            ended_with(telling.end(), status, b"", err)
-            nothing_more(service)
+            ended = lines.end(telling)
+            same("the tokens", [(tokens[0] + at) % 2**64 for at in range(len(answers))] if tokens else [], tokens)
+            ended_with(ended, status, b"", err)
 
-    return check
-
-
-def nothing_more(service):
-    """Nothing else came to a service that this module plays."""
-    service.setblocking(False)
-    try:
-        raise AssertionError(f"one line more: {shown(service.recv(65536))}")
-    except BlockingIOError:
-        pass
+    return in_time(check)
 
 
+@in_time
 def a_late_service(program, _):
     """A line that is answered late is asked again behind the same token, and its second answer isn't taken for one to the next line,
     which is asked from another port, and again until it is answered itself."""
     service, words = fake_service()
     with service, teller(program, [*words, "-"], b"MAIL a voice 1 0 0 0\nMAIL b voice 1 0 0 0\nMAIL c voice 1 0 0 0\n") as telling:
-        first, source = service.recvfrom(65536)
-        again, same_source = service.recvfrom(65536)
-        same("a repeat", (first, source), (again, same_source))
+        lines = Lines(service)
+        first, source = lines.take()
+        same("a repeat", (first, source), lines.take())
         service.sendto(b"ok", source)
-        second, next_source = service.recvfrom(65536)
+        second, next_source = lines.next(telling.process) or lines.late()
         same("the second line", b"@N MAIL b voice 1 0 0 0", untokened(second))
         same("another port", True, next_source != source)
         service.sendto(b"ok", source)
-        same("a repeat of the second line", (second, next_source), service.recvfrom(65536))
+        came = lines.take()
+        while came[0] == first:
+            came = lines.take()
+        same("a repeat of the second line", (second, next_source), came)
         service.sendto(b"ok", next_source)
-        third, last_source = service.recvfrom(65536)
+        third, last_source = lines.next(telling.process) or lines.late()
         same("the third line", b"@N MAIL c voice 1 0 0 0", untokened(third))
         service.sendto(b"ok", last_source)
-        ended_with(telling.end(), 0, b"", b"")
-        nothing_more(service)
+        ended_with(lines.end(telling), 0, b"", b"")
 
 
 def a_silent_service(program, _):
     """A line is asked five times, and then it ends: no further line is asked."""
     service, words = fake_service()
     with service, teller(program, [*words, "-"], b"\nMAIL a voice 1 0 0 0\nMAIL b voice 1 0 0 0\n") as telling:
-        lines = [service.recv(65536) for _ in range(5)]
-        same("the lines", [b"@N MAIL a voice 1 0 0 0"] * 5, [untokened(line) for line in lines])
+        lines = [service.recv(65536) for _ in range(ASKED)]
+        same("the lines", [b"@N MAIL a voice 1 0 0 0"] * ASKED, [untokened(line) for line in lines])
         same("how many tokens there are", 1, len(set(lines)))
         ended_with(telling.end(), 3, b"", b"notifyd: nobody answered (line 2)\n")
-        nothing_more(service)
+        service.setblocking(False)
+        try:
+            raise AssertionError(f"one line more: {service.recv(65536)}")
+        except BlockingIOError:
+            pass
 
 
 def nobody_listens(program, _):
     words = ["tell", "--control", f"127.0.0.1:{free_port()}", "-"]
-    ended_with(run(program, words, b"MAIL a voice 1 0 0 0\n", limit=60), 3, b"", b"notifyd: nobody answered (line 1)\n")
-    ended_with(run(program, words, b"\n# nothing to tell\n", limit=60), 0, b"", b"")
+    ended_with(run(program, words, b"MAIL a voice 1 0 0 0\n"), 3, b"", b"notifyd: nobody answered (line 1)\n")
+    ended_with(run(program, words, b"\n# nothing to tell\n"), 0, b"", b"")
 
 
 def a_folder_as_input(program, folder):
@@ -125,21 +125,40 @@ def a_folder_as_input(program, folder):
         os.close(descriptor)
 
 
+# Lines between those, and what is said of all.
+GOOD = b"MAIL alice voice 7 0 0 0"
+GIVEN = b"".join(line + b"\n" + GOOD + b"\n" for line, _ in UNTOLD)
+REFUSED = b"".join(b"notifyd: line %d: no MAIL line: %s\n" % (2 * at + 1, text) for at, (_, text) in enumerate(UNTOLD))
+
+
+@in_time
 def lines_that_are_untold(program, _):
-    """None of them reaches the service, each is told with its number, and those between them are done."""
-    good = b"MAIL alice voice 7 0 0 0\n"
-    given = b"".join(line + b"\n" + good for line, _ in UNTOLD)
-    wanted = b"".join(b"notifyd: line %d: no MAIL line: %s\n" % (2 * at + 1, text) for at, (_, text) in enumerate(UNTOLD))
+    """Each is told with its number, and those between them are done once each. A line that comes again counts as none."""
     _, control, words = service_words(["alice", "--workers", "1"])
     with Running(program, words) as service:
         service.lines_until(b"listening")
-        before = counted(control, b"control_lines")
-        ended_with(run(program, ["tell", "--control", f"127.0.0.1:{control}", "-"], given), 1, b"", wanted)
-        # STATUS counts itself before it answers.
-        same("lines that came", before + len(UNTOLD) + 1, counted(control, b"control_lines"))
+        ended = run(program, ["tell", "--control", f"127.0.0.1:{control}", "-"], GIVEN)
+        if b"nobody answered" in ended.err:
+            raise Late
+        ended_with(ended, 1, b"", REFUSED)
+        same("lines that were done", len(UNTOLD), counted(control, b"changes"))
+        same("lines that were refused", (0, 0), (counted(control, b"bad_lines"), counted(control, b"unknown_mailboxes")))
         same("the counts", b"ok\nMAIL alice voice 7 0 0 0\n", ask(control, b"DUMP"))
         same("the answer to CLOSE", b"ok", ask(control, b"CLOSE"))
         same("the status", 0, service.end().status)
+
+
+def told_lines(program, control, given):
+    """How `notifyd tell -` ends with these lines. Where a busy machine kept the service waiting they are told anew."""
+    ended = None
+
+    def is_told():
+        nonlocal ended
+        ended = run(program, ["tell", "--control", f"127.0.0.1:{control}", "-"], given, limit=LONG_LIMIT)
+        return b"nobody answered" not in ended.err
+
+    comes_true(is_told)
+    return ended
 
 
 def counted(control, name):
@@ -154,11 +173,12 @@ def eight_bit_text(program, _):
     with Running(program, words) as service:
         service.lines_until(b"listening")
         given = f"MAIL {name} voice 3 1 0 0\nMAIL müller fax 1 0 0 0".encode()
-        ended = run(program, ["tell", "--control", f"127.0.0.1:{control}", "-"], given)
+        ended = told_lines(program, control, given)
         ended_with(ended, 1, b"", b"notifyd: line 2: unknown mailbox: MAIL m\\xc3\\xbcller fax 1 0 0 0\n")
         same("the counts", f"ok\nMAIL {name} voice 3 1 0 0\n".encode(), ask(control, b"DUMP"))
 
 
+@in_time
 def lines_of_every_length(program, _):
     """A line that fills a datagram is told whole, and one octet more is refused, as is any longer one, however long."""
     service, words = fake_service()
@@ -168,20 +188,23 @@ def lines_of_every_length(program, _):
     with service, started([program, *words, "-", "--progress"], stdin=subprocess.PIPE, stdout=subprocess.PIPE, stderr=subprocess.PIPE) as telling:
         service.setsockopt(socket.SOL_SOCKET, socket.SO_RCVBUF, 1 << 20)
         try:
+            lines = Lines(service)
             os.set_blocking(telling.stdin.fileno(), True)
             telling.stdin.write(fits + b"\n")
             telling.stdin.flush()
-            came, source = service.recvfrom(70_000)
+            came, source = lines.next(telling)
             same("the longest line", 65_507, len(came))
             same("its text", fits, came[18:])
             service.sendto(b"ok", source)
             telling.stdin.write(given[len(fits) + 1 :])
             telling.stdin.close()
             telling.stdin = None
-            came, source = service.recvfrom(70_000)
+            came, source = lines.next(telling) or lines.late()
             same("the last line", b"@N MAIL a voice 1 0 0 0", untokened(came))
             service.sendto(b"ok", source)
-            out, err = telling.communicate(timeout=60)
+            out, err = telling.communicate(timeout=LIMIT)
+            if b"nobody answered" in err:
+                lines.late()
         finally:
             telling.kill()
         wanted = [
@@ -192,27 +215,32 @@ def lines_of_every_length(program, _):
         same("its end", (1, b"", wanted), (telling.returncode, out, err.splitlines()))
 
 
+@in_time
 def counts_are_told(program, _):
-    """With --progress-bar it says how many lines were done, a second apart, and at the end."""
+    """With --progress-bar it says how many lines were done, a second apart, and at the end: on a busy machine more often."""
     service, words = fake_service()
+    began = time.monotonic()
     with service, Running(program, [*words, "-", "--progress-bar"], stdin=subprocess.PIPE) as telling:
-        for line in (b"MAIL a voice 1 0 0 0\nCLOSE\n", b"MAIL b voice 1 0 0 0\nMAIL c voice 1 0 0 0\n"):
-            telling.process.stdin.write(line)
-            for _ in range(line.count(b"MAIL")):
-                _, source = service.recvfrom(65536)
+        lines = Lines(service)
+        for told in (b"MAIL a voice 1 0 0 0\nCLOSE\n", b"MAIL b voice 1 0 0 0\nMAIL c voice 1 0 0 0\n"):
+            telling.process.stdin.write(told)
+            for _ in range(told.count(b"MAIL")):
+                _, source = lines.next(telling.process) or lines.late()
                 service.sendto(b"ok", source)
             time.sleep(1.2)
         telling.process.stdin.close()
         telling.process.stdin = None
-        ended = telling.end()
-    lines = ended.err.splitlines()
-    same("the last one", b"notifyd: 3 done, 1 refused", lines[-1])
-    same("the refused line", 1, lines.count(b"notifyd: line 2: no MAIL line: CLOSE"))
-    same("others", 1, lines.count(b"notifyd: 2 done, 1 refused"))
-    same("all", 3, len(lines))
+        ended = lines.end(telling)
+    refused, counts = b"notifyd: line 2: no MAIL line: CLOSE", ended.err.splitlines()
+    same("the refused line", 1, counts.count(refused))
+    counts.remove(refused)
+    same("the last one", b"notifyd: 3 done, 1 refused", counts[-1])
+    same("others", 1, counts.count(b"notifyd: 2 done, 1 refused"))
+    same("whether they are a second apart", True, len(counts) <= 1 + int(time.monotonic() - began))
     same("the status", 1, ended.status)
 
 
+@in_time
 def counts_on_a_terminal(program, _):
     """So it does where standard error is a terminal."""
     ours, theirs = pty.openpty()
@@ -225,8 +253,10 @@ def counts_on_a_terminal(program, _):
             telling.stdin.close()
             _, source = service.recvfrom(65536)
             service.sendto(b"ok", source)
-            same("the status", 0, telling.wait(timeout=60))
-            same("what the terminal shows", b"notifyd: 1 done, 0 refused\r\n", os.read(ours, 4096))
+            status, shows = telling.wait(timeout=LIMIT), os.read(ours, 4096)
+            if b"nobody answered" in shows:
+                raise Late
+            same("the status and what the terminal shows", (0, b"notifyd: 1 done, 0 refused\r\n"), (status, shows))
         finally:
             telling.kill()
             telling.wait()
@@ -242,7 +272,7 @@ def a_script_on_a_terminal(program, _):
     os.close(theirs)
     try:
         os.write(ours, b"\x04")
-        out, err = script.communicate(timeout=60)
+        out, err = script.communicate(timeout=LIMIT)
     finally:
         script.kill()
         os.close(ours)
@@ -276,14 +306,14 @@ def twenty_thousand_lines(program, folder):
             telling.stdin.flush()
             telling.send_signal(signal.SIGTERM)
             telling.stdin.close()
-            same("stopped by the signal", -signal.SIGTERM, telling.wait(timeout=60))
+            same("stopped by the signal", -signal.SIGTERM, telling.wait(timeout=LIMIT))
             same("what it said", (b"", b""), (telling.stdout.read(), telling.stderr.read()))
-        front = run(program, [*asked, "DUMP"]).out
+        front = tell(program, *asked[1:], "DUMP").out
         done = 1 + max(int(line.split(b" ")[3]) for line in front.splitlines())
         same("some were done, not all", True, BOXES < done < len(lines))
         same("what is done is a front of the lines", front_of(lines, done), front)
-        ended_with(run(program, [*asked, "-"], b"".join(lines), limit=LONG_LIMIT), 0, b"", b"")
-        same("the counts", wanted, run(program, [*asked, "DUMP"]).out)
+        ended_with(told_lines(program, control, b"".join(lines)), 0, b"", b"")
+        same("the counts", wanted, tell(program, *asked[1:], "DUMP").out)
         same("the answer to CLOSE", b"ok", ask(control, b"CLOSE"))
         same("the status", 0, service.end().status)
 
@@ -294,6 +324,7 @@ def front_of(lines, count):
     return b"".join(sorted(last.values()))
 
 
+@in_time
 def a_service_that_ends(program, _):
     """Where the service ends in the midst, it ends with status 3."""
     _, control, words = service_words(["alice"])
@@ -304,14 +335,15 @@ def a_service_that_ends(program, _):
             try:
                 telling.stdin.write(b"MAIL alice voice 1 0 0 0\n")
                 telling.stdin.flush()
-                while counted(control, b"control_lines") < 2:
-                    time.sleep(0.01)
+                comes_true(lambda: counted(control, b"changes") == 1)
                 same("the answer to CLOSE", b"ok", ask(control, b"CLOSE"))
                 same("the status of the service", 0, service.end().status)
+                if telling.poll() is not None:
+                    raise Late  # its line was answered too late
                 telling.stdin.write(b"MAIL alice voice 2 0 0 0\nMAIL alice voice 3 0 0 0\n")
                 telling.stdin.close()
                 telling.stdin = None
-                out, err = telling.communicate(timeout=60)
+                out, err = telling.communicate(timeout=LIMIT)
             finally:
                 telling.kill()
         ended = Ended(telling.returncode, out, err)
@@ -353,6 +385,7 @@ def checks():
     yield "lines where nobody listens", nobody_listens
     yield "a folder as lines", a_folder_as_input
     yield "lines that are not told", lines_that_are_untold
+    yield "lines that are not told reach no service", told_to_a_fake(GIVEN, [(GOOD, b"ok")] * len(UNTOLD), 1, REFUSED)
     yield "8-bit text", eight_bit_text
     yield "lines of every length", lines_of_every_length
     yield "counts that are told", counts_are_told

@@ -1,6 +1,6 @@
-"""`notifyd serve` where nothing leaves the machine for a while, or the process stands still: that isn't the phones' time. The link is
-a pair of network interfaces between two namespaces, of which the service's is set down: where that can't be had, a line says what
-wasn't tried.
+"""`notifyd serve` where nothing leaves the machine for a while, or the process stands still: that isn't the phones' time. What can't be
+sent to one address is no outage. The link is a pair of network interfaces between two namespaces, of which the service's is set down,
+and a datagram from port 0 needs a raw socket: where one of these can't be had, a line says what wasn't tried.
 
 `python3 tests/outages.py PROGRAM SECONDS` stops a service for so long, and takes its link away for so long, and prints what it tells."""
 
@@ -16,8 +16,9 @@ import threading
 import time
 
 from phone import PATIENCE, Message, Operator
-from service import HEARD, SUBSCRIBE, Service, counters_become
-from suite import Running, free_port, run, same
+from repeats import GIVEN_UP, MOMENTS, Observer, are_sends
+from service import HEARD, SUBSCRIBE, Service, counters_become, forged, rows_become
+from suite import Running, comes_true, free_port, same
 
 # Where the service is, and where the phone.
 SERVICE, PHONE = "10.99.9.1", "10.99.9.2"
@@ -42,11 +43,13 @@ def a_process_that_stands_still(program, folder, seconds=STOPPED):
     with Service(program, "alice") as service, service.phone("alice") as phone, service.operator() as operator:
         phone.subscribe()
         same("seconds that weren't counted before", 0, seconds_told(operator))
+        began = time.monotonic()
         service.running.process.send_signal(signal.SIGSTOP)
         time.sleep(seconds)
         service.running.process.send_signal(signal.SIGCONT)
         told = service.running.lines_until(b"the process stood still")
-        wanted = range(seconds - 3, seconds + 1)
+        # On a busy machine it stood still for longer.
+        wanted = range(seconds - 3, int(time.monotonic() - began) + 1)
         same("whether what is told is about what it stood still", True, int(re.search(rb"stood still: (\d+) seconds", told).group(1)) in wanted)
         same("whether that is counted", True, seconds_told(operator) in wanted)
         operator.tell("MAIL alice voice 2 8 0 2")
@@ -143,12 +146,44 @@ def a_link_that_is_down(program, folder, seconds=DOWN):
                 link.go("up")
                 back = time.monotonic()
                 same("what it is told", HEARD, next_notify(phone, 2).body)
-                same("whether it is told soon", True, time.monotonic() - back < SOON)
+                # Who had to wait for a processor may be as late.
+                same("whether it is told soon", True, time.monotonic() - back < SOON + running.delay())
                 told += running.lines_until(b"sends succeed again")
                 least = seconds - 3
                 same("whether what is told is about what it was down", True, int(re.search(rb"again: (\d+) seconds", told).group(1)) >= least)
                 same("whether that is counted", True, seconds_told(operator) >= least)
                 counters_become(operator, lambda: {"live": "1", "given_up": "0"})
+
+
+def no_port_is_no_outage(program, folder):
+    """What a stranger draws who sends from port 0 can't be sent (EINVAL). A deaf phone is sent its NOTIFY at the usual moments all the
+    same, and then it is gone."""
+    with Service(program, "alice", "bob") as service, Observer(service, "bob") as phone, service.operator() as operator:
+        asked = time.time()
+        phone.ask("SIP/2.0 200 OK")
+        came, count, end = [], 0, time.monotonic() + GIVEN_UP
+        with raw_socket() as raw:
+            while time.monotonic() < end:
+                count += 1
+                raw.sendto(forged(0, service.sip, SUBSCRIBE.replace(b"Call-ID: c1", b"Call-ID: n%d" % count)), ("127.0.0.1", 0))
+                came += phone.observe_until(time.monotonic() + 0.5)
+            are_sends("the NOTIFY to a deaf phone", came, MOMENTS, asked, service)
+            rows_become(operator, "WATCHERS bob")
+        same("whether the answers to the stranger failed", True, comes_true(lambda: int(operator.counters()["failed"]) >= count))
+        same("seconds that weren't counted", 0, seconds_told(operator))
+
+
+def raw_socket():
+    return socket.socket(socket.AF_INET, socket.SOCK_RAW, socket.IPPROTO_RAW)
+
+
+def can_forge():
+    """Whether this user may send from any port."""
+    try:
+        raw_socket().close()
+        return True
+    except PermissionError:
+        return False
 
 
 def can_link():
@@ -168,6 +203,10 @@ def checks():
         yield "serve: a link that is down for a while ends no subscription", a_link_that_is_down
     else:
         print("  outages: a link that is down was not tried: no network namespaces with a link can be had", flush=True)
+    if can_forge():
+        yield "serve: what can't be sent to a stranger without a port is no outage", no_port_is_no_outage
+    else:
+        print("  outages: a stranger without a port was not tried: no raw socket can be had", flush=True)
 
 
 if __name__ == "__main__":

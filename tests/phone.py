@@ -13,7 +13,7 @@ from suite import SLOWER, same, shown
 REPEATED = ("Via: ", "From: ", "To: ", "Call-ID: ", "CSeq: ")
 
 # Seconds that a phone waits for a datagram.
-PATIENCE = 60 * SLOWER
+PATIENCE = 120 * SLOWER
 
 # Seconds within which an out that went out is counted.
 MOMENT = 0.1
@@ -200,6 +200,18 @@ class Phone:
             message = self.receive_any()
         return message
 
+    def hear_again(self):
+        """Takes in what came again meanwhile, and answers that again."""
+        self.socket.settimeout(0)
+        try:
+            while True:
+                message = self.receive_any()
+                same(f"what comes to {self.user}, that came before", None, message)
+        except BlockingIOError:
+            pass
+        finally:
+            self.socket.settimeout(PATIENCE)
+
     def expect(self, first):
         """The next message, which must be an answer with this first line."""
         answer = self.receive()
@@ -278,12 +290,16 @@ class Operator:
         persist(self.socket.send, line.encode())
 
     def ask(self, line):
-        """The answer to a line."""
-        self.say(line)
-        try:
-            return self.hear()
-        except socket.timeout:
-            raise AssertionError(f"the line {shown(line)} is not answered for {PATIENCE} seconds") from None
+        """The answer to a line. A service whose thread that sends waits for a processor answers `busy`, and is asked again."""
+        until = time.monotonic() + PATIENCE
+        while True:
+            self.say(line)
+            try:
+                answer = self.hear()
+            except socket.timeout:
+                raise AssertionError(f"the line {shown(line)} is not answered for {PATIENCE} seconds") from None
+            if answer != "busy" or time.monotonic() > until:
+                return answer
 
     def hear(self):
         """The next answer."""

@@ -9,11 +9,11 @@ import re
 import signal
 import time
 
-from faults import Failing, can_trace
+from faults import Failing, Traced, can_trace
 from passwords import ASKED, FORBIDDEN, Caller, Somewhere, own_uri, password_file
-from phone import NO_MESSAGES, Phone
+from phone import NO_MESSAGES, Operator, Phone
 from service import SUBSCRIBE, Service, address
-from suite import LONG_LIMIT, Running, free_port, run, same
+from suite import LONG_LIMIT, Running, free_port, run, same, tell_close
 
 # The members of each kind of line behind `time` and `what`, in order. Where something is wrong `level` stands in front of them.
 MEMBERS = {
@@ -96,8 +96,8 @@ def begins_and_ends(program, folder):
         log = records(service.close().err)
     same("the first line", (address(service.sip), address(service.control), 2, 2), tuple(log[0][it] for it in MEMBERS["listening"]))
     granted = of(log, "answered", address=me)
-    wanted = ("SUBSCRIBE", f"<sip:alice@127.0.0.1>;tag={dialog.tag}", 200)
-    same("the lines of what was granted", [wanted] * 2, [(it["method"], it["user"], it["code"]) for it in granted])
+    wanted = [("SUBSCRIBE", f"{whom};tag={dialog.tag}", 200) for whom in ("sip:alice@127.0.0.1", "alice")]
+    same("the lines of what was granted", wanted, [(it["method"], it["user"], it["code"]) for it in granted])
     same("the lines of what was refused", [404], [it["code"] for it in of(log, "answered", address=other)])
     same("what is counted", [1], [it["more"] for it in of(log, "counted", counter="answers_404")])
     same("the last line", "ended", log[-1]["what"])
@@ -109,35 +109,52 @@ def begins_and_ends(program, folder):
     same("whether the time is this machine's", True, began - 2 < at < time.time() + 2)
 
 
-# Words of a To that a stranger may write, and how they stand in the log.
+# Users of a Request-URI that a stranger may write, and how they stand in the log.
 NAMES = (
-    ('"a\\"b"', '"a\\x5c"b"'),
-    ('"a\\\\"', '"a\\x5c\\x5c"'),
-    ('"\\",\\"what\\":\\"ended\\"}"', '"\\x5c",\\x5c"what\\x5c":\\x5c"ended\\x5c"}"'),
-    ('"\u202e\u2028\u009b2J"', '"\\xe2\\x80\\xae\\xe2\\x80\\xa8\\xc2\\x9b2J"'),
-    ('"a\tb"', '"a\\x09b"'),
-    ('"Zo\u00eb"', '"Zo\\xc3\\xab"'),
+    ("a\\b", "a\\x5cb"),
+    ("a\\x0ab", "a\\x5cx0ab"),
+    ("','what':'ended'}", "','what':'ended'}"),
+    ("%22,%22what%22:%22ended%22}", "%22,%22what%22:%22ended%22}"),
 )
+
+# What a stranger may write into a To: none of it stands in the log.
+NOBODY = '"\\",\\"what\\":\\"ended\\"}\t\u202e\u2028\u009b2J" '.encode()
+
+# How long such a user is of which its line tells what stands in the first 64 octets of the Request-URI.
+LENGTHS = (62, 64, 256, 4000)
+
+
+def log_of_names(program, *options):
+    """The log of a service at which somebody asked for each of these users, and for long ones."""
+    with Service(program, *options, "--log-requests", "--max-texts", "8000", "alice") as service, service.phone("bob") as stranger:
+        for number, name in enumerate([name.encode() for name, _ in NAMES] + [b"b" * length for length in LENGTHS]):
+            asked = SUBSCRIBE.replace(b"SUBSCRIBE sip:alice", b"SUBSCRIBE sip:" + name).replace(b"Call-ID: c1", b"Call-ID: c%d" % number)
+            stranger.send(asked.replace(b"bKa1", b"bKa%d" % number).replace(b"To: ", b"To: " + NOBODY))
+            same(f"the answer to {name}", b"SIP/2.0 404 ", stranger.socket.recv(65535)[:12])
+        return service.close().err, stranger.me
+
+
+def are_shown(users):
+    """Each name stands in the log as it is to be shown."""
+    same("how many lines there are", len(NAMES) + len(LENGTHS), len(users))
+    for (name, shown), user in zip(NAMES, users):
+        same(f"how {name} stands in the log", True, user.startswith(f"sip:{shown}@127.0.0.1;tag="))
+    same("how long ones stand there", ["sip:" + "b" * 60 + "..."] * len(LENGTHS), users[len(NAMES):])
 
 
 def no_name_forges_a_line(program, folder):
-    """Whatever stands in a To is one member of its line, printable ASCII, and is cut."""
-    with Service(program, "--log-json", "--log-requests", "--max-texts", "8000", "alice") as service, service.phone("bob") as stranger:
-        for number, (name, shown) in enumerate(NAMES):
-            asked = SUBSCRIBE.replace(b"alice", b"bob").replace(b"Call-ID: c1", b"Call-ID: c%d" % number).replace(b"bKa1", b"bKa%d" % number)
-            stranger.send(asked.replace(b"To: ", b"To: " + name.encode() + b" "))
-            same(f"the answer to {name}", b"SIP/2.0 404 ", stranger.socket.recv(65535)[:12])
-        for number, length in enumerate((255, 256, 4000)):
-            asked = SUBSCRIBE.replace(b"alice", b"bob").replace(b"Call-ID: c1", b"Call-ID: l%d" % number).replace(b"bKa1", b"bKl%d" % number)
-            stranger.send(asked.replace(b"To: ", b'To: "' + b"\xc3\xab" * (length // 2) + b'" '))
-            same(f"the answer to {length} octets", b"SIP/2.0 404 ", stranger.socket.recv(65535)[:12])
-        log = records(service.close().err)
-    users = [it["user"] for it in of(log, "answered")]
-    for (name, shown), user in zip(NAMES, users):
-        same(f"how {name} stands in the log", True, user.startswith(shown + " <sip:bob@127.0.0.1>;tag="))
-    for user in users[len(NAMES):]:
-        same("how a long one ends", True, user.endswith("..."))
-        same("how long it is at most", True, len(user) <= 256 * 4 + 3)
+    """Whatever stands in a Request-URI is one member of its line, printable ASCII, and is cut; a To isn't told."""
+    log, _ = log_of_names(program, "--log-json")
+    are_shown([it["user"] for it in of(records(log), "answered")])
+
+
+def no_name_breaks_a_plain_line(program, folder):
+    """The same in the log for people: each line is printable ASCII."""
+    log, stranger = log_of_names(program)
+    same("whether each line is printable", True, re.fullmatch(rb"([ -~]+\n)+", log) is not None)
+    lines = re.findall(r"(?m)^notifyd: (\S+) SUBSCRIBE (.*) 404$", log.decode())
+    same("where they were sent from", {stranger}, {it[0] for it in lines})
+    are_shown([it[1] for it in lines])
 
 
 def nobody_answers(program, folder):
@@ -195,7 +212,7 @@ def other_machines_may_reach_it(program, folder):
     words = ["serve", "--log-json", "--listen", address(free_port()), "--control", f"0.0.0.0:{control}", "--receive-buffer", str(1 << 30), "alice"]
     with Running(program, words) as running:
         running.lines_until(b'"what":"control_reachable"')
-        run(program, ["tell", "--control", address(control), "CLOSE"])
+        tell_close(program, running.process, "--control", address(control))
         log = records(running.end().err)
     same("the warning", [f"0.0.0.0:{control}"], [it["control"] for it in of(log, "control_reachable")])
     with open("/proc/sys/net/core/rmem_max", encoding="ascii") as limit:
@@ -233,13 +250,12 @@ def receives_fail(program, folder):
 def sends_fail(program, folder):
     """A NOTIFY that can't be sent is told at the end, with the system's words: it is sent again."""
     sip, control = free_port(), free_port()
-    traced = ["-f", "-qq", "-o", "/dev/null", "-e", "trace=sendto", "-e", "inject=sendto:error=ENETUNREACH:when=2"]
     words = ["serve", "--log-json", "--listen", address(sip), "--control", address(control), "alice"]
-    with Running("strace", [*traced, program, *words]) as running:
+    with Traced(program, "sendto", "error=ENETUNREACH:when=2", words) as running:
         running.lines_until(b"listening")
-        with Phone(sip, "alice") as phone:
+        with Phone(sip, "alice") as phone, Operator(control) as operator:
             phone.leave(phone.subscribe(), NO_MESSAGES)
-        run(program, ["tell", "--control", address(control), "CLOSE"])
+            operator.tell("CLOSE")  # which is sent once: a second answer to it would fail too
         log = records(running.end().err)
     wanted = [("failed", 1, "Network is unreachable (os error 101)")]
     same("what is told", wanted, [(it["counter"], it["more"], it["cause"]) for it in of(log, "not_done")])
@@ -266,3 +282,4 @@ def checks():
         yield "serve --log-json: what can't be sent", sends_fail
         yield "serve --log-json: receives that fail", receives_fail
     yield "serve: without --log-json each line is plain", the_plain_form_is_the_default
+    yield "serve: no name breaks a plain line", no_name_breaks_a_plain_line

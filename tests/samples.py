@@ -11,7 +11,7 @@ import re
 from passwords import USERS, challenges, credentials, password_file
 from phone import Message, open_socket
 from service import KNOWN, SUBSCRIBE, Service, address, next_datagram
-from suite import Running, run, same, sip_block
+from suite import Running, run, same, sip_block, tell
 
 TOP = os.path.dirname(os.path.dirname(os.path.abspath(__file__)))
 
@@ -97,7 +97,7 @@ def consoles_of_operating(program, folder):
     with Service(program, "--workers", "2", "--log-requests", "alice", "bob") as service:
         with Running(os.path.join(TOP, "contrib", "lamp"), [address(service.sip), "alice"]) as lamp:
             lines = [lamp.process.stdout.readline() for _ in range(2)]
-            told = run(program, ["tell", "--control", address(service.control), "MAIL", "alice", "voice", "2", "8", "0", "2"])
+            told = tell(program, "--control", address(service.control), "MAIL", "alice", "voice", "2", "8", "0", "2")
             same("the answer to a MAIL line", b"ok\n", told.out)
             lines.append(lamp.process.stdout.readline())
             with open_socket(("127.0.0.1", service.sip)) as phone:
@@ -105,7 +105,7 @@ def consoles_of_operating(program, folder):
                 next_datagram(phone)
             for command in [it for it in printed if it.startswith("notifyd tell")]:
                 words, _, most = command.partition(" | head -")
-                ended = run(program, ["tell", "--control", address(service.control), *words.split()[2:]])
+                ended = tell(program, "--control", address(service.control), *words.split()[2:])
                 came = ended.out.decode().rstrip().splitlines()
                 matches(command, printed[command], came[: int(most)] if most else came)
             log = service.close().err.decode().splitlines()

@@ -30,7 +30,7 @@ MOST_UNKNOWN = 64
 STRIDE = 24
 
 # Seconds in which nothing comes before it is missed, and behind which the service is killed and the storm has failed. It takes a few.
-PATIENCE = 60 * SLOWER
+PATIENCE = 120 * SLOWER
 LIMIT = 600 * SLOWER
 
 

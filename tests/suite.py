@@ -17,8 +17,13 @@ the program.
 Whatever a check starts ends with it: `run` waits for the end of a call, `Running` is for a program that goes on beside the
 check. Both take a limit in seconds, behind which the program is killed and the check has failed. Ports are of 127.0.0.1, and
 those at which a program is to listen come from `free_port`, which gives none twice.
+
+A check prints the same whatever the machine does beside it. So it counts on no order that nobody promises, as that between workers, and on
+no time within which a thread runs: it waits long for what must come, by `comes_true` or `tell`, and reads a counter once what it counts is done.
 """
 
+import contextlib
+import glob
 import os
 import re
 import socket
@@ -33,11 +38,11 @@ Ended = namedtuple("Ended", "status out err")
 # How many times as slow a program may be as the built ones: `tests/run --tried` says so of one that was compiled without a proof.
 SLOWER = int(os.environ.get("NOTIFYD_SLOWER", "1"))
 
-# Seconds that a call may take where nothing else is said. All of them take far less; a busy machine may be slow.
-LIMIT = 120 * SLOWER
+# Seconds that a call may take where nothing else is said. All of them take far less; a busy machine may be very slow.
+LIMIT = 300 * SLOWER
 
 # The same for calls that have much to read, or start many others.
-LONG_LIMIT = 300 * SLOWER
+LONG_LIMIT = 600 * SLOWER
 
 
 _lock = threading.Lock()
@@ -69,6 +74,26 @@ def run(program, words=(), given=b"", limit=LIMIT, **how):
     return Ended(process.returncode, out, err)
 
 
+def waits_of(number):
+    """What each thread waits for of the process with this number and of those that it started, as the system tells it: its name, its state,
+    and the call that it is in."""
+    waits = []
+    for place in sorted(glob.glob(f"/proc/{number}/task/*")):
+        try:
+            name, state = read_text(f"{place}/comm").strip(), read_text(f"{place}/stat").rpartition(")")[2].split()[0]
+            waits.append(f"{name} {state} {read_text(f'{place}/wchan')} {read_text(f'{place}/syscall').split(' ')[0].strip()}")
+            for child in read_text(f"{place}/children").split():
+                waits += waits_of(child)
+        except OSError:
+            pass
+    return waits
+
+
+def read_text(path):
+    with open(path, encoding="utf-8", errors="replace") as file:
+        return file.read()
+
+
 class Running:
     """A program that goes on beside the check, to be used in a `with`: at its end the program is killed, if it still runs.
 
@@ -81,20 +106,32 @@ class Running:
             # Without a buffer, so that `end` finds what `lines_until` has left.
             [program, *words], bufsize=0, stdin=stdin, stdout=subprocess.PIPE, stderr=subprocess.PIPE, **how
         )
-        self.killer = threading.Timer(limit, self.process.kill)
+        self.killer = threading.Timer(limit, self.kill)
         self.killer.daemon = True
         self.killer.start()
         self.err = b""
+        self.delayed = 0.0
 
     def __enter__(self):
         return self
 
     def __exit__(self, *_):
         self.killer.cancel()
-        self.process.kill()
+        self.kill()
         self.process.wait()
         self.process.stdout.close()
         self.process.stderr.close()
+
+    def kill(self):
+        self.process.kill()
+
+    def delay(self):
+        """For how many seconds the threads of the program waited for a processor so far, all together, or until its end: on a busy machine it may
+        be so late with what it does."""
+        with contextlib.suppress(OSError):
+            places = glob.glob(f"/proc/{self.process.pid}/task/*/schedstat")
+            self.delayed = max(self.delayed, sum(int(read_text(place).split()[1]) for place in places) / 1e9)
+        return self.delayed
 
     def lines_until(self, part):
         """The lines on standard error up to the first that has these bytes in it."""
@@ -106,12 +143,64 @@ class Running:
 
     def end(self):
         """Waits for the end of the program, and answers how it ended, with all that it wrote on standard error."""
+        self.killer.cancel()
         try:
             out, err = self.process.communicate(timeout=self.limit)
         except subprocess.TimeoutExpired:
-            raise AssertionError(f"it did not end within {self.limit} seconds") from None
+            waits = waits_of(self.process.pid)
+            raise AssertionError(f"it did not end within {self.limit} seconds; its threads: {waits}") from None
         self.err += err
         return Ended(self.process.returncode, out, self.err)
+
+
+# How `notifyd tell` ends where no answer came within its second.
+NOBODY = Ended(3, b"", b"notifyd: nobody answered\n")
+
+# How it ends where the service closes.
+CLOSED = Ended(1, b"closed\n", b"")
+
+
+def tell_once(program, words, inside):
+    """How `notifyd tell` with these words ends, which the words of `inside` start, if there are any."""
+    first, *others = [*inside, program, "tell", *words]
+    return run(first, others)
+
+
+def is_unanswered(ended):
+    """Whether nobody answered a line, or one of its pages."""
+    return (ended.status, ended.err) == (NOBODY.status, NOBODY.err)
+
+
+def tell(program, *words, inside=()):
+    """How `notifyd tell` with these words ends. It waits a second for an answer, which is too short for a service that a busy machine
+    keeps waiting: so it is called again until somebody answers, each time a little later, since what was asked before is answered first."""
+    until, pause = time.monotonic() + LIMIT, 0
+    while is_unanswered(ended := tell_once(program, words, inside)) and time.monotonic() < until:
+        pause = min(pause + 1, 10)
+        time.sleep(pause)
+    return ended
+
+
+def tell_close(program, service, *words, inside=()):
+    """Has this process of a service closed by `notifyd tell` with these words and CLOSE, which must be answered `ok`. Where nobody answered
+    in time it is told again: the line that was sent before may have been heard, and then it is answered `closed`, or the service has ended."""
+    same("whether the service runs", None, service.poll())
+    until = time.monotonic() + LIMIT
+    ended = tell_once(program, [*words, "CLOSE"], inside)
+    while ended == NOBODY and time.monotonic() < until:
+        if service.poll() is not None:
+            return
+        if (ended := tell_once(program, [*words, "CLOSE"], inside)) == CLOSED:
+            return
+    ended_with(ended, 0, b"ok\n", b"")
+
+
+def comes_true(holds, limit=LIMIT):
+    """Waits until this holds, for so many seconds at most. Whether it does."""
+    end = time.monotonic() + limit
+    while not (held := holds()) and time.monotonic() < end:
+        time.sleep(0.02)
+    return held
 
 
 def shown(thing):
@@ -171,11 +260,6 @@ def in_brief(words, out):
     return f"NOTIFY {words[2]} {' '.join(states)}"
 
 
-# Ports that the system gives by itself begin at 32768; those below are asked for by their number alone.
-FIRST_PORT, LAST_PORT = 10_000, 32_000
-_next_port = FIRST_PORT + os.getpid() * 509 % (LAST_PORT - FIRST_PORT)
-
-
 def first_answer(port, question, seconds):
     """What a program at this port of this machine answers first, which is asked again and again for so many seconds. None where it answers
     nothing. `question` says what to ask from a socket."""
@@ -194,13 +278,33 @@ def first_answer(port, question, seconds):
     return None
 
 
+# Ports that the system gives by itself begin at 32768; those below are asked for by their number alone. A run has blocks of them for itself:
+# as long as it goes on it holds the first number of each as a port of TCP, where no program of these checks listens.
+FIRST_PORT, BLOCKS, BLOCK = 10_048, 343, 64
+_holders = []
+
+
+def own_ports():
+    """The ports of blocks that no other run holds, one after the other."""
+    for number in range(BLOCKS):
+        first = FIRST_PORT + BLOCK * ((os.getpid() + number) % BLOCKS)
+        holder = socket.socket(socket.AF_INET, socket.SOCK_STREAM)
+        try:
+            holder.bind(("127.0.0.1", first))
+        except OSError:
+            holder.close()
+            continue
+        _holders.append(holder)
+        yield from range(first, first + BLOCK)
+
+
+_ports = own_ports()
+
+
 def free_port():
-    """A UDP port of 127.0.0.1 that is free, and that no other check of this run has."""
-    global _next_port
+    """A UDP port of 127.0.0.1 that is free, and that no other check has, be it of this run or of another on this machine."""
     with _lock:
-        for _ in range(FIRST_PORT, LAST_PORT):
-            port = _next_port
-            _next_port = port + 1 if port < LAST_PORT else FIRST_PORT
+        for port in _ports:
             with socket.socket(socket.AF_INET, socket.SOCK_DGRAM) as probe:
                 try:
                     probe.bind(("127.0.0.1", port))
