@@ -52,6 +52,7 @@ class Phone:
         self.dialogs = 0  # that it began
         self.notifies = self.backward = self.doubled = 0
         self.is_leaving = False
+        self.is_over = False  # its mailbox is gone: it doesn't come back (RFC 6665 section 4.1.3)
         self.call = ""
 
     def begin(self):
@@ -126,7 +127,7 @@ class Phone:
             self.plant.agenda.add(int(answer.value("expires")) / 2, lambda: self.renew(which))
 
     def renew(self, which):
-        if which == (self.call, self.asked):
+        if which == (self.call, self.asked) and not self.is_over:
             self.subscribe(self.seconds)
 
     def leave(self):
@@ -159,7 +160,8 @@ class Phone:
             self.shown = new
             self.plant.see(self, new)
         state = notify.value("subscription-state")
-        if state.startswith("terminated") and not self.is_leaving:
+        self.is_over = "noresource" in state
+        if state.startswith("terminated") and not self.is_leaving and not self.is_over:
             self.begin() if "deactivated" in state or "timeout" in state else self.plant.agenda.add(AGAIN, self.begin)
 
 
