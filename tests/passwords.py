@@ -531,7 +531,7 @@ def memory_has_a_bound(program, folder):
 def handled(operator):
     """How many datagrams were answered or dropped."""
     told = operator.counters()
-    return sum(int(told[name]) for name in ("answers", "foreign", "limited"))
+    return sum(int(told[name]) for name in ("answers", "foreign", "limited", "per_source"))
 
 
 class Elsewhere:
