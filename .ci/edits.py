@@ -60,7 +60,7 @@ class Edit:
 
     def __init__(self, crate, title, lines):
         self.crate, self.title, self.name, self.changes = crate, title, f"{crate}/{title}", []
-        self.at_landing, self.changes_contract = "at-landing: yes" in lines, False
+        self.at_landing, self.changes_contract, self.calls = "at-landing: yes" in lines, False, set()
         file = old = ""
         for line in lines:
             if line.startswith("file: "):
@@ -86,8 +86,8 @@ class Edit:
         return bool(self.changes) and all(text.count(old) == 1 for _, text, old in self.steps(folder, texts))
 
     def functions(self, folder):
-        """The functions that it changes, by their paths in the crate, or None where it changes something else too. Notes whether it changes
-        what stands before a body: others rest on that, so that what the prover says of them may not be theirs."""
+        """The functions that it changes, by their paths in the crate, or None where it changes something else too. Notes the names of what
+        they call, and whether it changes what stands before a body: others rest on that, and what is said of them may not be theirs."""
         top = f"{folder}/crates/{self.crate}/"
         every = {it[len(top) :]: read(it) for it in glob.glob(f"{top}src/**/*.rt", recursive=True)}
         found, texts = set(), {}
@@ -98,7 +98,9 @@ class Edit:
             if at < 0 or not end or end.start() < at:
                 return None
             found.add(paths.path({**every, file: text}, file, before[-1]))
-            self.changes_contract = self.changes_contract or at < paths.body(text, before[-1])
+            begin = paths.body(text, before[-1])
+            self.changes_contract = self.changes_contract or at < begin
+            self.calls |= set(re.findall(r"(\w+)\(", text[begin : end.start()]))
         return found
 
     def of(self, folder):
