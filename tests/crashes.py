@@ -38,6 +38,10 @@ SLOW = 60.0
 # Seconds behind which a request or a line is sent again that nothing answered (RFC 3261 section 17.1.1.1).
 AGAIN = 0.5
 
+# Seconds from one change to the next at least. Behind a dialog's first NOTIFY 64 may wait for its answer, and further ones are dropped: so
+# many of one mailbox take some seconds, and no thread waits so long for a processor.
+PACE = 0.004
+
 MAILBOXES = tuple(f"box{number}" for number in range(12))
 
 ZEROS = "0" * 64
@@ -166,7 +170,7 @@ class Phone:
 
 
 class Operator:
-    """Tells changes as fast as they are answered, and tells one again that nothing answered. Each has a socket of its own: so no late answer to
+    """Tells changes as they are answered, and tells one again that nothing answered. Each has a socket of its own: so no late answer to
     the one before is taken for its own."""
 
     def __init__(self, control, mailboxes, chance, selector):
@@ -176,7 +180,7 @@ class Operator:
         self.asked = None
         self.lines = 0
         self.next = 0
-        self.pause = 0  # seconds from one change to the next at least
+        self.pause = PACE  # seconds from one change to the next at least
 
     def close(self):
         if self.socket is not None:
@@ -424,7 +428,7 @@ def another_file(program, folder):
             town.turn(time.monotonic() + 0.3, True)
         same("the folder's mode", 0o700, mode(town.journal))
         same("the modes in it", {0o600}, {mode(os.path.join(town.journal, name)) for name in os.listdir(town.journal)})
-        town.operator.pause = 0
+        town.operator.pause = PACE
         for _ in range(6):
             town.hear()
             town.turn(time.monotonic() + town.chance.uniform(0.02, 0.4), True)
