@@ -7,7 +7,7 @@ help:
 	@echo "make tried    compiles it so, and runs nothing"
 	@echo "make check    compiles it so, and tries it from outside: for who changes a test or a script, in some minutes"
 	@echo "make run      proves and builds crates/notifyd/out/notifyd, and runs it: an hour or more"
-	@echo "make gate     proves and tests everything, as a landing does: some three hours on four processors"
+	@echo "make gate     proves and tests everything, as a landing does: one to three hours on four processors"
 	@echo "make tests    tries the built program from outside, as the gate does after its proofs"
 	@echo "make deb      makes a Debian package of the built program"
 	@echo "make wrong    for a release: tries all wrong bodies (make wrong CRATES=\"scripts refer\" tries those of two crates)"

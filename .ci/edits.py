@@ -4,7 +4,7 @@
     .ci/edits.py --check              says what is wrong with them; the status is 1 where something is
     .ci/edits.py --mend               writes each crates/NAME/wrong.edits anew, in order
     .ci/edits.py --print CRATE/NAME   prints one as a file of must-fail/, to be tried or to be moved there
-    .ci/edits.py --move CRATE         moves those of must-fail/ into the list, for each landing
+    .ci/edits.py --move CRATE [NAME]  moves those of must-fail/ into the list, for each landing, but for this one
 
 crates/NAME/wrong.edits has each wrong body of a crate that the prover must refuse, with an empty line between two:
 
@@ -17,8 +17,10 @@ crates/NAME/wrong.edits has each wrong body of a crate that the prover must refu
 Further pairs of `old:` and `new:`, also of other files, apply to what the earlier ones made. Each landing tries some:
 
 - `rt ci` those in files of their own, must-fail/NAME.edit, since it looks for them there. They are listed with `must-fail: yes` in place of
-  their texts. For these it proves the crate a second time.
-- `.ci/wrong --landing` those that have the line `at-landing: yes` behind `of:`. Each changes functions alone, and only these are checked.
+  their texts. For these it proves the crate a second time, be it one or ten.
+- `.ci/wrong --landing` those that have the line `at-landing: yes` behind `of:`. Each changes functions alone, and only these are checked, with
+  what they call. One that changes more, as a type that a counter needs, has the line `refused-by:` with those of its functions whose clauses
+  must refuse it: only these are checked.
 
 --check tells of a text to be changed that doesn't stand there once, of a wrong `of:`, of a name that stands twice, of a file of
 must-fail/ that isn't listed, of one for each landing that changes more than functions, and of other numbers in docs/testing.md than there
@@ -60,10 +62,12 @@ class Edit:
 
     def __init__(self, crate, title, lines):
         self.crate, self.title, self.name, self.changes = crate, title, f"{crate}/{title}", []
-        self.at_landing, self.changes_contract, self.calls = "at-landing: yes" in lines, False, set()
+        self.at_landing, self.changes_contract, self.calls, self.by = "at-landing: yes" in lines, False, set(), ""
         file = old = ""
         for line in lines:
-            if line.startswith("file: "):
+            if line.startswith("refused-by: "):
+                self.by = line[12:].strip()
+            elif line.startswith("file: "):
                 file = line[6:].strip()
             elif line.startswith("old: "):
                 old = line[5:]
@@ -86,22 +90,28 @@ class Edit:
         return bool(self.changes) and all(text.count(old) == 1 for _, text, old in self.steps(folder, texts))
 
     def functions(self, folder):
-        """The functions that it changes, by their paths in the crate, or None where it changes something else too. Notes the names of what
-        they call, and whether it changes what stands before a body: others rest on that, and what is said of them may not be theirs."""
+        """The functions that it changes and whose clauses are to refuse it, by their paths in the crate, or None where that can't be told, since it
+        changes something else too. Notes the names of what they call, and whether it changes what stands before a body: others rest on that, and
+        what is said of them may not be theirs."""
         top = f"{folder}/crates/{self.crate}/"
         every = {it[len(top) :]: read(it) for it in glob.glob(f"{top}src/**/*.rt", recursive=True)}
-        found, texts = set(), {}
+        found, is_more, texts = set(), False, {}
         for file, text, old in self.steps(folder, texts):
             at = text.find(old)
             before = [it for it in paths.FUNCTION.finditer(text) if it.start() <= at + len(old)] if file in every else []
             end = before and re.compile(f"^{before[-1][1]}}}", re.M).search(text, before[-1].end())
             if at < 0 or not end or end.start() < at:
-                return None
+                is_more = True
+                continue
             found.add(paths.path({**every, file: text}, file, before[-1]))
             begin = paths.body(text, before[-1])
             self.changes_contract = self.changes_contract or at < begin
             self.calls |= set(re.findall(r"(\w+)\(", text[begin : end.start()]))
-        return found
+        if not self.by:
+            return None if is_more else found
+        self.changes_contract = True
+        wanted = [{it for it in found if it == name or it.endswith(f"::{name}")} for name in self.by.split(", ")]
+        return set().union(*wanted) if all(len(it) == 1 for it in wanted) else None
 
     def of(self, folder):
         """What it changes, by name: functions, those of a type as `Type::name`, other items of code, definitions."""
@@ -160,7 +170,7 @@ def unread(folder, crate):
     """What of a crate's list can't be read, or stands twice, as lines."""
     path, landing, seen = f"{folder}/crates/{crate}/{LIST}", {it.title: it for it in files(folder, crate, "must-fail")}, set()
     for number, line in enumerate(read(path).split("\n") if os.path.isfile(path) else [], 1):
-        if line and not re.match(r"name: \w+$|of: .|must-fail: yes$|at-landing: yes$|file: .|old: .|new:(?: |$)", line) and (number > 1 or line[0] != "#"):
+        if line and not re.match(r"name: \w+$|of: .|must-fail: yes$|at-landing: yes$|refused-by: .|file: .|old: .|new:(?: |$)", line) and (number > 1 or line[0] != "#"):
             yield f"{crate}/{LIST}:{number}: no line of an edit: {line[:60]}"
     for title, _, edit in entries(folder, crate):
         if title in seen or edit and title in landing and edit.changes != landing[title].changes:
@@ -184,7 +194,7 @@ def faults(folder, crate):
         elif edit.of(folder) != of:
             yield f"{crate}/{title}: it is of {edit.of(folder)}, and not of {of}"
         elif edit.at_landing and not edit.functions(folder):
-            yield f"{crate}/{title}: it changes more than functions, so no landing can try these alone"
+            yield f"{crate}/{title}: it changes more than functions, so no landing can try these alone, and no line refused-by says of which it can"
     yield from (f"{crate}/{it}: it isn't in {LIST}" for it in landing if it not in seen)
     for edit in files(folder, crate, "wrong"):
         yield f"{edit.name}: it stands in a file of wrong/, and not in {LIST}"
@@ -202,7 +212,8 @@ def mend(folder, crate):
     rows, old = [], {it.title: it for it in listed(folder, crate)}
     for title, edit in (old | new | landing).items():
         of, is_marked = edit.of(folder), any(it[title].at_landing for it in (old, new) if title in it)
-        texts = ["must-fail: yes"] if title in landing else ["at-landing: yes"] * is_marked + [*edit.lines()]
+        marks = ["at-landing: yes"] * is_marked + [f"refused-by: {edit.by}"] * bool(edit.by)
+        texts = ["must-fail: yes"] if title in landing else marks + [*edit.lines()]
         place = edit.changes[0][0] if edit.changes else ""
         rows.append(((place, of, title), "".join(f"{it}\n" for it in ["", f"name: {title}", f"of: {of}", *texts])))
     if rows:
@@ -213,12 +224,15 @@ def mend(folder, crate):
         os.rmdir(f"{folder}/crates/{crate}/wrong")
 
 
-def move(crate):
-    """Makes those of a crate's must-fail/ files of wrong/, so that --mend takes them in for each landing."""
-    os.makedirs(f"{TOP}/crates/{crate}/wrong", exist_ok=True)
-    for path in glob.glob(f"{TOP}/crates/{crate}/must-fail/*.edit"):
-        write(f"{TOP}/crates/{crate}/wrong/{os.path.basename(path)}", "at-landing: yes\n" + read(path))
-        os.remove(path)
+def move(crate, left):
+    """Makes those of a crate's must-fail/ files of wrong/, but for one of this name, so that --mend takes them in for each landing. What changes more
+    than functions stays."""
+    for edit in files(TOP, crate, "must-fail"):
+        path = f"{TOP}/crates/{crate}/must-fail/{edit.title}.edit"
+        if edit.title != left and edit.functions(TOP):
+            os.makedirs(f"{TOP}/crates/{crate}/wrong", exist_ok=True)
+            write(f"{TOP}/crates/{crate}/wrong/{edit.title}.edit", "at-landing: yes\n" + read(path))
+            os.remove(path)
 
 
 def counts():
@@ -239,8 +253,8 @@ def main(words):
         found = [it for it in edits_of(TOP, words[1].partition("/")[0]) if it.name == words[1] and it.changes]
         print("\n".join(found[0].lines()) if found else f"no wrong body {words[1]}")
         return 0 if found else 1
-    if len(words) == 2 and words[0] == "--move" and words[1] in graph():
-        move(words[1])
+    if len(words) in (2, 3) and words[0] == "--move" and words[1] in graph():
+        move(words[1], words[2] if len(words) == 3 else None)
         words = ["--mend"]
     if words == ["--mend"]:
         for crate in graph():

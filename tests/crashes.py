@@ -26,14 +26,14 @@ from concurrent.futures import ThreadPoolExecutor
 sys.dont_write_bytecode = True
 
 import journal_file
-from suite import free_port, run, same, started
+from suite import SLOWER, free_port, run, same, started
 
 # Seconds within which lamps are right behind the last start, once it answers, and within which a phone's request is answered.
-SETTLED, PATIENCE = 5.0, 120.0
+SETTLED, PATIENCE = 5.0, 120.0 * SLOWER
 
 # Seconds within which lamps are right and no number is wanting where the machine is busy: a lamp that isn't told stays wrong, and a NOTIFY
 # is sent again for 32 seconds (RFC 3261 section 17.1.2.2).
-SLOW = 60.0
+SLOW = 60.0 * SLOWER
 
 # Seconds behind which a request or a line is sent again that nothing answered (RFC 3261 section 17.1.1.1).
 AGAIN = 0.5

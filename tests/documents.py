@@ -12,6 +12,7 @@ has to exist, by its name:
 - a block of commands (```sh) is read by the shell, its targets of make and its programs exist, and so do their options.
 
 What the crates' wrong bodies change stands there (`.ci/edits.py`), and those which docs/proofs.md has by plain name are tried (`.ci/named`).
+`refusals.py` has what `.ci/wrong` says of those that aren't refused.
 
 docs/definitions.md names each file of definitions that a clause cites of a call which can be made from outside its crate, but for the
 crates BESIDE: which these are is read off the code. How far docs/decisions.md says that a SUBSCRIBE goes is what `walk.py` counts, and each
@@ -33,6 +34,7 @@ import shlex
 import subprocess
 import sys
 
+import refusals
 import walk
 
 TOP = os.path.dirname(os.path.dirname(os.path.abspath(__file__)))
@@ -607,13 +609,14 @@ FAULTS = {
     "- A: nothing at all.": "it has no edit",
     "- A: `notifier/wrong.edits/an_edit` (`f`).": "it isn't there",
     "- A: `service/wrong.edits/a_tick_is_told_twice` (`tell_time`).": "it is tried by no landing",
-    "- A: `notifier/must-fail/an_id_has_no_case`; in `notifier/wrong.edits`, `another`.": "`notifier/wrong.edits` is no path of an edit",
-    "- A: `notifier/must-fail/an_id_has_no_case`; of the same, `the_ring_never_drops`.": "`the_ring_never_drops` is no path of an edit",
+    "- A: `notifier/must-fail/an_id_has_no_case` (`same_text`).": "it isn't there",
+    "- A: `notifier/must-fail/a_notify_follows_a_481`; in `notifier/wrong.edits`, `another`.": "`notifier/wrong.edits` is no path of an edit",
+    "- A: `notifier/must-fail/a_notify_follows_a_481`; of the same, `the_ring_never_drops`.": "`the_ring_never_drops` is no path of an edit",
 }
 
 
 def named_tells_faults(_program, _folder):
-    named, good = script_of("named"), "- A: `notifier/must-fail/{an_id_has_no_case, the_ring_never_drops}` (`same_text`)."
+    named, good = script_of("named"), "- A: `notifier/must-fail/a_notify_follows_a_481`, `notifier/wrong.edits/{an_id_has_no_case, the_ring_never_drops}` (`take_answer`)."
 
     def faults(items, said=None):
         return named.faults(named.named(f"## {named.LIST}\n\n{items}\n"), said)
@@ -621,7 +624,7 @@ def named_tells_faults(_program, _folder):
     wanted = sum(len(glob.glob(f"{TOP}/crates/{it}/must-fail/*.edit")) for it in named.graph())
     ended = "rt: ok; handles allowed: none; must-fail edits: {} refused{}; every proof and must-fail edit was done in this run"
     ended += "".join(f"\n{it.name}: refused" for it in named.marked())
-    limit = "rt: must-fail notifier/an_id_has_no_case.edit: refused, as it must be (only by a limit of the prover, which gave no verdict): x\n"
+    limit = "rt: must-fail notifier/a_notify_follows_a_481.edit: refused, as it must be (only by a limit of the prover, which gave no verdict): x\n"
     wrong = faults(good) + faults(good, ended.format(wanted, ""))
     for items, fault in FAULTS.items():
         wrong += [] if any(fault in it for it in faults(items)) else [f"{items} isn't told as: {fault}"]
@@ -670,4 +673,5 @@ def checks_apart():
     yield "each wrong body can be planted, and is listed", wrong_bodies_can_be_planted
     yield "each wrong body that docs/proofs.md has by plain name is tried, in code", named_ones_are_tried
     yield ".ci/named tells each fault of such a list", named_tells_faults
+    yield from refusals.checks()
     yield "what was last said of the wrong bodies is as .ci/last.py writes it", last_words_are_written

@@ -27,11 +27,11 @@ NO_MESSAGES = "Messages-Waiting: no\r\n"
 OVER = "terminated;reason="
 
 
-def open_socket(server):
-    """A socket of 127.0.0.1 that hears this server alone."""
+def open_socket(server, address="127.0.0.1"):
+    """A socket of this address that hears this server alone."""
     opened = socket.socket(socket.AF_INET, socket.SOCK_DGRAM)
     opened.setsockopt(socket.SOL_SOCKET, socket.SO_RCVBUF, ROOM)
-    opened.bind(("127.0.0.1", 0))
+    opened.bind((address, 0))
     opened.connect(server)
     opened.settimeout(PATIENCE)
     return opened
@@ -114,14 +114,14 @@ class Dialog:
 
 
 class Phone:
-    """A phone of this user with a socket of its own, at the notifier at this port."""
+    """A phone of this user with a socket of its own at this address, at the notifier at this port."""
 
     # Whether a NOTIFY that comes again is answered again.
     answers_again = True
 
-    def __init__(self, sip, user):
+    def __init__(self, sip, user, address="127.0.0.1"):
         self.user = user
-        self.socket = open_socket(("127.0.0.1", sip))
+        self.socket = open_socket(("127.0.0.1", sip), address)
         self.me = "{}:{}".format(*self.socket.getsockname())
         self.dialogs = {}
         self.answers = {}  # to each NOTIFY that came

@@ -43,13 +43,21 @@ class Place(Town):
         self.mailboxes = ()
         self.words += ["--mailboxes", self.file, *words]
 
+    def meanwhile(self, what, call, *words, tells=False):
+        """What this call gives, while all go on."""
+        with ThreadPoolExecutor(1) as pool:
+            came = pool.submit(call, *words)
+            self.wait(what, came.done, tells=tells)
+        return came.result()
+
+    def told(self, line):
+        """What a control line is answered, while all go on: so no phone is late to answer, however late that comes."""
+        return self.meanwhile(f"an answer to {line}", self.ask, line)
+
     def reload(self, tells=True):
         """What `tell RELOAD` answers, while all go on."""
-        control = "%s:%d" % self.control
-        with ThreadPoolExecutor(1) as pool:
-            came = pool.submit(run, self.program, ["tell", "--control", control, "RELOAD"])
-            self.wait("a RELOAD is answered", came.done, tells=tells)
-        return came.result()
+        words = ["tell", "--control", "%s:%d" % self.control, "RELOAD"]
+        return self.meanwhile("a RELOAD is answered", run, self.program, words, tells=tells)
 
     def reload_well(self, tells=True):
         """A RELOAD with good files. Where the machine is so busy that `tell` gives up before the service is there again it is told anew."""
@@ -70,7 +78,7 @@ class Place(Town):
         live = [phone for phone in self.phones if phone.is_live]
         before = {phone.call: max(phone.told) for phone in live}
         for mailbox, is_on in self.operator.truth.items():
-            same(f"a change of {mailbox}", "ok", self.ask(f"MAIL {mailbox} voice {int(is_on)} 42 0 0"))
+            same(f"a change of {mailbox}", "ok", self.told(f"MAIL {mailbox} voice {int(is_on)} 42 0 0"))
         self.wait("each is told", lambda: all(max(phone.told) > before[phone.call] for phone in live))
         same("numbers", [], [(phone.call, before[phone.call], max(phone.told)) for phone in live if max(phone.told) != before[phone.call] + 1])
 

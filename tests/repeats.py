@@ -47,6 +47,12 @@ TIMED.setsockopt(socket.SOL_SOCKET, SO_TIMESTAMPNS, 1)
 # To so many phones of one mailbox NOTIFYs are sent at once, so often.
 MANY, ROUNDS = 6, 3
 
+# An address of this machine that isn't that of the other phones.
+ELSEWHERE = "127.0.0.2"
+
+# How often a mailbox changes whose NOTIFYs go to a phone that answers none of them, and how many of these somebody else answers.
+CHANGES, ANSWERED = 30, 20
+
 GONE = "481 Call/Transaction Does Not Exist"
 
 # A datagram, and the time of its coming in seconds.
@@ -56,8 +62,8 @@ Arrival = namedtuple("Arrival", "time octets")
 class Observer(Phone):
     """A phone that answers NOTIFYs when it is told to."""
 
-    def __init__(self, service, user):
-        super().__init__(service.sip, user)
+    def __init__(self, service, user, address="127.0.0.1"):
+        super().__init__(service.sip, user, address)
         self.service = service
         self.socket.setsockopt(socket.SOL_SOCKET, SO_TIMESTAMPNS, 1)
         self.answered = 0  # when it answered a NOTIFY last, by the system's clock
@@ -162,6 +168,12 @@ def answers_noted(operator, count):
         raise AssertionError(f"the answers of {count} phones were to be noted")
 
 
+def have_waited(operator, count):
+    """So many NOTIFYs waited for an answer, and none of them was dropped."""
+    counted = operator.counters()
+    same("NOTIFYs that waited, and that were dropped", [str(count), "0"], [counted[name] for name in ("held", "held_dropped")])
+
+
 def are_numbered(what, arrivals, numbers):
     """Raises AssertionError unless these are NOTIFYs with these numbers, in this order."""
     same(what, [f"{number} NOTIFY" for number in numbers], [Message(arrival.octets).value("CSeq") for arrival in arrivals])
@@ -223,6 +235,71 @@ def an_address_elsewhere_draws_one(program, folder):
             for arrival in waited:
                 elsewhere.reply(arrival)
             service.close(lambda: elsewhere.accept(8))
+
+
+def who_answers_for_another_draws_one_each(program, folder):
+    """Who began a dialog goes on with it as if from the address of a phone that answers nothing, and answers himself what goes there. Each of
+    his answers draws one NOTIFY; once he is silent the last of them alone comes again. An answer from that address, by whatever port a
+    NAT sends it, lets go all that waits, and from then on nothing waits."""
+    with ExitStack() as stack:
+        service = stack.enter_context(Service(program, "alice"))
+        operator = stack.enter_context(service.operator())
+        stranger = stack.enter_context(Observer(service, "alice", ELSEWHERE))
+        phone, port = (stack.enter_context(Observer(service, "alice")) for _ in range(2))
+        dialog = stranger.ask("SIP/2.0 200 OK")
+        stranger.accept(1)
+        answers_noted(operator, "1")
+        lines = ("Event: message-summary", "Expires: 3600")
+        phone.send(phone.request("SUBSCRIBE", dialog.call_id, dialog.asked + 1, dialog.tag, lines))
+        same("the answer to the refresh", "SIP/2.0 200 OK", Message(phone.observe(1)[0].octets).first)
+        came = phone.notified(2)
+        for new in range(1, CHANGES + 1):
+            operator.tell(f"MAIL alice voice {new} 0 0 0")
+        for number in range(3, ANSWERED + 3):
+            asked = time.time()
+            stranger.reply(came)
+            came = phone.notified(number)
+        last = [came, *phone.observe(2)]
+        are_sends("the NOTIFY that the stranger leaves unanswered", last, MOMENTS[:3], asked, service)
+        # On a busy machine the first one came to him again before he was heard.
+        strange = [it for it in stranger.observe_until(time.monotonic() + ON_ITS_WAY) if not is_number(it, 1)]
+        same("what else comes to the stranger", [], strange)
+        port.reply(last[-1])
+        for number in range(ANSWERED + 3, CHANGES + 3):
+            phone.accept(number)
+        have_waited(operator, CHANGES)
+        for new, number in ((1, CHANGES + 3), (2, CHANGES + 4)):
+            operator.tell(f"MAIL alice voice {new} 0 0 0")
+            last.append(phone.notified(number))
+        for arrival in last[-2:]:
+            phone.reply(arrival)
+        service.close(lambda: phone.accept(CHANGES + 5))
+
+
+def a_phone_that_answers_from_elsewhere_is_told_all(program, folder):
+    """A phone with two addresses answers from the other one: each NOTIFY comes, one behind the answer to the one before."""
+    with Service(program, "alice") as service, service.operator() as operator, Observer(service, "alice") as phone:
+        with Observer(service, "alice", ELSEWHERE) as elsewhere:
+            phone.ask("SIP/2.0 200 OK")
+            came = phone.notified(1)
+            for new in range(1, 11):
+                operator.tell(f"MAIL alice voice {new} 0 0 0")
+            for number in range(2, 12):
+                elsewhere.reply(came)
+                came = phone.notified(number)
+            same("what the last of them tells", "Voice-Message: 10/0 (0/0)", Message(came.octets).body.splitlines()[-1])
+            elsewhere.reply(came)
+            answers_noted(operator, "1")
+            asked = time.time()
+            for new in (1, 2):
+                operator.tell(f"MAIL alice voice {new} 0 0 0")
+            came = [phone.notified(12), *phone.observe(2)]
+            are_sends("the one NOTIFY behind all these answers", came, MOMENTS[:3], asked, service)
+            elsewhere.reply(came[-1])
+            elsewhere.reply(phone.notified(13))
+            answers_noted(operator, "1")
+            have_waited(operator, 11)
+            service.close(lambda: elsewhere.reply(phone.notified(14)))
 
 
 def what_waits_is_given_up_too(program, folder):
@@ -610,6 +687,8 @@ def checks():
     yield "repeats: what waits for an answer is given up with its NOTIFY", what_waits_is_given_up_too
     yield "repeats: a phone that answers nothing draws one NOTIFY, and all that waited once it answers", a_stranger_draws_one
     yield "repeats: an address elsewhere draws one NOTIFY until it answers", an_address_elsewhere_draws_one
+    yield "repeats: who answers for another address draws one NOTIFY there for each answer", who_answers_for_another_draws_one_each
+    yield "repeats: who answers from elsewhere is told all, one after the other", a_phone_that_answers_from_elsewhere_is_told_all
     yield "repeats: after 0.5, 1.5, 3.5 and 7.5 seconds, and no more once it is answered", silence_brings_it_again
     yield "repeats: NOTIFYs that are sent at once come again after half a second", a_burst_comes_again_in_time
     yield "repeats: a 100 makes the interval four seconds", a_provisional_answer_slows_it_down

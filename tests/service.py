@@ -597,6 +597,8 @@ def a_transfer_is_told(program, folder):
         tag = phone.refer("sip:carol@127.0.0.1")
         started = service.running.process.stdout.readline()
         same("the line of the transfer", f"START {tag} sip:carol@127.0.0.1\n".encode(), started)
+        # A transfer that failed is told so at the next second: this one goes on behind that.
+        time.sleep(2)
         operator.tell(f"PROGRESS {tag} 180 Ringing")
         phone.expect_notify("active", "SIP/2.0 180 Ringing\r\n")
         operator.tell(f"PROGRESS {tag} 200 OK")

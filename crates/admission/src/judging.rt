@@ -1,5 +1,5 @@
 //! What comes of a datagram.
-ghost use Rattle.std.specs.Prelude.{◌≡◌, ◌⊎◌, true, option_map, IfOk, IfSome, OnOk, OnErr};
+ghost use Rattle.std.specs.Prelude.{◌≡◌, ◌⊎◌, true, option_map, IfOk, IfSome, OnOk, OnErr, ◌+◌, ◌-◌, ◌≤◌, length, sum_by, SomeIff, not, nat_le};
 ghost use Rattle.admission.specs.declared.judging.Arrival.{Arrival as ArrivalSeen};
 ghost use Rattle.admission.specs.declared.judging.Reading.TheVariants as reading;
 ghost use Rattle.admission.specs.declared.judging.Verdict.{Verdict as VerdictSeen};
@@ -7,6 +7,7 @@ ghost use Rattle.admission.specs.declared.judging.Verdict.TheVariants as verdict
 ghost use Rattle.admission.specs.Owners.{Names, IsUser};
 ghost use Rattle.admission.specs.Verdicts as spec;
 ghost use Rattle.admission.specs.Verdicts.{Judges, IsUnbarred, IsFree, IsSeated, behind, half_noted};
+ghost use Rattle.admission.specs.Texts as amounts;
 
 use crate::answer::Reply;
 use crate::authentication::{Authentication, ChallengeCause, Conclusion, Inquiry};
@@ -14,9 +15,9 @@ use crate::guesses::{Guesses, name_number};
 use crate::network::{Network, number};
 use crate::shown::{Shown, show};
 use crate::table::Rates;
-use crate::texts::is_over;
+use event_headers::EventValue;
 use sip_read::Request;
-use sip_text::{Addr, NoMemory, Octets, Text};
+use sip_text::{Addr, Field, NoMemory, Octets, Text};
 use std::alloc::Global;
 
 /// What a datagram is.
@@ -159,6 +160,64 @@ fn username(shown: &Shown) -> Option<&Text>
     }
 }
 
+/// What is left of so much room behind these texts, if they fit there.
+fn room_behind(room: usize, texts: &[Text]) -> Option<usize>
+    ensures { SomeIff result (sum_by length texts.now ≤ room) (room - sum_by length texts.now) }
+{
+    let mut left = room;
+    for text in texts {
+        left = left.checked_sub(text.as_str().len())?;
+    }
+    Some(left)
+}
+
+/// What is left of so much room behind an Event, if it fits there.
+fn room_behind_event(room: usize, event: &Field<EventValue>) -> Option<usize>
+    ensures { SomeIff result (amounts.event_length event.now ≤ room) (room - amounts.event_length event.now) }
+{
+    let Field::Value(event) = event else {
+        return Some(room);
+    };
+    let left = room.checked_sub(event.package().len())?;
+    match event.id() {
+        Some(id) => left.checked_sub(id.len()),
+        None => Some(left),
+    }
+}
+
+/// What is left of so much room behind a Contact, if it fits there.
+fn room_behind_contact(room: usize, contact: &Field<Text>) -> Option<usize>
+    ensures { SomeIff result (amounts.contact_length contact.now ≤ room) (room - amounts.contact_length contact.now) }
+{
+    match contact {
+        Field::Value(address) => room.checked_sub(address.as_str().len()),
+        _ => Some(room),
+    }
+}
+
+/// What is left of so much room behind all that a subscription would keep of the request, if it fits there.
+fn room_behind_all(room: usize, request: &Request) -> Option<usize>
+    ensures { SomeIff result (amounts.kept request.now ≤ room) (room - amounts.kept request.now) }
+{
+    let head = &request.head;
+    let left = room.checked_sub(head.from.text.as_str().len())?;
+    let left = left.checked_sub(head.to.text.as_str().len())?;
+    let left = left.checked_sub(head.call_id.as_str().len())?;
+    let left = room_behind_contact(left, &request.contact)?;
+    let left = room_behind_event(left, &request.event)?;
+    room_behind(left, request.record_routes.as_slice())
+}
+
+/// Whether a subscription would keep more of the request than it may.
+fn is_over(most: Option<u32>, request: &Request) -> bool
+    ensures { result ≡ amounts.is_over most request.now }
+{
+    match most {
+        Some(most) => room_behind_all(most as usize, request).is_none(),
+        None => false,
+    }
+}
+
 impl Admission {
     /// One that hears everything: from anywhere, as much as comes, whoever asks.
     pub fn open(alloc: Global) -> Admission
@@ -200,24 +259,15 @@ impl Admission {
         }
     }
 
-    /// Whether a source with so many live subscriptions may have no more.
-    fn is_full(&self, live: usize) -> bool
-        ensures { result ≡ spec.is_full self.now live }
-    {
-        match self.per_source {
-            Some(most) => live >= most as usize,
-            None => false,
-        }
-    }
-
     /// What comes of a datagram of whoever may ask.
     fn seat(&self, alloc: Global, arrival: Arrival<'_>) -> Result<Verdict, NoMemory>
         ensures seated { IfOk result (IsSeated self.now arrival.entry) }
         ensures wanting { OnErr result (self.now.per_source ≡ None → ⊥) }
         ensures newcomer { OnErr result (spec.newcomer arrival.entry.reading ≡ None → ⊥) }
     {
-        if !self.is_full(arrival.live) {
-            return Ok(Verdict::Allowed);
+        match self.per_source {
+            Some(most) if arrival.live >= most as usize => {}
+            _ => return Ok(Verdict::Allowed),
         }
         let Some(request) = newcomer(arrival.reading) else {
             return Ok(Verdict::Allowed);
@@ -229,16 +279,6 @@ impl Admission {
             tag: CROWD_TAG,
         };
         Ok(Verdict::Crowded(reply.unavailable(alloc)?))
-    }
-
-    /// The request of which a subscription would keep more than it may, if the datagram is one.
-    fn too_large<'a>(&self, arrival: Arrival<'a>) -> Option<&'a Request>
-        ensures { option_map (λ r. r.now) result ≡ spec.too_large self.now arrival.entry }
-    {
-        match asked(arrival.reading) {
-            Some(request) if is_over(self.max_texts, request) => Some(request),
-            _ => None,
-        }
     }
 
     /// The user whose password isn't looked at, if what the datagram shows is of one.
@@ -298,16 +338,18 @@ impl Admission {
         ensures wanting { OnErr result (self.now.authentication ≡ None → self.now.max_texts ≡ None → self.now.per_source ≡ None → ⊥) }
         ensures answers { OnErr result (arrival.entry.reading ≡ reading.Response → ⊥) }
     {
-        let Some(request) = self.too_large(arrival) else {
-            return self.conclude(alloc, arrival);
-        };
-        let source = arrival.source;
-        let reply = Reply {
-            request,
-            source,
-            tag: LARGE_TAG,
-        };
-        Ok(Verdict::Large(reply.large(alloc)?))
+        match asked(arrival.reading) {
+            Some(request) if is_over(self.max_texts, request) => {
+                let source = arrival.source;
+                let reply = Reply {
+                    request,
+                    source,
+                    tag: LARGE_TAG,
+                };
+                Ok(Verdict::Large(reply.large(alloc)?))
+            }
+            _ => self.conclude(alloc, arrival),
+        }
     }
 
     /// Takes the tokens of a wrong password, where the verdict is of one.
@@ -323,22 +365,6 @@ impl Admission {
             Some(guesses) => guesses.note(number(arrival.source.ip), user.as_str(), arrival.moment),
             None => Ok(()),
         }
-    }
-
-    /// The same of one that is heard and has a token. A wrong password takes its tokens.
-    #[tactic(auto, using(crate::proofs::Concluding::guess_wants, crate::proofs::Concluding::guess_asks))]
-    fn decide(&mut self, alloc: Global, arrival: Arrival<'_>) -> Result<Verdict, NoMemory>
-        ensures weighed { IfOk result (spec.IsWeighed self.old arrival.entry) }
-        ensures free { IfOk result (λ v. spec.too_large self.old arrival.entry ≡ None → IsUnbarred self.old arrival.entry
-            → IsFree self.old arrival.entry → IsSeated self.old arrival.entry verdict.Allowed → v ≡ verdict.Allowed) }
-        ensures noted { IfOk result (λ v. self.new ≡ spec.noted self.old arrival.entry v) }
-        ensures err { OnErr result ((self.new ≡ self.old) ⊎ (self.new ≡ half_noted self.old arrival.entry)) }
-        ensures wanting { OnErr result (self.old.authentication ≡ None → self.old.max_texts ≡ None → self.old.per_source ≡ None → ⊥) }
-        ensures answers { OnErr result (arrival.entry.reading ≡ reading.Response → ⊥) }
-    {
-        let verdict = self.weigh(alloc, arrival)?;
-        self.note(arrival, &verdict)?;
-        Ok(verdict)
     }
 
     /// The user whom the credentials of a request name that is asked who it is from, as a number ([`name_number`]). Of one that is allowed
@@ -360,6 +386,7 @@ impl Admission {
 
     /// What comes of a datagram. It takes a token of its source where it is counted, and those of a wrong password where it shows one. Its only
     /// error is out of memory.
+    #[tactic(auto, using(crate::proofs::Concluding::guess_wants, crate::proofs::Concluding::guess_asks))]
     pub fn judge(&mut self, alloc: Global, arrival: Arrival<'_>) -> Result<Verdict, NoMemory>
         // The verdict is the definition's.
         ensures judges { IfOk result (Judges self.old arrival.entry) }
@@ -380,6 +407,8 @@ impl Admission {
         if !self.lets(arrival)? {
             return Ok(Verdict::Limited);
         }
-        self.decide(alloc, arrival)
+        let verdict = self.weigh(alloc, arrival)?;
+        self.note(arrival, &verdict)?;
+        Ok(verdict)
     }
 }

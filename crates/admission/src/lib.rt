@@ -40,7 +40,6 @@ mod lines;
 mod network;
 mod shown;
 mod table;
-mod texts;
 
 pub use authentication::{Authentication, ChallengeCause};
 pub use bucket::{Bucket, Rate};

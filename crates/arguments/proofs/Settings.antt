@@ -62,6 +62,7 @@ most_is_small bound.NonceTime = omega arith
 most_is_small bound.PerSource = omega arith
 most_is_small bound.JournalBytes = omega arith
 most_is_small bound.MaxTexts = omega arith
+most_is_small bound.MaxMailboxes = omega arith
 
 -- ---- a rate, and guesses
 
@@ -345,6 +346,7 @@ flag_begins (flag.Number bound.NonceTime) = refl
 flag_begins (flag.Number bound.PerSource) = refl
 flag_begins (flag.Number bound.JournalBytes) = refl
 flag_begins (flag.Number bound.MaxTexts) = refl
+flag_begins (flag.Number bound.MaxMailboxes) = refl
 flag_begins flag.MailboxFile = refl
 flag_begins flag.StateFile = refl
 flag_begins flag.JournalFolder = refl
@@ -371,6 +373,7 @@ switch_begins switch.UntilInputEnds = refl
 switch_begins switch.OldDigest = refl
 switch_begins switch.LogRequests = refl
 switch_begins switch.LogJson = refl
+switch_begins switch.AnyMailbox = refl
 
 plain_is_no_flag : (word : List ℕ) → begins 45 word ≡ false → flag_named word ≡ None
 plain_is_no_flag word plain = step (flag_named word) refl where

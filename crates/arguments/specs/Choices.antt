@@ -43,6 +43,7 @@ default_numbers = record {
   per_source = None;
   journal_bytes = 16777216;
   max_texts = 2048;
+  max_mailboxes = 65536;
 }
 
 -- what is done where nothing is set
@@ -63,6 +64,7 @@ default_choices = record {
   log_requests = false;
   log_json = false;
   sync = syncing.Each 1;
+  any_mailbox = false;
 }
 
 abbrev pub with_number : Bound → ℕ → Numbers → Numbers
@@ -87,6 +89,7 @@ with_number bound.NonceTime n numbers = record numbers { nonce_time = Some n }
 with_number bound.PerSource n numbers = record numbers { per_source = Some n }
 with_number bound.JournalBytes n numbers = record numbers { journal_bytes = n }
 with_number bound.MaxTexts n numbers = record numbers { max_texts = n }
+with_number bound.MaxMailboxes n numbers = record numbers { max_mailboxes = n }
 
 abbrev pub with_address : AddressFlag → Addr → Choices → Choices
 with_address address.Listen addr choices = record choices { listen = addr }
@@ -101,6 +104,7 @@ with_switch switch.UntilInputEnds choices = record choices { until_input_ends = 
 with_switch switch.OldDigest choices = record choices { old_digest = true }
 with_switch switch.LogRequests choices = record choices { log_requests = true }
 with_switch switch.LogJson choices = record choices { log_json = true }
+with_switch switch.AnyMailbox choices = record choices { any_mailbox = true }
 
 -- the choices after this setting. Mailboxes, files and who may watch or is let in are gathered apart
 abbrev pub after : Choices → Setting → Choices

@@ -37,6 +37,7 @@ bound_text bound.NonceTime = codes "--nonce-time"
 bound_text bound.PerSource = codes "--per-source"
 bound_text bound.JournalBytes = codes "--journal-bytes"
 bound_text bound.MaxTexts = codes "--max-texts"
+bound_text bound.MaxMailboxes = codes "--max-mailboxes"
 
 abbrev pub flag_text : Flag → List ℕ
 flag_text (flag.Address which) = address_flag_text which
@@ -62,6 +63,7 @@ switch_text switch.UntilInputEnds = codes "--until-input-ends"
 switch_text switch.OldDigest = codes "--old-digest"
 switch_text switch.LogRequests = codes "--log-requests"
 switch_text switch.LogJson = codes "--log-json"
+switch_text switch.AnyMailbox = codes "--any-mailbox"
 
 -- the least number that an option takes
 abbrev pub least : Bound → ℕ
@@ -97,3 +99,4 @@ most bound.NonceTime = 86400
 most bound.PerSource = 65536
 most bound.JournalBytes = 1073741824
 most bound.MaxTexts = 65535
+most bound.MaxMailboxes = 1000000

@@ -38,7 +38,7 @@ abbrev pub times : List Bound
 times = bound.MinTime ∷ bound.MaxTime ∷ bound.DefaultTime ∷ bound.ReferTime ∷ bound.Linger ∷ bound.Outage ∷ bound.NonceTime ∷ []
 
 abbrev pub counts : List Bound
-counts = bound.Workers ∷ bound.MaxCseq ∷ bound.Table ∷ bound.Serials ∷ bound.Kept ∷ bound.Inbox ∷ bound.Outbox ∷ bound.Repeats ∷ bound.Open ∷ bound.PerSource ∷ []
+counts = bound.Workers ∷ bound.MaxCseq ∷ bound.Table ∷ bound.Serials ∷ bound.Kept ∷ bound.Inbox ∷ bound.Outbox ∷ bound.Repeats ∷ bound.Open ∷ bound.PerSource ∷ bound.MaxMailboxes ∷ []
 
 abbrev pub sizes : List Bound
 sizes = bound.MaxDatagram ∷ bound.ReceiveBuffer ∷ bound.JournalBytes ∷ bound.MaxTexts ∷ []
@@ -101,7 +101,7 @@ joined_of word =
     else with_value (flag_named (before_first is_equals word)) (after_first is_equals word)
 
 abbrev pub switches : List Switch
-switches = switch.KeepSubscriptions ∷ switch.NoRefer ∷ switch.UntilInputEnds ∷ switch.OldDigest ∷ switch.LogRequests ∷ switch.LogJson ∷ []
+switches = switch.KeepSubscriptions ∷ switch.NoRefer ∷ switch.UntilInputEnds ∷ switch.OldDigest ∷ switch.LogRequests ∷ switch.LogJson ∷ switch.AnyMailbox ∷ []
 
 unfoldable pub switch_of : List ℕ → Option Switch
 switch_of word = find_text switch_text switches word

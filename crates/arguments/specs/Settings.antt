@@ -4,7 +4,7 @@
 --   setting  = ("--listen" / "--contact" / "--control" / "--feed-listen") address
 --            / ("--workers" / "--min-time" / "--max-time" / "--default-time" / "--refer-time" / "--linger" / "--outage" / "--max-cseq" / "--table"
 --              / "--serials" / "--kept" / "--inbox" / "--outbox" / "--repeats" / "--open" / "--max-datagram" / "--receive-buffer" / "--nonce-time"
---              / "--per-source" / "--journal-bytes" / "--max-texts") number
+--              / "--per-source" / "--journal-bytes" / "--max-texts" / "--max-mailboxes") number
 --            / ("--mailboxes" / "--state" / "--journal" / "--passwords") path
 --            / "--sync" (number / "never" / "always")      ; seconds, from 1 to 3600
 --            / "--watch" user ":" mailbox         ; no `:` in the user
@@ -13,7 +13,7 @@
 --            / ("--allow" / "--control-allow" / "--feed-from") network
 --            / "--seed" digits                    ; 64 hex digits of either case
 --            / "--keep-subscriptions" / "--no-refer" / "--until-input-ends" / "--old-digest" / "--log-requests"
---            / "--log-json"
+--            / "--log-json" / "--any-mailbox"
 --            / mailbox                            ; no space, control character, `@` or `:`, and no `-` in front
 --
 -- An option and its value are two words, or one with `=` between.

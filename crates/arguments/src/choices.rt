@@ -49,6 +49,8 @@ pub struct Numbers {
     pub journal_bytes: u32,
     /// How many octets of a request a subscription keeps at most.
     pub max_texts: u32,
+    /// How many mailboxes there are at most where MAIL lines make further ones.
+    pub max_mailboxes: u32,
 }
 
 /// What the service does, but for its mailboxes and who is heard.
@@ -83,6 +85,8 @@ pub struct Choices {
     pub log_json: bool,
     /// When the journal is brought to the disk.
     pub sync: Syncing,
+    /// Whether the first MAIL line of a mailbox makes it.
+    pub any_mailbox: bool,
 }
 
 /// 127.0.0.1 with this port.
@@ -150,6 +154,7 @@ impl Numbers {
             per_source: None,
             journal_bytes: 16777216,
             max_texts: 2048,
+            max_mailboxes: 65536,
         }
     }
 
@@ -178,6 +183,7 @@ impl Numbers {
             Bound::PerSource => self.per_source = Some(number),
             Bound::JournalBytes => self.journal_bytes = number,
             Bound::MaxTexts => self.max_texts = number,
+            Bound::MaxMailboxes => self.max_mailboxes = number,
         }
     }
 
@@ -230,6 +236,7 @@ impl Choices {
             log_requests: false,
             log_json: false,
             sync: Syncing::Each(1),
+            any_mailbox: false,
         }
     }
 
@@ -254,6 +261,7 @@ impl Choices {
             Switch::OldDigest => self.old_digest = true,
             Switch::LogRequests => self.log_requests = true,
             Switch::LogJson => self.log_json = true,
+            Switch::AnyMailbox => self.any_mailbox = true,
         }
     }
 

@@ -45,6 +45,7 @@ pub enum Bound {
     PerSource,
     JournalBytes,
     MaxTexts,
+    MaxMailboxes,
 }
 
 /// An option that has a value.
@@ -119,6 +120,7 @@ impl Bound {
             Bound::PerSource => "--per-source",
             Bound::JournalBytes => "--journal-bytes",
             Bound::MaxTexts => "--max-texts",
+            Bound::MaxMailboxes => "--max-mailboxes",
         }
     }
 
@@ -153,6 +155,7 @@ impl Bound {
             Bound::Linger => 32,
             Bound::MaxDatagram => 65507,
             Bound::MaxTexts => 65535,
+            Bound::MaxMailboxes => 1000000,
             Bound::ReceiveBuffer | Bound::JournalBytes => 1073741824,
             Bound::NonceTime => 86400,
             Bound::MaxTime | Bound::DefaultTime | Bound::ReferTime | Bound::Serials => u32::MAX,
@@ -276,6 +279,8 @@ fn count_flag(word: &str) -> Option<Bound>
         Some(Bound::Open)
     } else if word == "--per-source" {
         Some(Bound::PerSource)
+    } else if word == "--max-mailboxes" {
+        Some(Bound::MaxMailboxes)
     } else {
         None
     }

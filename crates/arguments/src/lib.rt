@@ -43,7 +43,7 @@ pub use heard::{
 };
 pub use lines_call::{LinesCall, parse_lines_call};
 pub use mailbox_file::{is_blank, line_mailboxes};
-pub use setting::{Setting, parse_settings};
+pub use setting::{Setting, is_mailbox, parse_settings};
 pub use setup::{dealt_names, loopback_setup};
 pub use sip_text::NoMemory;
 pub use switch::Switch;

@@ -177,7 +177,7 @@ fn is_user(word: &str) -> bool
 }
 
 /// Whether it may name a mailbox.
-pub(crate) fn is_mailbox(word: &str) -> bool
+pub fn is_mailbox(word: &str) -> bool
     ensures is { IsTrue result ↔ IsMailbox word.now }
     ensures value { result ≡ spec.is_mailbox word.now }
 {

@@ -19,6 +19,8 @@ pub enum Switch {
     LogRequests,
     /// `--log-json`: each line on standard error is a JSON object.
     LogJson,
+    /// `--any-mailbox`: the first MAIL line of a mailbox makes it.
+    AnyMailbox,
 }
 
 impl Switch {
@@ -33,6 +35,7 @@ impl Switch {
             Switch::OldDigest => "--old-digest",
             Switch::LogRequests => "--log-requests",
             Switch::LogJson => "--log-json",
+            Switch::AnyMailbox => "--any-mailbox",
         }
     }
 }
@@ -54,6 +57,8 @@ pub(crate) fn switch_named(word: &str) -> Option<Switch>
         Some(Switch::LogRequests)
     } else if word == "--log-json" {
         Some(Switch::LogJson)
+    } else if word == "--any-mailbox" {
+        Some(Switch::AnyMailbox)
     } else {
         None
     }

@@ -3,7 +3,7 @@ use Rattle.std.proofs.Common.{◌≡◌, ◌≢◌, ℕ, List, [], ◌∷◌, �
 use Rattle.std.specs.Str.{bytes_eq}
 use Rattle.std.specs.List.{list_any, fold}
 use Rattle.std.specs.declared.alloc.Global.{Global}
-use Rattle.std.proofs.lemmas.List.{map-append}
+use Rattle.std.proofs.lemmas.List.{append-nil, map-append}
 use Rattle.std.proofs.lemmas.List.Sums.{fold-append}
 use Rattle.control_lines.specs.Told.{is_held}
 use Rattle.commands.specs.Plans.{with_name, each_once}
@@ -43,3 +43,27 @@ some_more (x ∷ more) names some = some_more more (with_name names x) (with_som
 pub once_some : (names : List (List ℕ)) → names ≢ [] → each_once names ≢ []
 once_some [] some = absurd (some refl)
 once_some (x ∷ names) some = some_more names (with_name [] x) (with_some [] x)
+
+-- ---- again
+
+one_stays : (names : List (List ℕ)) (name : List ℕ) → each_once names ≡ names → each_once (with_name names name) ≡ with_name names name
+one_stays names name is = step (is_held names name) refl where
+  step : (b : Bool) → is_held names name ≡ b → each_once (cond b names (names ++ name ∷ [])) ≡ cond b names (names ++ name ∷ [])
+  step true held = is
+  step false held = once_push names name ∙ ap (λ n. with_name n name) is ∙ ap (λ b. cond b names (names ++ name ∷ [])) held
+
+all_stay : (names more : List (List ℕ)) → each_once names ≡ names → each_once (fold with_name names more) ≡ fold with_name names more
+all_stay names [] is = is
+all_stay names (x ∷ more) is = all_stay (with_name names x) more (one_stays names x is)
+
+-- names that are there once stay as they are
+pub once_again : (names : List (List ℕ)) → each_once (each_once names) ≡ each_once names
+once_again names = all_stay [] names refl
+
+-- with more behind them they are those of both
+pub once_more : (names more : List (List ℕ)) → each_once (each_once names ++ more) ≡ each_once (names ++ more)
+once_more names more =
+    fold-append with_name [] (each_once names) more ∙ ap (λ n. fold with_name n more) (once_again names) ∙ sym (fold-append with_name [] names more)
+
+pub once_alone : (names : List (List ℕ)) → each_once (names ++ []) ≡ each_once names
+once_alone names = ap each_once (append-nil names)

@@ -20,13 +20,14 @@ use Rattle.service.specs.Running.{is_faulty}
 use Rattle.service.proofs.Faults.{unfailed}
 use Rattle.commands.specs.UdpEnds.{all_closed, Tells}
 use Rattle.commands.specs.Serving.{Serves, EndedWell, CanEndWell}
-use Rattle.commands.specs.Refused.{IsOther, IsNoSocket, IsOfJournal, IsOfFile, IsOfState, IsOfNamedState, IsOfPasswords, IsOfFurther, IsOfAdmission, IsOfSetting, IsOfOne, NameFile, NameState, NamePasswords, IsListened, IsRefusal, asks_for_text, AskForText, IsStatus, status_of, status_after}
+use Rattle.commands.specs.Refused.{IsOther, IsNoSocket, IsOfJournal, IsOfFile, IsOfState, IsOfNamedState, IsOfPasswords, IsOfFurther, IsOfAdmission, IsOfSetting, IsOfOne, IsOfMailboxes, NameFile, NameState, NamePasswords, IsListened, IsRefusal, asks_for_text, AskForText, IsStatus, status_of, status_after}
 
 pub other_is : (words : List (List ℕ)) (e : ServeError) → IsOther e → IsRefusal words e
 other_is words (error.Options e) is = absurd is
 other_is words (error.Times r) is = absurd is
 other_is words error.NoContact is = absurd is
 other_is words error.NoMailbox is = absurd is
+other_is words error.NoJournal is = absurd is
 other_is words (error.File path) is = absurd is
 other_is words (error.Line path line e) is = absurd is
 other_is words (error.StateLine path line fault) is = absurd is
@@ -54,6 +55,7 @@ no_socket_is which (error.Options e) is listened = absurd is
 no_socket_is which (error.Times r) is listened = absurd is
 no_socket_is which error.NoContact is listened = absurd is
 no_socket_is which error.NoMailbox is listened = absurd is
+no_socket_is which error.NoJournal is listened = absurd is
 no_socket_is which (error.File path) is listened = absurd is
 no_socket_is which (error.Line path line e) is listened = absurd is
 no_socket_is which (error.StateLine path line fault) is listened = absurd is
@@ -101,6 +103,7 @@ of_file_is words path (error.Options e) names is = absurd is
 of_file_is words path (error.Times r) names is = absurd is
 of_file_is words path error.NoContact names is = absurd is
 of_file_is words path error.NoMailbox names is = absurd is
+of_file_is words path error.NoJournal names is = absurd is
 of_file_is words path (error.File named) names is = inl (subst (NameFile words) (sym is) names)
 of_file_is words path (error.Line named line e) names is = (subst (NameFile words) (sym is.0) names, is.1)
 of_file_is words path (error.StateLine named line fault) names is = absurd is
@@ -148,6 +151,7 @@ of_path_is words path (error.Options e) names is = absurd is
 of_path_is words path (error.Times r) names is = absurd is
 of_path_is words path error.NoContact names is = absurd is
 of_path_is words path error.NoMailbox names is = absurd is
+of_path_is words path error.NoJournal names is = absurd is
 of_path_is words path (error.File named) names is = inr (inl (subst (NameState words) (sym is) names))
 of_path_is words path (error.Line named line e) names is = absurd is
 of_path_is words path (error.StateLine named number fault) names is = (subst (NameState words) (sym is.0) names, is.1, is.2, is.3)
@@ -174,6 +178,7 @@ of_users_is words path (error.Options e) names is = absurd is
 of_users_is words path (error.Times r) names is = absurd is
 of_users_is words path error.NoContact names is = absurd is
 of_users_is words path error.NoMailbox names is = absurd is
+of_users_is words path error.NoJournal names is = absurd is
 of_users_is words path (error.File named) names is = inr (inr (subst (NamePasswords words) (sym is) names))
 of_users_is words path (error.Line named line e) names is = absurd is
 of_users_is words path (error.StateLine named line fault) names is = absurd is
@@ -198,10 +203,10 @@ of_admission_is words settings e are (inr (inr (inl (inl none)))) = no_memory_is
 of_admission_is words settings e are (inr (inr (inl (inr is)))) = subst (IsRefusal words) (sym is.3) (settings, is.1, are, is.2)
 of_admission_is words settings e are (inr (inr (inr is))) = of_users_is words is.0 e (settings, are, is.1) is.2
 
-pub of_further_is : (words : List (List ℕ)) (settings : List Setting) (e : ServeError) → AreSettings words settings → IsOfFurther (further_mailboxes settings) e
-    → IsRefusal words e
-of_further_is words settings e are (inl none) = no_memory_is words e none
-of_further_is words settings e are (inr is) = subst (IsRefusal words) (sym is.3) (settings, is.0, are, is.2)
+pub of_further_is : (words : List (List ℕ)) (settings : List Setting) (mailboxes : List (List ℕ)) (e : ServeError) → AreSettings words settings
+    → IsOfFurther mailboxes (further_mailboxes settings) e → IsRefusal words e
+of_further_is words settings mailboxes e are (inl none) = no_memory_is words e none
+of_further_is words settings mailboxes e are (inr is) = subst (IsRefusal words) (sym is.4) (settings, is.0, are, is.2)
 
 pub of_journal_is : (words : List (List ℕ)) (journal : Option (List ℕ)) (e : ServeError) → IsJournal words journal → IsOfJournal journal e → IsRefusal words e
 of_journal_is words journal e is (inl none) = no_memory_is words e none
@@ -294,3 +299,12 @@ one_long words asked = ap length asked.1
 pub none_read : (words : List (List ℕ)) (choices : Choices) (mailboxes : List (List ℕ)) → AreRead words choices mailboxes → length mailboxes ≡ 0
     → (x : Choices) × AreRead words x []
 none_read words choices mailboxes read none = (choices, subst (λ l. AreRead words choices l) (nil_from_length mailboxes none) read)
+
+-- without mailboxes none runs, unless lines make them and a journal keeps these
+pub of_mailboxes_is : (words : List (List ℕ)) (choices : Choices) (mailboxes : List (List ℕ)) (journal : Option (List ℕ)) (e : ServeError) → AreRead words choices mailboxes
+    → IsJournal words journal → IsOfMailboxes choices mailboxes journal e → IsRefusal words e
+of_mailboxes_is words choices mailboxes journal e read folder is =
+    ⊎_elim
+    (λ none. subst (IsRefusal words) (sym none.0) (choices, subst (λ l. AreRead words choices l) none.1 read))
+    (λ none. subst (IsRefusal words) (sym none.0) (choices, mailboxes, read, none.1, subst (λ j. IsJournal words j) none.2 folder))
+    is

@@ -28,7 +28,7 @@ use Rattle.service.specs.Running.{Beginning, Opening, Runs, anew, beginning}
 use Rattle.service.specs.Sending.{open_first}
 use Rattle.service.proofs.Ran.{begins_anew}
 use Rattle.commands.specs.declared.plan.Plan.{Plan}
-use Rattle.commands.specs.Plans.{IsCount, setup_of}
+use Rattle.commands.specs.Plans.{IsCount, most_mailboxes, setup_of}
 use Rattle.commands.specs.Serving.{BeginsAnew, BeginsBy, OpensBy, allowance_of, start_at, Ran}
 
 pub count_is : (asked : Option ℕ) (n : ℕ) → IsCount asked n → IsWithin 1 256 n
@@ -70,12 +70,12 @@ module _ {P : Type 0} (seen : P → Seen) (setup : Setup) (boxes : List (Vec P G
 
 -- what lines are taken for, where a journal may have told of changes
 pub opens_as : (journal : Option (List ℕ)) (plan : Plan) (changes : Option (Vec Change Global)) (o : Opening)
-    → (journal ≡ None → changes ≡ None) → o.mailboxes ≡ plan.mailboxes.items → o.changes ≡ (unwrap_or changes plan.changes).items → o.networks ≡ plan.operators.items
-    → OpensBy journal plan o
-opens_as None plan changes o none mailboxes told networks =
+    → (journal ≡ None → changes ≡ None) → o.mailboxes ≡ plan.mailboxes.items → o.changes ≡ (unwrap_or changes plan.changes).items → o.most ≡ most_mailboxes plan.choices
+    → o.networks ≡ plan.operators.items → OpensBy journal plan o
+opens_as None plan changes o none mailboxes told most networks =
     let first = told ∙ ap (λ (c : Option (Vec Change Global)). (unwrap_or c plan.changes).items) (none refl) in
-    λ i. record { mailboxes = mailboxes i; changes = first i; networks = networks i }
-opens_as (Some folder) plan changes o none mailboxes told networks = (mailboxes, networks)
+    λ i. record { mailboxes = mailboxes i; changes = first i; most = most i; networks = networks i }
+opens_as (Some folder) plan changes o none mailboxes told most networks = (mailboxes, most, networks)
 
 -- how a service begins that ran over these desks
 pub record Begun {W : Type 0} (contents : W → Option (List ℕ)) (journal : Option (List ℕ)) (plan : Plan) (local : Addr) (opened : Opening) (admission : Admission)

@@ -1,5 +1,5 @@
 -- What the words behind `notifyd serve` ask for, and what its workers start from.
-use Rattle.std.specs.Prelude.{◌≡◌, ◌≢◌, ℕ, min, max, not, List, [], ◌∷◌, ◌++◌, Option, Some, None, if◌then◌else◌}
+use Rattle.std.specs.Prelude.{◌≡◌, ◌≢◌, ℕ, min, max, true, false, not, List, [], ◌∷◌, ◌++◌, Option, Some, None, if◌then◌else◌}
 use Rattle.std.specs.List.{All, fold}
 use Rattle.control_lines.specs.Told.{is_held}
 use Rattle.sip_text.specs.declared.address.Addr.{Addr}
@@ -133,18 +133,39 @@ pub record IsJournal (words : List (List ℕ)) (journal : Option (List ℕ)) : T
   pub are_settings : AreSettings words settings
   pub is_folder : journal ≡ journal_folder settings
 
+-- lines told of these further mailboxes, where they make some: names that a file of mailboxes may hold. Which they are no contract can tell
+pub record AreTold (choices : Choices) (told : List (List ℕ)) : Type 0 where
+  pub none : choices.any_mailbox ≡ false → told ≡ []
+  pub mailboxes : All IsMailbox told
+
+-- there are some, unless lines make them
+abbrev pub AreSome : Choices → List (List ℕ) → Type 0
+AreSome choices mailboxes = choices.any_mailbox ≡ false → mailboxes ≢ []
+
+-- what lines make a journal keeps
+abbrev pub AreKept : Choices → Option (List ℕ) → Type 0
+AreKept choices journal = choices.any_mailbox ≡ true → journal ≢ None
+
+-- how many mailboxes there are at most where lines make some: 0, where none does
+abbrev pub most_mailboxes : Choices → ℕ
+most_mailboxes choices = if choices.any_mailbox then choices.numbers.max_mailboxes else 0
+
 -- the words ask for this
 pub record IsPlan (words : List (List ℕ)) (plan : Plan) : Type 0 where
   pub named : List (List ℕ)
   pub read : AreRead words plan.choices named
-  pub once : plan.mailboxes.items ≡ each_once named
+  pub told : List (List ℕ)
+  pub are_told : AreTold plan.choices told
+  -- the mailboxes of the words, and behind them those of which lines told
+  pub once : plan.mailboxes.items ≡ each_once (named ++ told)
   pub changes : AreChanges words plan.changes.items
   pub heard : AreHeard words plan.admission
   pub operators : AreOperators words plan.operators.items
   pub feeds : AreFeeds words plan.feeds.items
   pub journal : IsJournal words plan.journal
   pub reached : IsReached plan.choices
-  pub some : plan.mailboxes.items ≢ []
+  pub some : AreSome plan.choices plan.mailboxes.items
+  pub kept : AreKept plan.choices plan.journal
   pub limits : plan.limits ≡ limits_of plan.choices.numbers
   pub within : AreLimits plan.limits
   pub seed : IsSeed plan.choices.seed plan.seed

@@ -5,7 +5,8 @@
 --   1        the words ask for no service
 --   3        an address, a file, a thread or a socket can't be had, or one failed
 --   4        memory was wanting
-use Rattle.std.specs.Prelude.{◌≡◌, ◌⊎◌, ℕ, ℤ, pos, Bool, true, ◌||◌, List, [], ◌∷◌, Option, Some, None, Result, Ok, Err, Contains, slice_get, codes, bytes_eq}
+use Rattle.std.specs.Prelude.{◌≡◌, ◌⊎◌, ℕ, ℤ, pos, Bool, true, false, ◌||◌, List, [], ◌∷◌, Option, Some, None, Result, Ok, Err, All, Contains, slice_get, codes, bytes_eq}
+use Rattle.std.specs.List.{list_any}
 use Rattle.notifier_model.specs.Limits.{AreLimits}
 use Rattle.digest.specs.declared.passwords.Passwords.{Passwords}
 use Rattle.digest.specs.declared.passwords.PasswordsError.{PasswordsError}
@@ -68,6 +69,7 @@ status_of (error.Options e) = status_of_words e
 status_of (error.Times r) = 1
 status_of error.NoContact = 1
 status_of error.NoMailbox = 1
+status_of error.NoJournal = 1
 status_of (error.File path) = 3
 status_of (error.Line path line e) = status_of_line e
 status_of (error.StateLine path line fault) = 3
@@ -109,6 +111,7 @@ IsOther (error.Options e) = ⊥
 IsOther (error.Times r) = ⊥
 IsOther error.NoContact = ⊥
 IsOther error.NoMailbox = ⊥
+IsOther error.NoJournal = ⊥
 IsOther (error.File path) = ⊥
 IsOther (error.Line path line e) = ⊥
 IsOther (error.StateLine path line fault) = ⊥
@@ -138,6 +141,7 @@ IsNoSocket which (error.Options e) = ⊥
 IsNoSocket which (error.Times r) = ⊥
 IsNoSocket which error.NoContact = ⊥
 IsNoSocket which error.NoMailbox = ⊥
+IsNoSocket which error.NoJournal = ⊥
 IsNoSocket which (error.File path) = ⊥
 IsNoSocket which (error.Line path line e) = ⊥
 IsNoSocket which (error.StateLine path line fault) = ⊥
@@ -161,6 +165,13 @@ IsNoSocket which error.NoMemory = ⊥
 abbrev pub IsUnread : List ℕ → ServeError → Type 0
 IsUnread path e = (e ≡ error.File path) ⊎ (e ≡ error.NoMemory)
 
+-- ---- mailboxes
+
+-- none is named, or lines are to make them and no journal keeps these
+abbrev pub IsOfMailboxes : Choices → List (List ℕ) → Option (List ℕ) → ServeError → Type 0
+IsOfMailboxes choices mailboxes journal e =
+    ((e ≡ error.NoMailbox) × (mailboxes ≡ [])) ⊎ ((e ≡ error.NoJournal) × (choices.any_mailbox ≡ true) × (journal ≡ None))
+
 -- ---- files of mailboxes
 
 -- a line names no mailbox for this cause
@@ -173,6 +184,7 @@ IsOfFile path (error.Options e) = ⊥
 IsOfFile path (error.Times r) = ⊥
 IsOfFile path error.NoContact = ⊥
 IsOfFile path error.NoMailbox = ⊥
+IsOfFile path error.NoJournal = ⊥
 IsOfFile path (error.File named) = named ≡ path
 IsOfFile path (error.Line named line e) = (named ≡ path) × IsOfLine e
 IsOfFile path (error.StateLine named line fault) = ⊥
@@ -226,6 +238,7 @@ IsOfState path (error.Options e) = ⊥
 IsOfState path (error.Times r) = ⊥
 IsOfState path error.NoContact = ⊥
 IsOfState path error.NoMailbox = ⊥
+IsOfState path error.NoJournal = ⊥
 IsOfState path (error.File named) = named ≡ path
 IsOfState path (error.Line named line e) = ⊥
 IsOfState path (error.StateLine named number fault) = (named ≡ path) × (line : List ℕ) × IsNoChange line × IsFault line fault
@@ -263,6 +276,7 @@ IsOfPasswords path (error.Options e) = ⊥
 IsOfPasswords path (error.Times r) = ⊥
 IsOfPasswords path error.NoContact = ⊥
 IsOfPasswords path error.NoMailbox = ⊥
+IsOfPasswords path error.NoJournal = ⊥
 IsOfPasswords path (error.File named) = named ≡ path
 IsOfPasswords path (error.Line named line e) = ⊥
 IsOfPasswords path (error.StateLine named line fault) = ⊥
@@ -285,10 +299,19 @@ abbrev pub IsOfWatched : List (List ℕ × List ℕ) → ServeError → Type 0
 IsOfWatched further e =
     (e ≡ error.NoMemory) ⊎ ((user mailbox : List ℕ) × Contains further (user, mailbox) × (e ≡ error.NoUser user))
 
+-- the service has this mailbox
+abbrev pub has_mailbox : List (List ℕ) → List ℕ → Bool
+has_mailbox mailboxes mailbox = list_any (λ name. bytes_eq name mailbox) mailboxes
+
+-- a service with these mailboxes has each further one that a user may watch
+abbrev pub HasFurther : List (List ℕ) → List (List ℕ × List ℕ) → Type 0
+HasFurther mailboxes further = All (λ pair. has_mailbox mailboxes pair.1 ≡ true) further
+
 -- one of these mailboxes isn't the service's, or memory ran out
-abbrev pub IsOfFurther : List (List ℕ × List ℕ) → ServeError → Type 0
-IsOfFurther further e =
-    (e ≡ error.NoMemory) ⊎ ((user mailbox : List ℕ) × Contains further (user, mailbox) × (e ≡ error.NoFurther mailbox))
+abbrev pub IsOfFurther : List (List ℕ) → List (List ℕ × List ℕ) → ServeError → Type 0
+IsOfFurther mailboxes further e =
+    (e ≡ error.NoMemory)
+    ⊎ ((user mailbox : List ℕ) × Contains further (user, mailbox) × (has_mailbox mailboxes mailbox ≡ false) × (e ≡ error.NoFurther mailbox))
 
 -- passwords are spoken of, and no file of them is named
 abbrev pub HaveNoPasswords : List Setting → Type 0
@@ -331,6 +354,8 @@ IsRefusal words (error.Times r) =
     × ¬ (AreLimits (limits_of choices.numbers))
 IsRefusal words error.NoContact = (choices : Choices) × (names : List (List ℕ)) × AreRead words choices names × ¬ (IsReached choices)
 IsRefusal words error.NoMailbox = (choices : Choices) × AreRead words choices []
+IsRefusal words error.NoJournal =
+    (choices : Choices) × (names : List (List ℕ)) × AreRead words choices names × (choices.any_mailbox ≡ true) × IsJournal words None
 IsRefusal words (error.File path) = NameFile words path ⊎ NameState words path ⊎ NamePasswords words path
 IsRefusal words (error.Line path line e) = NameFile words path × IsOfLine e
 IsRefusal words (error.StateLine path number fault) = NameState words path × (line : List ℕ) × IsNoChange line × IsFault line fault

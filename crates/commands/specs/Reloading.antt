@@ -5,6 +5,9 @@
 -- journal, and no NOTIFY of it leaves. The next run begins as a start does over that journal: where its desks stand, and what it sends first,
 -- say `reloaded` and `sent_first` (the crate resumption, specs/Reloaded), and that no other subscription notices `NobodyNoticesLaw` there. What
 -- a file keeps no contract tells.
+--
+-- A run ends so, too, where lines made mailboxes: nobody asks then, and nobody is answered. The mailboxes of the next run are those of the words
+-- and those of which lines told (`IsPlan`), so phones may watch what the lines made.
 use Rattle.std.specs.Prelude.{◌≡◌, ℕ, List, IfSome}
 use Rattle.commands.specs.Plans.{IsPlan}
 use Rattle.commands.specs.Serving.{AreOpen}

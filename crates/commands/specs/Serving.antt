@@ -24,7 +24,7 @@ use Rattle.transport.specs.Ears.{no_misses}
 use Rattle.transport.specs.Sockets.{misses}
 use Rattle.commands.specs.declared.plan.Plan.{Plan}
 use Rattle.commands.specs.declared.sockets.Sockets.{Sockets}
-use Rattle.commands.specs.Plans.{IsPlan, setup_of}
+use Rattle.commands.specs.Plans.{IsPlan, most_mailboxes, setup_of}
 
 -- a socket is here, where port 0 stands for a port of the machine's choice
 pub record IsAt (asked local : Addr) : Type 0 where
@@ -49,9 +49,9 @@ pub record AreOpen (choices : Choices) (s : Sockets) : Type 0 where
   pub sip_misses : misses s.sip ≡ no_misses
   pub line_misses : misses s.lines ≡ no_misses
 
--- lines are taken for these mailboxes, of which these changes were told before, from these networks
+-- lines are taken for these mailboxes, of which these changes were told before, and make so many at most, from these networks
 abbrev pub opening_of : Plan → Opening
-opening_of plan = record { mailboxes = plan.mailboxes.items; changes = plan.changes.items; networks = plan.operators.items }
+opening_of plan = record { mailboxes = plan.mailboxes.items; changes = plan.changes.items; most = most_mailboxes plan.choices; networks = plan.operators.items }
 
 -- ---- how it begins
 
@@ -79,7 +79,8 @@ pub record BeginsAnew {P : Type 0} (seen : P → Seen) (plan : Plan) (local : Ad
 -- with a journal the changes that were told before may be those that stood there
 abbrev pub OpensBy : Option (List ℕ) → Plan → Opening → Type 0
 OpensBy None plan opened = opened ≡ opening_of plan
-OpensBy (Some folder) plan opened = (opened.mailboxes ≡ plan.mailboxes.items) × (opened.networks ≡ plan.operators.items)
+OpensBy (Some folder) plan opened =
+    (opened.mailboxes ≡ plan.mailboxes.items) × (opened.most ≡ most_mailboxes plan.choices) × (opened.networks ≡ plan.operators.items)
 
 abbrev pub OpensAs : Plan → Opening → Type 0
 OpensAs plan opened = OpensBy plan.journal plan opened

@@ -1,11 +1,11 @@
 //! Who is heard by a service, as its settings and its file of passwords say.
-ghost use Rattle.std.specs.Prelude.{◌≡◌, ◌⊎◌, true, All, IfOk, IfErr, OnOk};
+ghost use Rattle.std.specs.Prelude.{◌≡◌, ◌⊎◌, true, false, All, IfOk, IfErr, IsOk, OnOk};
 ghost use Rattle.notifier_model.specs.Tag.{refusal_tag};
 ghost use Rattle.arguments.specs.Choices.{choices_of, password_file as path_of, further_mailboxes as pairs_of};
 ghost use Rattle.commands.specs.declared.error.ServeError.TheVariants as error;
 ghost use Rattle.commands.specs.Heard as spec;
 ghost use Rattle.commands.specs.Heard.{Asks, IsAdmission};
-ghost use Rattle.commands.specs.Refused.{IsOfWatched, IsOfFurther, IsOfAdmission};
+ghost use Rattle.commands.specs.Refused.{has_mailbox, HasFurther, IsOfWatched, IsOfFurther, IsOfAdmission};
 
 use crate::error::ServeError;
 use crate::passwords::file_users;
@@ -124,7 +124,9 @@ fn check_users(
 }
 
 /// Whether the service has this mailbox.
-fn has_mailbox(mailboxes: &[Text], mailbox: &str) -> bool {
+fn has_mailbox(mailboxes: &[Text], mailbox: &str) -> bool
+    ensures { result ≡ has_mailbox mailboxes.now mailbox.now }
+{
     mailboxes.iter().any(|name| name.is(mailbox))
 }
 
@@ -134,7 +136,8 @@ fn check_mailboxes(
     mailboxes: &[Text],
     further: &[(Text, Text)],
 ) -> Result<(), ServeError>
-    ensures refused { IfErr result (IsOfFurther further.now) }
+    ensures accepted { OnOk result (HasFurther mailboxes.now further.now) }
+    ensures refused { IfErr result (IsOfFurther mailboxes.now further.now) }
 {
     for pair in further {
         if !has_mailbox(mailboxes, pair.1.as_str()) {
@@ -145,14 +148,20 @@ fn check_mailboxes(
     Ok(())
 }
 
-/// Sees that a service with these mailboxes has each further one that a user may watch.
+/// Sees that a service with these mailboxes has each further one that a user may watch, unless lines make mailboxes. An error names one that it
+/// doesn't have, or memory ran out.
 pub(crate) fn check_watched(
     alloc: Global,
     settings: &[Setting],
     mailboxes: &[Text],
 ) -> Result<(), ServeError>
-    ensures refused { IfErr result (IsOfFurther (pairs_of settings.now)) }
+    ensures any { (choices_of settings.now).any_mailbox ≡ true → IsOk result }
+    ensures accepted { OnOk result ((choices_of settings.now).any_mailbox ≡ false → HasFurther mailboxes.now (pairs_of settings.now)) }
+    ensures refused { IfErr result (IsOfFurther mailboxes.now (pairs_of settings.now)) }
 {
+    if Choices::of(settings).any_mailbox {
+        return Ok(());
+    }
     let further = further_mailboxes(alloc, settings)?;
     check_mailboxes(alloc, mailboxes, further.as_slice())
 }

@@ -38,6 +38,9 @@ pub enum ServeError {
     /// No mailbox is named.
     #[error("no mailbox: name some, or a file of them with --mailboxes <file>")]
     NoMailbox,
+    /// Lines are to make mailboxes, and no journal keeps them.
+    #[error("no journal: --any-mailbox needs --journal <folder>")]
+    NoJournal,
     /// A file of lines can't be read, or isn't UTF-8 (RFC 3629).
     #[error("no such file, or it can't be read as UTF-8 text: {path}", path = .0.as_str())]
     File(Text),
@@ -114,6 +117,7 @@ impl ServeError {
             ServeError::Times(_)
             | ServeError::NoContact
             | ServeError::NoMailbox
+            | ServeError::NoJournal
             | ServeError::NoPasswords
             | ServeError::NoUser(_)
             | ServeError::NoFurther(_) => ExitStatus::BadArguments.code(),

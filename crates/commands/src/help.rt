@@ -18,6 +18,9 @@ usage: notifyd serve [options] [<mailbox>...]      (also --option=value)
   --control <a.b.c.d:port>   where control lines come in (127.0.0.1:5061)
   --workers <1 to 256>       worker threads (one a processor)
   --mailboxes <file>         a mailbox a line, or 1000-1999; # in front: a comment
+  --any-mailbox              the first MAIL line of a mailbox makes it (needs
+                             --journal)
+  --max-mailboxes <number>   so many at most where lines make them (65536)
   --state <file>             MAIL lines that are done first; # in front: a comment
   --journal <folder>         what is kept there outlives a crash (nothing is kept)
   --journal-bytes <octets>   a file of it has about so many at most (16777216)

@@ -12,21 +12,22 @@ use crate::help::VERSION;
 use crate::journal_folder::{Access, Folder, boot_text, take_folder};
 use crate::journal_new::{begin_desks, end_and_begin};
 use crate::logging::say_journal;
-use crate::mailboxes::are_same;
+use crate::mailboxes::{are_same, in_former_order};
 use crate::plan::{Plan, local_setup};
 use arguments::{Wanted, all_told};
 use crew::open_desks;
-use journal::{Account, Header};
+use indexmap::IndexSet;
+use journal::{Account, Header, Told};
 use keeper::Keeper;
-use notifier::{Desk, Out, Saved, Setup};
-use package::{Change, Package};
+use notifier::{Desk, Event, Out, Saved, Setup};
+use package::{Change, MailChange, Package};
 use restarts::Living as Row;
 use resumption::{
     Found, Halt, Reading, Renewed, Replayed, Terms, Wish, Worked, add_mails, held_names,
     read_files, renew, replay, saved,
 };
 use service::{Begins, Journal, Living, SETTLED, Syncing, Upkeep, Volume};
-use sip_text::{Addr, NoMemory, Text};
+use sip_text::{Addr, NoMemory, Text, Values};
 use std::alloc::Global;
 use std::fs::File;
 use std::rt::{Clock, Files};
@@ -130,6 +131,85 @@ pub(crate) fn held_folder(opened: Option<Opened>) -> Option<Folder> {
 pub(crate) fn found_header(opened: &Option<Opened>) -> Option<&Header> {
     let (_, found) = opened.as_ref()?.found.as_ref()?;
     Some(&found.generation.header)
+}
+
+/// What it tells of each worker.
+fn found_accounts(opened: &Option<Opened>) -> Option<&[Account]> {
+    let (_, found) = opened.as_ref()?.found.as_ref()?;
+    Some(found.generation.accounts.as_slice())
+}
+
+/// Adds the names of the mailboxes that these changes are of.
+fn add_names(alloc: Global, names: &mut Vec<Text>, changes: &[Change]) -> Result<(), NoMemory> {
+    for change in changes {
+        if let Change::Mail(change) = change {
+            names.push(Text::of(alloc, change.mailbox())?)?;
+        }
+    }
+    Ok(())
+}
+
+/// Adds the changes of mailboxes among these events.
+fn add_handled(alloc: Global, changes: &mut Vec<Change>, events: &[Event]) -> Result<(), NoMemory> {
+    for event in events {
+        if let Event::Mail(change) = event {
+            changes.push(Change::Mail(change.copy(alloc)?))?;
+        }
+    }
+    Ok(())
+}
+
+/// Adds these changes of mailboxes.
+fn add_lines(
+    alloc: Global,
+    changes: &mut Vec<Change>,
+    lines: &[MailChange],
+) -> Result<(), NoMemory> {
+    for change in lines {
+        changes.push(Change::Mail(change.copy(alloc)?))?;
+    }
+    Ok(())
+}
+
+/// What lines told a worker since its book: what it handled, and behind that what waits for it.
+fn told_since(alloc: Global, account: &Account) -> Result<Vec<Change>, NoMemory> {
+    let mut changes = Vec::new(alloc);
+    add_handled(alloc, &mut changes, account.events.as_slice())?;
+    add_lines(alloc, &mut changes, account.lines.as_slice())?;
+    Ok(changes)
+}
+
+/// The mailboxes of which lines told, as it stands in these accounts of a journal: also those that no worker had yet, and one as often as it was told.
+fn names_told(alloc: Global, accounts: &[Account]) -> Result<Vec<Text>, NoMemory> {
+    let mut names = Vec::new(alloc);
+    for account in accounts {
+        let mut changes = Vec::new(alloc);
+        add_mails(alloc, &mut changes, &account.book.told)?;
+        changes.append(&mut told_since(alloc, account)?)?;
+        add_names(alloc, &mut names, changes.as_slice())?;
+    }
+    Ok(names)
+}
+
+/// The mailboxes of which lines told, as it stands in the folder of a journal, where the plan has lines make mailboxes, in the order of the run
+/// before, if there was one. One that lines told nothing of is there only as long as the words name it.
+pub(crate) fn told_mailboxes(
+    alloc: Global,
+    plan: &Plan,
+    opened: &Option<Opened>,
+    former: Option<Vec<Text>>,
+) -> Result<Vec<Text>, NoMemory> {
+    if !plan.choices.any_mailbox {
+        return Ok(Vec::new(alloc));
+    }
+    let Some(accounts) = found_accounts(opened) else {
+        return Ok(Vec::new(alloc));
+    };
+    let names = names_told(alloc, accounts)?;
+    match former {
+        Some(former) => in_former_order(alloc, former, names),
+        None => Ok(names),
+    }
 }
 
 /// Desks, what a service begins with beside them, what was told of its mailboxes, and its journal, where it has one.
@@ -703,6 +783,69 @@ where
     })
 }
 
+/// What lines told a worker since its book of mailboxes that it doesn't hold.
+fn unheld_since(alloc: Global, account: &Account) -> Result<Vec<MailChange>, NoMemory> {
+    let mut held = IndexSet::new(alloc);
+    for name in held_names(alloc, &account.book.told)? {
+        held.insert(name)?;
+    }
+    let mut unheld = Vec::new(alloc);
+    for change in told_since(alloc, account)? {
+        if let Change::Mail(change) = change {
+            if !held.contains(change.mailbox()) {
+                unheld.push(change)?;
+            }
+        }
+    }
+    Ok(unheld)
+}
+
+/// The same of each worker, where lines make mailboxes. They are of mailboxes that the next run has.
+fn all_unheld(
+    alloc: Global,
+    order: &Order<'_>,
+    found: &Found,
+) -> Result<Vec<Vec<MailChange>>, NoMemory> {
+    let mut all = Vec::new(alloc);
+    if order.plan.choices.any_mailbox {
+        for account in found.generation.accounts.as_slice() {
+            all.push(unheld_since(alloc, account)?)?;
+        }
+    }
+    Ok(all)
+}
+
+/// What a worker was told, with these changes behind it.
+fn told_also(alloc: Global, told: Told, changes: Vec<MailChange>) -> Result<Told, NoMemory> {
+    let mut changes = changes;
+    let mut told = told;
+    let mut mail = told.mail.into_vec();
+    mail.append(&mut changes)?;
+    told.mail = Values::new(mail);
+    Ok(told)
+}
+
+/// Desks that go on, whose workers were told these changes too, of mailboxes that they didn't hold.
+fn with_unheld<P: Package>(
+    alloc: Global,
+    replayed: Replayed<P>,
+    unheld: Vec<Vec<MailChange>>,
+) -> Result<Replayed<P>, Halt> {
+    if unheld.is_empty() {
+        return Ok(replayed);
+    }
+    let mut replayed = replayed;
+    let mut all = Vec::new(alloc);
+    let mut worker = 0u32;
+    for changes in unheld {
+        let told = replayed.keeper.told(worker)?;
+        all.push(told_also(alloc, told, changes)?)?;
+        worker = worker.saturating_add(1);
+    }
+    replayed.keeper = Keeper::new(alloc, all)?;
+    Ok(replayed)
+}
+
 /// A service that goes on from what was found.
 fn go_on<R, P, M>(
     rt: &R,
@@ -728,12 +871,14 @@ where
         opened,
         newest,
     };
+    let unheld = all_unheld(alloc, &order, &found)?;
     let replayed = replay_found(rt, past, found, make)?;
     let is_json = order.plan.choices.log_json;
     say_journal(rt, is_json, &opened.folder.path, told(course));
     match course {
         Course::Straight => go_straight(rt, order, opened, newest, replayed),
         Course::Renewed { is_lost } => {
+            let replayed = with_unheld(alloc, replayed, unheld)?;
             let renewed = renew(alloc, &order.wish(), replayed, is_lost, make)?;
             // Behind a leap nothing of an older file is sent again.
             let kept = if is_lost { 0 } else { number };
@@ -741,6 +886,7 @@ where
             begin_file(rt, order, opened, renewed, spare.as_slice())
         }
         Course::Ended => {
+            let replayed = with_unheld(alloc, replayed, unheld)?;
             let renewed = end_and_begin(alloc, &order.wish(), replayed, make)?;
             begin_file(rt, order, opened, renewed, opened.numbers.as_slice())
         }

@@ -1,5 +1,5 @@
 //! The mailboxes that the settings of a service name, by themselves or by files.
-ghost use Rattle.std.specs.Prelude.{◌≡◌, map, string_bytes, IfOk, IfErr, OnOk};
+ghost use Rattle.std.specs.Prelude.{◌≡◌, ◌++◌, ℕ, List, map, string_bytes, IfOk, IfErr, OnOk, IsTrue};
 ghost use Rattle.std.specs.List.{All};
 ghost use Rattle.arguments.specs.Settings.{IsMailbox};
 ghost use Rattle.commands.specs.Plans as spec;
@@ -8,7 +8,7 @@ ghost use Rattle.commands.specs.Refused.{IsOfFile, IsOfSetting, IsOfOne};
 
 use crate::error::ServeError;
 use crate::line_file::{FileLine, TakesLines, take_file};
-use arguments::{Setting, line_mailboxes};
+use arguments::{Setting, is_mailbox, line_mailboxes};
 use indexmap::IndexSet;
 use sip_text::{NoMemory, Text};
 use std::alloc::Global;
@@ -112,6 +112,73 @@ pub(crate) fn each_once(alloc: Global, names: Vec<Text>) -> Result<Vec<Text>, No
         once.push(Text::new(name))?;
     }
     Ok(once)
+}
+
+/// Copies of these names as a set.
+fn copied_names(alloc: Global, names: &[Text]) -> Result<IndexSet<String>, NoMemory> {
+    let mut set = IndexSet::new(alloc);
+    for name in names {
+        set.insert(String::from_str(alloc, name.as_str())?)?;
+    }
+    Ok(set)
+}
+
+/// Whether a name of which a line told is added to these: a file of mailboxes may hold it, it isn't there yet, and there is room.
+fn is_further(set: &IndexSet<String>, name: &str, most: usize) -> bool
+    ensures { IsTrue result → IsMailbox name.now }
+{
+    is_mailbox(name) && set.len() < most && !set.contains(name)
+}
+
+/// These names, in the order of a former run: first those that it had, as it had them, and behind them all, each of which may stand there twice.
+pub(crate) fn in_former_order(
+    alloc: Global,
+    former: Vec<Text>,
+    names: Vec<Text>,
+) -> Result<Vec<Text>, NoMemory>
+    ensures all { IfOk result (λ ordered. (first : List (List ℕ)) × (ordered.items ≡ first ++ names.items)) }
+{
+    let set = copied_names(alloc, names.as_slice())?;
+    let mut names = names;
+    let mut ordered = former;
+    ordered.retain(|name| set.contains(name.as_str()));
+    ordered.append(&mut names)?;
+    Ok(ordered)
+}
+
+/// Those of these names that a file of mailboxes may hold and the others don't have, each once, as long as there are so many at most together.
+fn further_names(
+    alloc: Global,
+    names: &[Text],
+    told: Vec<Text>,
+    most: usize,
+) -> Result<Vec<Text>, NoMemory>
+    ensures mailboxes { IfOk result (λ further. All IsMailbox further.items) }
+{
+    let mut set = copied_names(alloc, names)?;
+    let mut further = Vec::new(alloc);
+    for name in told {
+        if is_further(&set, name.as_str(), most) {
+            set.insert(String::from_str(alloc, name.as_str())?)?;
+            further.push(name)?;
+        }
+    }
+    Ok(further)
+}
+
+/// These names, and behind them those of the others that a file of mailboxes may hold, each once, as long as there are so many at most.
+pub(crate) fn with_further(
+    alloc: Global,
+    names: Vec<Text>,
+    told: Vec<Text>,
+    most: usize,
+) -> Result<Vec<Text>, NoMemory>
+    ensures { IfOk result (λ all. (further : List (List ℕ)) × All IsMailbox further × (all.items ≡ spec.each_once (names.items ++ further))) }
+{
+    let mut further = further_names(alloc, names.as_slice(), told, most)?;
+    let mut all = names;
+    all.append(&mut further)?;
+    each_once(alloc, all)
 }
 
 /// Whether these are the same names, in any order.

@@ -1,5 +1,5 @@
 //! What a service begins with, by the words behind `serve`.
-ghost use Rattle.std.specs.Prelude.{◌≡◌, ◌↔◌, ℕ, List, Some, IsTrue, IfOk, IfErr, OnErr};
+ghost use Rattle.std.specs.Prelude.{◌≡◌, ◌↔◌, ℕ, List, Some, IsTrue, IfOk, IfErr, OnOk, OnErr};
 ghost use Rattle.notifier_model.specs.Limits.{AreLimits};
 ghost use Rattle.commands.specs.declared.error.ServeError.TheVariants as error;
 ghost use Rattle.commands.specs.declared.ranged.Ranged.{Ranged};
@@ -8,11 +8,11 @@ ghost use Rattle.commands.specs.Plans as spec;
 ghost use Rattle.commands.specs.Plans.{IsCount, IsSeed, IsReached, IsPlan};
 ghost use Rattle.arguments.specs.Choices.{state_of};
 ghost use Rattle.commands.specs.State.{IsState};
-ghost use Rattle.commands.specs.Refused.{IsOfNamedState, IsRefusal};
+ghost use Rattle.commands.specs.Refused.{IsOfMailboxes, IsOfNamedState, IsRefusal};
 
 use crate::admitting::{check_watched, new_admission, secret};
 use crate::error::ServeError;
-use crate::mailboxes::{each_once, named_mailboxes};
+use crate::mailboxes::{each_once, named_mailboxes, with_further};
 use crate::ranged::number_out;
 use crate::state::told_changes;
 use admission::{Admission, Network};
@@ -21,7 +21,8 @@ use arguments::{
 };
 use notifier_model::{Limits, Setup};
 use package::Change;
-use sip_text::{Addr, Text};
+use sip_text::{Addr, NoMemory, Text};
+use std::alloc::Global;
 use std::random::RandomSource;
 use std::rt::Files;
 use std::thread;
@@ -34,7 +35,7 @@ pub struct Plan {
     pub limits: Limits,
     pub seed: [u8; 32],
     pub workers: u32,
-    /// Each once.
+    /// Each once: those of the words, and behind them those that lines told, where these make mailboxes.
     pub mailboxes: Vec<Text>,
     /// What is told of mailboxes before the first datagram is heard.
     pub changes: Vec<Change>,
@@ -185,8 +186,28 @@ where
     })
 }
 
+/// Sees that there are mailboxes, or that lines make some which a journal keeps.
+fn check_mailboxes(
+    choices: &Choices,
+    mailboxes: &[Text],
+    journal: &Option<Text>,
+) -> Result<(), ServeError>
+    ensures some { OnOk result (spec.AreSome choices.now mailboxes.now) }
+    ensures kept { OnOk result (spec.AreKept choices.now journal.now) }
+    ensures refused { IfErr result (IsOfMailboxes choices.now mailboxes.now journal.now) }
+{
+    if choices.any_mailbox {
+        if journal.is_none() {
+            return Err(ServeError::NoJournal);
+        }
+    } else if mailboxes.is_empty() {
+        return Err(ServeError::NoMailbox);
+    }
+    Ok(())
+}
+
 /// What the words ask for on this occasion: files are read and the system is asked for randomness, and no socket is opened.
-#[tactic(auto, using(crate::proofs::Refused::other_is, crate::proofs::Refused::times_are, crate::proofs::Once::once_some))]
+#[tactic(auto, using(crate::proofs::Refused::other_is, crate::proofs::Refused::times_are, crate::proofs::Refused::of_mailboxes_is, crate::proofs::Adopted::planned))]
 fn plan_on<R>(rt: &R, words: &[Text], occasion: Occasion) -> Result<Plan, ServeError>
 where
     R: Threads + Files + RandomSource + AllocGlobal,
@@ -205,9 +226,7 @@ where
     if !is_reached(&choices) {
         return Err(ServeError::NoContact);
     }
-    if mailboxes.is_empty() {
-        return Err(ServeError::NoMailbox);
-    }
+    check_mailboxes(&choices, &mailboxes, &journal)?;
     let mailboxes = each_once(rt.alloc(), mailboxes)?;
     Ok(Plan {
         choices,
@@ -273,6 +292,31 @@ pub(crate) fn adopted(plan: Plan, seed: [u8; 32], workers: u32) -> Plan
     plan.seed = seed_or(plan.choices.seed, seed, plan.seed);
     plan.workers = workers_or(plan.choices.numbers.workers, workers, plan.workers);
     plan
+}
+
+/// The plan with mailboxes of which lines told, where they make some: behind those that it has, as long as there are not more than may be.
+#[tactic(auto, using(crate::proofs::Adopted::told_too))]
+pub(crate) fn with_told(alloc: Global, plan: Plan, told: Vec<Text>) -> Result<Plan, NoMemory>
+    ensures plan { (words : List (List ℕ)) → IsPlan words plan → IfOk result (IsPlan words) }
+{
+    if !plan.choices.any_mailbox {
+        return Ok(plan);
+    }
+    let mut plan = plan;
+    let most = plan.choices.numbers.max_mailboxes as usize;
+    plan.mailboxes = with_further(alloc, plan.mailboxes, told, most)?;
+    Ok(plan)
+}
+
+/// How many mailboxes there are at most where lines make some. 0: none does.
+pub(crate) fn most_mailboxes(choices: &Choices) -> u32
+    ensures { result ≡ spec.most_mailboxes choices.now }
+{
+    if choices.any_mailbox {
+        choices.numbers.max_mailboxes
+    } else {
+        0
+    }
 }
 
 /// What the desks of the workers stand on. Phones reach the service at its contact, or else where its socket is.

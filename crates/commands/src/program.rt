@@ -17,13 +17,15 @@ use crate::feed::{FeedDesk, open_feed};
 use crate::help::{HELP, asked_text};
 use crate::input::Watch;
 use crate::journal_folder::Folder;
-use crate::journal_start::{Opened, Started, found_header, held_folder, open_journal, start};
+use crate::journal_start::{
+    Opened, Started, found_header, held_folder, open_journal, start, told_mailboxes,
+};
 use crate::logging::{
     say_goodbye, say_hello, say_journal, say_spent_worker, say_why, warn_of_control,
 };
-use crate::plan::{Plan, adopted, local_setup, new_plan};
+use crate::plan::{Plan, adopted, local_setup, most_mailboxes, new_plan, with_told};
 use crate::prompt::{Patience, Prompt};
-use crate::reloading::{Carried, Reloader, answer_reload};
+use crate::reloading::{Carried, Reloader, all_mailboxes, answer_reload, first_mailboxes};
 use crate::sockets::{Sockets, Standby, find};
 use crate::udp::all_closed;
 use crate::udp_printing::worker_lines;
@@ -113,13 +115,15 @@ where
 }
 
 /// What the words ask for, as it was read last, if it was, and the folder of the journal that they name, with what stands there. Seed and
-/// number of workers are then those of the journal, where the words ask for none.
+/// number of workers are then those of the journal, where the words ask for none, and the mailboxes of which lines told are there too, where
+/// lines make mailboxes, in the order of the former run.
 #[tactic(auto, using(crate::proofs::Refused::other_is, crate::proofs::Refused::of_journal_is))]
 fn plan_with_journal<R>(
     rt: &R,
     words: &[Text],
     known: Option<Plan>,
     held: Option<Folder>,
+    former: Option<Vec<Text>>,
 ) -> Result<(Plan, Option<Opened>), ServeError>
 where
     R: Threads + Files<File = File> + RandomSource + AllocGlobal + Clone + Drop,
@@ -129,6 +133,8 @@ where
 {
     let plan = known_plan(rt, words, known)?;
     let opened = open_journal(rt, &plan, held)?;
+    let told = told_mailboxes(rt.alloc(), &plan, &opened, former)?;
+    let plan = with_told(rt.alloc(), plan, told)?;
     match found_header(&opened) {
         Some(header) => {
             let plan = adopted(plan, header.seed, header.workers);
@@ -238,6 +244,7 @@ fn new_work(
         going: replies,
         mailboxes: plan.mailboxes,
         changes: changes.unwrap_or(plan.changes),
+        most: most_mailboxes(&plan.choices),
         networks: plan.operators,
     };
     let sip = SipDesk {
@@ -335,6 +342,7 @@ where
         + Clock
         + Files<File = File>
         + RandomSource
+        + Eprint
         + AllocGlobal
         + Copy
         + Send
@@ -392,9 +400,11 @@ where
         plan,
         folder,
         sockets,
+        mailboxes,
         caller,
     } = carried;
-    let (plan, mut opened) = plan_with_journal(&rt, words, plan, folder)?;
+    let (plan, mut opened) = plan_with_journal(&rt, words, plan, folder, mailboxes)?;
+    let first = first_mailboxes(rt.alloc(), &plan);
     let Fitted {
         desks,
         begins,
@@ -420,6 +430,7 @@ where
         plan,
         folder,
         sockets: standby,
+        mailboxes: all_mailboxes(&rt, first, &served.shared),
         caller: served.shared.reload_caller(&rt),
     };
     Ok((served, next))

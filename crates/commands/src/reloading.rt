@@ -33,6 +33,8 @@ pub(crate) struct Carried {
     /// The folder of the journal, which no other service writes meanwhile.
     pub(crate) folder: Option<Folder>,
     pub(crate) sockets: Option<Standby>,
+    /// The mailboxes of the last run, in its order, where lines make some: so the pages of a DUMP that began there go on in the next run.
+    pub(crate) mailboxes: Option<Vec<Text>>,
     /// Who asked for the RELOAD by which the next run begins.
     pub(crate) caller: Option<Caller>,
 }
@@ -47,9 +49,32 @@ impl Carried {
             plan: None,
             folder: None,
             sockets: None,
+            mailboxes: None,
             caller: None,
         }
     }
+}
+
+/// The mailboxes with which a run of this plan begins, in order, where lines make some. None also where there is no memory: then the next run has
+/// another order.
+pub(crate) fn first_mailboxes(alloc: Global, plan: &Plan) -> Option<Vec<Text>> {
+    if plan.choices.any_mailbox {
+        copies(alloc, plan.mailboxes.as_slice()).ok()
+    } else {
+        None
+    }
+}
+
+/// The mailboxes of a run that began with these: those that lines made stand behind them.
+pub(crate) fn all_mailboxes<R: Wait>(
+    rt: &R,
+    first: Option<Vec<Text>>,
+    shared: &Shared,
+) -> Option<Vec<Text>> {
+    let mut all = first?;
+    let mut made = shared.made_mailboxes(rt).ok()?;
+    all.append(&mut made).ok()?;
+    Some(all)
 }
 
 /// Answers who asked for the RELOAD by which a run begins, if it begins by one, by a further wire over this one: whatever comes behind the answer
@@ -78,10 +103,22 @@ fn refusal(alloc: Global, error: &ServeError) -> Option<String> {
     text.ok()
 }
 
+/// Refuses files for this reason. Where nobody asked, since they were read for mailboxes that lines made, it is told on standard error.
+fn refuse<R>(rt: &R, rereader: &Rereader, number: u64, error: &ServeError)
+where
+    R: Wait + Clock + Eprint + AllocGlobal,
+{
+    if rereader.refuse(rt, number, refusal(rt.alloc(), error)) {
+        let text: Result<String, AllocError> = format!(in rt.alloc(); "{error}");
+        let words = text.as_ref().map_or("out of memory", |text| text.as_str());
+        rereader.say_why(rt, error.status(), words);
+    }
+}
+
 /// Reads the files that the words name whenever that is asked for, until the service has ended. Answers what was read last, if it was good.
 fn read_again<R>(rt: &R, words: &[Text], rereader: &Rereader) -> Option<Plan>
 where
-    R: Threads + Wait + Clock + Files + RandomSource + AllocGlobal,
+    R: Threads + Wait + Clock + Files + RandomSource + Eprint + AllocGlobal,
     ensures { IfSome result (IsPlan words.now) }
 {
     let mut last = None;
@@ -96,7 +133,7 @@ where
             }
             Err(error) => {
                 last = None;
-                rereader.refuse(rt, number, refusal(rt.alloc(), &error));
+                refuse(rt, rereader, number, &error);
             }
         }
     }
@@ -149,6 +186,7 @@ where
         + Clock
         + Files<File = File>
         + RandomSource
+        + Eprint
         + AllocGlobal
         + Copy
         + Send
@@ -188,6 +226,7 @@ impl Reloader {
             + Clock
             + Files<File = File>
             + RandomSource
+            + Eprint
             + AllocGlobal
             + Copy
             + Send

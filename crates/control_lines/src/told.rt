@@ -1,5 +1,5 @@
 //! The mailboxes of a service, each with the counts that it was told last.
-ghost use Rattle.std.specs.Prelude.{◌≡◌, ◌<◌, ◌+◌, length, slice_get, option_map, string_bytes, IfOk, OnOk, IfSome, IsSome};
+ghost use Rattle.std.specs.Prelude.{◌≡◌, ◌<◌, ◌+◌, length, slice_get, option_map, string_bytes, IfOk, OnOk, OnErr, IfSome, IsSome};
 ghost use Rattle.indexmap.specs.IndexMap.{get_by_text};
 ghost use Rattle.control_lines.specs.Told as spec;
 ghost use Rattle.control_lines.specs.Told.{AreUntold, rows_in};
@@ -58,7 +58,8 @@ fn note(mailboxes: &mut IndexMap<String, MailCounts>, change: &MailChange)
 
 /// Adds a mailbox that was told nothing, unless it is there.
 fn add(mailboxes: &mut IndexMap<String, MailCounts>, name: String) -> Result<(), NoMemory>
-    ensures { OnOk result (rows_in mailboxes.new.entries ≡ spec.with_name (string_bytes name) (rows_in mailboxes.old.entries)) }
+    ensures added { OnOk result (rows_in mailboxes.new.entries ≡ spec.with_name (string_bytes name) (rows_in mailboxes.old.entries)) }
+    ensures unchanged { OnErr result (rows_in mailboxes.new.entries ≡ rows_in mailboxes.old.entries) }
 {
     if mailboxes.contains_key(name.as_str()) {
         return Ok(());
@@ -114,6 +115,15 @@ impl ToldCounts {
     {
         let (name, counts) = self.mailboxes.get_index(place)?;
         Some((name.as_str(), *counts))
+    }
+
+    /// The mailbox with this name is one of them from now on, behind the others, and was told of no class, unless it is one already.
+    pub fn add(&mut self, alloc: Global, name: &str) -> Result<(), NoMemory>
+        ensures added { OnOk result (self.new ≡ spec.with_name name.now self.old) }
+        ensures unchanged { OnErr result (self.new ≡ self.old) }
+    {
+        let name = String::from_str(alloc, name)?;
+        add(&mut self.mailboxes, name)
     }
 
     /// A mailbox was told these counts of one class. A mailbox that isn't here changes nothing.

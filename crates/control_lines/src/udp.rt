@@ -48,6 +48,13 @@ impl UdpSpeaker {
         UdpSpeaker::waiting(rt, service, LONG_PATIENCE)
     }
 
+    /// From now on it waits as long for each answer: the service may be beginning anew.
+    pub fn wait_longer(&self) -> Result<(), SpeakerFault> {
+        let patience = Duration::from_millis(LONG_PATIENCE);
+        self.socket.set_read_timeout(Some(patience))?;
+        Ok(())
+    }
+
     /// One that waits for each answer for so many milliseconds.
     fn waiting<R: Wait + Net>(
         rt: &R,

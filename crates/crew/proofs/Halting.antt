@@ -16,8 +16,8 @@ use Rattle.crew.specs.Worked.{KeepsQueues, AllFrom, IsWorked}
 use Rattle.crew.specs.Loop.{desk_after, HandlesOne, Serving, Stopped, Halted, Halts}
 use Rattle.crew.specs.declared.end.End.{End}
 use Rattle.crew.specs.declared.end.End.TheVariants as end
-use Rattle.crew.specs.declared.serving.Stop.{Stop}
-use Rattle.crew.specs.declared.serving.Stop.TheVariants as stop
+use Rattle.crew.specs.declared.hand.Stop.{Stop}
+use Rattle.crew.specs.declared.hand.Stop.TheVariants as stop
 use Rattle.crew.proofs.Folds.{values-append}
 use Rattle.crew.proofs.Loops.{served, stopped_whole, stopped_before, stopped_rest}
 

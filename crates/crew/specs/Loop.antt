@@ -13,8 +13,8 @@ use Rattle.queues.specs.InboxEvents.{events_of}
 use Rattle.queues.specs.OutboxSeats.{PosterSeat}
 use Rattle.crew.specs.Worked.{outs_for, Ends}
 use Rattle.crew.specs.declared.end.End.{End}
-use Rattle.crew.specs.declared.serving.Stop.{Stop}
-use Rattle.crew.specs.declared.serving.Stop.TheVariants.{Finished, Full, Deserted}
+use Rattle.crew.specs.declared.hand.Stop.{Stop}
+use Rattle.crew.specs.declared.hand.Stop.TheVariants.{Finished, Full, Deserted}
 
 -- the desk that stood so, after these events
 abbrev pub desk_after : Standing → List Event → Standing

@@ -1,19 +1,32 @@
-//! What handles the events of a worker.
+//! What handles the events of a worker, and its loop.
 ghost use Rattle.std.specs.Prelude.{◌≡◌, ◌+◌, [], true, false, Some, OnOk, OnErr};
 ghost use Rattle.notifier.specs.Held.{seen_by};
 ghost use Rattle.notifier.specs.Standing.{Standing};
-ghost use Rattle.crew.specs.Loop.{posts_all, HandlesOne};
+ghost use Rattle.crew.specs.Loop.{posts_all, HandlesOne, Halted};
+ghost use Rattle.queues.specs.Ended.{count_ended};
+ghost use Rattle.crew.specs.Worked.{AllFrom, KeepsQueues};
 
-use crate::counting::count_up;
 use crate::gate::Gate;
 use notifier::{Desk, DeskError, Event, Out};
 use notifier_model::homes::TagNumbers;
 use notifier_model::row::Row;
 use package::Package;
+use queues::inbox::{Receiver, Taken};
 use queues::outbox::Poster;
 use sip_text::NoMemory;
 use std::alloc::Global;
 use std::sync::Wait;
+
+/// The count and so many more. It waits for good where there is no such number.
+pub fn count_up<R: Wait>(rt: &R, count: u64, more: u64) -> u64
+    ensures { result ≡ count + more }
+{
+    if let Some(sum) = count.checked_add(more) {
+        return sum;
+    }
+    for _ in rt.forever() {}
+    unreachable!()
+}
 
 /// The outs of one event, on their way to the outbox.
 #[derive(Drop)]
@@ -24,17 +37,6 @@ struct Batch {
 }
 
 impl Batch {
-    /// These outs, of an event of which the gate wasn't told yet.
-    fn new(outs: Vec<Out>) -> Batch
-        ensures outs { result.outs ≡ outs }
-        ensures untold { result.is_told ≡ false }
-    {
-        Batch {
-            outs,
-            is_told: false,
-        }
-    }
-
     /// Tells the gate of the event that made these outs.
     fn tell<R: Wait, G: Gate>(&mut self, rt: &R, gate: &G, worker: u32, event: &Event)
         ensures told { self.new.is_told ≡ true }
@@ -144,7 +146,10 @@ impl<P: Package> Hand<P> {
         let outs = self.desk.handle(alloc, &event)?;
         self.made = count_up(rt, self.made, outs.len() as u64);
         self.handled = count_up(rt, self.handled, 1);
-        let mut batch = Batch::new(outs);
+        let mut batch = Batch {
+            outs,
+            is_told: false,
+        };
         batch.tell(rt, gate, self.worker, &event);
         batch.post(rt, gate, self.worker, &mut self.poster);
         self.tell_gone(rt, alloc, gate);
@@ -177,4 +182,71 @@ impl<P: Package> Hand<P> {
         gate.book(rt, self.worker, written);
         length.saturating_add(length / 8)
     }
+}
+
+/// Why a worker handles no more.
+#[derive(Clone, Copy)]
+pub(crate) enum Stop {
+    /// Each port has ended.
+    Finished,
+    /// An allocation failed.
+    Full,
+    /// All ports went away.
+    Deserted,
+}
+
+/// Where a worker came to a halt.
+#[derive(Clone, Copy)]
+pub(crate) struct Halt {
+    pub(crate) stop: Stop,
+    /// How many ports haven't ended.
+    pub(crate) left: u32,
+}
+
+/// Handles the events of an inbox in their order.
+pub(crate) fn handle_all<R: Wait, P: Package, G: Gate>(
+    rt: &R,
+    alloc: Global,
+    gate: &G,
+    hand: &mut Hand<P>,
+    receiver: &mut Receiver,
+) -> Halt
+    requires taken { receiver.old.taken ≡ [] }
+    requires posted { hand.old.poster.posted ≡ [] }
+    requires counts { (hand.old.handled ≡ 0) × (hand.old.made ≡ 0) }
+    ensures same { KeepsQueues receiver.old receiver.new hand.old.poster hand.new.poster }
+    ensures among { AllFrom receiver.old.ports receiver.new.taken }
+    ensures left { result.left + count_ended receiver.old.ports receiver.new.taken ≡ receiver.old.ports }
+    ensures stop { hand.new.stop ≡ hand.old.stop }
+    ensures halted { (stands : Standing) → seen_by P.seen hand.old.desk ≡ Some stands
+        → Halted hand.old.poster.number receiver.old.ports stands receiver.new.taken
+        (seen_by P.seen hand.new.desk) hand.new.poster.posted hand.new.handled hand.new.made result.stop }
+{
+    let mut left = receiver.ports();
+    for _ in rt.forever() {
+        if left == 0 {
+            return Halt {
+                stop: Stop::Finished,
+                left,
+            };
+        }
+        let Ok(taken) = receiver.take(rt) else {
+            return Halt {
+                stop: Stop::Deserted,
+                left,
+            };
+        };
+        match taken {
+            Taken::Ended(_) => left -= 1,
+            Taken::Event(event) => {
+                let Ok(()) = hand.handle(rt, alloc, gate, event) else {
+                    return Halt {
+                        stop: Stop::Full,
+                        left,
+                    };
+                };
+            }
+        }
+    }
+    unreachable!()
 }

@@ -17,7 +17,6 @@
 #![tactic(auto)]
 
 mod boxed;
-mod counting;
 mod end;
 mod errors;
 mod fitting;
@@ -30,16 +29,15 @@ mod port;
 mod replay;
 mod report;
 mod seating;
-mod serving;
 mod shared;
 mod start;
 mod token;
 mod working;
 
-pub use counting::count_up;
 pub use end::{Done, End};
 pub use errors::{GoOnError, SendError, StartError, TickError};
 pub use gate::{Gate, Open};
+pub use hand::count_up;
 pub use launching::{Began, NewWorker, launch};
 pub use notifier_model::homes::{home, key_hash};
 pub use port::Port;

@@ -7,8 +7,8 @@ ghost use Rattle.crew.specs.PortErrors.{GivesBack, TicksFirst};
 ghost use Rattle.crew.specs.AtHome.{SentHome};
 ghost use Rattle.crew.specs.Calls.{call_event};
 
-use crate::counting::count_up;
 use crate::errors::{SendError, TickError};
+use crate::hand::count_up;
 use notifier_model::Event;
 use notifier_model::homes::home;
 use queues::inbox::{Gone, Sender, Sent};

@@ -7,12 +7,11 @@ ghost use Rattle.notifier.specs.Held.{seen_by};
 ghost use Rattle.notifier.specs.Standing.{Standing};
 ghost use Rattle.crew.specs.Worked.{AllFrom, IsWorked};
 ghost use Rattle.crew.specs.Loop.{Halted, Halts};
-ghost use Rattle.crew.specs.declared.serving.Stop.TheVariants.{Finished};
+ghost use Rattle.crew.specs.declared.hand.Stop.TheVariants.{Finished};
 
 use crate::end::{Done, End};
 use crate::gate::Gate;
-use crate::hand::Hand;
-use crate::serving::{Halt, Stop, handle_all};
+use crate::hand::{Halt, Hand, Stop, handle_all};
 use notifier_model::Event;
 use package::Package;
 use queues::inbox::{Receiver, Taken};

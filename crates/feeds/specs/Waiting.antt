@@ -3,8 +3,8 @@ use Rattle.std.specs.Prelude.{◌≡◌, ◌+◌, ℕ}
 use Rattle.queues.specs.OutboxSeats.{TakerSeat}
 use Rattle.queues.specs.OutboxTook.{Took}
 use Rattle.queues.specs.declared.outbox.Posted.TheVariants as posted
-use Rattle.feeds.specs.declared.waiting.Next.{Next}
-use Rattle.feeds.specs.declared.waiting.Next.TheVariants as next
+use Rattle.feeds.specs.declared.sending.Next.{Next}
+use Rattle.feeds.specs.declared.sending.Next.TheVariants as next
 
 -- an out of a worker, which was taken; or that a worker has ended, so that one less is left; or nothing, and nothing has changed then
 abbrev pub IsNext : TakerSeat → TakerSeat → ℕ → ℕ → Next → Type 0

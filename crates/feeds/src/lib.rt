@@ -18,13 +18,11 @@ mod feeding;
 mod hearing;
 pub mod laws;
 mod sending;
-mod waiting;
 mod writing;
 
 pub use feeding::{
     FeedEnd, FeedReport, MOST_CONTROL_LINES, Told, control, feed, listen, send_event, tell,
 };
 pub use hearing::{Heard, Language, hear, hear_message, hear_sip};
-pub use sending::{EmitReport, Fate, emit, put_out};
+pub use sending::{EmitReport, Fate, Idle, Next, emit, next_out, put_out};
 pub use transport::{Datagram, MemoryWire, UdpWire, Wire, WireFault};
-pub use waiting::{Idle, Next, next_out};

@@ -9,8 +9,9 @@ use Rattle.sip_text.specs.declared.address.Addr.{Addr}
 use Rattle.first_contact.specs.declared.contact.Notice.{Notice}
 use Rattle.first_contact.specs.declared.contact.Room.{Room}
 use Rattle.first_contact.specs.declared.contact.TheConstants.{FINAL, GONE}
-use Rattle.first_contact.specs.Steps.{ContactSeen, Step, idle, begun, same_addr, begins_anew, goes_once, goes_first, passes, waits, drops, has_place, offered, offered_there, answered, given_up, ended, opened, opened_last, opened_more, is_told, is_told_by}
-use Rattle.first_contact.specs.Runs.{Call, Offer, Answer, GiveUp, tag_of, step_of, step_at, known_after, through, IsAnswered, KnownIsAnswered}
+use Rattle.first_contact.specs.Steps.{ContactSeen, Step, idle, begun, same_addr, begins_anew, goes_once, goes_first, passes, waits, drops, has_place, offered, offered_there, answered, given_up, ended, opened, opened_last, opened_more, is_from, opens, moved_to, passed_to, passed, heard, is_told, is_told_by}
+use Rattle.first_contact.specs.Runs.{Call, Offer, Answer, GiveUp, Close, tag_of, step_of, step_at, known_after, through, IsAnswered, KnownIsAnswered}
+use Rattle.first_contact.proofs.Places.{GoThere, IsPlaced, all_placed}
 
 through_push : (tag : List ℕ) (past : List Call) (call : Call) (c : Option ContactSeen)
     → through tag (past ++ call ∷ []) c ≡ through tag past c ++ (step_at tag call (known_after tag past c)).through
@@ -23,11 +24,11 @@ known_push : (tag : List ℕ) (past : List Call) (call : Call) (c : Option Conta
 known_push tag [] call c = refl
 known_push tag (x ∷ past) call c = known_push tag past call (step_at tag x c).contact
 
--- how it came to be known: its first NOTIFY was let through, and, where it is known, was answered
+-- how it came to be known: its NOTIFY under way was let through, and, where it is known, one was answered from there
 pub record History (tag : List ℕ) (past : List Call) (c : ContactSeen) : Type 0 where
   pub notify : Notice
   pub was_through : Contains (through tag past None) notify
-  pub numbered : notify.number ≡ c.first
+  pub numbered : notify.number ≡ c.under_way
   pub went_there : notify.to ≡ c.to
   pub known : c.is_known ≡ true → IsAnswered tag c.to past
 
@@ -51,7 +52,8 @@ module _ (tag : List ℕ) (past : List Call) (call : Call) (h : (c : ContactSeen
     named = a.named;
     number = a.number;
     status = a.status;
-    split = ap (λ xs. xs ++ call ∷ []) a.split ∙ append_assoc a.earlier (Answer a.named a.number a.status ∷ a.since) (call ∷ []);
+    source = a.source;
+    split = ap (λ xs. xs ++ call ∷ []) a.split ∙ append_assoc a.earlier (Answer a.named a.number a.status a.source ∷ a.since) (call ∷ []);
     ours = a.ours;
     final = a.final;
     alive = a.alive;
@@ -59,10 +61,11 @@ module _ (tag : List ℕ) (past : List Call) (call : Call) (h : (c : ContactSeen
     was_through = a.was_through;
     numbered = a.numbered;
     went_there = a.went_there;
+    came_from_there = a.came_from_there;
   }
 
   -- a call that changes nothing of it but what waits
-  goes_on : (c d : ContactSeen) → History tag past c → d.to ≡ c.to → d.first ≡ c.first → d.is_known ≡ c.is_known → History tag now d
+  goes_on : (c d : ContactSeen) → History tag past c → d.to ≡ c.to → d.under_way ≡ c.under_way → d.is_known ≡ c.is_known → History tag now d
   goes_on c d a to first known = record {
     notify = a.notify;
     was_through = longer a.notify a.was_through;
@@ -134,69 +137,98 @@ module _ (tag : List ℕ) (past : List Call) (call : Call) (h : (c : ContactSeen
   ends : (d : ContactSeen) → (ended before).contact ≡ Some d → History tag now d
   ends d is = let no : None ≡ Some d = is in absurd (cc)
 
-  opens : (named : List ℕ) (number status : ℕ) → call ≡ Answer named number status → bytes_eq named tag ≡ true → nat_le FINAL status ≡ true → (status == GONE) ≡ false → is_told number before ≡ true
-      → (d : ContactSeen) → (opened before).contact ≡ Some d → History tag now d
-  opens named number status call_is ours final alive told d is = by before refl
+  -- an answer from there, or from elsewhere to a known address
+  opens_it : (named : List ℕ) (number status : ℕ) (source : Addr) → call ≡ Answer named number status source → bytes_eq named tag ≡ true → nat_le FINAL status ≡ true → (status == GONE) ≡ false
+      → (c : ContactSeen) → before ≡ Some c → is_told_by number c ≡ true → opens source c ≡ true
+      → (d : ContactSeen) → (opened (Some c)).contact ≡ Some d → History tag now d
+  opens_it named number status source call_is ours final alive c e told from_there d got = last c.is_ending refl
+    where
+      past_one : History tag past c
+      past_one = h c e
+
+      known_to : (x : Bool) → c.is_known ≡ x → IsAnswered tag c.to now
+      known_to true k = answered_more c.to (past_one.known k)
+      known_to false k =
+          let first : (number == c.under_way) ≡ true = sym (ap (λ (x : Bool). x || (number == c.under_way)) k) ∙ told in
+          let same : number ≡ c.under_way = (Decides-eqb number c.under_way).0 first in
+          record {
+            earlier = past;
+            since = [];
+            named = named;
+            number = number;
+            status = status;
+            source = source;
+            split = ap (λ (x : Call). past ++ x ∷ []) call_is;
+            ours = ours;
+            final = final;
+            alive = alive;
+            notify = past_one.notify;
+            was_through = past_one.was_through;
+            numbered = past_one.numbered ∙ sym same;
+            went_there = past_one.went_there;
+            came_from_there = sym (ap (λ (x : Bool). x || is_from source c.to) k) ∙ from_there;
+          }
+
+      open_one : ContactSeen
+      open_one = record c { is_known = true; held = [] }
+
+      last : (x : Bool) → c.is_ending ≡ x → History tag now d
+      last true k = let no : None ≡ Some d = sym (ap (λ (x : Bool). (ends_or x).contact) k) ∙ got in absurd (cc)
+        where
+          ends_or : Bool → Step
+          ends_or x = if x then opened_last (Some c) else opened_more (Some c)
+      last false k =
+          let it : Some open_one ≡ Some d = sym (ap (λ (x : Bool). (ends_or x).contact) k) ∙ got in
+          subst (History tag now) (some_is it) (record {
+            notify = past_one.notify;
+            was_through = longer past_one.notify past_one.was_through;
+            numbered = past_one.numbered;
+            went_there = past_one.went_there;
+            known = λ _. known_to c.is_known refl;
+          })
+        where
+          ends_or : Bool → Step
+          ends_or x = if x then opened_last (Some c) else opened_more (Some c)
+
+  -- an answer from elsewhere: the first one that waits goes to the same address
+  passes_it : (c : ContactSeen) → before ≡ Some c → (held : List Notice) → GoThere c.to held → step_at tag call before ≡ passed_to held c
+      → (d : ContactSeen) → (passed_to held c).contact ≡ Some d → History tag now d
+  passes_it c e [] there s d is = let no : None ≡ Some d = is in absurd (cc)
+  passes_it c e (n ∷ held) there s d is = subst (History tag now) (some_is is) (record {
+    notify = n;
+    was_through = subst (λ (xs : List Notice). Contains xs n)
+        (sym (through_push tag past call None ∙ ap (λ (x : Step). through tag past None ++ x.through) s)) (Contains-push (through tag past None) n);
+    numbered = refl;
+    went_there = there.0;
+    known = λ k. answered_more c.to ((h c e).known k);
+  })
+
+  hears_it : (named : List ℕ) (number status : ℕ) (source : Addr) → call ≡ Answer named number status source → bytes_eq named tag ≡ true → nat_le FINAL status ≡ true → (status == GONE) ≡ false → is_told number before ≡ true
+      → step_at tag call before ≡ heard source before → (d : ContactSeen) → (heard source before).contact ≡ Some d → History tag now d
+  hears_it named number status source call_is ours final alive told s d is = by before refl
     where
       by : (o : Option ContactSeen) → before ≡ o → History tag now d
-      by None e = let no : None ≡ Some d = sym (ap (λ (o : Option ContactSeen). (opened o).contact) e) ∙ is in absurd (cc)
-      by (Some c) e = last c.is_ending refl
+      by None e = let no : None ≡ Some d = sym (ap (λ (o : Option ContactSeen). (heard source o).contact) e) ∙ is in absurd (cc)
+      by (Some c) e = heard_so (opens source c) refl
         where
-          got : (opened (Some c)).contact ≡ Some d
-          got = sym (ap (λ (o : Option ContactSeen). (opened o).contact) e) ∙ is
+          or_passes : Bool → Step
+          or_passes x = if x then opened (Some c) else passed (Some c)
 
-          past_one : History tag past c
-          past_one = h c e
+          heard_so : (x : Bool) → opens source c ≡ x → History tag now d
+          heard_so true k =
+              opens_it named number status source call_is ours final alive c e (sym (ap (is_told number) e) ∙ told) k d
+              (sym (ap (λ (o : Option ContactSeen). (heard source o).contact) e ∙ ap (λ (x : Bool). (or_passes x).contact) k) ∙ is)
+          heard_so false k =
+              let it : heard source before ≡ passed_to c.held c = ap (heard source) e ∙ ap or_passes k in
+              passes_it c e c.held (subst IsPlaced e (all_placed tag past)) (s ∙ it) d (sym (ap (λ (x : Step). x.contact) it) ∙ is)
 
-          known_to : (x : Bool) → c.is_known ≡ x → IsAnswered tag c.to now
-          known_to true k = answered_more c.to (past_one.known k)
-          known_to false k =
-              let tells : is_told_by number c ≡ true = sym (ap (is_told number) e) ∙ told in
-              let first : (number == c.first) ≡ true = sym (ap (λ (x : Bool). x || (number == c.first)) k) ∙ tells in
-              let same : number ≡ c.first = (Decides-eqb number c.first).0 first in
-              record {
-                earlier = past;
-                since = [];
-                named = named;
-                number = number;
-                status = status;
-                split = ap (λ (x : Call). past ++ x ∷ []) call_is;
-                ours = ours;
-                final = final;
-                alive = alive;
-                notify = past_one.notify;
-                was_through = past_one.was_through;
-                numbered = past_one.numbered ∙ sym same;
-                went_there = past_one.went_there;
-              }
-
-          open_one : ContactSeen
-          open_one = record c { is_known = true; held = [] }
-
-          last : (x : Bool) → c.is_ending ≡ x → History tag now d
-          last true k = let no : None ≡ Some d = sym (ap (λ (x : Bool). (ends_or x).contact) k) ∙ got in absurd (cc)
-            where
-              ends_or : Bool → Step
-              ends_or x = if x then opened_last (Some c) else opened_more (Some c)
-          last false k =
-              let it : Some open_one ≡ Some d = sym (ap (λ (x : Bool). (ends_or x).contact) k) ∙ got in
-              subst (History tag now) (some_is it) (record {
-                notify = past_one.notify;
-                was_through = longer past_one.notify past_one.was_through;
-                numbered = past_one.numbered;
-                went_there = past_one.went_there;
-                known = λ _. known_to c.is_known refl;
-              })
-            where
-              ends_or : Bool → Step
-              ends_or x = if x then opened_last (Some c) else opened_more (Some c)
-
-  answers_it : (named : List ℕ) (number status : ℕ) → call ≡ Answer named number status → bytes_eq named tag ≡ true
-      → (d : ContactSeen) → (answered number status before).contact ≡ Some d → History tag now d
-  answers_it named number status call_is ours d is = by (nat_le FINAL status) refl is
+  answers_it : (named : List ℕ) (number status : ℕ) (source : Addr) → call ≡ Answer named number status source → bytes_eq named tag ≡ true
+      → step_at tag call before ≡ answered number status source before
+      → (d : ContactSeen) → (answered number status source before).contact ≡ Some d → History tag now d
+  answers_it named number status source call_is ours s d is = by (nat_le FINAL status) refl is
     where
       told : Bool → Step
-      told x = if x then opened before else idle before
+      told x = if x then heard source before else idle before
 
       alive : Bool → Step
       alive x = if x then ended before else told (is_told number before)
@@ -205,7 +237,7 @@ module _ (tag : List ℕ) (past : List Call) (call : Call) (h : (c : ContactSeen
       final x = if x then alive (status == GONE) else idle before
 
       by_told : (x : Bool) → is_told number before ≡ x → nat_le FINAL status ≡ true → (status == GONE) ≡ false → (told x).contact ≡ Some d → History tag now d
-      by_told true t f g p = opens named number status call_is ours f g t d p
+      by_told true t f g p = hears_it named number status source call_is ours f g t (s ∙ ap final f ∙ ap alive g ∙ ap told t) d p
       by_told false t f g p = idles d p
 
       by_gone : (x : Bool) → (status == GONE) ≡ x → nat_le FINAL status ≡ true → (alive x).contact ≡ Some d → History tag now d
@@ -228,8 +260,9 @@ module _ (tag : List ℕ) (past : List Call) (call : Call) (h : (c : ContactSeen
 
   of_call : (x : Call) → call ≡ x → bytes_eq (tag_of x) tag ≡ true → step_at tag call before ≡ step_of x before → (d : ContactSeen) → (step_of x before).contact ≡ Some d → History tag now d
   of_call (Offer named room n) e ours s d is = offers_it room n s d is
-  of_call (Answer named number status) e ours s d is = answers_it named number status e ours d is
+  of_call (Answer named number status source) e ours s d is = answers_it named number status source e ours s d is
   of_call (GiveUp named number) e ours s d is = gives_up number d is
+  of_call (Close named) e ours s d is = ends d is
 
   at_call : (d : ContactSeen) → (step_at tag call before).contact ≡ Some d → History tag now d
   at_call d is = by (bytes_eq (tag_of call) tag) refl

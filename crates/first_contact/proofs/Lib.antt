@@ -1,4 +1,6 @@
 pub mod Parts
+pub mod Places
 pub mod Firsts
 pub mod Histories
 pub mod Orders
+pub mod WorkedRuns

@@ -2,11 +2,12 @@
 use Rattle.std.proofs.Common.{◌≡◌, ◌∙◌, sym, ap, refl, subst, inl, inr, ℕ, ◌+◌, Bool, true, false, Option, Some, None, List, [], ◌∷◌, ◌++◌, length, arith, length-append, append_assoc}
 use Rattle.std.specs.Prelude.{bytes_eq, nat_le, ◌==◌, if◌then◌else◌}
 use Rattle.std.proofs.lemmas.Bool.Decides.{Decides-eqb}
+use Rattle.sip_text.specs.declared.address.Addr.{Addr}
 use Rattle.first_contact.specs.declared.contact.Notice.{Notice}
 use Rattle.first_contact.specs.declared.contact.Room.{Room}
 use Rattle.first_contact.specs.declared.contact.TheConstants.{FINAL, GONE}
-use Rattle.first_contact.specs.Steps.{ContactSeen, Step, waiting, idle, begun, same_addr, begins_anew, goes_once, goes_first, passes, waits, drops, has_place, offered, offered_there, answered, ended, is_ending, opened, opened_last, opened_more, is_told}
-use Rattle.first_contact.specs.Runs.{Call, Offer, Answer, GiveUp, tag_of, step_of, step_at, known_after, through, lost, offer_of, offer_at, offers, ends_it, IsPart, EachInOrder, NoneAfterItsEnd, NoneVanishes}
+use Rattle.first_contact.specs.Steps.{ContactSeen, Step, waiting, idle, begun, same_addr, begins_anew, goes_once, goes_first, passes, waits, drops, has_place, offered, offered_there, answered, ended, is_ending, opened, opened_last, opened_more, is_open, moved_to, passed_to, passed, heard, is_told}
+use Rattle.first_contact.specs.Runs.{Call, Offer, Answer, GiveUp, Close, tag_of, step_of, step_at, known_after, through, lost, offer_of, offer_at, offers, ends_it, IsPart, EachInOrder, NoneAfterItsEnd, NoneVanishes}
 
 -- ---- parts
 
@@ -89,13 +90,29 @@ more_fair (Some c) = record { order = λ xs ys h. whole c.held xs ys h; count = 
 opened_fair : (c : Option ContactSeen) → IsFair (opened c) c []
 opened_fair c = if_fair (is_ending c) (opened_last c) (opened_more c) c [] (last_fair c) (more_fair c)
 
+-- the first one that waits goes through
+to_fair : (held : List Notice) (c : ContactSeen) → c.held ≡ held → IsFair (passed_to held c) (Some c) []
+to_fair [] c e = ended_fair (Some c)
+to_fair (n ∷ held) c e = record {
+  order = λ xs ys h. subst (λ (l : List Notice). IsPart (n ∷ xs) (l ++ ys)) (sym e) (both n xs (held ++ ys) h);
+  count = (let all = ap (λ (l : List Notice). length l) e in omega (arith, all));
+}
+
+passed_fair : (c : Option ContactSeen) → IsFair (passed c) c []
+passed_fair None = idle_fair None
+passed_fair (Some c) = to_fair c.held c refl
+
+heard_fair : (source : Addr) (c : Option ContactSeen) → IsFair (heard source c) c []
+heard_fair source c = if_fair (is_open source c) (opened c) (passed c) c [] (opened_fair c) (passed_fair c)
+
 step_fair : (call : Call) (c : Option ContactSeen) → IsFair (step_of call c) c (offer_of call)
 step_fair (Offer tag room n) c = offered_fair room n c
-step_fair (Answer tag number status) c =
+step_fair (Answer tag number status source) c =
     if_fair (nat_le FINAL status) _ (idle c) c []
-    (if_fair (status == GONE) (ended c) _ c [] (ended_fair c) (if_fair (is_told number c) (opened c) (idle c) c [] (opened_fair c) (idle_fair c)))
+    (if_fair (status == GONE) (ended c) _ c [] (ended_fair c) (if_fair (is_told number c) (heard source c) (idle c) c [] (heard_fair source c) (idle_fair c)))
     (idle_fair c)
 step_fair (GiveUp tag number) c = if_fair (is_told number c) (ended c) (idle c) c [] (ended_fair c) (idle_fair c)
+step_fair (Close tag) c = ended_fair c
 
 at_fair : (tag : List ℕ) (call : Call) (c : Option ContactSeen) → IsFair (step_at tag call c) c (offer_at tag call)
 at_fair tag call c = by (bytes_eq (tag_of call) tag)
@@ -132,8 +149,9 @@ none_vanishes tag calls = omega (arith, run_count tag calls None)
 
 ends_none : (call : Call) (c : Option ContactSeen) → ends_it call c ≡ true → (step_of call c).contact ≡ None
 ends_none (Offer tag room n) c e = absurd (cc)
-ends_none (Answer tag number status) c e = ap (λ (s : ℕ). (answered number s c).contact) ((Decides-eqb status GONE).0 e)
+ends_none (Answer tag number status source) c e = ap (λ (s : ℕ). (answered number s source c).contact) ((Decides-eqb status GONE).0 e)
 ends_none (GiveUp tag number) c e = ap (λ (b : Bool). (if b then ended c else idle c).contact) e
+ends_none (Close tag) c e = refl
 
 pub none_after_its_end : NoneAfterItsEnd
 none_after_its_end tag before since end ours ends =

@@ -1,5 +1,5 @@
 pub mod Steps
-pub mod Outcomes
 pub mod Tables
+pub mod Outcomes
 pub mod Runs
 pub mod Sends

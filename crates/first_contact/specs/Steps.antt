@@ -30,9 +30,9 @@ tag_in (out.Start tag refer_to) = []
 pub record ContactSeen : Type 0 where
   -- where its latest NOTIFY goes
   pub to : Addr
-  -- the number of the first one that went there
-  pub first : ℕ
-  -- whether that was answered
+  -- the number of the one that is under way there: of the first one, or of the next that was let through since
+  pub under_way : ℕ
+  -- whether that address answered it
   pub is_known : Bool
   -- whether none follows the latest
   pub is_ending : Bool
@@ -40,7 +40,7 @@ pub record ContactSeen : Type 0 where
   pub held : List Notice
 
 abbrev pub seen : Contact → ContactSeen
-seen c = record { to = c.to; first = c.first; is_known = c.is_known; is_ending = c.is_ending; held = c.held.items }
+seen c = record { to = c.to; under_way = c.under_way; is_known = c.is_known; is_ending = c.is_ending; held = c.held.items }
 
 pub record Step : Type 0 where
   -- what is known of the dialog then
@@ -66,7 +66,7 @@ idle c = record { contact = c; through = []; lost = [] }
 
 -- it goes to an address of which nothing is known
 abbrev pub begun : Notice → ContactSeen
-begun n = record { to = n.to; first = n.number; is_known = false; is_ending = n.is_last; held = [] }
+begun n = record { to = n.to; under_way = n.number; is_known = false; is_ending = n.is_last; held = [] }
 
 -- it is let through as the first one to its address, and what waited is dropped
 abbrev pub begins_anew : Notice → Option ContactSeen → Step
@@ -113,7 +113,7 @@ offered room n (Some c) = if same_addr c.to n.to then offered_there room n c els
 
 -- does what became of the NOTIFY with this number tell of the address?
 abbrev pub is_told_by : ℕ → ContactSeen → Bool
-is_told_by number c = c.is_known || (number == c.first)
+is_told_by number c = c.is_known || (number == c.under_way)
 
 abbrev pub is_told : ℕ → Option ContactSeen → Bool
 is_told number c = option_map_or (is_told_by number) c false
@@ -137,10 +137,48 @@ is_ending c = option_map_or (λ (x : ContactSeen). x.is_ending) c false
 abbrev pub opened : Option ContactSeen → Step
 opened c = if is_ending c then opened_last c else opened_more c
 
--- what an answer with this status to the NOTIFY with this number does: a 481 ends the dialog, a provisional one does nothing
-abbrev pub answered : ℕ → ℕ → Option ContactSeen → Step
-answered number status c =
-    if nat_le FINAL status then (if status == GONE then ended c else if is_told number c then opened c else idle c) else idle c
+-- An answer from this address comes from where the NOTIFY went: from the same IP address. Ports don't count, since a NAT may send what
+-- comes back from another one.
+abbrev pub is_from : Addr → Addr → Bool
+is_from source to = bytes_eq source.ip to.ip
+
+-- It comes from where the dialog's NOTIFYs go, or that address has answered before.
+abbrev pub opens : Addr → ContactSeen → Bool
+opens source c = c.is_known || is_from source c.to
+
+abbrev pub is_open : Addr → Option ContactSeen → Bool
+is_open source c = option_map_or (opens source) c true
+
+-- the first one of those that wait, if one does, is under way then
+abbrev pub moved_to : List Notice → ContactSeen → ContactSeen
+moved_to [] c = c
+moved_to (n ∷ held) c = record c { under_way = n.number; held = held }
+
+abbrev pub moved_on : ContactSeen → ContactSeen
+moved_on c = moved_to c.held c
+
+-- Another address has answered: the first one that waits is let through alone. Where none waits none is under way then: the next one that is offered
+-- is the first one again.
+abbrev pub passed_to : List Notice → ContactSeen → Step
+passed_to [] c = ended (Some c)
+passed_to (n ∷ held) c = record { contact = Some (moved_to (n ∷ held) c); through = n ∷ []; lost = [] }
+
+abbrev pub passed_on : ContactSeen → Step
+passed_on c = passed_to c.held c
+
+abbrev pub passed : Option ContactSeen → Step
+passed None = idle None
+passed (Some c) = passed_on c
+
+-- a final answer from this address, to the NOTIFY under way
+abbrev pub heard : Addr → Option ContactSeen → Step
+heard source c = if is_open source c then opened c else passed c
+
+-- What an answer from this address, with this status, to the NOTIFY with this number does: a 481 ends the dialog, a provisional one does
+-- nothing.
+abbrev pub answered : ℕ → ℕ → Addr → Option ContactSeen → Step
+answered number status source c =
+    if nat_le FINAL status then (if status == GONE then ended c else if is_told number c then heard source c else idle c) else idle c
 
 -- the NOTIFY with this number is given up
 abbrev pub given_up : ℕ → Option ContactSeen → Step

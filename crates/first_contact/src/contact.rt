@@ -43,13 +43,13 @@ pub struct Room {
 pub struct Contact {
     /// Where its latest NOTIFY goes.
     pub(crate) to: Addr,
-    /// The number of the first one that went there.
-    pub(crate) first: u32,
-    /// Whether that was answered.
+    /// The number of the one that is under way there: of the first one, or of the next that was let through since.
+    pub(crate) under_way: u32,
+    /// Whether that address answered it.
     pub(crate) is_known: bool,
     /// Whether none follows the latest.
     pub(crate) is_ending: bool,
-    /// What waits for the answer to the first one, in order.
+    /// What waits for the answer to the one under way, in order.
     pub(crate) held: Vec<Notice>,
 }
 
@@ -125,7 +125,7 @@ impl Contact {
     {
         Contact {
             to: notice.to,
-            first: notice.number,
+            under_way: notice.number,
             is_known: false,
             is_ending: notice.is_last,
             held: Vec::new(alloc),
@@ -181,11 +181,11 @@ impl Contact {
         Ok(Offered::Lost)
     }
 
-    /// Whether an answer to this number, or a give-up of it, tells of its address.
+    /// Whether an answer to this number, or a give-up of it, tells of the one under way, or of a known address.
     pub(crate) fn is_told_by(&self, number: u32) -> bool
         ensures { result ≡ steps.is_told_by number (steps.seen self.now) }
     {
-        self.is_known || number == self.first
+        self.is_known || number == self.under_way
     }
 
     /// The address has answered. What waited for that.
@@ -195,6 +195,32 @@ impl Contact {
     {
         self.is_known = true;
         std::mem::replace(&mut self.held, Vec::new(alloc))
+    }
+
+    /// Whether an answer from this address comes from where its NOTIFYs go, or that has answered before. The IP addresses count alone: between a
+    /// phone and the service a NAT may send an answer from another port than the one to which the NOTIFY went.
+    pub(crate) fn opens(&self, source: Addr) -> bool
+        ensures { result ≡ steps.opens source (steps.seen self.now) }
+    {
+        self.is_known || source.ip == self.to.ip
+    }
+
+    /// Another address has answered the one under way. The next one that waits, if one does, which is under way then. An `Err` says that
+    /// an allocation failed: nothing changes.
+    pub(crate) fn pass_on(&mut self, alloc: Global) -> Result<Vec<Notice>, NoMemory>
+        ensures contact { OnOk result (steps.seen self.new ≡ steps.moved_on (steps.seen self.old)) }
+        ensures next { IfOk result (λ next. next.items ≡ (steps.passed_on (steps.seen self.old)).through) }
+        ensures unchanged { OnErr result (steps.seen self.new ≡ steps.seen self.old) }
+    {
+        let Some(next) = self.held.first() else {
+            return Ok(Vec::new(alloc));
+        };
+        let number = next.number;
+        let Ok(held) = self.held.split_off(1) else {
+            return Err(NoMemory);
+        };
+        self.under_way = number;
+        Ok(std::mem::replace(&mut self.held, held))
     }
 
     /// What waited.

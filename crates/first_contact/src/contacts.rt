@@ -1,15 +1,90 @@
-//! What calls make of what is known of all dialogs.
-ghost use Rattle.std.specs.Prelude.{◌≡◌, ◌≤◌, ◌<◌, ◌+◌, ◌-◌, ℕ, List, [], None, true, length, bytes_eq, if◌then◌else◌, IfOk, MatchResult};
+//! What calls make of what is known of all dialogs, by their local tags.
+ghost use Rattle.std.specs.Prelude.{◌≡◌, ◌⊎◌, ◌≤◌, ◌<◌, ◌+◌, ◌-◌, ℕ, List, [], None, Some, true, length, bytes_eq, option_map, if◌then◌else◌, IfOk, OnOk, OnErr, MatchResult};
+ghost use Rattle.std.specs.HashMap.{get_by_text, hash_map_len};
 ghost use Rattle.first_contact.specs.Steps as steps;
-ghost use Rattle.first_contact.specs.Outcomes.{IsOffered, counted};
+ghost use Rattle.first_contact.specs.Outcomes.{IsOffered, IsPassed, IsAnswer, counted};
 ghost use Rattle.first_contact.specs.Tables.{IsStepped, IsSame, at, many, room};
 
-use crate::contact::{FINAL, GONE, Notice, Offered, Passed, Room};
-use crate::known;
+use crate::contact::{Contact, FINAL, GONE, Notice, Offered, Passed, Room, is_same_addr};
 use crate::table::Contacts;
-use sip_text::NoMemory;
+use sip_text::{Addr, NoMemory};
 use std::alloc::Global;
 use std::collections::HashMap;
+
+type Known = HashMap<String, Contact>;
+
+/// Whether the latest NOTIFY of the dialog with this tag went to this address.
+#[tactic(auto, using(std::proofs::lemmas::Map::Text::text_keys))]
+fn is_there(known: &Known, tag: &str, to: Addr) -> bool
+    ensures { result ≡ steps.is_there to (option_map steps.seen (get_by_text known.now tag.now)) }
+{
+    match known.get(tag) {
+        Some(contact) => is_same_addr(contact.to, to),
+        None => false,
+    }
+}
+
+/// What is known of the dialog with this tag is taken out.
+#[tactic(auto, using(std::proofs::lemmas::Map::Text::text_keys))]
+fn take(known: &mut Known, tag: &str) -> Option<Contact>
+    ensures value { result ≡ get_by_text known.old tag.now }
+    ensures at { (t : List ℕ) → get_by_text known.new t ≡ (if bytes_eq tag.now t then None else get_by_text known.old t) }
+    ensures len { hash_map_len known.new ≤ hash_map_len known.old }
+{
+    known.remove(tag)
+}
+
+/// The address of the dialog with this tag has answered. What waited for that: none where nothing is known of it.
+#[tactic(auto, using(std::proofs::lemmas::Map::Text::text_keys))]
+fn open_one(known: &mut Known, alloc: Global, tag: &str) -> Vec<Notice>
+    ensures waited { result.items ≡ steps.waiting (option_map steps.seen (get_by_text known.old tag.now)) }
+    ensures at { (t : List ℕ) → option_map steps.seen (get_by_text known.new t)
+        ≡ (if bytes_eq tag.now t then (steps.opened_more (option_map steps.seen (get_by_text known.old tag.now))).contact
+        else option_map steps.seen (get_by_text known.old t)) }
+    ensures len { hash_map_len known.new ≡ hash_map_len known.old }
+{
+    match known.get_mut(tag) {
+        Some(contact) => contact.open(alloc),
+        None => Vec::new(alloc),
+    }
+}
+
+/// Another address than that of the dialog with this tag has answered. The next one that waits, if one does, which is under way then. An
+/// `Err` says that an allocation failed: nothing changes.
+#[tactic(auto, using(std::proofs::lemmas::Map::Text::text_keys))]
+fn pass_on_one(known: &mut Known, alloc: Global, tag: &str) -> Result<Vec<Notice>, NoMemory>
+    ensures next { IfOk result (λ next. next.items ≡ (steps.passed (option_map steps.seen (get_by_text known.old tag.now))).through) }
+    ensures at { OnOk result ((t : List ℕ) → option_map steps.seen (get_by_text known.new t)
+        ≡ (if bytes_eq tag.now t then option_map steps.moved_on (option_map steps.seen (get_by_text known.old tag.now))
+        else option_map steps.seen (get_by_text known.old t))) }
+    ensures same { OnErr result ((t : List ℕ) → option_map steps.seen (get_by_text known.new t)
+        ≡ option_map steps.seen (get_by_text known.old t)) }
+    ensures len { hash_map_len known.new ≡ hash_map_len known.old }
+{
+    match known.get_mut(tag) {
+        Some(contact) => contact.pass_on(alloc),
+        None => Ok(Vec::new(alloc)),
+    }
+}
+
+/// A further NOTIFY of its dialog is offered, to the address of the latest. An `Err` says that an allocation failed: it is
+/// dropped, and nothing changes.
+#[tactic(auto, using(std::proofs::lemmas::Map::Text::text_keys))]
+fn offer_more(known: &mut Known, room: Room, notice: Notice) -> Result<Offered, NoMemory>
+    requires there { steps.is_there notice.to (option_map steps.seen (get_by_text known.old (steps.tag_in notice.out))) ≡ true }
+    ensures offered { IfOk result (IsOffered (steps.offered room notice (option_map steps.seen (get_by_text known.old (steps.tag_in notice.out))))) }
+    ensures at { OnOk result ((t : List ℕ) → option_map steps.seen (get_by_text known.new t)
+        ≡ (if bytes_eq (steps.tag_in notice.out) t then (steps.offered room notice (option_map steps.seen (get_by_text known.old (steps.tag_in notice.out)))).contact
+        else option_map steps.seen (get_by_text known.old t))) }
+    ensures same { OnErr result ((t : List ℕ) → option_map steps.seen (get_by_text known.new t)
+        ≡ option_map steps.seen (get_by_text known.old t)) }
+    ensures len { hash_map_len known.new ≡ hash_map_len known.old }
+{
+    match known.get_mut(notice.tag()) {
+        Some(contact) => contact.offer(room, notice),
+        None => unreachable!(),
+    }
+}
 
 impl Contacts {
     /// Nothing is known. So many dialogs may be known, and so many NOTIFYs may wait.
@@ -87,7 +162,7 @@ impl Contacts {
             (λ _. IsSame self.old self.new) }
         ensures outcome { IfOk result (IsOffered (steps.offered room notice (at self.old (steps.tag_in notice.out)))) }
     {
-        let offered = known::offer(&mut self.known, room, notice)?;
+        let offered = offer_more(&mut self.known, room, notice)?;
         self.count(&offered);
         Ok(offered)
     }
@@ -100,7 +175,7 @@ impl Contacts {
         ensures limit { self.new.limit ≡ self.old.limit }
         ensures places { self.new.places ≡ self.old.places }
     {
-        match known::take(&mut self.known, tag) {
+        match take(&mut self.known, tag) {
             Some(contact) => {
                 let held = contact.into_held();
                 self.count_off(held.len());
@@ -111,6 +186,7 @@ impl Contacts {
     }
 
     /// A dialog begins with this NOTIFY, or goes on to another address with it. How many are dropped that waited.
+    #[tactic(auto, using(std::proofs::lemmas::Map::Text::text_keys))]
     fn begin(&mut self, notice: &Notice) -> Result<usize, NoMemory>
         requires room { many self.old < self.old.limit }
         ensures begun { MatchResult result
@@ -119,7 +195,12 @@ impl Contacts {
             (λ _. IsSame self.old self.new) }
         ensures lost { IfOk result (λ n. n ≡ length (steps.waiting (at self.old (steps.tag_in notice.now.out)))) }
     {
-        let lost = known::begin(&mut self.known, self.alloc, notice)?;
+        let tag = String::from_str(self.alloc, notice.tag())?;
+        let contact = Contact::begun(self.alloc, notice);
+        let lost = match self.known.insert(tag, contact)? {
+            Some(before) => before.into_held().len(),
+            None => 0,
+        };
         self.count_off(lost);
         Ok(lost)
     }
@@ -131,22 +212,6 @@ impl Contacts {
         ensures lost { result ≡ length (steps.waiting (at self.old (steps.tag_in notice.now.out))) }
     {
         self.end(notice.tag()).len()
-    }
-
-    /// A NOTIFY goes to an address of which nothing is known. How many are dropped that waited.
-    fn go_first(&mut self, room: Room, notice: &Notice) -> Result<usize, NoMemory>
-        requires room { room.begins ≡ true → many self.old < self.old.limit }
-        ensures first { MatchResult result
-            (λ n. IsStepped self.old self.new (steps.tag_in notice.now.out)
-            (steps.goes_first room notice.now (at self.old (steps.tag_in notice.now.out))))
-            (λ _. IsSame self.old self.new) }
-        ensures lost { IfOk result (λ n. n ≡ length (steps.waiting (at self.old (steps.tag_in notice.now.out)))) }
-    {
-        if room.begins {
-            self.begin(notice)
-        } else {
-            Ok(self.forget(notice))
-        }
     }
 
     /// A NOTIFY is offered; `may_begin` says whether the answer to a first one will be told, or its giving up. Where it won't be, or
@@ -161,18 +226,22 @@ impl Contacts {
         ensures few { self.new.waiting ≤ self.new.places }
     {
         let room = self.room(may_begin);
-        if known::is_there(&self.known, notice.tag(), notice.to) {
+        if is_there(&self.known, notice.tag(), notice.to) {
             return self.offer_there(room, notice);
         }
-        let lost = self.go_first(room, &notice)?;
+        // An address of which nothing is known.
+        if !room.begins {
+            let lost = self.forget(&notice);
+            return Ok(Offered::Through { notice, lost });
+        }
+        let lost = self.begin(&notice)?;
         Ok(Offered::Through { notice, lost })
     }
 
-    /// An answer with this status came to the NOTIFY with this tag and this number.
-    pub fn answer(&mut self, tag: &str, number: u32, status: u16) -> Passed
-        ensures answered { IsStepped self.old self.new tag.now (steps.answered number status (at self.old tag.now)) }
-        ensures through { result.through.items ≡ (steps.answered number status (at self.old tag.now)).through }
-        ensures lost { result.lost ≡ length (steps.answered number status (at self.old tag.now)).lost }
+    /// An answer with this status came from this address to the NOTIFY with this tag and this number. Where it lets the next one through that
+    /// waits, and an allocation failed, all that wait are dropped.
+    pub fn answer(&mut self, tag: &str, number: u32, status: u16, source: Addr) -> Passed
+        ensures { IsAnswer self.old self.new tag.now number status source result }
     {
         if status < FINAL {
             return self.none();
@@ -183,7 +252,11 @@ impl Contacts {
         if !self.is_told(tag, number) {
             return self.none();
         }
-        self.let_through(tag)
+        if self.is_open(tag, source) {
+            self.let_through(tag)
+        } else {
+            self.pass_on(tag)
+        }
     }
 
     /// The NOTIFY with this tag and this number is given up: how many are dropped that waited for its answer.
@@ -198,13 +271,32 @@ impl Contacts {
         }
     }
 
-    /// Whether what became of the NOTIFY with this tag and this number tells of its dialog's address.
+    /// The dialog with this tag is over, since its subscription is gone: how many are dropped that waited.
+    pub fn close(&mut self, tag: &str) -> usize
+        ensures closed { IsStepped self.old self.new tag.now (steps.ended (at self.old tag.now)) }
+        ensures lost { result ≡ length (steps.waiting (at self.old tag.now)) }
+    {
+        let dropped = self.end(tag);
+        dropped.len()
+    }
+
+    /// Whether what became of the NOTIFY with this tag and this number tells of the one under way, or of a known address.
     fn is_told(&self, tag: &str, number: u32) -> bool
         ensures { result ≡ steps.is_told number (at self.now tag.now) }
     {
         match self.known.get(tag) {
             Some(contact) => contact.is_told_by(number),
             None => false,
+        }
+    }
+
+    /// Whether an answer from this address opens the address of the dialog with this tag, or that has answered before.
+    fn is_open(&self, tag: &str, source: Addr) -> bool
+        ensures { result ≡ steps.is_open source (at self.now tag.now) }
+    {
+        match self.known.get(tag) {
+            Some(contact) => contact.opens(source),
+            None => true,
         }
     }
 
@@ -247,7 +339,7 @@ impl Contacts {
         ensures opened { IsStepped self.old self.new tag.now (steps.opened_more (at self.old tag.now)) }
         ensures waited { result.items ≡ steps.waiting (at self.old tag.now) }
     {
-        let held = known::open(&mut self.known, self.alloc, tag);
+        let held = open_one(&mut self.known, self.alloc, tag);
         self.count_off(held.len());
         held
     }
@@ -264,5 +356,22 @@ impl Contacts {
         }
         let through = self.open(tag);
         Passed { through, lost: 0 }
+    }
+
+    /// Another address than that of the dialog with this tag has answered. The next one that waits is let through alone. Where none
+    /// waits nothing is known any more, nor where an allocation failed.
+    fn pass_on(&mut self, tag: &str) -> Passed
+        ensures { IsPassed self.old self.new tag.now (steps.passed (at self.old tag.now)) result
+            ⊎ IsPassed self.old self.new tag.now (steps.ended (at self.old tag.now)) result }
+    {
+        let through = match pass_on_one(&mut self.known, self.alloc, tag) {
+            Ok(through) => through,
+            Err(NoMemory) => return self.drop_held(tag),
+        };
+        if !through.is_empty() {
+            self.count_off(through.len());
+            return Passed { through, lost: 0 };
+        }
+        self.drop_held(tag)
     }
 }

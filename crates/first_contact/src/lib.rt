@@ -4,20 +4,29 @@
 //!   offer (let through)
 //!     |
 //!     v
-//!   +---------+  answer: final, to the first     +-------+
+//!   +---------+  answer: final, from there       +-------+
 //!   | waiting |--------------------------------->| known |
 //!   +---------+  (all that wait are let through) +-------+
 //!     | ^  |                                       | ^
-//!     | +--+ offer: it waits behind the others,    | +-- offer: let through
-//!     |      or is dropped where there is no room  |
-//!     +--- given up; 481 to the tag ---------------+---> gone (all that wait are dropped)
+//!     | |  |                                       | +-- offer: let through
+//!     | +--+ offer: it waits behind the others,    |
+//!     | |  |   or is dropped where there is no room|
+//!     | +--+ answer: final, from elsewhere (the    |
+//!     |        first that waits is let through)    |
+//!     +--- given up; 481 to the tag; closed -------+---> gone (all that wait are dropped)
 //!
+//!   answer: final, from elsewhere, where none waits: gone, so the next one that is offered is let through as the first again
 //!   offer to another address, in any state: let through, all that wait are dropped, waiting
 //! ```
 //!
+//! An answer comes from there where its IP address is the one to which the NOTIFY went. Whoever began a dialog can answer its NOTIFYs: so an
+//! answer from elsewhere says nothing of the address to which the dialog moved. Who so answers for another address draws one NOTIFY there for
+//! each answer; only one who forges the answer's source, too, opens the address. A phone that answers by another address than its own gets
+//! all that waits, one after the other.
+//!
 //! All that is offered behind a first NOTIFY waits, in order: of one dialog [`MOST`] at most, and of all dialogs as many as
 //! [`Contacts::new`] says. Whoever makes NOTIFYs needn't know of that, as long as it takes a NOTIFY that nobody answered within 32 seconds as one
-//! that was lost: what waits is either sent before its first one is given up, or dropped then.
+//! that was lost: what waits is sent before the one under way is given up, or dropped then, or when the dialog is closed.
 //!
 //! It sends nothing, reads no clock and starts no thread. A call's time does not grow with what is known of other dialogs. Memory is taken for
 //! a dialog that begins, and for NOTIFYs that wait.
@@ -28,7 +37,6 @@
 
 mod contact;
 mod contacts;
-mod known;
 pub mod laws;
 mod table;
 

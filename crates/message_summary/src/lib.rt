@@ -8,7 +8,6 @@
 //! by tests.
 #![tactic(auto)]
 
-mod body;
 pub mod mailboxes;
 
 pub use mailboxes::Mailboxes;

@@ -1,14 +1,16 @@
-//! A set of mailboxes as an event package.
-ghost use Rattle.std.specs.Prelude.{◌≡◌, IfOk, IsOk, OnErr, IsSome, IsTrue};
+//! A set of mailboxes as an event package, with the bodies of NOTIFYs on them (RFC 3842 section 5.2).
+ghost use Rattle.std.specs.Prelude.{◌≡◌, ◌++◌, IfOk, IsOk, OnErr, OnOk, IsSome, IsTrue, codes, decimal, string_bytes};
 ghost use Rattle.indexmap.specs.IndexMap.{get_by_text};
 ghost use Rattle.package.specs.Content.{finite_maps, OfMail, contents_of, held, with_held, mail_package};
 ghost use Rattle.package.specs.Changes as spec;
 ghost use Rattle.package.specs.Changes.{mail_at, change_of, is_forget};
 ghost use Rattle.package.specs.Closings.{counted, new_ending};
 ghost use Rattle.message_summary.specs.Mailboxes.{mail_type, first_contents, new_mailboxes};
+ghost use Rattle.package.specs.Bodies as bodies;
+ghost use Rattle.package.specs.Bodies.{class_line, mail_body};
 
-use crate::body::write_body;
 use indexmap::IndexMap;
+use itoa::Buffer;
 use package::{Change, ClosingCell, Counts, Ending, MailChange, MailCounts, Outcome, Package};
 use sip_text::NoMemory;
 use std::alloc::Global;
@@ -97,6 +99,90 @@ fn set_counts(mailboxes: &mut IndexMap<String, MailCounts>, mail: &MailChange) -
     next.set(mail.class(), mail.counts());
     replace(mailboxes, name, next);
     Outcome::Changed
+}
+
+/// How many bytes a body has room for at first: more than most have, so that it grows once.
+const ROOM: usize = 128;
+
+fn is_waiting(counts: Option<Counts>) -> bool
+    ensures { result ≡ bodies.is_waiting counts }
+{
+    match counts {
+        Some(counts) => counts.new_count > 0,
+        None => false,
+    }
+}
+
+/// Whether some class has a new message.
+fn has_waiting(mailbox: &MailCounts) -> bool
+    ensures { result ≡ bodies.waiting mailbox.now }
+{
+    is_waiting(mailbox.voice)
+        || is_waiting(mailbox.fax)
+        || is_waiting(mailbox.pager)
+        || is_waiting(mailbox.multimedia)
+        || is_waiting(mailbox.text)
+}
+
+/// Writes a number in digits.
+fn write_number(out: &mut String, number: u32) -> Result<(), NoMemory>
+    ensures { OnOk result (string_bytes out.new ≡ string_bytes out.old ++ decimal number) }
+{
+    let mut buffer = Buffer::new();
+    out.push_str(buffer.format(number))?;
+    Ok(())
+}
+
+/// Writes how many messages are new, and how many are old.
+fn write_pair(out: &mut String, new: u32, old: u32) -> Result<(), NoMemory>
+    ensures { OnOk result (string_bytes out.new ≡ string_bytes out.old ++ decimal new ++ codes "/" ++ decimal old) }
+{
+    write_number(out, new)?;
+    out.push_str("/")?;
+    write_number(out, old)
+}
+
+/// Writes the counts of a class: new and old messages, and of these the urgent ones.
+fn write_counts(out: &mut String, counts: Counts) -> Result<(), NoMemory>
+    ensures { OnOk result (string_bytes out.new ≡ string_bytes out.old ++ decimal counts.new_count ++ codes "/" ++ decimal counts.old_count
+        ++ codes " (" ++ decimal counts.urgent_new ++ codes "/" ++ decimal counts.urgent_old ++ codes ")") }
+{
+    write_pair(out, counts.new_count, counts.old_count)?;
+    out.push_str(" (")?;
+    write_pair(out, counts.urgent_new, counts.urgent_old)?;
+    out.push_str(")")?;
+    Ok(())
+}
+
+/// Writes the line of a class, if it was ever set.
+fn write_class(out: &mut String, label: &str, counts: Option<Counts>) -> Result<(), NoMemory>
+    ensures { OnOk result (string_bytes out.new ≡ string_bytes out.old ++ class_line label.now counts) }
+{
+    if let Some(counts) = counts {
+        out.push_str(label)?;
+        out.push_str("-Message: ")?;
+        write_counts(out, counts)?;
+        out.push_str("\r\n")?;
+    }
+    Ok(())
+}
+
+/// The text that tells the whole mailbox.
+fn write_body(alloc: Global, mailbox: &MailCounts) -> Result<String, NoMemory>
+    ensures { IfOk result (λ text. string_bytes text ≡ mail_body mailbox.now) }
+{
+    let mut out = String::with_capacity(alloc, ROOM)?;
+    if has_waiting(mailbox) {
+        out.push_str("Messages-Waiting: yes\r\n")?;
+    } else {
+        out.push_str("Messages-Waiting: no\r\n")?;
+    }
+    write_class(&mut out, "Voice", mailbox.voice)?;
+    write_class(&mut out, "Fax", mailbox.fax)?;
+    write_class(&mut out, "Pager", mailbox.pager)?;
+    write_class(&mut out, "Multimedia", mailbox.multimedia)?;
+    write_class(&mut out, "Text", mailbox.text)?;
+    Ok(out)
 }
 
 impl Package for Mailboxes {

@@ -1,7 +1,7 @@
 -- What the code does with a request, as the definition has it.
 use Rattle.notifier_model.specs.Book as book
-use Rattle.notifier.specs.declared.verdict.Verdict.{Verdict}
-use Rattle.notifier.specs.declared.verdict.Verdict.TheVariants.{Silent, Repeated, Refused, Denied, Renewed, Born}
+use Rattle.notifier.specs.declared.desk.Verdict.{Verdict}
+use Rattle.notifier.specs.declared.desk.Verdict.TheVariants.{Silent, Repeated, Refused, Denied, Renewed, Born}
 
 abbrev pub verdict_of : Verdict → book.Verdict
 verdict_of Silent = book.Silent

@@ -9,8 +9,7 @@ ghost use Rattle.notifier_model.specs.Out.{out_of};
 ghost use Rattle.notifier_model.specs.Rows as spec;
 ghost use Rattle.notifier.specs.Tellers.{telling};
 
-use crate::boxes::first_box;
-use crate::notice::Teller;
+use crate::notice::{Teller, first_box};
 use notifier_model::event::Out;
 use notifier_model::row::Row;
 use package::Package;

@@ -9,7 +9,7 @@ ghost use Rattle.notifier_model.specs.Fields as fields;
 ghost use Rattle.notifier_model.specs.Requests as spec;
 ghost use Rattle.notifier.specs.Transactions.{key_of};
 
-use crate::boxes::first_box;
+use crate::notice::first_box;
 use crate::store::transaction::Transaction;
 use event_headers::{EventValue, Range, covers};
 use notifier_model::birth::Birth;

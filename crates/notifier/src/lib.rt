@@ -10,7 +10,6 @@
 
 mod answer;
 mod awaiting;
-mod boxes;
 mod create;
 pub mod desk;
 mod farewell;
@@ -24,7 +23,6 @@ mod standing;
 mod store;
 mod sweep;
 mod tag;
-mod verdict;
 pub mod whole_run;
 
 pub use desk::{Desk, DeskError};

@@ -1,25 +1,99 @@
-//! NOTIFYs, each with the whole content (RFC 6665 section 4.2.2).
+//! NOTIFYs, each with the whole content (RFC 6665 section 4.2.2), and the boxes that it comes from: the first of a name counts.
 #![tactic(auto, unfolding(notifier_model::specs::Rows::notify, notifier_model::specs::Out::out_of))]
 
-ghost use Rattle.std.specs.Prelude.{◌≡◌, IfOk, unwrap_or};
+ghost use Rattle.std.specs.Prelude.{◌≡◌, IfOk, unwrap_or, ◌<◌, List, map, option_map, OnOk, IfSome, IsOk, IsTrue, vec_len, bytes_eq};
 ghost use Rattle.event_headers.specs.Values.{StateValue as State};
 ghost use Rattle.subscription.specs.Written.{state_of};
-ghost use Rattle.sip_write.specs.Notify.{notify_text};
 ghost use Rattle.notifier_model.specs.Out.{Notifies, out_of};
 ghost use Rattle.notifier_model.specs.Requests.{is_of_refer as is_of_refer_event};
 ghost use Rattle.notifier_model.specs.Rows as spec;
 ghost use Rattle.notifier.specs.Tellers.{telling};
+ghost use Rattle.std.specs.List.{position_from};
+ghost use Rattle.package.specs.Changes.{is_forget};
+ghost use Rattle.package.specs.Boxes as packages;
+ghost use Rattle.package.specs.Bodies.{body_of_held};
 
-use crate::boxes::{body, content_type, first_box};
 use event_headers::StateValue;
 use notifier_model::event::{Note, Out};
 use notifier_model::place::Place;
-use package::Package;
+use package::{Change, Outcome, Package};
 use sip_read::{Addr, Boxed};
-use sip_text::{NoMemory, Octets, Text};
+use sip_text::{NoMemory, Text};
 use sip_write::{NotifyText, notice as written};
 use std::alloc::Global;
 use subscription::{Notice, Phase, Usage, Want};
+
+/// Where the first box of the name stands.
+fn find_box<P: Package>(boxes: &Vec<P>, name: &str) -> Option<usize>
+    ensures place { result ≡ position_from (λ b. bytes_eq (P.seen b).name name.now) 0 boxes.now.items }
+    ensures within { IfSome result (λ i. i < vec_len boxes.now) }
+{
+    boxes.iter().position(|b| b.event() == name)
+}
+
+/// The first box of the name.
+pub(crate) fn first_box<'a, P: Package>(boxes: &'a Vec<P>, name: &str) -> Option<&'a P>
+    ensures { option_map (λ b. P.seen b.now) result ≡ packages.first_box name.now (map P.seen boxes.now.items) }
+{
+    match find_box(boxes, name) {
+        None => None,
+        Some(at) => Some(&boxes[at]),
+    }
+}
+
+/// Tells a change to the first box of its package.
+pub(crate) fn change_first<P: Package>(
+    alloc: Global,
+    boxes: &mut Vec<P>,
+    change: &Change,
+) -> Result<Outcome, NoMemory>
+    ensures ok { IfOk result (λ o. (o, map P.seen boxes.new.items)
+        ≡ packages.change_first (map P.seen boxes.old.items) change.now) }
+    ensures forget { IsTrue (is_forget change.now) → IsOk result }
+{
+    match find_box(boxes, change.event()) {
+        None => Ok(Outcome::Unknown),
+        Some(at) => boxes[at].change(alloc, change),
+    }
+}
+
+/// The same, whatever the box answers.
+pub(crate) fn tell_first<P: Package>(
+    alloc: Global,
+    boxes: &mut Vec<P>,
+    change: Change,
+) -> Result<(), NoMemory>
+    ensures { OnOk result (map P.seen boxes.new.items
+        ≡ (packages.change_first (map P.seen boxes.old.items) change).1) }
+{
+    change_first(alloc, boxes, &change)?;
+    Ok(())
+}
+
+/// The body that shows what this box holds of the resource.
+pub(crate) fn body<P: Package>(
+    alloc: Global,
+    found: Option<&P>,
+    resource: &str,
+) -> Result<Vec<u8>, NoMemory>
+    ensures { IfOk result (λ v. v.items
+        ≡ body_of_held (packages.held_by resource.now (option_map (λ b. P.seen b.now) found.entry))) }
+{
+    match found {
+        None => Ok(Vec::new(alloc)),
+        Some(found) => Ok(found.body(alloc, resource)?.unwrap_or(Vec::new(alloc))),
+    }
+}
+
+/// The content type of this box.
+pub(crate) fn content_type<'a, P: Package>(found: Option<&'a P>) -> &'a str
+    ensures { result.now ≡ packages.type_of (option_map (λ b. P.seen b.now) found.entry) }
+{
+    match found {
+        None => "",
+        Some(found) => found.content_type(),
+    }
+}
 
 /// The Subscription-State of a phase (RFC 6665 section 4.1.3).
 fn state_value(alloc: Global, phase: Phase) -> Result<StateValue, NoMemory>
@@ -94,17 +168,20 @@ pub struct Teller<'a, P: Package> {
 }
 
 impl<P: Package> Teller<'_, P> {
-    /// The bytes of the NOTIFY that tells of a subscription.
-    fn notice_bytes(
+    /// The NOTIFY that tells of a subscription, to this address.
+    pub fn notice_out(
         &self,
         alloc: Global,
+        to: Addr,
         usage: &Usage,
         want: &Want,
         notice: Notice,
-    ) -> Result<Octets, NoMemory>
-        ensures { IfOk result (λ bytes. bytes ≡ notify_text
-            (spec.notify (telling P.seen self.now) usage.now want.now notice)) }
+    ) -> Result<Out, NoMemory>
+        ensures { IfOk result (λ out. out ≡ out_of (Notifies to (spec.mailbox_of want.now)
+            (spec.notify (telling P.seen self.now) usage.now want.now notice))) }
     {
+        let tag = usage.local_tag.copy(alloc)?;
+        let note = note(alloc, usage, want, notice.phase)?;
         let found = first_box(self.boxes, want.event.package());
         let body = body(alloc, found, want.resource.as_str())?;
         let state = state_value(alloc, notice.phase)?;
@@ -122,24 +199,7 @@ impl<P: Package> Teller<'_, P> {
             content_type: content_type(found),
             body: body.as_slice(),
         };
-        written(alloc, &text)
-    }
-
-    /// The NOTIFY that tells of a subscription, to this address.
-    pub fn notice_out(
-        &self,
-        alloc: Global,
-        to: Addr,
-        usage: &Usage,
-        want: &Want,
-        notice: Notice,
-    ) -> Result<Out, NoMemory>
-        ensures { IfOk result (λ out. out ≡ out_of (Notifies to (spec.mailbox_of want.now)
-            (spec.notify (telling P.seen self.now) usage.now want.now notice))) }
-    {
-        let tag = usage.local_tag.copy(alloc)?;
-        let note = note(alloc, usage, want, notice.phase)?;
-        let bytes = self.notice_bytes(alloc, usage, want, notice)?;
+        let bytes = written(alloc, &text)?;
         Ok(Out::Notify {
             to,
             number: notice.number,

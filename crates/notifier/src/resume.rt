@@ -11,7 +11,7 @@ ghost use Rattle.notifier.specs.Stored.{rows_of};
 use crate::store::Ledger;
 use crate::store::kept::KeptAnswers;
 use crate::store::transaction::Transaction;
-use crate::tag::local_tag;
+use crate::tag::Tags;
 use notifier_model::limits::Limits;
 use notifier_model::place::Place;
 use notifier_model::row::{Kept, Row, Unanswered};
@@ -70,13 +70,19 @@ fn is_live(clock: u64, row: &Row) -> bool
 }
 
 /// Whether the serial of a row was given before the next one, and its tag is that of its serial.
-fn is_own(alloc: Global, place: &Place, next: u64, row: &Row) -> Result<bool, NoMemory>
+fn is_own(
+    alloc: Global,
+    tags: &mut Tags,
+    place: &Place,
+    next: u64,
+    row: &Row,
+) -> Result<bool, NoMemory>
     ensures { IfOk result (λ own. IsTrue own ↔ IsOwn place.now next row.now) }
 {
     if next <= u64::from(row.serial) {
         return Ok(false);
     }
-    let tag = local_tag(alloc, place, row.serial)?;
+    let tag = tags.tag(alloc, place, row.serial)?;
     let usage = row.sub.usage();
     Ok(usage.local_tag.is(tag.as_str()))
 }
@@ -111,7 +117,7 @@ impl<P> Ledger<P> {
         if u64::from(serial) < low || !is_live(self.clock, &row) {
             return Err(ResumeError::BadRow(serial));
         }
-        if !is_own(alloc, place, self.next, &row)? {
+        if !is_own(alloc, &mut self.tags, place, self.next, &row)? {
             return Err(ResumeError::BadRow(serial));
         }
         self.rows.push(alloc, row)?;

@@ -1,14 +1,12 @@
-//! The stored parts of a desk: [`rows`] with what leads to them ([`timers`], [`watchers`]), and answers that are [`kept`] by
-//! their [`transaction`].
+//! The stored parts of a desk: [`rows`] with what leads to them, and answers that are [`kept`], each by its [`transaction`].
 
 pub mod kept;
 pub mod rows;
-pub mod timers;
 pub mod transaction;
-pub mod watchers;
 
 use crate::store::kept::KeptAnswers;
 use crate::store::rows::Rows;
+use crate::tag::Tags;
 
 /// The stored parts of a desk.
 #[derive(Drop)]
@@ -21,4 +19,6 @@ pub struct Ledger<P> {
     pub boxes: Vec<P>,
     /// Newest first.
     pub ring: KeptAnswers,
+    /// What makes the tags of its dialogs.
+    pub tags: Tags,
 }

@@ -13,7 +13,7 @@ pub mod row;
 pub mod telling;
 pub mod touched;
 
-use crate::boxes::change_first;
+use crate::notice::change_first;
 use crate::store::Ledger;
 use crate::sweep::cause::Cause;
 use notifier_model::event::{Event, Out};

@@ -94,6 +94,18 @@ not_refused to (verdict.Guess user octets) is taken failures = absurd cc
 not_refused to (verdict.Forbidden octets) is taken failures = absurd cc
 not_refused to (verdict.Crowded octets) is taken failures = absurd cc
 
+-- any other verdict than that it is heard
+pub not_allowed : (v : Verdict) → (v ≡ verdict.Allowed → ⊥) → allows v ≡ false
+not_allowed verdict.Allowed not = absurd (not refl)
+not_allowed verdict.Foreign not = refl
+not_allowed verdict.Limited not = refl
+not_allowed (verdict.Large octets) not = refl
+not_allowed (verdict.Barred user octets) not = refl
+not_allowed (verdict.Challenge cause octets) not = refl
+not_allowed (verdict.Guess user octets) not = refl
+not_allowed (verdict.Forbidden octets) not = refl
+not_allowed (verdict.Crowded octets) not = refl
+
 -- what the wire took of one, and whether it failed
 module _ (d : Datagram) (h : Heard) (moment : ℕ) (old new : Option (List Datagram)) (failures failures' : ℕ) where
   pub one_refused : (v : Option Verdict) → Refuses d.peer (refusal_in v) old new failures failures'
@@ -122,10 +134,6 @@ judged_is a earlier d h x v b speaks later octets source reads meets failed = re
   told = record { octets = octets; source = source; moment = refl; reads = reads };
   meets = meets;
 }
-
-pub not_true : (b : Bool) → not b ≡ true → b ≡ false
-not_true true e = absurd cc
-not_true false e = refl
 
 -- ---- what the port is sent of one
 

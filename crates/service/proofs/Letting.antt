@@ -41,7 +41,7 @@ some_out : (n m : Notice) → Some n ≡ Some m → m.out ≡ n.out
 some_out n m e = let same : n ≡ m = cc in ap (λ (x : Notice). x.out) (sym same)
 
 -- a NOTIFY is offered as the out that it is
-notice_itself : (o : Out) (n : Notice) → notice_of o ≡ Some n → n.out ≡ o
+pub notice_itself : (o : Out) (n : Notice) → notice_of o ≡ Some n → n.out ≡ o
 notice_itself (out.Answer to octets) n e = absurd cc
 notice_itself (out.Notify to number terminated tag note octets) n e =
     some_out (record { number = number; to = to; is_last = terminated; out = out.Notify to number terminated tag note octets }) n e

@@ -3,6 +3,7 @@ pub mod Answering
 pub mod Closed
 pub mod Acts
 pub mod Departing
+pub mod Releasing
 pub mod Repeats
 pub mod Rowing
 pub mod Keeping
@@ -19,3 +20,6 @@ pub mod Replied
 pub mod Taking
 pub mod Foreign
 pub mod Refusing
+pub mod Owning
+pub mod Asking
+pub mod Newcoming

@@ -67,7 +67,7 @@ then_more desk (x ∷ log) l = then_more (desk_after x desk) log l
 
 -- what a desk knows after a line that tells nothing, with which this was done
 abbrev undone : List ℕ → DeskSeen → Handled → DeskSeen
-undone octets desk x = record { workers = desk.workers; hearing = desk.hearing; rows = desk.rows; kept = kept_with false (token octets) x desk.kept }
+undone octets desk x = record { workers = desk.workers; hearing = desk.hearing; most = desk.most; rows = desk.rows; kept = kept_with false (token octets) x desk.kept }
 
 -- ---- the lines, and what two wires gave and took of them
 
@@ -205,12 +205,12 @@ module _ {desk at : DeskSeen} {old now : PortSeats} {given given' taken taken' :
         }
 
     news : is_near at d.peer ≡ true → (x : Handled) → kept_answer at.kept.lines.items (token d.octets) ≡ None → (k : Bool) (rows' : List Row)
-        → at' ≡ record { workers = at.workers; hearing = at.hearing; rows = rows'; kept = kept_with k (token d.octets) x at.kept }
-        → IsDone (line d.octets) at.rows rows' now next x → MayReply at' x reply → Replies (gets_answer x) d.peer reply taken' after' failures' more
+        → at' ≡ record { workers = at.workers; hearing = at.hearing; most = at.most; rows = rows'; kept = kept_with k (token d.octets) x at.kept }
+        → IsDone at.most (line d.octets) at.rows rows' now next x → MayReply at' x reply → Replies (gets_answer x) d.peer reply taken' after' failures' more
         → end_after x ≡ None → Taking desk at' old next given after taken after' failures more
     news near x new k rows' knows is may replied on =
         let l : Line = record { came = d; event = is.0; done = x; is_kept = k; reply = reply } in
-        let K : List Row → DeskSeen = λ rs. record { workers = at.workers; hearing = at.hearing; rows = rs; kept = kept_with k (token d.octets) x at.kept } in record {
+        let K : List Row → DeskSeen = λ rs. record { workers = at.workers; hearing = at.hearing; most = at.most; rows = rs; kept = kept_with k (token d.octets) x at.kept } in record {
           log = was.log ++ l ∷ [];
           book = book_more is.0 x k at' (knows ∙ ap K is.2) (inr (near, inr (new, is.1))) may replied;
           on = all_more (λ (y : Line). end_after y.done ≡ None) was.log (l ∷ []) was.on (on, tt);
@@ -228,13 +228,13 @@ module _ {desk at : DeskSeen} {old now : PortSeats} {given given' taken taken' :
 
   -- by a CLOSE or a RELOAD
   taken_close : is_near at d.peer ≡ true → (x : Handled) → end_after x ≡ Some ends.Done → ((log : List Line) → EndsWith x log → EndsTaking log ends.Done)
-      → (k : Bool) (rows' : List Row) (at' : DeskSeen) → at' ≡ record { workers = at.workers; hearing = at.hearing; rows = rows'; kept = kept_with k (token d.octets) x at.kept }
-      → kept_answer at.kept.lines.items (token d.octets) ≡ None → IsDone (line d.octets) at.rows rows' now next x
+      → (k : Bool) (rows' : List Row) (at' : DeskSeen) → at' ≡ record { workers = at.workers; hearing = at.hearing; most = at.most; rows = rows'; kept = kept_with k (token d.octets) x at.kept }
+      → kept_answer at.kept.lines.items (token d.octets) ≡ None → IsDone at.most (line d.octets) at.rows rows' now next x
       → MayReply at' x reply → Replies (gets_answer x) d.peer reply taken' after' failures' more
       → (log : List Line) × Grows given after (datagrams_of log) × AreTaken desk log old next ends.Done × AreAnswered log taken after' failures more × (at' ≡ desk_then log desk)
   taken_close near x ends_it stops k rows' at' knows new is may replied =
       let l : Line = record { came = d; event = is.0; done = x; is_kept = k; reply = reply } in
-      let K : List Row → DeskSeen = λ rs. record { workers = at.workers; hearing = at.hearing; rows = rs; kept = kept_with k (token d.octets) x at.kept } in
+      let K : List Row → DeskSeen = λ rs. record { workers = at.workers; hearing = at.hearing; most = at.most; rows = rs; kept = kept_with k (token d.octets) x at.kept } in
       let book = book_more is.0 x k at' (knows ∙ ap K is.2) (inr (near, inr (new, is.1))) may replied in
       let last : EndsWith x (was.log ++ l ∷ []) = record { before = was.log; last = l; whole = refl; on = was.on; is = refl } in (
         was.log ++ l ∷ [],
@@ -244,13 +244,13 @@ module _ {desk at : DeskSeen} {old now : PortSeats} {given given' taken taken' :
         knows_more is.0 x k at' (knows ∙ ap K is.2),
       )
 
-  taken_gone : is_near at d.peer ≡ true → (k : Bool) (rows' : List Row) (at' : DeskSeen) → at' ≡ record { workers = at.workers; hearing = at.hearing; rows = rows'; kept = kept_with k (token d.octets) did.Gone at.kept }
-      → kept_answer at.kept.lines.items (token d.octets) ≡ None → IsDone (line d.octets) at.rows rows' now next did.Gone
+  taken_gone : is_near at d.peer ≡ true → (k : Bool) (rows' : List Row) (at' : DeskSeen) → at' ≡ record { workers = at.workers; hearing = at.hearing; most = at.most; rows = rows'; kept = kept_with k (token d.octets) did.Gone at.kept }
+      → kept_answer at.kept.lines.items (token d.octets) ≡ None → IsDone at.most (line d.octets) at.rows rows' now next did.Gone
       → MayReply at' did.Gone reply → Replies true d.peer reply taken' after' failures' more
       → (log : List Line) × Grows given after (datagrams_of log) × AreTaken desk log old next ends.Gone × AreAnswered log taken after' failures more × (at' ≡ desk_then log desk)
   taken_gone near k rows' at' knows new is may replied =
       let l : Line = record { came = d; event = is.0; done = did.Gone; is_kept = k; reply = reply } in
-      let K : List Row → DeskSeen = λ rs. record { workers = at.workers; hearing = at.hearing; rows = rs; kept = kept_with k (token d.octets) did.Gone at.kept } in
+      let K : List Row → DeskSeen = λ rs. record { workers = at.workers; hearing = at.hearing; most = at.most; rows = rs; kept = kept_with k (token d.octets) did.Gone at.kept } in
       let P : Option Event → Type 0 = λ e. Reaches e did.Gone now next in
       let book = book_more is.0 did.Gone k at' (knows ∙ ap K is.2) (inr (near, inr (new, is.1))) may replied in (
         was.log ++ l ∷ [],
@@ -265,8 +265,8 @@ module _ {desk at : DeskSeen} {old now : PortSeats} {given given' taken taken' :
       )
 
   last_news : is_near at d.peer ≡ true → (x : Handled) (end : FeedEnd) (k : Bool) (rows' : List Row) (at' : DeskSeen)
-      → at' ≡ record { workers = at.workers; hearing = at.hearing; rows = rows'; kept = kept_with k (token d.octets) x at.kept } → end_after x ≡ Some end → kept_answer at.kept.lines.items (token d.octets) ≡ None
-      → IsDone (line d.octets) at.rows rows' now next x → MayReply at' x reply → Replies (gets_answer x) d.peer reply taken' after' failures' more
+      → at' ≡ record { workers = at.workers; hearing = at.hearing; most = at.most; rows = rows'; kept = kept_with k (token d.octets) x at.kept } → end_after x ≡ Some end → kept_answer at.kept.lines.items (token d.octets) ≡ None
+      → IsDone at.most (line d.octets) at.rows rows' now next x → MayReply at' x reply → Replies (gets_answer x) d.peer reply taken' after' failures' more
       → (log : List Line) × Grows given after (datagrams_of log) × AreTaken desk log old next end × AreAnswered log taken after' failures more × (at' ≡ desk_then log desk)
   last_news near (did.Answered a) end k rows' at' knows e new is may replied = absurd cc
   last_news near (did.Repeated a) end k rows' at' knows e new is may replied = absurd cc

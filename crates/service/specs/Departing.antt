@@ -6,8 +6,8 @@ use Rattle.queues.specs.Ended.{count_ended}
 use Rattle.queues.specs.OutboxSeats.{TakerSeat}
 use Rattle.crew.specs.Whole.{AllBy}
 use Rattle.notifier_model.specs.declared.event.Out.{Out}
-use Rattle.feeds.specs.declared.waiting.Next.{Next}
-use Rattle.feeds.specs.declared.waiting.Next.TheVariants as next
+use Rattle.feeds.specs.declared.sending.Next.{Next}
+use Rattle.feeds.specs.declared.sending.Next.TheVariants as next
 
 -- the taker took these outs, in this order, and end marks: so many workers hadn't ended before, and so many haven't now
 pub record Takes (old new : TakerSeat) (left left' : ℕ) (outs : List Out) : Type 0 where

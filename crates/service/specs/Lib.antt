@@ -2,7 +2,14 @@ pub mod Ticks
 pub mod Listening
 pub mod Noted
 pub mod Sending
+pub mod Releasing
 pub mod Watched
+pub mod Naps
+pub mod Users
+pub mod Owners
+pub mod Asked
+pub mod Newcomers
+pub mod Drops
 pub mod Keeping
 pub mod Told
 pub mod Served

@@ -56,21 +56,23 @@ use Rattle.service.specs.Ticks.{AreNotices, ArePassedOn}
 abbrev pub SendsDatagrams : Admission → FeedEnd → PortSeats → PortSeats → Type 0
 SendsDatagrams a end old new = (cases : List Case) × (b : Admission) × AreHeard a cases b old new end
 
--- what a service begins to take lines with: the names of its mailboxes, what was told of them before, and the networks whose lines are
--- heard
+-- what a service begins to take lines with: the names of its mailboxes, what was told of them before, how many there are at most where
+-- MAIL lines make some, and the networks whose lines are heard
 pub record Opening : Type 0 where
   pub mailboxes : List (List ℕ)
   pub changes : List Change
+  pub most : ℕ
   pub networks : List Network
 
 abbrev pub opening : {W : Type 0} → ControlPort W → Opening
-opening p = record { mailboxes = p.mailboxes.items; changes = p.changes.items; networks = p.networks.items }
+opening p = record { mailboxes = p.mailboxes.items; changes = p.changes.items; most = p.most; networks = p.networks.items }
 
 -- a desk that takes lines so, with so many workers, and took none yet
 pub record IsFresh (o : Opening) (workers : ℕ) (desk : DeskSeen) : Type 0 where
   pub first : WereTold o.mailboxes o.changes desk.rows
   pub unkept : desk.kept ≡ record { lines = buffer [] KEPT; lost = 0 }
   pub workers_are : desk.workers ≡ max 1 workers
+  pub most_is : desk.most ≡ o.most
   pub networks_are : desk.hearing.networks ≡ o.networks
 
 abbrev pub SendsLinesOf : DeskSeen → FeedEnd → PortSeats → PortSeats → Type 0

@@ -1,7 +1,7 @@
 -- What the thread that sends does: it sends, writes or fails at each out that the workers post, or holds a NOTIFY back, takes notes of
 -- answers to NOTIFYs, sends what waited for them, sends a NOTIFY again whose time has come, or gives it up (RFC 3261 section 17.1.2), and
 -- takes the word of a worker that a subscription is gone. Moments are milliseconds.
-use Rattle.std.specs.Prelude.{◌≡◌, ◌<◌, ◌≤◌, ◌+◌, ℕ, Bool, true, false, not, List, [], ◌∷◌, ◌++◌, length, map, Option, Some, None, option_map, option_to_list, if◌then◌else◌}
+use Rattle.std.specs.Prelude.{◌≡◌, ◌⊎◌, ◌<◌, ◌≤◌, ◌+◌, ℕ, Bool, true, false, not, List, [], ◌∷◌, ◌++◌, length, map, Option, Some, None, option_map, option_to_list, bytes_eq, if◌then◌else◌}
 use Rattle.std.specs.List.{filter, filter_map, AllByRecursion}
 use Rattle.queues.specs.declared.items.Item.{Item}
 use Rattle.notifier_model.specs.declared.event.NotifyOut.{NotifyOut}
@@ -17,6 +17,7 @@ use Rattle.feeds.specs.declared.sending.Fate.TheVariants.{Sent}
 use Rattle.feeds.specs.declared.sending.Fate.TheVariants as became
 use Rattle.feeds.specs.declared.sending.EmitReport.{EmitReport}
 use Rattle.feeds.specs.Emitted.{Fates, WireSeen, WriterSeen, wire_seen, writer_seen, AreMet, datagram_sent, sent_datagrams, fails_to_send}
+use Rattle.first_contact.specs.Steps.{tag_in}
 use Rattle.service.specs.declared.outs.Exit.{Exit}
 use Rattle.transactions.specs.declared.allowance.Allowance.{Allowance}
 use Rattle.transactions.specs.declared.open.Open.{Open}
@@ -146,6 +147,51 @@ abbrev pub AreAsked : State → List Act → Type 0
 AreAsked s [] = Unit {0}
 AreAsked s (act ∷ acts) = IsAsked s act × AreAsked (state_after (option_to_list (call_of act)) s) acts
 
+-- ---- what is released of what was held back
+
+abbrev pub held_back : Act → Option Out
+held_back (Put now o fate) = None
+held_back (Held now o) = Some o
+held_back (Released now o fate) = None
+held_back (Noted tag number status) = None
+held_back (Repeated now sent fails) = None
+held_back (Tried now sent fails) = None
+held_back (GaveUp now) = None
+held_back (Gone tag) = None
+
+-- the NOTIFYs that were held back, in order
+abbrev pub held : List Act → List Out
+held acts = filter_map held_back acts
+
+abbrev pub let_go : Act → Option Out
+let_go (Put now o fate) = None
+let_go (Held now o) = None
+let_go (Released now o fate) = Some o
+let_go (Noted tag number status) = None
+let_go (Repeated now sent fails) = None
+let_go (Tried now sent fails) = None
+let_go (GaveUp now) = None
+let_go (Gone tag) = None
+
+-- those that had waited and were released, in order
+abbrev pub released : List Act → List Out
+released acts = filter_map let_go acts
+
+-- those of the dialog with this local tag
+abbrev pub of_dialog : List ℕ → List Out → List Out
+of_dialog tag outs = filter (λ o. bytes_eq (tag_in o) tag) outs
+
+-- the first list is the second with some left out
+abbrev pub IsPart : List Out → List Out → Type 0
+IsPart xs [] = xs ≡ []
+IsPart xs (y ∷ ys) = IsPart xs ys ⊎ ((rest : List Out) × (xs ≡ y ∷ rest) × IsPart rest ys)
+
+-- At every moment: what was released of a dialog was held back of it before, each once, and in the order in which it was held back.
+-- What was held back and isn't released waits still, or was dropped
+abbrev pub EachWasHeld : List Act → Type 0
+EachWasHeld acts = (before after : List Act) → acts ≡ before ++ after → (tag : List ℕ)
+    → IsPart (of_dialog tag (released before)) (of_dialog tag (held before))
+
 -- ---- what waits for its answer at the start
 
 -- outs that went out before the service began, as put at its start
@@ -182,11 +228,12 @@ outflow taken failures contents old new = record {
   writer' = writer_seen contents new.sink;
 }
 
--- the outs that were got of the workers met these fates; and the wire has taken what the acts tell, repeats too, where these transactions
--- were open first
+-- the outs that were got of the workers met these fates; what was released was held back before; and the wire has taken what the acts
+-- tell, repeats too, where these transactions were open first
 pub record IsSentOut (first : State) (workers : ℕ) (acts : List Act) (got got' : List (Item Out)) (flow : Outflow) (report : EmitReport) : Type 0 where
   pub met : AreMet workers (fates acts) got got' flow.writer flow.writer' report
   pub does : Does acts first (state_after (calls acts) first) flow.wire flow.wire'
+  pub was_held : EachWasHeld acts
 
 -- ---- what is sent but for repeats, and for what had waited
 

@@ -1,10 +1,12 @@
 -- What a service does with control lines, and what it answers.
-use Rattle.std.specs.Prelude.{◌≡◌, ◌+◌, ◌&&◌, ◌||◌, ◌==◌, not, ℕ, Bool, true, false, List, [], ◌∷◌, ◌++◌, length, map, ◌⊎◌, Option, Some, None, is_some, String, string_bytes, if◌then◌else◌}
+use Rattle.std.specs.Prelude.{◌≡◌, ◌+◌, ◌&&◌, ◌||◌, ◌==◌, not, ℕ, Bool, true, false, List, [], ◌∷◌, ◌++◌, length, map, ◌⊎◌, Option, Some, None, is_some, nat_le, nat_lt, String, string_bytes, if◌then◌else◌}
 use Rattle.std.specs.Int.NonZero.{non_zero_u32_get}
-use Rattle.std.specs.List.{filter, filter_map, fold, list_any, AllByRecursion}
+use Rattle.std.specs.List.{filter, filter_map, fold, list_any, list_all, AllByRecursion}
+use Rattle.std.specs.Str.{byte}
 use Rattle.std.specs.Option.{option_map_or}
 use Rattle.std.specs.declared.alloc.Global.{Global}
 use Rattle.sip_text.specs.declared.address.Addr.{Addr}
+use Rattle.sip_text.specs.Reading.{begins}
 use Rattle.admission.specs.declared.network.Network.{Network}
 use Rattle.admission.specs.Networks.{contains}
 use Rattle.admission.specs.Verdicts.{has_none as names_none, is_one_of}
@@ -29,11 +31,12 @@ use Rattle.control_lines.specs.declared.token.Token.{Token}
 use Rattle.control_lines.specs.Kept.{kept_answer, with_answer}
 use Rattle.control_lines.specs.Lines.{Asks, is_answer, answer_text}
 use Rattle.control_lines.specs.Tokens.{token, line}
-use Rattle.control_lines.specs.Told.{Row, place, told, AreUntold}
+use Rattle.control_lines.specs.Told.{Row, place, told, with_name, AreUntold}
 use Rattle.watchers.specs.declared.inquiry.Inquiry.{Inquiry}
 use Rattle.service.specs.Told.{IsRefusal, IsReport, IsShown, IsInquiry, IsWatched, dumped}
 use Rattle.service.specs.declared.lines.Handled.{Handled}
 use Rattle.service.specs.declared.operators.Operators.{Operators}
+use Rattle.service.specs.declared.operators.TheConstants.{LONGEST_NAME}
 use Rattle.service.specs.declared.lines.Handled.TheVariants as did
 use Rattle.service.specs.declared.lines.ControlDesk.{ControlDesk}
 use Rattle.service.specs.declared.lines.KeptAnswers.{KeptAnswers}
@@ -46,16 +49,17 @@ pub record Hearing : Type 0 where
 abbrev pub operators_in : Operators → Hearing
 operators_in o = record { own = o.own; networks = o.networks.items }
 
--- what a desk knows: how many workers the service has, whose lines are heard, what its mailboxes were last told, and the answers to the
--- last lines with a token
+-- what a desk knows: how many workers the service has, whose lines are heard, how many mailboxes there are at most where MAIL lines make
+-- some, what its mailboxes were last told, and the answers to the last lines with a token
 pub record DeskSeen : Type 0 where
   pub workers : ℕ
   pub hearing : Hearing
+  pub most : ℕ
   pub rows : List Row
   pub kept : KeptAnswers
 
 abbrev pub seen : {W : Type 0} → ControlDesk W → DeskSeen
-seen d = record { workers = non_zero_u32_get d.workers; hearing = operators_in d.operators; rows = d.told; kept = d.kept }
+seen d = record { workers = non_zero_u32_get d.workers; hearing = operators_in d.operators; most = d.most; rows = d.told; kept = d.kept }
 
 -- ---- whose lines are heard
 
@@ -113,9 +117,36 @@ abbrev pub is_known : List Row → Change → Bool
 is_known rows (change.Mail m) = is_some (place m.mailbox rows)
 is_known rows other = true
 
--- it tells that this happened: a mailbox of the service changed, or a transfer went on
-abbrev pub Tells : List Row → List ℕ → Event → Type 0
-Tells rows octets e = (c : Change) × Asks octets (asked.Change c) × (is_known rows c ≡ true) × (told_event c ≡ Some e)
+-- no `@` and no `:`, which end the user of an address (RFC 3261 section 19.1.1)
+abbrev pub is_user : List ℕ → Bool
+is_user name = list_all (λ b. not (b == byte "@") && not (b == byte ":")) name
+
+-- a line may make a mailbox of this name: a file of mailboxes may hold it, where a `-` begins an option, and answers about it fit a datagram
+abbrev pub may_be_named : List ℕ → Bool
+may_be_named name = nat_le (length name) LONGEST_NAME && (is_user name && not (begins (byte "-") name))
+
+-- where MAIL lines make mailboxes until there are so many, this one makes that which it is of, should the service not have it
+abbrev pub makes : ℕ → List Row → Change → Bool
+makes most rows (change.Mail m) = nat_lt (length rows) most && may_be_named m.mailbox
+makes most rows other = false
+
+-- the service has the mailbox that a change is of, or makes it
+abbrev pub is_taken_in : ℕ → List Row → Change → Bool
+is_taken_in most rows c = is_known rows c || makes most rows c
+
+-- the mailboxes, with that which a change is of: behind the others, where it is a further one
+abbrev pub made : Change → List Row → List Row
+made (change.Mail m) rows = with_name m.mailbox rows
+made other rows = rows
+
+-- it tells that this happened: a mailbox changed that the service has or makes, or a transfer went on
+abbrev pub Tells : ℕ → List Row → List ℕ → Event → Type 0
+Tells most rows octets e = (c : Change) × Asks octets (asked.Change c) × (is_taken_in most rows c ≡ true) × (told_event c ≡ Some e)
+
+-- it tells of a mailbox that the service would make
+abbrev pub MayMake : ℕ → List Row → List ℕ → Type 0
+MayMake most rows octets =
+    (c : Change) × Asks octets (asked.Change c) × (is_known rows c ≡ false) × (makes most rows c ≡ true)
 
 -- the question names a mailbox that the service doesn't have
 abbrev pub NamesNone : List Row → Question → Type 0
@@ -126,10 +157,10 @@ NamesNone rows (question.Dump (Some name)) = place name rows ≡ None
 NamesNone rows (question.Watchers None from) = ⊥
 NamesNone rows (question.Watchers (Some name) from) = place name rows ≡ None
 
--- it tells or asks of a mailbox that the service doesn't have
-abbrev pub IsUnknown : List Row → List ℕ → Type 0
-IsUnknown rows octets =
-    ((c : Change) × Asks octets (asked.Change c) × (is_known rows c ≡ false))
+-- it asks of a mailbox that the service doesn't have, or tells of one that it doesn't make either
+abbrev pub IsUnknown : ℕ → List Row → List ℕ → Type 0
+IsUnknown most rows octets =
+    ((c : Change) × Asks octets (asked.Change c) × (is_taken_in most rows c ≡ false))
     ⊎ ((q : Question) × Asks octets (asked.Question q) × NamesNone rows q)
 
 -- the question asks for the mailboxes from this place on
@@ -158,7 +189,7 @@ IsFound rows q other = ⊥
 
 -- what is told of the mailboxes where this happened
 abbrev pub told_by : Event → List Row → List Row
-told_by (happened.Mail m) rows = told m rows
+told_by (happened.Mail m) rows = told m (with_name m.mailbox rows)
 told_by other rows = rows
 
 -- what is told of them by an event, if there is one
@@ -176,15 +207,22 @@ IsSent old e new (did.Answered answer.Done) = Sends old (e ∷ []) new
 IsSent old e new did.Gone = Misses old e new
 IsSent old e new other = ⊥
 
--- the same of a change that the service knows, and its mailbox was told of it. One that is no event is no line
-abbrev pub IsChanged : Change → List Row → List Row → PortSeats → PortSeats → Handled → Type 0
-IsChanged c rows rows' old new (did.Answered answer.Done) =
-    (e : Event) × (told_event c ≡ Some e) × (is_known rows c ≡ true) × (rows' ≡ told_of c rows) × Sends old (e ∷ []) new
-IsChanged c rows rows' old new (did.Answered answer.UnknownMailbox) = (is_known rows c ≡ false) × Stays rows rows' old new
-IsChanged c rows rows' old new (did.Answered answer.BadLine) = (told_event c ≡ None) × Stays rows rows' old new
-IsChanged c rows rows' old new did.Gone =
-    (e : Event) × (told_event c ≡ Some e) × (is_known rows c ≡ true) × (rows' ≡ told_of c rows) × Misses old e new
-IsChanged c rows rows' old new other = ⊥
+-- why a change isn't taken in: its mailbox is unknown and not made, or it can't be made now
+abbrev pub IsNotTakenIn : ℕ → List Row → Change → ControlAnswer → Type 0
+IsNotTakenIn most rows c answer.UnknownMailbox = is_taken_in most rows c ≡ false
+IsNotTakenIn most rows c answer.NoMemory = (is_known rows c ≡ false) × (makes most rows c ≡ true)
+IsNotTakenIn most rows c other = ⊥
+
+-- the same of a change that is taken in, and its mailbox was told of it. One that is no event is no line
+abbrev pub IsChanged : ℕ → Change → List Row → List Row → PortSeats → PortSeats → Handled → Type 0
+IsChanged most c rows rows' old new (did.Answered answer.Done) =
+    (e : Event) × (told_event c ≡ Some e) × (is_taken_in most rows c ≡ true) × (rows' ≡ told_of c (made c rows)) × Sends old (e ∷ []) new
+IsChanged most c rows rows' old new (did.Answered answer.UnknownMailbox) = IsNotTakenIn most rows c answer.UnknownMailbox × Stays rows rows' old new
+IsChanged most c rows rows' old new (did.Answered answer.NoMemory) = IsNotTakenIn most rows c answer.NoMemory × Stays rows rows' old new
+IsChanged most c rows rows' old new (did.Answered answer.BadLine) = (told_event c ≡ None) × Stays rows rows' old new
+IsChanged most c rows rows' old new did.Gone =
+    (e : Event) × (told_event c ≡ Some e) × (is_taken_in most rows c ≡ true) × (rows' ≡ told_of c (made c rows)) × Misses old e new
+IsChanged most c rows rows' old new other = ⊥
 
 -- what may be done with a RELOAD: it is the one by which this run began, its files are still being read, it is refused, or they are good
 abbrev pub IsReload : Handled → Type 0
@@ -195,25 +233,25 @@ IsReload did.Ending = Unit {0}
 IsReload other = ⊥
 
 -- what a line means that was not answered before, behind its token: the event that it tells, if it tells one, and what is done
-abbrev pub Means : List Row → List ℕ → Option Event → Handled → Type 0
-Means rows octets event (did.Answered answer.Done) = (e : Event) × (event ≡ Some e) × Tells rows octets e
-Means rows octets event (did.Answered answer.BadLine) = (event ≡ None) × Asks octets asked.Bad
-Means rows octets event (did.Answered answer.UnknownMailbox) = (event ≡ None) × IsUnknown rows octets
-Means rows octets event (did.Answered answer.Closed) = ⊥
-Means rows octets event (did.Answered answer.NoMemory) = (event ≡ None) × Asks octets asked.NoMemory
-Means rows octets event (did.Answered answer.Busy) = ⊥
-Means rows octets event (did.Repeated a) = (event ≡ None) × (a ≡ answer.Done) × Asks octets asked.Reload
-Means rows octets event did.Unanswered = (event ≡ None) × (Asks octets asked.Nothing ⊎ Asks octets asked.Reload)
-Means rows octets event did.Foreign = ⊥
-Means rows octets event did.Counters = (event ≡ None) × Asks octets (asked.Question question.Status)
-Means rows octets event (did.Shown n) =
+abbrev pub Means : ℕ → List Row → List ℕ → Option Event → Handled → Type 0
+Means most rows octets event (did.Answered answer.Done) = (e : Event) × (event ≡ Some e) × Tells most rows octets e
+Means most rows octets event (did.Answered answer.BadLine) = (event ≡ None) × Asks octets asked.Bad
+Means most rows octets event (did.Answered answer.UnknownMailbox) = (event ≡ None) × IsUnknown most rows octets
+Means most rows octets event (did.Answered answer.Closed) = ⊥
+Means most rows octets event (did.Answered answer.NoMemory) = (event ≡ None) × (Asks octets asked.NoMemory ⊎ MayMake most rows octets)
+Means most rows octets event (did.Answered answer.Busy) = ⊥
+Means most rows octets event (did.Repeated a) = (event ≡ None) × (a ≡ answer.Done) × Asks octets asked.Reload
+Means most rows octets event did.Unanswered = (event ≡ None) × (Asks octets asked.Nothing ⊎ Asks octets asked.Reload)
+Means most rows octets event did.Foreign = ⊥
+Means most rows octets event did.Counters = (event ≡ None) × Asks octets (asked.Question question.Status)
+Means most rows octets event (did.Shown n) =
     (event ≡ None) × (name : List ℕ) × Asks octets (asked.Question (question.Show name)) × (place name rows ≡ Some n)
-Means rows octets event (did.Dumped n) = (event ≡ None) × (q : Question) × Asks octets (asked.Question q) × BeginsAt rows n q
-Means rows octets event (did.Watched m n) = (event ≡ None) × (q : Question) × Asks octets (asked.Question q) × AsksForWatchers rows m n q
-Means rows octets event did.Refused = (event ≡ None) × Asks octets asked.Reload
-Means rows octets event did.Closing = (event ≡ None) × Asks octets asked.Close
-Means rows octets event did.Ending = (event ≡ None) × Asks octets asked.Reload
-Means rows octets event did.Gone = (e : Event) × (event ≡ Some e) × Tells rows octets e
+Means most rows octets event (did.Dumped n) = (event ≡ None) × (q : Question) × Asks octets (asked.Question q) × BeginsAt rows n q
+Means most rows octets event (did.Watched m n) = (event ≡ None) × (q : Question) × Asks octets (asked.Question q) × AsksForWatchers rows m n q
+Means most rows octets event did.Refused = (event ≡ None) × Asks octets asked.Reload
+Means most rows octets event did.Closing = (event ≡ None) × Asks octets asked.Close
+Means most rows octets event did.Ending = (event ≡ None) × Asks octets asked.Reload
+Means most rows octets event did.Gone = (e : Event) × (event ≡ Some e) × Tells most rows octets e
 
 -- the port has sent the event, or its worker is gone; without an event nothing was sent
 abbrev pub Reaches : Option Event → Handled → PortSeats → PortSeats → Type 0
@@ -222,9 +260,9 @@ Reaches (Some e) did.Gone old new = Misses old e new
 Reaches (Some e) other old new = Sends old (e ∷ []) new
 
 -- what was done with the line is what it means; its mailbox was told of its event, and the port too
-abbrev pub IsDone : List ℕ → List Row → List Row → PortSeats → PortSeats → Handled → Type 0
-IsDone octets rows rows' old new d =
-    (event : Option Event) × Means rows octets event d × (rows' ≡ rows_after event rows) × Reaches event d old new
+abbrev pub IsDone : ℕ → List ℕ → List Row → List Row → PortSeats → PortSeats → Handled → Type 0
+IsDone most octets rows rows' old new d =
+    (event : Option Event) × Means most rows octets event d × (rows' ≡ rows_after event rows) × Reaches event d old new
 
 -- the answer to a line with this token is kept, or counted as lost. A line without a token has none to keep
 abbrev pub kept_or_lost : Bool → Option Token → ControlAnswer → KeptAnswers → KeptAnswers
@@ -248,8 +286,8 @@ abbrev pub IsNews : List ℕ → DeskSeen → DeskSeen → PortSeats → PortSea
 IsNews octets desk desk' old new d =
     (kept_answer desk.kept.lines.items (token octets) ≡ None)
     × (is_kept : Bool) × (rows' : List Row)
-    × (desk' ≡ record { workers = desk.workers; hearing = desk.hearing; rows = rows'; kept = kept_with is_kept (token octets) d desk.kept })
-    × IsDone (line octets) desk.rows rows' old new d
+    × (desk' ≡ record { workers = desk.workers; hearing = desk.hearing; most = desk.most; rows = rows'; kept = kept_with is_kept (token octets) d desk.kept })
+    × IsDone desk.most (line octets) desk.rows rows' old new d
 
 -- it came from elsewhere than lines are heard from, and nothing was done with it
 abbrev pub IsPassed : Addr → DeskSeen → DeskSeen → PortSeats → PortSeats → Handled → Type 0
@@ -338,7 +376,7 @@ IsForeign desk source event d = (is_near desk source ≡ false) × (event ≡ No
 abbrev pub IsMeant : DeskSeen → List ℕ → Option Event → Handled → Type 0
 IsMeant desk octets event d =
     ((a : ControlAnswer) × (event ≡ None) × (d ≡ did.Repeated a) × (kept_answer desk.kept.lines.items (token octets) ≡ Some a))
-    ⊎ ((kept_answer desk.kept.lines.items (token octets) ≡ None) × Means desk.rows (line octets) event d)
+    ⊎ ((kept_answer desk.kept.lines.items (token octets) ≡ None) × Means desk.most desk.rows (line octets) event d)
 
 -- ---- what the desk knows
 
@@ -346,6 +384,7 @@ abbrev pub desk_after : Line → DeskSeen → DeskSeen
 desk_after l desk = record {
   workers = desk.workers;
   hearing = desk.hearing;
+  most = desk.most;
   rows = rows_after l.event desk.rows;
   kept = kept_with l.is_kept (token l.came.octets) l.done desk.kept;
 }

@@ -1,6 +1,7 @@
 //! What a service begins with beside its desks: where it goes on, NOTIFYs that nobody answered yet, and who watches.
 ghost use Rattle.std.specs.Prelude.{◌≡◌, []};
 ghost use Rattle.transactions.specs.Runs.{state_after};
+ghost use Rattle.service.specs.Releasing.{Fewer, waits};
 ghost use Rattle.service.specs.Sending.{calls, went_out};
 
 use crate::sending::Waiting;
@@ -68,6 +69,7 @@ impl Waiting {
     /// A subscription that goes on has a row from the start on. Without room or memory for one it stays without.
     fn begin_row<R: Wait>(&mut self, rt: &R, living: &Living, shared: &Shared)
         ensures transactions { self.new.transactions ≡ self.old.transactions }
+        ensures contacts { self.new.contacts ≡ self.old.contacts }
         ensures burst { self.new.burst ≡ self.old.burst }
     {
         let tag = living.tag.as_str();
@@ -83,6 +85,7 @@ impl Waiting {
     /// Each of these subscriptions has a row from the start on.
     fn begin_rows<R: Wait>(&mut self, rt: &R, living: Vec<Living>, shared: &Shared)
         ensures transactions { self.new.transactions ≡ self.old.transactions }
+        ensures contacts { self.new.contacts ≡ self.old.contacts }
         ensures burst { self.new.burst ≡ self.old.burst }
     {
         for one in living {
@@ -91,9 +94,11 @@ impl Waiting {
     }
 
     /// The NOTIFYs among these outs wait for their answers, as if they had gone out at the start of the service.
+    #[tactic(auto, using(crate::proofs::Releasing::fewer_same))]
     fn keep_again<R: Wait>(&mut self, rt: &R, unanswered: Vec<Out>, shared: &Shared)
         ensures kept { self.new.transactions ≡ state_after (calls (went_out unanswered.items)) self.old.transactions }
         ensures burst { self.new.burst ≡ self.old.burst }
+        ensures fewer { Fewer (waits self.old.contacts) (waits self.new.contacts) }
     {
         for out in unanswered {
             self.take_up(rt, 0, out, shared);
@@ -104,6 +109,7 @@ impl Waiting {
     pub(crate) fn begin<R: Wait>(&mut self, rt: &R, begins: Begins, shared: &Shared)
         ensures kept { self.new.transactions ≡ state_after (calls (went_out begins.unanswered.items)) self.old.transactions }
         ensures burst { self.new.burst ≡ self.old.burst }
+        ensures fewer { Fewer (waits self.old.contacts) (waits self.new.contacts) }
     {
         let Begins {
             unanswered,

@@ -5,13 +5,16 @@ use sip_text::NoMemory;
 use std::alloc::Global;
 use std::sync::atomic::{AtomicU64, Ordering};
 
+/// How many milliseconds a second has.
+const SECOND: u64 = 1000;
+
 /// How many control lines changed something, how many couldn't, and when the last one did.
 #[derive(Drop)]
 pub(crate) struct ChangeCounts {
     done: AtomicU64,
     unknown: AtomicU64,
     bad: AtomicU64,
-    /// In which second of the service the last line was answered `ok`. 0: it began then.
+    /// When the last line was answered `ok`, in milliseconds since the service began. 0: none was.
     last: AtomicU64,
 }
 
@@ -26,8 +29,8 @@ impl ChangeCounts {
         }
     }
 
-    /// A line was answered so in this second of the service. One that came before with its token isn't counted again.
-    pub(crate) fn count(&self, answer: ControlAnswer, second: Option<u64>) {
+    /// A line was answered so when the service was up for so many milliseconds. One that came before with its token isn't counted again.
+    pub(crate) fn count(&self, answer: ControlAnswer, moment: u64) {
         let counted = match answer {
             ControlAnswer::Done => &self.done,
             ControlAnswer::UnknownMailbox => &self.unknown,
@@ -35,24 +38,28 @@ impl ChangeCounts {
             ControlAnswer::Closed | ControlAnswer::NoMemory | ControlAnswer::Busy => return,
         };
         counted.fetch_add(1, Ordering::SeqCst);
-        if let (ControlAnswer::Done, Some(second)) = (answer, second) {
-            self.last.store(second, Ordering::SeqCst);
+        if matches!(answer, ControlAnswer::Done) {
+            self.last.store(moment, Ordering::SeqCst);
         }
     }
 
-    /// Appends a line for each count, and how many seconds ago the last line was answered `ok`: since the service began, if none was.
+    /// Appends a line for each count, and how many seconds ago the last line was answered `ok`, where the service is up for so many
+    /// milliseconds: since it began, if none was.
     pub(crate) fn add_lines(
         &self,
         alloc: Global,
         text: &mut String,
-        second: u64,
+        moment: u64,
     ) -> Result<(), NoMemory> {
         let told = |counted: &AtomicU64| counted.load(Ordering::SeqCst);
         let named = [
             ("changes", told(&self.done)),
             ("unknown_mailboxes", told(&self.unknown)),
             ("bad_lines", told(&self.bad)),
-            ("change_age", second.saturating_sub(told(&self.last))),
+            (
+                "change_age",
+                moment.saturating_sub(told(&self.last)) / SECOND,
+            ),
         ];
         for (name, count) in named {
             let line = format!(in alloc; "{name} {count}\n")?;

@@ -20,7 +20,7 @@ use crate::request_log::{Answer, log_answer};
 use crate::shared::{Counter, Shared};
 use admission::{Admission, Arrival, ChallengeCause, Reading, Verdict};
 use crew::Port;
-use feeds::{FeedEnd, send_event};
+use feeds::FeedEnd;
 use notifier_model::Event;
 use sip_read::{Boxed, Message, ReadError, Request, Response, read};
 use sip_text::{Addr, Octets};
@@ -65,13 +65,6 @@ fn tell_barred<R: Wait + Eprint>(rt: &R, shared: &Shared, verdict: &Verdict, arr
     }
 }
 
-/// Whether it is heard.
-fn allows(verdict: &Verdict) -> bool
-    ensures { result ≡ spec.allows verdict.now }
-{
-    matches!(verdict, Verdict::Allowed)
-}
-
 /// What goes to the source of a datagram that isn't heard, if it may be told.
 fn refusal(verdict: Verdict) -> Option<Octets>
     ensures { result ≡ spec.refusal verdict }
@@ -95,7 +88,7 @@ fn send_refusal<R: Wait, W: Wire>(rt: &R, wire: &mut W, shared: &Shared, to: Add
     if wire.send(rt, to, octets).is_err() {
         shared.count_unsent(wire.send_error());
     } else {
-        shared.note_sent();
+        shared.outages.note_sent();
     }
 }
 
@@ -129,16 +122,6 @@ fn log_refusal<R: Eprint>(rt: &R, shared: &Shared, arrival: Arrival<'_>, refusal
             whom: request.uri.as_str(),
         };
         log_answer(rt, shared, answer);
-    }
-}
-
-/// A moment of the service, in milliseconds, that isn't before this one. Where the clock can't be read it is this one.
-fn next_moment<R: Clock>(rt: &R, shared: &Shared, earlier: u64) -> u64
-    ensures { earlier ≤ result }
-{
-    match shared.moment(rt) {
-        Some(now) => now.max(earlier),
-        None => earlier,
     }
 }
 
@@ -177,19 +160,6 @@ fn arrival<'a>(
     }
 }
 
-/// Sends an event to its worker, and counts it. False where that worker is gone.
-fn send_on<R: Wait>(rt: &R, port: &mut Port, shared: &Shared, event: Event) -> bool
-    requires still_open { port.old.is_open ≡ true }
-    ensures sent { MatchBool result (Sends port.old (event ∷ []) port.new) (Misses port.old event port.new) }
-    ensures seats { SameSeats port.old port.new }
-{
-    if !send_event(rt, port, event) {
-        return false;
-    }
-    shared.count(Counter::Event);
-    true
-}
-
 /// What hears SIP datagrams.
 #[derive(Drop)]
 pub struct SipDesk<W> {
@@ -204,82 +174,55 @@ pub struct SipDesk<W> {
 }
 
 impl<W: Ear> SipDesk<W> {
-    /// Whether a datagram of so many octets is read. A longer one is counted.
-    fn takes(&self, shared: &Shared, length: usize) -> bool
-        ensures { result ≡ nat_le length self.now.longest }
-    {
-        let is_short = length <= self.longest as usize;
-        if !is_short {
-            shared.count(Counter::TooLong);
+    /// What is known of a request beside itself: how many live subscriptions its source has, where it is outside a dialog and a source may
+    /// have so many only, and who made its dialog, where users show passwords. One outside a dialog that was let through and comes again is
+    /// answered as it was before, so it asks for none more: 0.
+    fn known<R: Wait>(
+        &self,
+        rt: &R,
+        shared: &Shared,
+        request: &Request,
+        source: Addr,
+        moment: u64,
+    ) -> Known {
+        let tag = &request.head.to.tag;
+        let owner = match (tag, &self.admission.authentication) {
+            (Some(tag), Some(_)) => shared.owner(rt, tag.as_str()),
+            _ => None,
+        };
+        let (None, Some(most)) = (tag, self.admission.per_source) else {
+            return Known { live: 0, owner };
+        };
+        let live = shared.live_from(rt, watchers::source(source));
+        let newcomer = Newcomer {
+            request,
+            source,
+            moment,
+        };
+        if live >= most as usize && shared.is_again(rt, newcomer) {
+            return Known { live: 0, owner };
         }
-        is_short
+        Known { live, owner }
     }
 
-    /// Whether the source of a datagram is of none of the networks. Such a datagram is counted.
-    fn is_foreign(&self, shared: &Shared, source: Addr) -> bool
-        ensures { result ≡ not (hears self.now.admission source.ip) }
-    {
-        let is_near = self.admission.hears(source.ip);
-        if !is_near {
-            shared.count(Counter::Foreign);
-        }
-        !is_near
-    }
-
-    /// Whether a source with so many live subscriptions may have no more.
-    fn is_full(&self, live: usize) -> bool {
-        match self.admission.per_source {
-            Some(most) => live >= most as usize,
-            None => false,
-        }
-    }
-
-    /// How many live subscriptions the source of a request outside a dialog has, where it may have so many only. 0 of any other: nobody
-    /// asks. 0 of one that was let through and comes again: it is answered as it was before.
-    fn live_from<R: Wait>(&self, rt: &R, shared: &Shared, newcomer: Newcomer<'_>) -> usize {
-        if self.admission.per_source.is_none() || newcomer.request.head.to.tag.is_some() {
-            return 0;
-        }
-        let live = shared.live_from(rt, watchers::source(newcomer.source));
-        if self.is_full(live) && shared.is_again(rt, newcomer) {
-            return 0;
-        }
-        live
-    }
-
-    /// Notes a request outside a dialog that is let through, where each source may have so many subscriptions only.
-    fn note_newcomer<R: Wait>(&self, rt: &R, shared: &Shared, newcomer: Newcomer<'_>) {
-        if self.admission.per_source.is_some() && newcomer.request.head.to.tag.is_none() {
-            shared.note_newcomer(rt, newcomer);
-        }
-    }
-
-    /// The user who made the dialog that a request is in, as a number, where users show passwords and that is known.
-    fn owner<R: Wait>(&self, rt: &R, shared: &Shared, request: &Request) -> Option<u32> {
-        if self.admission.authentication.is_none() {
-            return None;
-        }
-        match &request.head.to.tag {
-            Some(tag) => shared.owner(rt, tag.as_str()),
-            None => None,
-        }
-    }
-
-    /// What is known of a request beside itself.
-    fn known<R: Wait>(&self, rt: &R, shared: &Shared, newcomer: Newcomer<'_>) -> Known {
-        Known {
-            live: self.live_from(rt, shared, newcomer),
-            owner: self.owner(rt, shared, newcomer.request),
-        }
-    }
-
-    /// Notes which user sent a request outside a dialog that is let through: the dialog that it makes is this user's. Where there is no
-    /// memory for that, it is nobody's.
-    fn note_user<R: Wait>(&self, rt: &R, alloc: Global, shared: &Shared, arrival: Arrival<'_>) {
+    /// Notes a request outside a dialog that is let through: itself, where a source may have so many subscriptions only, and its user, where
+    /// users show passwords: the dialog that it makes is this user's. Where there is no memory for that, it is nobody's.
+    fn note_newcomer<R: Wait>(&self, rt: &R, alloc: Global, shared: &Shared, arrival: Arrival<'_>) {
         let Reading::Request(request) = arrival.reading else {
             return;
         };
-        if self.admission.authentication.is_none() || request.head.to.tag.is_some() {
+        if request.head.to.tag.is_some() {
+            return;
+        }
+        if self.admission.per_source.is_some() {
+            let newcomer = Newcomer {
+                request,
+                source: arrival.source,
+                moment: arrival.moment,
+            };
+            shared.note_newcomer(rt, newcomer);
+        }
+        if self.admission.authentication.is_none() {
             return;
         }
         if let Ok(Some(user)) = self.admission.user(alloc, arrival) {
@@ -309,15 +252,17 @@ impl<W: Ear> SipDesk<W> {
             shared.count_unread(&ReadError::NoMemory);
             return false;
         };
-        if allows(&verdict) {
-            return true;
+        match verdict {
+            Verdict::Allowed => true,
+            _ => {
+                count_verdict(shared, &verdict);
+                tell_barred(rt, shared, &verdict, arrival);
+                let refusal = refusal(verdict);
+                log_refusal(rt, shared, arrival, &refusal);
+                refuse(rt, &mut self.going, shared, arrival.source, refusal);
+                false
+            }
         }
-        count_verdict(shared, &verdict);
-        tell_barred(rt, shared, &verdict, arrival);
-        let refusal = refusal(verdict);
-        log_refusal(rt, shared, arrival, &refusal);
-        refuse(rt, &mut self.going, shared, arrival.source, refusal);
-        false
     }
 
     /// Takes a datagram that came at this moment: an event goes to its worker where its source is heard. One whose source is of none of the
@@ -341,17 +286,17 @@ impl<W: Ear> SipDesk<W> {
         ensures longest { self.new.longest ≡ self.old.longest }
         ensures seats { SameSeats port.old port.new }
     {
-        if self.is_foreign(shared, source) {
+        let is_near = self.admission.hears(source.ip);
+        if !is_near {
+            shared.count(Counter::Foreign);
             return true;
         }
-        let message = read(alloc, octets);
-        match message {
+        match read(alloc, octets) {
             Err(error) => {
                 let arrival = arrival(octets, Reading::Unread, source, moment, NOTHING);
-                if !self.admits(rt, alloc, shared, arrival) {
-                    return true;
+                if self.admits(rt, alloc, shared, arrival) {
+                    shared.count_unread(&error);
                 }
-                shared.count_unread(&error);
                 true
             }
             Ok(Message::Response(response)) => {
@@ -359,23 +304,25 @@ impl<W: Ear> SipDesk<W> {
                 if !self.admits(rt, alloc, shared, arrival) {
                     return true;
                 }
-                shared.notes.put(rt, alloc, &response);
-                send_on(rt, port, shared, Event::Reply(response))
+                shared.notes.put(rt, alloc, source, &response);
+                let is_sent = port.send(rt, Event::Reply(response)).is_ok();
+                if is_sent {
+                    shared.count(Counter::Event);
+                }
+                is_sent
             }
             Ok(Message::Request(request)) => {
-                let newcomer = Newcomer {
-                    request: &request,
-                    source,
-                    moment,
-                };
-                let known = self.known(rt, shared, newcomer);
+                let known = self.known(rt, shared, &request, source, moment);
                 let arrival = arrival(octets, Reading::Request(&request), source, moment, known);
                 if !self.admits(rt, alloc, shared, arrival) {
                     return true;
                 }
-                self.note_newcomer(rt, shared, newcomer);
-                self.note_user(rt, alloc, shared, arrival);
-                send_on(rt, port, shared, Event::Request(source, request))
+                self.note_newcomer(rt, alloc, shared, arrival);
+                let is_sent = port.send(rt, Event::Request(source, request)).is_ok();
+                if is_sent {
+                    shared.count(Counter::Event);
+                }
+                is_sent
             }
         }
     }
@@ -417,10 +364,12 @@ impl<W: Ear> SipDesk<W> {
                 Came::End(end) => return end,
             };
             shared.count(Counter::Datagram);
-            if !self.takes(shared, length) {
+            if length > self.longest as usize {
+                shared.count(Counter::TooLong);
                 continue;
             }
-            moment = next_moment(rt, shared, moment);
+            // Moments don't fall. Where the clock can't be read it is the last one.
+            moment = shared.moment(rt).unwrap_or(moment).max(moment);
             if !self.take_one(rt, alloc, port, shared, source, &octets[..length], moment) {
                 return FeedEnd::Gone;
             }
@@ -440,7 +389,8 @@ impl<W: Ear> SipDesk<W> {
         ensures near { IfSome result (λ r. hears self.now.admission source.ip ≡ true) }
         ensures says { IfSome result (λ r. IsReading octets.now (Ok (Message.Response r))) }
     {
-        if !self.takes(shared, octets.len()) {
+        if octets.len() > self.longest as usize {
+            shared.count(Counter::TooLong);
             return None;
         }
         if !self.admission.hears(source.ip) {
@@ -486,7 +436,7 @@ impl<W: Ear> SipDesk<W> {
                         source,
                         &octets[..length],
                     ) {
-                        shared.notes.put(rt, alloc, &response);
+                        shared.notes.put(rt, alloc, source, &response);
                     }
                 }
                 Came::Nothing => {}

@@ -151,6 +151,10 @@ impl Doubts {
 
     /// A final answer to the NOTIFY with this tag and this number came at this moment.
     pub(crate) fn answer(&mut self, now: u64, tag: &str, number: u32) {
+        // Most often none is in doubt: so nobody looks for this one.
+        if self.subscriptions.is_empty() {
+            return;
+        }
         let Some(doubts) = self.subscriptions.get_mut(tag) else {
             return;
         };

@@ -1,4 +1,6 @@
 //! What the system dropped at the sockets of a service for want of room.
+ghost use Rattle.std.specs.Prelude.{◌≡◌, string_bytes, IfOk, OnOk, OnErr};
+ghost use Rattle.service.specs.Drops as spec;
 
 use sip_text::{Addr, NoMemory};
 use std::alloc::Global;
@@ -18,7 +20,9 @@ const LINES: usize = 65_536;
 const UNKNOWN: u64 = u64::MAX;
 
 /// The address as such a line has it: its octets as a number of this machine, and its port, in hexadecimal digits.
-fn name(alloc: Global, addr: Addr) -> Result<String, NoMemory> {
+fn name(alloc: Global, addr: Addr) -> Result<String, NoMemory>
+    ensures { IfOk result (λ name. string_bytes name ≡ spec.socket_name addr) }
+{
     let ip = u32::from_le_bytes(addr.ip);
     let port = addr.port;
     let name = format!(in alloc; "{ip:08X}:{port:04X}")?;
@@ -47,7 +51,9 @@ pub(crate) struct Drops {
 
 impl Drops {
     /// Of a socket that isn't known yet, counted by this name.
-    pub(crate) fn new(counter: &'static str) -> Drops {
+    pub(crate) fn new(counter: &'static str) -> Drops
+        ensures { result.counter.now ≡ counter.now }
+    {
         Drops {
             counter,
             name: OnceLock::new(),
@@ -74,7 +80,11 @@ impl Drops {
     }
 
     /// Appends what was dropped until the last look, where the system told that.
-    pub(crate) fn add_line(&self, alloc: Global, text: &mut String) -> Result<(), NoMemory> {
+    pub(crate) fn add_line(&self, alloc: Global, text: &mut String) -> Result<(), NoMemory>
+        // Which count it is no contract can tell: the system does, and another thread reads it.
+        ensures line { OnOk result (spec.AddsLine self.now.counter.now (string_bytes text.old) (string_bytes text.new)) }
+        ensures unchanged { OnErr result (string_bytes text.new ≡ string_bytes text.old) }
+    {
         let count = self.count.load(Ordering::SeqCst);
         if count == UNKNOWN {
             return Ok(());

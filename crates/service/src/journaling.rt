@@ -6,6 +6,7 @@
 //! So a service that is killed goes on where it was: who reads the journal plays the events again. What is written is in the system's
 //! hands then, which outlives the process. When it is brought to the disk, which outlives the machine, [`Syncing`] says.
 
+use crate::made::Made;
 use crate::shelf::{Chore, Limits, Loss, Shelf};
 use crate::volume::Volume;
 use journal::Header;
@@ -27,6 +28,10 @@ const NO_ERROR: u32 = 0;
 /// For how many seconds a file is the current one at least, where it misses nothing: by then each NOTIFY that was unanswered at its begin is
 /// answered or given up (RFC 3261 section 17.1.2.2), so the file before it may go.
 pub const SETTLED: u64 = 40;
+
+/// So many files are kept before the current one as a run ends for mailboxes that lines made: each such run begins one more, and none goes before
+/// the current one is settled.
+const MOST_OLDER: u64 = 16;
 
 /// The permission bits of a file of a journal that is made: its user alone may read it, since it tells the seed, by which each tag can be
 /// known.
@@ -100,7 +105,8 @@ impl Journal {
     ) -> Result<Journal, NoMemory> {
         let wanted = no_books(alloc, header.workers)?;
         let bytes = AtomicU64::new(current.length());
-        let shelf = Shelf::new(keeper, current, upkeep.been, upkeep.oldest);
+        let made = Made::new(alloc, header.workers)?;
+        let shelf = Shelf::new(keeper, current, upkeep.been, upkeep.oldest, made);
         Ok(Journal {
             alloc,
             header,
@@ -225,6 +231,23 @@ impl Journal {
         let mut shelf = self.shelf.lock(rt);
         let _ = shelf.lose_count();
         self.note(&mut shelf)
+    }
+
+    /// Whether so few files are kept that one more may be, with which the next run begins.
+    pub(crate) fn is_short<R: Wait>(&self, rt: &R) -> bool {
+        self.shelf.lock(rt).older() < MOST_OLDER
+    }
+
+    /// A line is to make this mailbox. From now on no further file is begun while the current one misses nothing, and one that is begun otherwise has
+    /// what is told of the mailbox. False where the current one misses something, or one is being begun, or for want of memory.
+    pub(crate) fn hold<R: Wait>(&self, rt: &R, name: &str) -> bool {
+        let mut shelf = self.shelf.lock(rt);
+        shelf.is_whole() && shelf.hold(name)
+    }
+
+    /// The mailboxes that lines made, in order.
+    pub(crate) fn made<R: Wait>(&self, rt: &R) -> Result<Vec<Text>, NoMemory> {
+        self.shelf.lock(rt).made().names()
     }
 
     /// Whether the current file misses nothing, so that a service may go on from it.

@@ -48,6 +48,7 @@ pub mod laws;
 mod lines;
 mod listening;
 mod logging;
+mod made;
 mod newcomers;
 mod not_taken;
 mod operators;

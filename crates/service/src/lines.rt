@@ -1,5 +1,5 @@
 //! Control lines, each answered.
-ghost use Rattle.std.specs.Prelude.{◌≡◌, true, List, [], Some, IfOk, max};
+ghost use Rattle.std.specs.Prelude.{◌≡◌, true, List, [], Some, IfOk, IfErr, OnOk, OnErr, max};
 ghost use Rattle.std.specs.Int.NonZero.{non_zero_u32_get};
 ghost use Rattle.circular_buffer.specs.Buffer.{buffer};
 ghost use Rattle.transport.specs.Wires.{Grows, datagram};
@@ -8,12 +8,12 @@ ghost use Rattle.control_lines.specs.Lines.{answer_text};
 ghost use Rattle.control_lines.specs.declared.question.Question.TheVariants as questions;
 ghost use Rattle.service.specs.declared.lines.Handled.TheVariants as did;
 ghost use Rattle.service.specs.Taken as spec;
-ghost use Rattle.service.specs.Taken.{Line, IsSent, IsChanged, IsDone, IsFound, IsReload, IsTaken, Offers, IsAnswered, WereTold, datagrams_of, desk_then, AreTaken, AreAnswered, AreTurnedAway, operators_in, seen};
+ghost use Rattle.service.specs.Taken.{Line, IsSent, IsChanged, IsDone, IsFound, IsReload, IsTaken, IsNotTakenIn, Offers, IsAnswered, WereTold, datagrams_of, desk_then, AreTaken, AreAnswered, AreTurnedAway, operators_in, seen};
 ghost use Rattle.feeds.specs.Fed.{is_fault};
 ghost use Rattle.service.specs.Listening.{IsDeafAsTold};
 
 use crate::listening::{Came, Listening, ROOM};
-use crate::operators::{Operators, is_known, tell, tell_each};
+use crate::operators::{Operators, is_known, make, makes, tell, tell_each};
 use crate::reload::{Caller, Reloading};
 use crate::reports::{counters, dumped, home, inquiry, refusal, shown, watched};
 use crate::shared::{Counter, Shared};
@@ -97,14 +97,61 @@ fn send<R: Wait>(rt: &R, port: &mut Port, event: Event) -> Handled
     }
 }
 
-/// Notes and sends a change. That of a mailbox which the service doesn't have is dropped.
-fn send_change<R: Wait>(rt: &R, port: &mut Port, told: &mut ToldCounts, change: Change) -> Handled
+/// Who asks by a control line: what the threads of its service share, who sent the line, and how many mailboxes the service has at most where
+/// MAIL lines make some. 0: none does.
+#[derive(Clone, Copy)]
+pub struct Asking<'a> {
+    pub shared: &'a Shared,
+    pub caller: Caller,
+    pub most: u32,
+}
+
+/// Has the service have the mailbox of a change, if it is of one. One that it makes is known to lines at once, and to phones by the next run,
+/// which begins soon. An error is the answer where it neither has it nor makes it.
+#[tactic(auto, using(crate::proofs::Doing::known_made, crate::proofs::Doing::known_taken, crate::proofs::Doing::made_taken, crate::proofs::Doing::neither_taken))]
+fn take_in<R: Wait + Clock>(
+    rt: &R,
+    asking: Asking<'_>,
+    told: &mut ToldCounts,
+    change: &Change,
+) -> Result<(), ControlAnswer>
+    ensures taken { OnOk result (spec.is_taken_in asking.entry.most told.old change.now ≡ true) }
+    ensures made { OnOk result (told.new ≡ spec.made change.now told.old) }
+    ensures refused { IfErr result (IsNotTakenIn asking.entry.most told.old change.now) }
+    ensures unchanged { OnErr result (told.new ≡ told.old) }
+{
+    if is_known(told, change) {
+        return Ok(());
+    }
+    if !makes(asking.most, told, change) {
+        return Err(ControlAnswer::UnknownMailbox);
+    }
+    let shared = asking.shared;
+    // What is told of it must outlive this run.
+    if !shared.may_make(rt, change) {
+        return Err(ControlAnswer::NoMemory);
+    }
+    let Ok(()) = make(shared.alloc(), told, change) else {
+        return Err(ControlAnswer::NoMemory);
+    };
+    shared.await_mailbox(rt);
+    Ok(())
+}
+
+/// Notes and sends a change. That of a mailbox which the service neither has nor makes is dropped.
+fn send_change<R: Wait + Clock>(
+    rt: &R,
+    asking: Asking<'_>,
+    port: &mut Port,
+    told: &mut ToldCounts,
+    change: Change,
+) -> Handled
     requires still_open { port.old.is_open ≡ true }
-    ensures done { IsChanged change told.old told.new port.old port.new result }
+    ensures done { IsChanged asking.entry.most change told.old told.new port.old port.new result }
     ensures seats { SameSeats port.old port.new }
 {
-    if !is_known(told, &change) {
-        return Handled::Answered(ControlAnswer::UnknownMailbox);
+    if let Err(answer) = take_in(rt, asking, told, &change) {
+        return Handled::Answered(answer);
     }
     tell(told, &change);
     match Event::of(change) {
@@ -160,13 +207,6 @@ fn find(told: &ToldCounts, question: &Question) -> Handled
     }
 }
 
-/// Who asks by a control line: what the threads of its service share, and who sent the line.
-#[derive(Clone, Copy)]
-pub struct Asking<'a> {
-    pub shared: &'a Shared,
-    pub caller: Caller,
-}
-
 /// What is done with a RELOAD.
 fn reload<R: Wait + Clock>(rt: &R, asking: Asking<'_>) -> Handled
     ensures { IsReload result }
@@ -190,11 +230,11 @@ pub fn take_line<R: Wait + Clock>(
     octets: &[u8],
 ) -> Handled
     requires still_open { port.old.is_open ≡ true }
-    ensures done { IsDone octets.now told.old told.new port.old port.new result }
+    ensures done { IsDone asking.entry.most octets.now told.old told.new port.old port.new result }
     ensures seats { SameSeats port.old port.new }
 {
     match hear_line(asking.shared.alloc(), octets) {
-        Asked::Change(change) => send_change(rt, port, told, change),
+        Asked::Change(change) => send_change(rt, asking, port, told, change),
         Asked::Close => Handled::Closing,
         Asked::Reload => reload(rt, asking),
         Asked::Question(question) => find(told, &question),
@@ -273,6 +313,8 @@ pub struct ControlPort<W> {
     pub mailboxes: Vec<Text>,
     /// What was told of the mailboxes before.
     pub changes: Vec<Change>,
+    /// How many mailboxes there are at most where MAIL lines make some. 0: none does.
+    pub most: u32,
     /// The networks whose lines are heard, beside this machine's: all are, where there is none.
     pub networks: Vec<Network>,
 }
@@ -286,6 +328,8 @@ pub struct ControlDesk<W> {
     pub coming: W,
     pub going: W,
     pub told: ToldCounts,
+    /// How many mailboxes there are at most where MAIL lines make some. 0: none does.
+    pub most: u32,
     pub kept: KeptAnswers,
     /// Whose lines are heard.
     pub operators: Operators,
@@ -305,6 +349,7 @@ impl<W: Drop> ControlDesk<W> {
         ensures first { IfOk result (λ d. WereTold port.mailboxes.items port.changes.items d.told) }
         ensures unkept { IfOk result (λ d. d.kept ≡ record { lines = buffer [] KEPT; lost = 0 }) }
         ensures workers { IfOk result (λ d. non_zero_u32_get d.workers ≡ max 1 workers) }
+        ensures most { IfOk result (λ d. d.most ≡ port.most) }
         ensures networks { IfOk result (λ d. d.operators.networks ≡ port.networks) }
         ensures own { IfOk result (λ d. d.operators.own ≡ own) }
     {
@@ -313,6 +358,7 @@ impl<W: Drop> ControlDesk<W> {
             going,
             mailboxes,
             changes,
+            most,
             networks,
         } = port;
         let mut told = ToldCounts::new(alloc, mailboxes.as_slice())?;
@@ -326,6 +372,7 @@ impl<W: Drop> ControlDesk<W> {
             coming,
             going,
             told,
+            most,
             kept: KeptAnswers { lines, lost: 0 },
             operators: Operators { own, networks },
             workers,
@@ -388,7 +435,7 @@ impl<W: Wire> ControlDesk<W> {
         shared.count(Counter::ControlLine);
         match done {
             Handled::Answered(answer) => {
-                shared.count_change(rt, answer);
+                shared.count_change(answer);
                 self.say(rt, shared, to, answer);
             }
             Handled::Repeated(answer) => self.say(rt, shared, to, answer),
@@ -473,7 +520,11 @@ impl<W: Wire> ControlDesk<W> {
             return Handled::Repeated(answer);
         }
         let caller = Caller { token, source };
-        let asking = Asking { shared, caller };
+        let asking = Asking {
+            shared,
+            caller,
+            most: self.most,
+        };
         let done = take_line(rt, asking, port, &mut self.told, line);
         keep(&mut self.kept, token, done);
         done
@@ -507,6 +558,7 @@ impl<W: Ear> ControlDesk<W> {
         let mut octets = [0; ROOM];
         let mut listening = Listening::new(&shared.is_closing);
         for _ in rt.forever() {
+            shared.end_for_mailboxes(rt);
             let (length, source) = match listening.look(rt, &mut self.coming, shared, &mut octets) {
                 Came::Datagram(length, source) => (length, source),
                 Came::Nothing => continue,

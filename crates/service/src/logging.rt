@@ -14,7 +14,7 @@ const PATIENCE: i32 = 1000;
 const UNKNOWN: u64 = 0;
 
 /// In which form a log is written, and when its lines are. Whoever writes one reads no clock, so the time of day is that at which a thread
-/// of the service read it last: each does at each datagram, and ten times a second.
+/// of the service read it last: one does at each SIP datagram, and ten times a second.
 #[derive(Drop)]
 pub(crate) struct Log {
     is_json: AtomicBool,

@@ -1,5 +1,8 @@
 //! The requests for new subscriptions that were let through lately: one that comes again asks for none more. Its worker answers it as it
 //! did before (RFC 3261 section 17.2.2).
+ghost use Rattle.std.specs.Prelude.{◌≡◌, ℕ, List, [], Some, true, IfOk, IsTrue};
+ghost use Rattle.service.specs.Newcomers as spec;
+ghost use Rattle.service.specs.Newcomers.{IsPassed, IsSwept, passed_when};
 
 use sha2::{Digest, Sha256};
 use sip_read::Request;
@@ -18,7 +21,7 @@ const MOST: usize = 65_536;
 const LOOKS: u32 = 2;
 
 /// How the branch of a request begins whose sender chose it unique (RFC 3261 section 8.1.1.7). By no other branch a request is known again.
-const COOKIE: &str = "z9hG4bK";
+const COOKIE: &[u8] = b"z9hG4bK";
 
 /// What names a request: the SHA-256 of its text. So a long text takes no more memory than a short one.
 type Name = [u8; 32];
@@ -33,19 +36,24 @@ pub(crate) struct Newcomer<'a> {
 
 impl Newcomer<'_> {
     /// What names it: whose it is, what it asks for, and its transaction (RFC 3261 section 17.2.3). None where its branch doesn't begin with
-    /// the cookie, or memory is wanting.
-    fn name(&self, alloc: Global) -> Option<Name> {
-        let branch = self.request.head.top.branch.as_ref()?.as_str();
-        if !branch.starts_with(COOKIE) {
-            return None;
+    /// the cookie.
+    fn name(&self, alloc: Global) -> Result<Option<Name>, NoMemory>
+        ensures { IfOk result (λ name. name ≡ spec.request_name self.now.request.now self.now.source) }
+    {
+        let Some(branch) = &self.request.head.top.branch else {
+            return Ok(None);
+        };
+        let branch = branch.as_str();
+        if !branch.as_bytes().starts_with(COOKIE) {
+            return Ok(None);
         }
         let sender = self.request.head.top.sent_by.as_str();
         let method = self.request.method.as_str();
         let uri = self.request.uri.as_str();
         let call = self.request.head.call_id.as_str();
         let source = source(self.source);
-        let text = format!(in alloc; "{source} {method} {uri} {sender} {branch} {call}").ok()?;
-        Some(<Sha256 as Digest>::digest(text.as_bytes()))
+        let text = format!(in alloc; "{source} {method} {uri} {sender} {branch} {call}")?;
+        Ok(Some(<Sha256 as Digest>::digest(text.as_bytes())))
     }
 }
 
@@ -60,7 +68,9 @@ pub(crate) struct Newcomers {
 
 impl Newcomers {
     /// None.
-    pub(crate) fn new(alloc: Global) -> Newcomers {
+    pub(crate) fn new(alloc: Global) -> Newcomers
+        ensures { result.passed.entries ≡ [] }
+    {
         Newcomers {
             alloc,
             passed: BTreeMap::new(alloc),
@@ -69,7 +79,9 @@ impl Newcomers {
     }
 
     /// Whether it was let through, so lately that it may come again.
-    fn is_known(&self, name: &Name, now: u64) -> bool {
+    fn is_known(&self, name: &Name, now: u64) -> bool
+        ensures { result ≡ spec.is_recent (passed_when self.now.passed name.now) now }
+    {
         match self.passed.get(name) {
             Some(moment) => now.saturating_sub(*moment) < LIFE,
             None => false,
@@ -77,7 +89,9 @@ impl Newcomers {
     }
 
     /// Looks at the first ones, and drops those of them that come no more.
-    fn sweep(&mut self, now: u64) {
+    fn sweep(&mut self, now: u64)
+        ensures { (n : List ℕ) → IsSwept (passed_when self.old.passed n) (passed_when self.new.passed n) }
+    {
         for _ in 0..LOOKS {
             let Some(name) = self.order.front().copied() else {
                 return;
@@ -91,9 +105,13 @@ impl Newcomers {
     }
 
     /// This one is let through. Without memory or room it isn't known that it comes again.
-    pub(crate) fn pass(&mut self, newcomer: Newcomer<'_>) -> Result<(), NoMemory> {
+    pub(crate) fn pass(&mut self, newcomer: Newcomer<'_>) -> Result<(), NoMemory>
+        // None but this one is known from now on.
+        ensures { (n : List ℕ) → IsPassed (spec.request_name newcomer.entry.request.now newcomer.entry.source) newcomer.entry.moment n
+            (passed_when self.old.passed n) (passed_when self.new.passed n) }
+    {
         self.sweep(newcomer.moment);
-        let Some(name) = newcomer.name(self.alloc) else {
+        let Some(name) = newcomer.name(self.alloc)? else {
             return Ok(());
         };
         if self.order.len() >= MOST || self.passed.contains_key(&name) {
@@ -109,10 +127,14 @@ impl Newcomers {
     }
 
     /// Whether it was let through before, and comes again.
-    pub(crate) fn is_again(&self, newcomer: Newcomer<'_>) -> bool {
+    pub(crate) fn is_again(&self, newcomer: Newcomer<'_>) -> bool
+        // Where it is: without memory it isn't known.
+        ensures { IsTrue result → (name : List ℕ) × (spec.request_name newcomer.entry.request.now newcomer.entry.source ≡ Some name)
+            × (spec.is_recent (passed_when self.now.passed name) newcomer.entry.moment ≡ true) }
+    {
         match newcomer.name(self.alloc) {
-            Some(name) => self.is_known(&name, newcomer.moment),
-            None => false,
+            Ok(Some(name)) => self.is_known(&name, newcomer.moment),
+            Ok(None) | Err(_) => false,
         }
     }
 }

@@ -1,5 +1,6 @@
 //! Whose control lines are heard, and what operators tell of mailboxes.
-ghost use Rattle.std.specs.Prelude.{◌≡◌};
+ghost use Rattle.std.specs.Prelude.{◌≡◌, OnOk, OnErr};
+ghost use Rattle.sip_text.specs.Reading.{begins};
 ghost use Rattle.admission.specs.Verdicts as verdicts;
 ghost use Rattle.service.specs.Taken as spec;
 ghost use Rattle.service.specs.Taken.{told_of, operators_in};
@@ -7,7 +8,8 @@ ghost use Rattle.service.specs.Taken.{told_of, operators_in};
 use admission::Network;
 use control_lines::ToldCounts;
 use package::Change;
-use sip_text::Addr;
+use sip_text::{Addr, NoMemory};
+use std::alloc::Global;
 
 /// This machine: 127.0.0.0/8 (RFC 1122 section 3.2.1.3).
 fn loopback() -> Network
@@ -91,6 +93,51 @@ pub(crate) fn is_known(told: &ToldCounts, change: &Change) -> bool
     match change {
         Change::Mail(change) => told.place(change.mailbox()).is_some(),
         Change::Begin(_) | Change::Step(_) | Change::Forget(_) => true,
+    }
+}
+
+/// How many bytes the name of a mailbox has at most that a line makes: so each answer about it fits a datagram by far.
+const LONGEST_NAME: usize = 1024;
+
+/// Whether it has `-` in front.
+fn is_dashed(name: &str) -> bool
+    ensures { result ≡ begins 45 name.now }
+{
+    matches!(name.as_bytes(), [b'-', ..])
+}
+
+/// Whether it has no `@` and no `:`, which end the user of an address (RFC 3261 section 19.1.1).
+fn is_user(name: &str) -> bool
+    ensures { result ≡ spec.is_user name.now }
+{
+    name.bytes().all(|byte| byte != b'@' && byte != b':')
+}
+
+/// Whether a line may make a mailbox of this name: a file of mailboxes may hold it, and it is no longer than [`LONGEST_NAME`].
+fn may_be_named(name: &str) -> bool
+    ensures { result ≡ spec.may_be_named name.now }
+{
+    name.len() <= LONGEST_NAME && is_user(name) && !is_dashed(name)
+}
+
+/// Whether a service that may have so many mailboxes by their MAIL lines makes that of this change: it has fewer, and its name may be one.
+pub(crate) fn makes(most: u32, told: &ToldCounts, change: &Change) -> bool
+    ensures { result ≡ spec.makes most told.now change.now }
+{
+    match change {
+        Change::Mail(change) => told.len() < most as usize && may_be_named(change.mailbox()),
+        Change::Begin(_) | Change::Step(_) | Change::Forget(_) => false,
+    }
+}
+
+/// The service has the mailbox that a change is of from now on, if it is of one.
+pub(crate) fn make(alloc: Global, told: &mut ToldCounts, change: &Change) -> Result<(), NoMemory>
+    ensures made { OnOk result (told.new ≡ spec.made change.now told.old) }
+    ensures unchanged { OnErr result (told.new ≡ told.old) }
+{
+    match change {
+        Change::Mail(change) => told.add(alloc, change.mailbox()),
+        Change::Begin(_) | Change::Step(_) | Change::Forget(_) => Ok(()),
     }
 }
 

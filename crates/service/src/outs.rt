@@ -1,5 +1,5 @@
 //! What the workers post, sent out, and each NOTIFY again that nobody answers.
-ghost use Rattle.std.specs.Prelude.{◌≡◌, ◌<◌, ◌^◌, ◌⊎◌, List, [], ◌∷◌, ◌++◌, true, false};
+ghost use Rattle.std.specs.Prelude.{◌≡◌, ◌==◌, ◌<◌, ◌^◌, ◌⊎◌, ℕ, List, [], ◌∷◌, ◌++◌, length, not, true, false};
 ghost use Rattle.transport.specs.Devices.{rises};
 ghost use Rattle.transactions.specs.Machine.{State};
 ghost use Rattle.watchers.specs.Rows.{Row};
@@ -10,7 +10,10 @@ ghost use Rattle.feeds.specs.Emitted as spec;
 ghost use Rattle.feeds.specs.Emitted.{MayMeet, Writes, sent_datagrams, fails_to_send, is_start};
 ghost use Rattle.service.specs.Departing.{Takes, next_outs};
 ghost use Rattle.service.specs.Keeping.{AreKept};
+ghost use Rattle.service.specs.Naps.{idle_nap, sending_nap};
+ghost use Rattle.transactions.specs.Machine.{next_moment};
 ghost use Rattle.service.specs.Sending.{Act, IsSentOut, fates, outflow, taking};
+ghost use Rattle.service.specs.Releasing.{HoldsOn, waits};
 ghost use Rattle.service.specs.Watched.{AreRowed};
 
 use crate::fates::Put;
@@ -46,17 +49,9 @@ const AT_ONCE: u32 = 64;
 
 /// How many are taken besides the first. Where no journal is kept they would wait in another place alone.
 fn taken_at_once(shared: &Shared) -> u32 {
-    if shared.has_journal() { AT_ONCE } else { 0 }
-}
-
-/// Notes whether a datagram was sent, and why not, where the system says so.
-fn note_error<W: Wire>(shared: &Shared, wire: &W, out: &Out, fate: Fate) {
-    match (out, fate) {
-        (Out::Answer { .. } | Out::Notify { .. }, Fate::Failed) => {
-            shared.note_send_error(wire.send_error());
-        }
-        (Out::Answer { .. } | Out::Notify { .. }, Fate::Sent) => shared.note_sent(),
-        _ => {}
+    match shared.journal.get() {
+        Some(_) => AT_ONCE,
+        None => 0,
     }
 }
 
@@ -87,10 +82,10 @@ impl Gate for Waker {
 
     fn handled<R: Wait>(&self, rt: &R, worker: u32, event: &Event, outs: &[Out]) {
         if self.shared.has_owners.load(Ordering::SeqCst) && concerns_dialogs(event, outs) {
-            self.shared.owners.lock(rt).follow(event, outs);
+            let _ = self.shared.owners.lock(rt).follow(event, outs);
         }
         if self.shared.logs_requests() {
-            self.shared.asked.lock(rt).note(event, outs);
+            let _ = self.shared.asked.lock(rt).note(event, outs);
         }
         // The planned stop is no part of a run that the next one goes on from.
         if matches!(event, Event::Shut) && self.shared.is_reloading() {
@@ -136,6 +131,16 @@ impl Gate for Waker {
     }
 }
 
+/// How many milliseconds the thread may sleep at this moment, where at that one a NOTIFY is due again, or none waits for its answer.
+fn idle_nap(next: Option<u64>, is_off: bool, now: u64) -> u64
+    ensures { result ≡ idle_nap next is_off now }
+{
+    match next {
+        Some(moment) => moment.saturating_sub(now).clamp(PACED_NAP, NAP),
+        None => if is_off { NAP } else { QUIET_NAP },
+    }
+}
+
 /// What outs leave by: datagrams by the wire, START lines by the writer.
 #[derive(Drop)]
 pub struct Exit<W, F> {
@@ -158,15 +163,15 @@ pub(crate) struct Outgoing {
 
 impl Outgoing {
     /// How many milliseconds the thread may sleep at this moment. Outs that are still to be kept have no moment yet.
-    fn nap(&self, now: u64) -> u64 {
+    fn nap(&self, now: u64) -> u64
+        ensures { result ≡ sending_nap (not (length self.now.waiting.burst.items == 0))
+            (next_moment self.now.waiting.transactions) self.now.waiting.is_off now }
+    {
         if !self.waiting.burst.is_empty() {
             return PACED_NAP;
         }
-        match self.waiting.transactions.next_moment() {
-            Some(moment) => moment.saturating_sub(now).clamp(PACED_NAP, NAP),
-            None if self.waiting.is_off() => NAP,
-            None => QUIET_NAP,
-        }
+        let next = self.waiting.transactions.next_moment();
+        idle_nap(next, self.waiting.is_off(), now)
     }
 
     /// Waits where nothing was posted: until a worker posts, but not for long, where nothing was done for some turns.
@@ -312,28 +317,17 @@ impl Departing {
         }
     }
 
-    /// Writes the records that wait for the journal, unless nothing was taken since that was done: from now on what was taken may leave.
+    /// Writes the records that wait for the journal, where one is kept and one of them is of an event with outs, unless nothing was taken
+    /// since that was done: from now on what was taken may leave. Its events were noted before it was posted.
     fn write<R: Wait>(&mut self, rt: &R, shared: &Shared)
         ensures outs { self.new.outs ≡ self.old.outs }
         ensures written { self.new.is_written ≡ true }
     {
         if !self.is_written {
-            shared.write_journal(rt);
+            if let Some(journal) = shared.journal.get() {
+                shared.count_unwritten(journal.flush(rt));
+            }
             self.is_written = true;
-        }
-    }
-
-    /// This out, which was taken, at the moment in which it leaves.
-    fn leaving(&self, now: u64, out: Out) -> Leaving
-        requires in_range { now < 2 ^ 63 }
-        ensures now { result.now ≡ now }
-        ensures out { result.out ≡ out }
-        ensures written { result.is_written ≡ self.now.is_written }
-    {
-        Leaving {
-            now,
-            out,
-            is_written: self.is_written,
         }
     }
 }
@@ -359,13 +353,20 @@ fn send_on<R: Wait + Eprint, W: Wire, F: Write>(
     ensures stays { is_start leaving.out ≡ false → exit.new.sink ≡ exit.old.sink }
     ensures kept { (s : State) (rows : List Row) (acts : List Act) → AreKept s rows acts waiting.old
         → AreKept s rows (acts ++ taking leaving.now leaving.out result ∷ []) waiting.new }
+    ensures held { HoldsOn (taking leaving.now leaving.out result ∷ []) (waits waiting.old.contacts) (waits waiting.new.contacts) }
 {
     let Leaving { now, out, .. } = leaving;
     let Some(out) = waiting.let_through(rt, out, shared) else {
         return Fate::Held;
     };
     let fate = put_out(rt, &mut exit.wire, &mut exit.sink, &out);
-    note_error(shared, &exit.wire, &out, fate);
+    match (&out, fate) {
+        (_, Fate::Sent) => shared.outages.note_sent(),
+        (Out::Answer { .. } | Out::Notify { .. }, Fate::Failed) => {
+            shared.note_send_error(exit.wire.send_error());
+        }
+        _ => {}
+    }
     waiting.put(rt, Put { now, out, fate }, shared);
     fate
 }
@@ -384,8 +385,9 @@ pub(crate) fn send_outs<R: Wait + Clock + Files<File = File> + Eprint, W: Wire, 
     requires workers { outgoing.old.workers ≡ outgoing.old.taker.workers }
     requires none { outgoing.old.taker.got ≡ [] }
     requires none_put { outgoing.old.waiting.burst.items ≡ [] }
+    requires none_waits { (tag : List ℕ) → waits outgoing.old.waiting.contacts tag ≡ [] }
     // Each out that was taken is sent, written, failed or held back, in order, and nothing else is sent or written but what was held
-    // back, and NOTIFYs again, as their transactions ask for it. Where the writer never failed, what it took is flushed. The rows of live subscriptions are what
+    // back, of each dialog in its order, and NOTIFYs again, as their transactions ask for it. Where the writer never failed, what it took is flushed. The rows of live subscriptions are what
     // was sent and noted makes of them.
     ensures sent { (acts : List Act) × (report : EmitReport)
         × IsSentOut outgoing.old.waiting.transactions outgoing.old.taker.workers acts outgoing.old.taker.got outgoing.new.taker.got
@@ -401,8 +403,8 @@ pub(crate) fn send_outs<R: Wait + Clock + Files<File = File> + Eprint, W: Wire, 
     let mut departing = Departing::new(outgoing.alloc);
     let mut watch = Watch::new(outgoing.linger);
     for _ in rt.forever() {
-        watch.look(rt, shared);
-        if departing.is_empty() && watch.is_over(left, outgoing.waiting.len()) {
+        watch.begin_turn(rt, shared);
+        if left == 0 && departing.is_empty() && watch.is_over(outgoing.waiting.len()) {
             outgoing.waiting.settle(rt, shared);
             outgoing.waiting.given_up.tell_others(rt, shared);
             outgoing.waiting.refusals.tell_others(rt, shared);
@@ -416,8 +418,13 @@ pub(crate) fn send_outs<R: Wait + Clock + Files<File = File> + Eprint, W: Wire, 
             .tend(rt, &mut exit.wire, &mut watch, shared);
         match departing.next_out(rt, &mut outgoing.taker, &mut left, shared) {
             Next::Out(out) => {
+                watch.begin_out(rt, shared);
                 departing.write(rt, shared);
-                let next = departing.leaving(watch.now(), out);
+                let next = Leaving {
+                    now: watch.now(),
+                    out,
+                    is_written: departing.is_written,
+                };
                 send_on(rt, exit, &mut outgoing.waiting, next, shared);
                 watch.count_out();
             }

@@ -7,7 +7,7 @@ use crate::window::WatchersPage;
 use crossbeam_queue::ArrayQueue;
 use package::Progress;
 use sip_read::{Head, Response};
-use sip_text::{NoMemory, Text};
+use sip_text::{Addr, NoMemory, Text};
 use std::alloc::Global;
 use std::sync::Wait;
 use watchers::Inquiry;
@@ -73,13 +73,18 @@ impl Post {
 
     /// Takes the next one, if one waits.
     pub(crate) fn take<R: Wait>(&self, rt: &R) -> Option<Parcel> {
+        // Most often none waits: a look costs less than to take one.
+        if self.queue.is_empty() {
+            return None;
+        }
         self.queue.pop(rt)
     }
 }
 
-/// An answer to a NOTIFY: the local tag of its dialog, the number of its CSeq, and the status.
+/// An answer to a NOTIFY: where it came from, the local tag of its dialog, the number of its CSeq, and the status.
 #[derive(Debug, Drop)]
 pub(crate) struct Note {
+    pub(crate) source: Addr,
     pub(crate) tag: Text,
     pub(crate) number: u32,
     pub(crate) status: u16,
@@ -98,14 +103,15 @@ fn answered_tag(head: &Head) -> Option<&Text>
     }
 }
 
-/// The note of a response, if it answers a NOTIFY.
-fn new_note(alloc: Global, response: &Response) -> Result<Option<Note>, NoMemory>
-    ensures { IfOk result (λ note. note ≡ spec.note_of response.now) }
+/// The note of a response that came from this address, if it answers a NOTIFY.
+fn new_note(alloc: Global, source: Addr, response: &Response) -> Result<Option<Note>, NoMemory>
+    ensures { IfOk result (λ note. note ≡ spec.note_of source response.now) }
 {
     let Some(tag) = answered_tag(&response.head) else {
         return Ok(None);
     };
     Ok(Some(Note {
+        source,
         tag: tag.copy(alloc)?,
         number: response.head.cseq,
         status: response.status,
@@ -125,10 +131,10 @@ impl Notes {
         Ok(Notes { post })
     }
 
-    /// Puts the note of a response, if it answers a NOTIFY. Where there is no room or no memory it is dropped: its
-    /// NOTIFY is sent once more then.
-    pub(crate) fn put<R: Wait>(&self, rt: &R, alloc: Global, response: &Response) {
-        if let Ok(Some(note)) = new_note(alloc, response) {
+    /// Puts the note of a response that came from this address, if it answers a NOTIFY. Where there is no room or no memory it is dropped:
+    /// its NOTIFY is sent once more then.
+    pub(crate) fn put<R: Wait>(&self, rt: &R, alloc: Global, source: Addr, response: &Response) {
+        if let Ok(Some(note)) = new_note(alloc, source, response) {
             self.post.put(rt, Parcel::Note(note));
         }
     }

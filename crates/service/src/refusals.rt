@@ -14,6 +14,9 @@ const KINDS: usize = 6;
 /// Those that phones refuse a NOTIFY with (RFC 6665 section 8.3.2, RFC 3261 section 21.4 to 21.6). Any other counts with all others.
 const CODES: [u16; KINDS] = [403, 404, 405, 489, 500, 603];
 
+/// The least status of an answer by which a request isn't accepted (RFC 3261 section 7.2).
+const REFUSED: u16 = 300;
+
 /// How many NOTIFYs were refused with each status code.
 #[derive(Drop)]
 pub(crate) struct RefusalCounts {
@@ -90,9 +93,13 @@ impl<'a> Refusal<'a> {
 
 /// The NOTIFY that this answer refuses, if it does. Each counts once, however often its answer comes.
 pub(crate) fn refused<'a>(watchers: &'a Watchers, note: &'a Note) -> Option<Refusal<'a>> {
+    let code = note.status;
+    // Most often the NOTIFY is taken: so nobody looks for its row.
+    if code < REFUSED {
+        return None;
+    }
     let tag = note.tag.as_str();
     let row = watchers.find(tag)?;
-    let code = note.status;
     if row.is_refused(note.number, code) {
         Some(Refusal { tag, row, code })
     } else {

@@ -3,13 +3,22 @@
 //!
 //! The thread that takes lines asks for it, and waits a while. One that whoever runs the service has started reads the files and tells what
 //! came of it (`Rereader`). So a service begins its next run only once its files are known to be good.
+//!
+//! Where MAIL lines make mailboxes the service itself asks for it, soon behind the first one: the desks of a run have the mailboxes with which
+//! it began. The names stand in the journal alone.
 
+ghost use Rattle.std.specs.Prelude.{◌≡◌, ℕ};
+ghost use Rattle.service.specs.Naps.{reading_nap};
+
+use crate::logging::has_room;
 use crate::shared::Shared;
 use control_lines::Token;
 use crossbeam_utils::sync::{Parker, Unparker};
+use log_lines::{Ending, Record};
 use sip_text::{Addr, NoMemory};
 use std::alloc::Global;
 use std::rt::Clock;
+use std::sync::atomic::{AtomicBool, AtomicU64, Ordering};
 use std::sync::{Arc, Mutex, OnceLock, Wait};
 use std::thread;
 use std::time::Duration;
@@ -22,6 +31,18 @@ const NAP: u64 = 2;
 
 /// For how many milliseconds who reads sleeps at most. Whoever asks wakes it.
 const SLEEP: u64 = 1000;
+
+/// For how many milliseconds mailboxes that lines make are gathered before a next run begins that has them.
+const GATHERING: u64 = 100;
+
+/// How many milliseconds a run lasts at least that ends for mailboxes.
+const SHORTEST: u64 = 1000;
+
+/// How many milliseconds pass till it is tried again to end a run for mailboxes: files were bad, or the journal has too many of them.
+const AGAIN: u64 = 5000;
+
+/// No moment is so late.
+const NEVER: u64 = u64::MAX;
 
 /// Who sent a control line.
 #[derive(Clone, Copy)]
@@ -46,7 +67,7 @@ pub(crate) enum Reloading {
 /// What was asked last.
 #[derive(Drop)]
 struct Wish {
-    /// Who asks.
+    /// Who asks. None: nobody, or the service itself, for mailboxes that lines made.
     caller: Option<Caller>,
     /// How many were asked before.
     number: u64,
@@ -114,20 +135,48 @@ impl Wish {
         }
     }
 
-    /// The files are good, as was asked by this number. What is asked since is read for anew.
-    fn accept(&mut self, number: u64) {
-        if self.number == number {
-            self.stage = Reloading::Begins;
-        }
+    /// The service itself asks, for mailboxes that lines made. The number of what is to be read.
+    fn ask_alone(&mut self) -> u64 {
+        self.number = self.number.wrapping_add(1);
+        self.stage = Reloading::Waits;
+        self.caller = None;
+        self.why = None;
+        self.number
     }
 
-    /// They are not, or can't be read again, and this is why.
-    fn refuse(&mut self, number: u64, why: Option<String>) {
-        if self.number == number {
-            self.stage = Reloading::Refused;
-            self.why = why;
+    /// The number of what is to be read next: for who asks, or else for mailboxes, where these are due.
+    fn next(&mut self, is_due: bool) -> Option<u64> {
+        if let Some(number) = self.wanted() {
+            return Some(number);
         }
+        if is_due { Some(self.ask_alone()) } else { None }
     }
+
+    /// The files are good, as was asked by this number. What is asked since is read for anew. Whether the service itself asked.
+    fn accept(&mut self, number: u64) -> bool {
+        if self.number != number {
+            return false;
+        }
+        self.stage = Reloading::Begins;
+        self.caller.is_none()
+    }
+
+    /// They are not, or can't be read again, and this is why. Whether the service itself asked.
+    fn refuse(&mut self, number: u64, why: Option<String>) -> bool {
+        if self.number != number {
+            return false;
+        }
+        self.stage = Reloading::Refused;
+        self.why = why;
+        self.caller.is_none()
+    }
+}
+
+/// For how many milliseconds who reads may sleep at this moment, where files are due at that one.
+fn nap_until(due: u64, now: u64) -> u64
+    ensures { result ≡ reading_nap due now }
+{
+    due.saturating_sub(now).clamp(NAP, SLEEP)
 }
 
 /// What was asked last, and who reads the files.
@@ -136,6 +185,10 @@ pub(crate) struct Reloads {
     wish: Mutex<Wish>,
     /// What wakes the thread that reads, once there is one.
     reader: OnceLock<Unparker>,
+    /// The moment at which files are read for mailboxes that lines made, or NEVER.
+    due: AtomicU64,
+    /// Whether those files are good.
+    is_read: AtomicBool,
 }
 
 impl Reloads {
@@ -144,7 +197,40 @@ impl Reloads {
         Reloads {
             wish: Mutex::new(Wish::new()),
             reader: OnceLock::new(),
+            due: AtomicU64::new(NEVER),
+            is_read: AtomicBool::new(false),
         }
+    }
+
+    /// A line made a mailbox at this moment, in milliseconds: soon the files are read for it. Who comes meanwhile comes along.
+    pub(crate) fn want_names(&self, now: u64) {
+        if self.due.load(Ordering::SeqCst) == NEVER {
+            let due = now.saturating_add(GATHERING).max(SHORTEST);
+            self.due.store(due, Ordering::SeqCst);
+            self.wake();
+        }
+    }
+
+    /// Whether the files are good that were read for mailboxes: the run is to end.
+    pub(crate) fn has_names(&self) -> bool {
+        self.is_read.load(Ordering::SeqCst)
+    }
+
+    /// Whether files are to be read for mailboxes at this moment. Should they be bad they are read again later.
+    fn take_due(&self, now: u64) -> bool {
+        let is_due = self.due.load(Ordering::SeqCst) <= now;
+        if is_due {
+            self.due.store(now.saturating_add(AGAIN), Ordering::SeqCst);
+        }
+        is_due
+    }
+
+    /// For how many milliseconds who reads may sleep at this moment.
+    fn nap(&self, now: u64) -> u64
+        // When they are due no contract can tell: another thread says so.
+        ensures { (due : ℕ) × (result ≡ reading_nap due now) }
+    {
+        nap_until(self.due.load(Ordering::SeqCst), now)
     }
 
     /// From now on this wakes the thread that reads.
@@ -181,7 +267,7 @@ impl Reloads {
         let mut wish = self.wish.lock(rt);
         wish.ask(caller);
         let number = wish.number;
-        wish.refuse(number, why);
+        let _ = wish.refuse(number, why);
     }
 
     /// How far it is.
@@ -192,6 +278,8 @@ impl Reloads {
     /// Asks who reads to read, and waits a while for what comes of it.
     pub(crate) fn ask<R: Wait + Clock>(&self, rt: &R, caller: Caller) -> Reloading {
         self.wish.lock(rt).ask(caller);
+        // What was read before is not what this asks for.
+        self.is_read.store(false, Ordering::SeqCst);
         self.wake();
         for _ in 0..LOOKS {
             match self.stage(rt) {
@@ -234,21 +322,45 @@ impl Rereader {
             if self.shared.is_finished() {
                 return None;
             }
-            if let Some(number) = self.shared.reloads.wish.lock(rt).wanted() {
+            let now = self.shared.moment(rt).unwrap_or(0);
+            if let Some(number) = self.wanted(rt, now) {
                 return Some(number);
             }
-            self.parker.park_timeout(rt, Duration::from_millis(SLEEP));
+            let nap = self.shared.reloads.nap(now);
+            self.parker.park_timeout(rt, Duration::from_millis(nap));
         }
         unreachable!()
     }
 
-    /// The files that were read for who has this number are good.
-    pub fn accept<R: Wait>(&self, rt: &R, number: u64) {
-        self.shared.reloads.wish.lock(rt).accept(number);
+    /// The number of who asks, if somebody does at this moment: for mailboxes where the next run can go on from the journal.
+    fn wanted<R: Wait>(&self, rt: &R, now: u64) -> Option<u64> {
+        let reloads = &self.shared.reloads;
+        let is_due = reloads.take_due(now) && self.shared.may_end_for_mailboxes(rt);
+        reloads.wish.lock(rt).next(is_due)
     }
 
-    /// They are not, or memory ran out: why, if there is memory to say so.
-    pub fn refuse<R: Wait>(&self, rt: &R, number: u64, why: Option<String>) {
-        self.shared.reloads.wish.lock(rt).refuse(number, why);
+    /// The files that were read for who has this number are good.
+    pub fn accept<R: Wait>(&self, rt: &R, number: u64) {
+        let reloads = &self.shared.reloads;
+        if reloads.wish.lock(rt).accept(number) {
+            reloads.is_read.store(true, Ordering::SeqCst);
+        }
+    }
+
+    /// Says on standard error why a start with these files would end, with this exit status.
+    pub fn say_why<R: Eprint>(&self, rt: &R, status: u8, text: &str) {
+        if has_room() {
+            let ending = Ending::Refused {
+                status: u64::from(status),
+                text,
+            };
+            self.shared.tell(rt, &Record::Ending(ending));
+        }
+    }
+
+    /// They are not, or memory ran out: why, if there is memory to say so. Whether nobody is told of that, since they were read for mailboxes
+    /// that lines made.
+    pub fn refuse<R: Wait>(&self, rt: &R, number: u64, why: Option<String>) -> bool {
+        self.shared.reloads.wish.lock(rt).refuse(number, why)
     }
 }

@@ -10,6 +10,7 @@ ghost use Rattle.service.specs.declared.running.Sources.{Sources};
 ghost use Rattle.transport.specs.Sockets.{misses};
 ghost use Rattle.transactions.specs.Machine.{empty};
 ghost use Rattle.service.specs.Running.{Opening, Runs, Leaves, AreFaults, IsFresh, beginning, is_faulty, opening};
+ghost use Rattle.service.specs.Releasing.{waits};
 ghost use Rattle.service.specs.Sending.{open_first, outflow};
 ghost use Rattle.service.specs.Taken.{seen};
 ghost use Rattle.service.specs.Ticks.{new_stopwatch};
@@ -216,6 +217,7 @@ fn wind_up<R: Threads + Wait + Clock + Files<File = File> + Eprint, W: Wire, F: 
 )
     requires new { (stands : ℕ → Standing) × (ports : List PortSeats) × IsNew stands ports running }
     requires none_put { running.outgoing.waiting.burst.items ≡ [] }
+    requires none_waits { (tag : List ℕ) → waits running.outgoing.waiting.contacts tag ≡ [] }
     ensures { (stands : ℕ → Standing) (ports : List PortSeats) (tick : ℕ) → IsNew stands ports running
         → Leaves (begins_so stands running tick) running.outgoing.workers
         (outflow W.taken W.failures F.contents exit.old exit.new) }
@@ -243,6 +245,7 @@ fn send_to_end<R: Threads + Wait + Clock + Files<File = File> + Eprint, W: Wire,
 ) -> ServiceEnd
     requires new { (stands : ℕ → Standing) × (lent : List PortSeats) × IsNew stands lent running × AreLent lent feeders }
     requires none_put { running.outgoing.waiting.burst.items ≡ [] }
+    requires none_waits { (tag : List ℕ) → waits running.outgoing.waiting.contacts tag ≡ [] }
     requires errands { (sources : Sources) × AreErrands sources feeders }
     requires room { (vec_len ports ≡ 0) × (3 ≤ vec_capacity ports) }
     ensures faults { (sources : Sources) → AreErrands sources feeders → sources.stopwatch.failures ≡ 0
@@ -299,6 +302,7 @@ where
     requires some { 0 < running.outgoing.workers }
     requires new { (stands : ℕ → Standing) × IsNew stands ports.items running }
     requires none_put { running.outgoing.waiting.burst.items ≡ [] }
+    requires none_waits { (tag : List ℕ) → waits running.outgoing.waiting.contacts tag ≡ [] }
     requires unfailed { sources.stopwatch.failures ≡ 0 }
     ensures served { IfOk result (λ o. (stands : ℕ → Standing) → IsNew stands ports.items running
         → (opened : Opening) → IsFresh opened running.outgoing.workers (seen sources.desk)
@@ -366,6 +370,7 @@ fn new_waiting(
 ) -> Result<Waiting, NoMemory>
     ensures none { IfOk result (λ w. w.transactions ≡ empty repeats) }
     ensures none_put { IfOk result (λ w. w.burst.items ≡ []) }
+    ensures none_waits { IfOk result (λ w. (tag : List ℕ) → waits w.contacts tag ≡ []) }
 {
     let transactions = Transactions::new(alloc, repeats)?;
     let contacts = Contacts::new(alloc, rows.saturating_add(repeats.all), repeats.all);
@@ -411,6 +416,7 @@ fn make_ready<R: Wait>(
     ensures stopwatch { IfOk result (λ r. r.sources.stopwatch ≡ new_stopwatch work.begins.tick) }
     ensures first { IfOk result (λ r. r.sending.waiting.transactions ≡ open_first work.repeats work.begins.unanswered.items) }
     ensures none_put { IfOk result (λ r. r.sending.waiting.burst.items ≡ []) }
+    ensures none_waits { IfOk result (λ r. (tag : List ℕ) → waits r.sending.waiting.contacts tag ≡ []) }
 {
     let rows = work.setup.limits.table().saturating_mul(workers);
     let mut waiting = new_waiting(alloc, work.repeats, rows, &work.sip.admission)?;

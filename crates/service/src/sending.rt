@@ -1,10 +1,12 @@
 //! The NOTIFYs that nobody has answered yet, sent again (RFC 3261 section 17.1.2).
-ghost use Rattle.std.specs.Prelude.{◌≡◌, ◌<◌, ◌^◌, ℕ, List, [], ◌∷◌, ◌++◌, map, true, is_some, IfOk, IfSome, IfNone, OnSome};
-ghost use Rattle.service.specs.Watched.{IsRetargeted, IsSeen, AreRowed, noted_rows};
+ghost use Rattle.std.specs.Prelude.{◌≡◌, ◌<◌, ◌^◌, ℕ, List, [], ◌∷◌, ◌++◌, map, true, false, is_some, IfOk, IfSome, IfNone, OnSome, OnOk, OnErr};
+ghost use Rattle.service.specs.Watched.{IsRetargeted, IsTold, IsSeen, AreRowed, has_contact, noted_rows};
+ghost use Rattle.service.specs.Naps.{is_busy};
 ghost use Rattle.watchers.specs.Rows.{without};
 ghost use Rattle.transport.specs.Wires.{Grows};
 ghost use Rattle.transport.specs.Devices.{rises};
 ghost use Rattle.feeds.specs.Emitted.{WireSeen, wire_seen, sent_datagrams, count, fails_to_send};
+ghost use Rattle.first_contact.specs.Outcomes.{IsAnswer};
 ghost use Rattle.first_contact.specs.Steps.{notice_of};
 ghost use Rattle.transactions.specs.Machine.{State, answer};
 ghost use Rattle.transactions.specs.Runs.{after, state_after};
@@ -12,6 +14,7 @@ ghost use Rattle.watchers.specs.Rows.{Row, answered_rows};
 ghost use Rattle.service.specs.Keeping.{act_of, AreKept, GoesOnBy};
 ghost use Rattle.service.specs.Sending.{Act, Held, Does, fates, kept_after, sent_again};
 ghost use Rattle.service.specs.Sending as act;
+ghost use Rattle.service.specs.Releasing.{AreReleased, Fewer, HoldsOn, ReleasesFirst, WaitsBehind, ahead, waits};
 ghost use Rattle.service.specs.Taken.{failures_then};
 ghost use Rattle.service.specs.Noted.{answer_of};
 ghost use Rattle.service.specs.declared.post.Note.{Note};
@@ -30,7 +33,6 @@ use circular_buffer::HeapCircularBuffer;
 use feeds::{Fate, Idle};
 use first_contact::{Contacts, Notice, Offered};
 use notifier_model::{NotifyOut, Out};
-use outage_clock::Look;
 use sip_text::NoMemory;
 use std::alloc::Global;
 use std::fs::File;
@@ -38,7 +40,7 @@ use std::rt::{Clock, Files};
 use std::sync::Wait;
 use transactions::{Open, Transactions};
 use transport::Wire;
-use watchers::{Known, Watchers};
+use watchers::{Known, NoRow, Watchers};
 
 /// How many notes are taken between two looks at what is due and what was posted: as many as outs are sent between two looks at notes.
 const NOTES_AT_ONCE: u32 = OUTS_AT_ONCE;
@@ -78,6 +80,8 @@ pub(crate) struct Watch {
     moment: u64,
     /// For how many seconds the service was up then.
     second: u64,
+    /// Whether that look was in this turn.
+    has_looked: bool,
     /// Whether time stood still then, since each send fails.
     stands: bool,
     /// How many NOTIFYs may be sent again in it.
@@ -99,6 +103,7 @@ impl Watch {
         Watch {
             moment: 0,
             second: 0,
+            has_looked: false,
             stands: false,
             repeats: PACE,
             outs: 0,
@@ -137,38 +142,65 @@ impl Watch {
         self.idle.yields()
     }
 
-    /// Whether only what is posted counts in this turn: outs follow one another, and not too many yet, or the next one may be posted soon.
-    /// So neither a change to many phones nor a short wait costs much. Where outs trickle and the processors are busy, each turn without one
-    /// may take long: so only a few of them are waited for.
-    pub(crate) fn is_busy(&self) -> bool {
-        let is_first = self.outs == 0 && self.idle.is_none();
-        let is_brief = self.idle.is_short() && self.empty < FEW_EMPTY;
-        !is_first && self.outs < OUTS_AT_ONCE && is_brief
+    /// Whether only what is posted counts: outs follow one another, or the next one may be posted soon. So neither a change to many phones nor a
+    /// short wait costs much. Where outs trickle and the processors are busy, each turn without one may take long: so only a few of them are
+    /// waited for.
+    fn is_busy(&self) -> bool
+        ensures { result ≡ is_busy self.now }
+    {
+        let has_begun = self.outs > 0 || !self.idle.is_none();
+        has_begun && self.outs < OUTS_AT_ONCE && self.idle.is_short() && self.empty < FEW_EMPTY
     }
 
-    /// The notes and what is due are looked at in this turn. Whether nothing was posted in one since the last time.
-    fn begin_look(&mut self) -> bool {
-        self.outs = 0;
-        let was_empty = self.empty > 0;
-        self.empty = 0;
-        was_empty
-    }
-
-    /// Looks at the clock, unless outs follow one another: an out that comes behind a wait is of a moment of its own. Where the clock
-    /// can't be read no answer is waited for, nor where the next run waits for them.
-    pub(crate) fn look<R: Wait + Clock + Files<File = File>>(&mut self, rt: &R, shared: &Shared) {
+    /// A turn begins. Looks at the clock, unless only what is posted counts in it. Where the next run waits for answers this one
+    /// waits for none.
+    pub(crate) fn begin_turn<R: Wait + Clock + Files<File = File>>(
+        &mut self,
+        rt: &R,
+        shared: &Shared,
+    ) {
         if shared.is_reloading() {
             self.linger = 0;
         }
-        if self.idle.is_none() && self.outs % OUTS_A_LOOK != 0 {
-            return;
+        self.has_looked = false;
+        if !self.is_busy() {
+            self.look(rt, shared);
         }
+    }
+
+    /// An out is about to leave. Looks at the clock, unless it did in this turn or outs follow one another: an out that comes behind a wait is
+    /// of a moment of its own.
+    pub(crate) fn begin_out<R: Wait + Clock + Files<File = File>>(
+        &mut self,
+        rt: &R,
+        shared: &Shared,
+    ) {
+        let follows = self.idle.is_none() && self.outs % OUTS_A_LOOK != 0;
+        if !self.has_looked && !follows {
+            self.look(rt, shared);
+        }
+    }
+
+    /// Looks at the clock. Where it can't be read no answer is waited for.
+    fn look<R: Wait + Clock + Files<File = File>>(&mut self, rt: &R, shared: &Shared) {
+        self.has_looked = true;
         let Some((reading, look)) = shared.look(rt) else {
             self.until = Some(0);
             return;
         };
         self.begin_second(rt, shared, reading / SECOND);
-        self.begin_moment(look);
+        self.stands = look.stands;
+        if look.moment <= self.moment {
+            return;
+        }
+        let passed = look.moment.saturating_sub(self.moment).min(CATCH_UP);
+        // As time begins to stand still one NOTIFY is tried at once.
+        self.repeats = if look.stands {
+            1
+        } else {
+            PACE.saturating_mul(passed as u32)
+        };
+        self.moment = look.moment;
     }
 
     /// The service is up for so many seconds. In each the files are looked at, and where time stands still one NOTIFY is tried.
@@ -184,33 +216,13 @@ impl Watch {
         }
     }
 
-    /// So the clock was found. As time begins to stand still one NOTIFY is tried at once.
-    fn begin_moment(&mut self, look: Look) {
-        self.stands = look.stands;
-        if look.moment <= self.moment {
-            return;
-        }
-        let passed = look.moment.saturating_sub(self.moment).min(CATCH_UP);
-        self.repeats = if look.stands {
-            1
-        } else {
-            PACE.saturating_mul(passed as u32)
-        };
-        self.moment = look.moment;
-    }
-
     /// Whether time stands still, since each send fails.
     pub(crate) fn stands(&self) -> bool {
         self.stands
     }
 
-    /// Whether nothing is left to be done, where so many workers haven't ended and so many NOTIFYs wait for their answers.
-    pub(crate) fn is_over(&mut self, left: u32, waiting: usize) -> bool
-        ensures ended { result ≡ true → left ≡ 0 }
-    {
-        if left > 0 {
-            return false;
-        }
+    /// Whether nothing is left to be done, where each worker has ended and so many NOTIFYs wait for their answers.
+    pub(crate) fn is_over(&mut self, waiting: usize) -> bool {
         let until = match self.until {
             Some(until) => until,
             None => self.moment.saturating_add(self.linger),
@@ -228,7 +240,7 @@ fn send_again<R: Wait, W: Wire>(rt: &R, wire: &mut W, due: &Open, shared: &Share
 {
     match wire.send(rt, due.to, due.bytes.as_slice()) {
         Ok(()) => {
-            shared.note_sent();
+            shared.outages.note_sent();
             shared.count(Counter::Repeat);
             false
         }
@@ -254,34 +266,20 @@ fn count_given_up<R: Eprint>(
     }
 }
 
-/// The local tag and the number of a NOTIFY. None of any other out, or without memory.
-fn notify_name(alloc: Global, out: &Out) -> Option<(String, u32)> {
-    match out {
-        Out::Notify { tag, number, .. } => {
-            Some((String::from_str(alloc, tag.as_str()).ok()?, *number))
-        }
-        _ => None,
-    }
+/// Takes down the tag of a NOTIFY in the place of the one before: none where there is no memory for it.
+fn take_down(offered: &mut String, tag: &str) {
+    offered.clear();
+    let _ = offered.push_str(tag);
 }
 
-/// The worker of this NOTIFY, which isn't sent now, may end its subscription before its answer comes.
-fn doubt(doubts: &mut Doubts, name: Option<(String, u32)>) {
-    let Some((tag, number)) = name else {
+/// The worker of the NOTIFY with this tag and number, which isn't sent now, may end its subscription before its answer comes. Where there was
+/// no memory for the tag nobody asks it.
+fn doubt(doubts: &mut Doubts, tag: &str, number: u32) {
+    if tag.is_empty() {
         return;
-    };
+    }
     let now = doubts.moment();
-    doubts.add(tag.as_str(), number, now);
-}
-
-/// This NOTIFY goes out, and so many that waited before it never do.
-fn count_lost(doubts: &mut Doubts, shared: &Shared, name: Option<(String, u32)>, lost: usize) {
-    if lost == 0 {
-        return;
-    }
-    shared.count_held_dropped(lost);
-    if let Some((tag, _)) = name {
-        doubt(doubts, Some((tag, NEVER_SENT)));
-    }
+    doubts.add(tag, number, now);
 }
 
 /// What the subscription of this NOTIFY watches: `-` where it has no row.
@@ -315,7 +313,9 @@ fn named<'a>(name: &'a str, _contact: &'a str) -> Option<&'a str> {
 }
 
 /// Whether the row with this tag has this Contact.
-fn has_contact(watchers: &Watchers, tag: &str, contact: &str) -> bool {
+fn has_contact(watchers: &Watchers, tag: &str, contact: &str) -> bool
+    ensures { result ≡ has_contact tag.now contact.now watchers.now.rows }
+{
     match watchers.find(tag) {
         Some(row) => row.contact.is(contact),
         None => false,
@@ -323,17 +323,17 @@ fn has_contact(watchers: &Watchers, tag: &str, contact: &str) -> bool {
 }
 
 /// The row with this tag has this Contact from now on. Without memory for it, it keeps the one that it had.
-fn retarget_row(watchers: &mut Watchers, tag: &str, contact: &str)
-    ensures { IsRetargeted tag.now contact.now watchers.old.rows watchers.new.rows }
+#[tactic(auto, using(crate::proofs::Rowing::had_contact, crate::proofs::Rowing::took_contact))]
+fn retarget_row(watchers: &mut Watchers, tag: &str, contact: &str) -> Result<(), NoMemory>
+    ensures retargeted { OnOk result (IsRetargeted tag.now contact.now watchers.old.rows watchers.new.rows) }
+    ensures unchanged { OnErr result (watchers.new.rows ≡ watchers.old.rows) }
 {
     // Most often it has: so no memory is taken.
     if has_contact(watchers, tag, contact) {
-        return;
+        return Ok(());
     }
-    match watchers.retarget(tag, contact) {
-        Ok(()) => {}
-        Err(_) => {}
-    }
+    watchers.retarget(tag, contact)?;
+    Ok(())
 }
 
 /// The row with this tag goes. Whose it was, if it was there.
@@ -355,7 +355,7 @@ fn send_late<R: Wait, W: Wire>(rt: &R, wire: &mut W, out: &Out, shared: &Shared)
         Out::Notify { to, bytes, .. } | Out::Answer { to, bytes } => {
             match wire.send(rt, *to, bytes.as_slice()) {
                 Ok(()) => {
-                    shared.note_sent();
+                    shared.outages.note_sent();
                     Fate::Sent
                 }
                 Err(_) => {
@@ -370,7 +370,10 @@ fn send_late<R: Wait, W: Wire>(rt: &R, wire: &mut W, out: &Out, shared: &Shared)
 }
 
 /// What waited for the answer to this NOTIFY, which nobody waits for any more, is dropped.
-fn drop_held(contacts: &mut Contacts, tag: &str, number: u32, shared: &Shared) {
+#[tactic(auto, using(crate::proofs::Releasing::given_up_fewer))]
+fn drop_held(contacts: &mut Contacts, tag: &str, number: u32, shared: &Shared)
+    ensures fewer { Fewer (waits contacts.old) (waits contacts.new) }
+{
     let lost = contacts.give_up(tag, number);
     shared.count_held_dropped(lost);
 }
@@ -398,6 +401,8 @@ pub(crate) struct Waiting {
     pub(crate) transactions: Transactions,
     /// Which addresses have answered, and the NOTIFYs that wait for that.
     pub(crate) contacts: Contacts,
+    /// The tag of the NOTIFY that was offered to them last, as long as there is memory for it.
+    offered: String,
     pub(crate) watchers: Watchers,
     /// Who may have made their dialogs.
     users: Users,
@@ -425,6 +430,7 @@ impl Waiting {
     ) -> Result<Waiting, NoMemory>
         ensures transactions { IfOk result (λ w. w.transactions ≡ transactions) }
         ensures none { IfOk result (λ w. w.burst.items ≡ []) }
+        ensures contacts { IfOk result (λ w. w.contacts ≡ contacts) }
     {
         let burst = HeapCircularBuffer::with_capacity(alloc, OUTS_AT_ONCE as usize)?;
         Ok(Waiting {
@@ -435,6 +441,7 @@ impl Waiting {
             burst,
             is_off: contacts.places() == 0,
             contacts,
+            offered: String::new(alloc),
             counts_sources: admission.per_source.is_some(),
             doubts: Doubts::new(alloc),
             given_up: Losses::new(),
@@ -454,8 +461,10 @@ impl Waiting {
 
     /// Whether a NOTIFY that is sent now is kept, so that its answer is told, or its giving up. Where too many of its dialog are open alone
     /// it isn't, but what waits behind it ends with its subscription: so a stranger who has so many open draws no more by it.
+    #[tactic(auto, using(crate::proofs::Releasing::fewer_same))]
     fn has_room<R: Wait + Eprint>(&mut self, rt: &R, shared: &Shared) -> bool
         ensures kept { (s : State) (rows : List Row) (acts : List Act) → AreKept s rows acts self.old → AreKept s rows acts self.new }
+        ensures fewer { Fewer (waits self.old.contacts) (waits self.new.contacts) }
     {
         let room = self.contacts.places() as usize;
         if self.sent() < room {
@@ -466,6 +475,7 @@ impl Waiting {
     }
 
     /// The out, unless it is a NOTIFY: that is left to the next run, which makes it anew of its event in the journal.
+    #[tactic(auto, using(crate::proofs::Releasing::fewer_same))]
     fn leave_notify<R: Wait + Eprint>(&mut self, rt: &R, out: Out, shared: &Shared) -> Option<Out>
         ensures itself { IfSome result (λ o. o ≡ out) }
         ensures notify { IfNone result (is_some (notice_of out) ≡ true) }
@@ -473,6 +483,8 @@ impl Waiting {
             → AreKept s rows acts self.old → AreKept s rows acts self.new) }
         ensures held { IfNone result ((s : State) (rows : List Row) (acts : List Act) (now : ℕ)
             → AreKept s rows acts self.old → AreKept s rows (acts ++ Held now out ∷ []) self.new) }
+        ensures fewer { OnSome result (Fewer (waits self.old.contacts) (waits self.new.contacts)) }
+        ensures behind { IfNone result (WaitsBehind out (waits self.old.contacts) (waits self.new.contacts)) }
     {
         match Notice::new(out) {
             Ok(notice) => {
@@ -486,6 +498,7 @@ impl Waiting {
 
     /// The out, where it goes out now. A NOTIFY to an address that has not answered one of its dialog waits behind the first one, and is
     /// dropped where there is no room for it, or no memory. Where the next run is to begin each NOTIFY is left to that.
+    #[tactic(auto, using(crate::proofs::Releasing::fewer_same))]
     pub(crate) fn let_through<R: Wait + Eprint>(
         &mut self,
         rt: &R,
@@ -498,6 +511,8 @@ impl Waiting {
             → AreKept s rows acts self.old → AreKept s rows acts self.new) }
         ensures held { IfNone result ((s : State) (rows : List Row) (acts : List Act) (now : ℕ)
             → AreKept s rows acts self.old → AreKept s rows (acts ++ Held now out ∷ []) self.new) }
+        ensures fewer { OnSome result (Fewer (waits self.old.contacts) (waits self.new.contacts)) }
+        ensures behind { IfNone result (WaitsBehind out (waits self.old.contacts) (waits self.new.contacts)) }
     {
         if shared.is_reloading() {
             return self.leave_notify(rt, out, shared);
@@ -505,23 +520,32 @@ impl Waiting {
         if self.is_off {
             return Some(out);
         }
-        let name = notify_name(self.alloc, &out);
+        let Out::Notify { tag, number, .. } = &out else {
+            return Some(out);
+        };
+        let number = *number;
+        let may_begin = self.has_room(rt, shared);
+        take_down(&mut self.offered, tag.as_str());
         let notice = match Notice::new(out) {
             Ok(notice) => notice,
             Err(out) => return Some(out),
         };
-        let may_begin = self.has_room(rt, shared);
         match self.contacts.offer(may_begin, notice) {
             Ok(Offered::Through { notice, lost }) => {
-                count_lost(&mut self.doubts, shared, name, lost);
                 let Notice { out, .. } = notice;
+                if lost == 0 {
+                    return Some(out);
+                }
+                // So many that waited before it never go out.
+                shared.count_held_dropped(lost);
+                doubt(&mut self.doubts, self.offered.as_str(), NEVER_SENT);
                 return Some(out);
             }
             Ok(Offered::Waits) => shared.count(Counter::Held),
             Ok(Offered::Lost) => shared.count_held_dropped(1),
             Err(_) => shared.count_held_dropped(1),
         }
-        doubt(&mut self.doubts, name);
+        doubt(&mut self.doubts, self.offered.as_str(), number);
         self.settle(rt, shared);
         None
     }
@@ -554,16 +578,26 @@ impl Waiting {
     }
 
     /// Whether each NOTIFY is sent once, by the operator's word.
-    pub(crate) fn is_off(&self) -> bool {
+    pub(crate) fn is_off(&self) -> bool
+        ensures { result ≡ self.now.is_off }
+    {
         self.is_off
     }
 
-    /// Notes in its row what an out tells of its subscription.
-    #[tactic(auto, using(crate::proofs::Rowing::seen_last, crate::proofs::Rowing::seen_retargeted, crate::proofs::Rowing::seen_renewed, crate::proofs::Rowing::seen_refused))]
-    fn watch<R: Wait>(&mut self, rt: &R, now: u64, out: &Out, shared: &Shared)
+    /// Notes in its row what an out tells of its subscription. Without memory no row begins, and a row keeps the Contact that it had.
+    #[tactic(auto, using(crate::proofs::Rowing::seen_last, crate::proofs::Rowing::seen_retargeted, crate::proofs::Rowing::seen_renewed, crate::proofs::Rowing::seen_refused, crate::proofs::Rowing::told_last, crate::proofs::Rowing::told_full, crate::proofs::Rowing::told_first, crate::proofs::Rowing::told_retargeted))]
+    fn watch<R: Wait>(
+        &mut self,
+        rt: &R,
+        now: u64,
+        out: &Out,
+        shared: &Shared,
+    ) -> Result<(), NoMemory>
         requires in_range { now < 2 ^ 63 }
+        ensures told { OnOk result (IsTold self.old.watchers.limit now out.now self.old.watchers.rows self.new.watchers.rows) }
         ensures seen { IsSeen now out.now self.old.watchers.rows self.new.watchers.rows }
         ensures transactions { self.new.transactions ≡ self.old.transactions }
+        ensures contacts { self.new.contacts ≡ self.old.contacts }
         ensures burst { self.new.burst ≡ self.old.burst }
     {
         let Out::Notify {
@@ -575,11 +609,11 @@ impl Waiting {
             ..
         } = out
         else {
-            return;
+            return Ok(());
         };
         if *terminated {
             self.watchers.end(tag.as_str());
-            return;
+            return Ok(());
         }
         let tag = tag.as_str();
         let contact = note.target.as_str();
@@ -592,15 +626,36 @@ impl Waiting {
             resource: note.resource.as_str(),
             seconds: note.left.unwrap_or(0),
         };
-        let Ok(()) = self.watchers.renew(now, tag, *number, *to, known) else {
+        match self.watchers.renew(now, tag, *number, *to, known) {
+            Ok(()) => {}
             // It stays without a row.
-            return;
-        };
+            Err(NoRow::Full) => return Ok(()),
+            Err(NoRow::NoMemory) => return Err(NoMemory),
+        }
         if *number == FIRST {
             // The row that begins with it has its Contact.
+            return Ok(());
+        }
+        retarget_row(&mut self.watchers, tag, contact)?;
+        Ok(())
+    }
+
+    /// A NOTIFY without room to be kept isn't sent again, so nobody is told that it stays unanswered. What waits behind the last one of its
+    /// dialog is dropped then.
+    #[tactic(auto, using(crate::proofs::Releasing::fewer_same))]
+    fn doubt_where_full(&mut self, now: u64, tag: &str, number: u32, is_last: bool, shared: &Shared)
+        ensures transactions { self.new.transactions ≡ self.old.transactions }
+        ensures watchers { self.new.watchers ≡ self.old.watchers }
+        ensures burst { self.new.burst ≡ self.old.burst }
+        ensures fewer { Fewer (waits self.old.contacts) (waits self.new.contacts) }
+    {
+        if self.transactions.has_room(tag) {
             return;
         }
-        retarget_row(&mut self.watchers, tag, contact);
+        self.doubts.add(tag, number, now);
+        if is_last {
+            drop_held(&mut self.contacts, tag, number, shared);
+        }
     }
 
     /// Notes what an out tells of its subscription. A NOTIFY is kept from this moment on, any other out is dropped.
@@ -609,6 +664,7 @@ impl Waiting {
         ensures kept { self.new.transactions ≡ kept_after now out self.old.transactions }
         ensures seen { IsSeen now out self.old.watchers.rows self.new.watchers.rows }
         ensures burst { self.new.burst ≡ self.old.burst }
+        ensures fewer { Fewer (waits self.old.contacts) (waits self.new.contacts) }
     {
         let is_last = matches!(
             out,
@@ -618,7 +674,7 @@ impl Waiting {
             }
         );
         let before = self.told_source(&out);
-        self.watch(rt, now, &out, shared);
+        let _ = self.watch(rt, now, &out, shared);
         let after = self.told_source(&out);
         // A row begins, or goes.
         if before != after {
@@ -636,13 +692,7 @@ impl Waiting {
         else {
             return;
         };
-        if !self.transactions.has_room(tag.as_str()) {
-            // It isn't sent again, so nobody is told that it stays unanswered.
-            self.doubts.add(tag.as_str(), number, now);
-            if is_last {
-                drop_held(&mut self.contacts, tag.as_str(), number, shared);
-            }
-        }
+        self.doubt_where_full(now, tag.as_str(), number, is_last, shared);
         let kept = self.transactions.keep(now, tag, number, to, bytes);
         if kept.is_err() && !self.is_off {
             shared.count(Counter::Once);
@@ -654,6 +704,7 @@ impl Waiting {
         ensures kept { self.new.transactions ≡ kept_after put.now put.out self.old.transactions }
         ensures seen { IsSeen put.now put.out self.old.watchers.rows self.new.watchers.rows }
         ensures burst { self.new.burst ≡ self.old.burst }
+        ensures fewer { Fewer (waits self.old.contacts) (waits self.new.contacts) }
     {
         let Put { now, out, fate } = put;
         tell_fate(rt, shared, &out, fate);
@@ -664,6 +715,7 @@ impl Waiting {
     pub(crate) fn settle<R: Wait + Eprint>(&mut self, rt: &R, shared: &Shared)
         ensures kept { (s : State) (rows : List Row) (acts : List Act) → AreKept s rows acts self.old → AreKept s rows acts self.new }
         ensures none { self.new.burst.items ≡ [] }
+        ensures fewer { Fewer (waits self.old.contacts) (waits self.new.contacts) }
     {
         while let Some(put) = self.burst.pop_front() {
             self.keep(rt, put, shared);
@@ -671,8 +723,10 @@ impl Waiting {
     }
 
     /// The same where they are few.
+    #[tactic(auto, using(crate::proofs::Releasing::fewer_same))]
     pub(crate) fn settle_few<R: Wait + Eprint>(&mut self, rt: &R, shared: &Shared)
         ensures kept { (s : State) (rows : List Row) (acts : List Act) → AreKept s rows acts self.old → AreKept s rows acts self.new }
+        ensures fewer { Fewer (waits self.old.contacts) (waits self.new.contacts) }
     {
         if self.burst.len() < FEW {
             self.settle(rt, shared);
@@ -680,9 +734,11 @@ impl Waiting {
     }
 
     /// An out was put. It is kept behind those that follow it closely.
+    #[tactic(auto, using(crate::proofs::Releasing::fewer_same))]
     pub(crate) fn put<R: Wait + Eprint>(&mut self, rt: &R, put: Put, shared: &Shared)
         ensures put { (s : State) (rows : List Row) (acts : List Act) → AreKept s rows acts self.old
             → AreKept s rows (acts ++ act_of put ∷ []) self.new }
+        ensures fewer { Fewer (waits self.old.contacts) (waits self.new.contacts) }
     {
         if let Err(put) = self.burst.try_push_back(put) {
             self.settle(rt, shared);
@@ -690,7 +746,27 @@ impl Waiting {
         }
     }
 
-    /// Takes the note of an answer at this moment. What waited for it.
+    /// Notes what the status of an answer says of a phone: that it knows no such subscription (RFC 6665 section 4.1.3) or refuses the NOTIFY,
+    /// and that its answer is there.
+    fn note_status<R: Wait + Eprint>(&mut self, rt: &R, now: u64, note: &Note, shared: &Shared)
+        ensures transactions { self.new.transactions ≡ self.old.transactions }
+        ensures watchers { self.new.watchers ≡ self.old.watchers }
+        ensures contacts { self.new.contacts ≡ self.old.contacts }
+        ensures burst { self.new.burst ≡ self.old.burst }
+    {
+        if note.status == GONE {
+            shared.count(Counter::Gone);
+        }
+        if let Some(refusal) = refused(&self.watchers, note) {
+            shared.count_refusal(refusal.code);
+            self.refusals.add(rt, shared, now, refusal.loss());
+        }
+        if note.status >= FINAL {
+            self.doubts.answer(now, note.tag.as_str(), note.number);
+        }
+    }
+
+    /// Takes the note of an answer at this moment. What waited for it: all, or the next one alone where the answer came from elsewhere.
     fn take_note<R: Wait + Eprint>(
         &mut self,
         rt: &R,
@@ -701,18 +777,12 @@ impl Waiting {
         ensures transactions { self.new.transactions ≡ after (answer_of note.now) self.old.transactions }
         ensures rows { self.new.watchers.rows ≡ answered_rows note.now.tag note.now.number note.now.status self.old.watchers.rows }
         ensures burst { self.new.burst ≡ self.old.burst }
+        // As first_contact says it: what it lets through, all or the next one alone, and what waits then.
+        ensures contacts { (lost : ℕ) × IsAnswer self.old.contacts self.new.contacts note.now.tag note.now.number note.now.status note.now.source
+            (record { through = result; lost = lost }) }
     {
-        if note.status == GONE {
-            shared.count(Counter::Gone);
-        }
-        if let Some(refusal) = refused(&self.watchers, note) {
-            shared.count_refusal(refusal.code);
-            self.refusals.add(rt, shared, now, refusal.loss());
-        }
+        self.note_status(rt, now, note, shared);
         let gone = self.gone_source(note);
-        if note.status >= FINAL {
-            self.doubts.answer(now, note.tag.as_str(), note.number);
-        }
         self.transactions
             .answer(note.tag.as_str(), note.number, note.status);
         self.watchers
@@ -720,7 +790,7 @@ impl Waiting {
         self.tell_source(rt, shared, gone);
         let passed = self
             .contacts
-            .answer(note.tag.as_str(), note.number, note.status);
+            .answer(note.tag.as_str(), note.number, note.status, note.source);
         shared.count_held_dropped(passed.lost);
         passed.through
     }
@@ -731,6 +801,8 @@ impl Waiting {
             × (self.new.transactions ≡ state_after (map answer_of taken) self.old.transactions)
             × (self.new.watchers.rows ≡ noted_rows taken self.old.watchers.rows) }
         ensures burst { self.new.burst ≡ self.old.burst }
+        // What is to be sent had waited in one dialog, in this order, before what waits in it still.
+        ensures waited { (tag : List ℕ) × Fewer (waits self.old.contacts) (ahead tag result.through.items (waits self.new.contacts)) }
     {
         for _ in 0..NOTES_AT_ONCE {
             let Some(note) = shared.notes.take(rt) else {
@@ -766,6 +838,7 @@ impl Waiting {
         ensures seen { IsSeen timed.now timed.out self.old.watchers.rows self.new.watchers.rows }
         ensures given { Grows (W.given wire.old) (W.given wire.new) [] }
         ensures burst { self.new.burst ≡ self.old.burst }
+        ensures fewer { Fewer (waits self.old.contacts) (waits self.new.contacts) }
     {
         let Timed { now, out } = timed;
         let fate = send_late(rt, wire, &out, shared);
@@ -784,9 +857,11 @@ impl Waiting {
         ensures does { (acts : List Act) × (fates acts ≡ [])
             × Does acts self.old.transactions self.new.transactions
             (wire_seen W.taken W.failures wire.old) (wire_seen W.taken W.failures wire.new)
-            × AreRowed acts self.old.watchers.rows self.new.watchers.rows }
+            × AreRowed acts self.old.watchers.rows self.new.watchers.rows
+            × AreReleased late.now late.through.items acts }
         ensures given { Grows (W.given wire.old) (W.given wire.new) [] }
         ensures burst { self.new.burst ≡ self.old.burst }
+        ensures fewer { Fewer (waits self.old.contacts) (waits self.new.contacts) }
     {
         let Late { now, through } = late;
         for notice in through {
@@ -797,15 +872,17 @@ impl Waiting {
 
     /// The subscription with this tag is gone: its worker ended it. So is its row, and none of its NOTIFYs is sent any more, whether it
     /// waits for an answer or for its first send.
+    #[tactic(auto, using(crate::proofs::Releasing::closed_fewer))]
     fn end_gone<R: Wait>(&mut self, rt: &R, tag: &str, shared: &Shared)
         ensures transactions { self.new.transactions ≡ answer self.old.transactions tag.now 0 481 }
         ensures rows { self.new.watchers.rows ≡ without tag.now self.old.watchers.rows }
         ensures burst { self.new.burst ≡ self.old.burst }
+        ensures fewer { Fewer (waits self.old.contacts) (waits self.new.contacts) }
     {
         let source = end_row(&mut self.watchers, tag);
         self.transactions.answer(tag, 0, GONE);
-        let passed = self.contacts.answer(tag, 0, GONE);
-        shared.count_held_dropped(passed.lost);
+        let lost = self.contacts.close(tag);
+        shared.count_held_dropped(lost);
         self.tell_source(rt, shared, source);
     }
 
@@ -813,7 +890,8 @@ impl Waiting {
     fn end_all<R: Wait>(&mut self, rt: &R, tags: Vec<String>, shared: &Shared)
         ensures ended { (acts : List Act) × (fates acts ≡ [])
             × ((wire : WireSeen) → Does acts self.old.transactions self.new.transactions wire wire)
-            × AreRowed acts self.old.watchers.rows self.new.watchers.rows }
+            × AreRowed acts self.old.watchers.rows self.new.watchers.rows
+            × HoldsOn acts (waits self.old.contacts) (waits self.new.contacts) }
         ensures burst { self.new.burst ≡ self.old.burst }
     {
         for tag in tags {
@@ -833,7 +911,8 @@ impl Waiting {
         ensures does { (acts : List Act) × (fates acts ≡ [])
             × Does acts self.old.transactions self.new.transactions
             (wire_seen W.taken W.failures wire.old) (wire_seen W.taken W.failures wire.new)
-            × AreRowed acts self.old.watchers.rows self.new.watchers.rows }
+            × AreRowed acts self.old.watchers.rows self.new.watchers.rows
+            × ReleasesFirst late.now late.through.items acts (waits self.old.contacts) (waits self.new.contacts) }
         ensures given { Grows (W.given wire.old) (W.given wire.new) [] }
         ensures burst { self.new.burst ≡ self.old.burst }
     {
@@ -855,7 +934,8 @@ impl Waiting {
         ensures does { (acts : List Act) × (fates acts ≡ [])
             × Does acts self.old.transactions self.new.transactions
             (wire_seen W.taken W.failures wire.old) (wire_seen W.taken W.failures wire.new)
-            × AreRowed acts self.old.watchers.rows self.new.watchers.rows }
+            × AreRowed acts self.old.watchers.rows self.new.watchers.rows
+            × HoldsOn acts (waits self.old.contacts) (waits self.new.contacts) }
         ensures given { Grows (W.given wire.old) (W.given wire.new) [] }
         ensures burst { self.new.burst ≡ self.old.burst }
     {
@@ -890,7 +970,8 @@ impl Waiting {
         ensures does { (acts : List Act) × (fates acts ≡ [])
             × Does acts self.old.transactions self.new.transactions
             (wire_seen W.taken W.failures wire.old) (wire_seen W.taken W.failures wire.new)
-            × AreRowed acts self.old.watchers.rows self.new.watchers.rows }
+            × AreRowed acts self.old.watchers.rows self.new.watchers.rows
+            × HoldsOn acts (waits self.old.contacts) (waits self.new.contacts) }
         ensures given { Grows (W.given wire.old) (W.given wire.new) [] }
         ensures burst { self.new.burst ≡ self.old.burst }
     {
@@ -916,7 +997,8 @@ impl Waiting {
         ensures does { (acts : List Act) × (fates acts ≡ [])
             × Does acts self.old.transactions self.new.transactions
             (wire_seen W.taken W.failures wire.old) (wire_seen W.taken W.failures wire.new)
-            × AreRowed acts self.old.watchers.rows self.new.watchers.rows }
+            × AreRowed acts self.old.watchers.rows self.new.watchers.rows
+            × HoldsOn acts (waits self.old.contacts) (waits self.new.contacts) }
         ensures given { Grows (W.given wire.old) (W.given wire.new) [] }
         ensures burst { self.new.burst ≡ self.old.burst }
     {
@@ -938,13 +1020,18 @@ impl Waiting {
         shared: &Shared,
     ) -> bool
         ensures does { (more : List Act) × GoesOnBy more self.old self.new
-            (wire_seen W.taken W.failures wire.old) (wire_seen W.taken W.failures wire.new) }
+            (wire_seen W.taken W.failures wire.old) (wire_seen W.taken W.failures wire.new)
+            × HoldsOn more (waits self.old.contacts) (waits self.new.contacts) }
         ensures given { Grows (W.given wire.old) (W.given wire.new) [] }
+        ensures busy { is_busy watch.old ≡ true → (result ≡ false) × (self.new ≡ self.old) × (watch.new ≡ watch.old) }
     {
-        if watch.is_busy() {
+        let is_busy = watch.is_busy();
+        if is_busy {
             return false;
         }
-        let was_empty = watch.begin_look();
+        watch.outs = 0;
+        let was_empty = watch.empty > 0;
+        watch.empty = 0;
         self.settle(rt, shared);
         self.doubts.turn(rt, watch.now(), was_empty, shared);
         let taken = self.take_notes(rt, watch.now(), shared);

@@ -19,9 +19,9 @@ use crate::window::Window;
 use control_lines::{ControlAnswer, Token};
 use log_lines::{Record, tell};
 use outage_clock::Look;
-use package::MailChange;
+use package::{Change, MailChange};
 use sip_read::{ReadError, Request};
-use sip_text::{Addr, NoMemory};
+use sip_text::{Addr, NoMemory, Text};
 use std::alloc::Global;
 use std::fs::File;
 use std::rt::{Clock, Files};
@@ -32,6 +32,9 @@ use watchers::Counts;
 
 /// The last moment, in milliseconds: no service is up for so long.
 pub(crate) const LAST_MOMENT: u64 = (1 << 63) - 1;
+
+/// How many milliseconds a second has.
+const SECOND: u64 = 1000;
 
 /// At which sockets drops are counted.
 const SOCKETS: usize = 3;
@@ -82,6 +85,8 @@ pub struct Shared {
     complaints: Mutex<Complaints>,
     barred_lately: Mutex<Barred>,
     live: AtomicU64,
+    /// For how many milliseconds it was up when a thread read the clock last: one does at each SIP datagram, and ten times a second.
+    read: AtomicU64,
     heard: HeardCounts,
     pub(crate) sent: SentCounts,
     changes: ChangeCounts,
@@ -223,6 +228,7 @@ impl Shared {
             complaints: Mutex::new(Complaints::new()),
             barred_lately: Mutex::new(Barred::new()),
             live: AtomicU64::new(0),
+            read: AtomicU64::new(0),
             heard: HeardCounts::new(),
             sent: SentCounts::new(),
             changes: ChangeCounts::new(),
@@ -235,11 +241,8 @@ impl Shared {
 
     /// How many seconds the service is up. None where the clock can't be read.
     pub fn seconds<R: Clock>(&self, rt: &R) -> Option<u64> {
-        self.log.look(rt);
-        match self.began.elapsed(rt) {
-            Ok(passed) => Some(passed.as_secs()),
-            Err(_) => None,
-        }
+        let moment = self.moment(rt)?;
+        Some(moment / SECOND)
     }
 
     /// How many milliseconds the service is up. None where the clock can't be read.
@@ -249,8 +252,9 @@ impl Shared {
         self.log.look(rt);
         match self.began.elapsed(rt) {
             Ok(passed) => {
-                let seconds = passed.as_secs().saturating_mul(1000);
+                let seconds = passed.as_secs().saturating_mul(SECOND);
                 let moment = seconds.saturating_add(u64::from(passed.subsec_millis()));
+                self.read.store(moment, Ordering::SeqCst);
                 Some(moment.min(LAST_MOMENT))
             }
             Err(_) => None,
@@ -313,6 +317,45 @@ impl Shared {
     /// All was sent out.
     pub fn finish(&self) {
         self.is_finished.store(true, Ordering::SeqCst);
+    }
+
+    /// Whether the mailbox of a change can be made: what lines tell of it is in the journal, from which the next run has it. No further file of the
+    /// journal is begun before that run, unless this one misses a record: then the further one has what those lines told, too.
+    pub(crate) fn may_make<R: Wait>(&self, rt: &R, change: &Change) -> bool {
+        match (self.journal.get(), change) {
+            (Some(journal), Change::Mail(change)) => journal.hold(rt, change.mailbox()),
+            _ => false,
+        }
+    }
+
+    /// The mailboxes that lines made in this run, in the order in which they did.
+    pub fn made_mailboxes<R: Wait>(&self, rt: &R) -> Result<Vec<Text>, NoMemory> {
+        match self.journal.get() {
+            Some(journal) => journal.made(rt),
+            None => Ok(Vec::new(self.alloc)),
+        }
+    }
+
+    /// Whether the next run may begin for mailboxes that were made: it goes on from a journal that misses nothing, and has not too many files.
+    pub(crate) fn may_end_for_mailboxes<R: Wait>(&self, rt: &R) -> bool {
+        match self.journal.get() {
+            Some(journal) => journal.is_whole(rt) && journal.is_short(rt),
+            None => false,
+        }
+    }
+
+    /// A mailbox was made: lines know it, and the next run will tell phones of it. So that begins soon.
+    pub(crate) fn await_mailbox<R: Clock>(&self, rt: &R) {
+        self.reloads.want_names(self.moment(rt).unwrap_or(0));
+    }
+
+    /// Ends the run where mailboxes were made and the files of the next one are good, unless it ends anyway. Where the journal misses a record since
+    /// those files were read, the run goes on until a further file has all.
+    pub(crate) fn end_for_mailboxes<R: Wait>(&self, rt: &R) {
+        if self.reloads.has_names() && !self.is_closing() && self.may_end_for_mailboxes(rt) {
+            self.is_reloading.store(true, Ordering::SeqCst);
+            self.close();
+        }
     }
 
     /// Whether the run ends as by a kill that loses nothing, since the next one is to begin with files that were read again. Nobody is told
@@ -449,14 +492,6 @@ impl Shared {
         self.journal.get()?.error()
     }
 
-    /// Writes the records that wait, where a journal is kept and one of them is of an event with outs. What was taken of the outbox before may
-    /// be sent behind that: its events were noted before it was posted.
-    pub(crate) fn write_journal<R: Wait>(&self, rt: &R) {
-        if let Some(journal) = self.journal.get() {
-            self.count_unwritten(journal.flush(rt));
-        }
-    }
-
     /// Writes all records that wait, where a journal is kept: nothing more is handled.
     pub(crate) fn end_journal<R: Wait>(&self, rt: &R) {
         if let Some(journal) = self.journal.get() {
@@ -502,11 +537,6 @@ impl Shared {
         }
     }
 
-    /// A send succeeded.
-    pub(crate) fn note_sent(&self) {
-        self.outages.note_sent();
-    }
-
     /// A send failed, at which the system told this number, if it told one.
     pub(crate) fn note_send_error(&self, number: Option<u32>) {
         self.outages.note_failed(number);
@@ -534,9 +564,9 @@ impl Shared {
         }
     }
 
-    /// Counts a control line that was done and answered so.
-    pub(crate) fn count_change<R: Clock>(&self, rt: &R, answer: ControlAnswer) {
-        self.changes.count(answer, self.seconds(rt));
+    /// Counts a control line that was done and answered so. It reads no clock: a tenth of a second doesn't count.
+    pub(crate) fn count_change(&self, answer: ControlAnswer) {
+        self.changes.count(answer, self.read.load(Ordering::SeqCst));
     }
 
     /// The service has so many workers.
@@ -607,7 +637,7 @@ impl Shared {
     /// A request outside a dialog is let through, which this user sent.
     pub(crate) fn note_user<R: Wait>(&self, rt: &R, request: &Request, user: u32) {
         self.has_owners.store(true, Ordering::SeqCst);
-        self.owners.lock(rt).pass(request, user);
+        let _ = self.owners.lock(rt).pass(request, user);
     }
 
     /// Counts a datagram that couldn't be read for this reason.
@@ -846,7 +876,8 @@ impl Shared {
         add_line(alloc, &mut text, "live", &self.live)?;
         self.add_outages(alloc, &mut text)?;
         self.add_journal(alloc, &mut text)?;
-        self.changes.add_lines(alloc, &mut text, seconds)?;
+        self.changes
+            .add_lines(alloc, &mut text, self.read.load(Ordering::SeqCst))?;
         self.sent.statuses.add_lines(alloc, &mut text)?;
         self.sent.refusals.add_lines(alloc, &mut text)?;
         self.add_causes(alloc, &mut text)?;

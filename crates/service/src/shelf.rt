@@ -1,9 +1,11 @@
 //! The files of a journal, as one lock guards them.
 ghost use Rattle.std.specs.Prelude.{◌≡◌, ◌+◌, ◌<◌, ℕ, true, false, OnOk, OnErr};
+ghost use Rattle.control_lines.specs.Told.{with_name};
 ghost use Rattle.service.specs.Shelved as spec;
 ghost use Rattle.service.specs.Shelved.{Writes};
 ghost use Rattle.service.specs.declared.shelf.Chore.TheVariants as chore;
 
+use crate::made::Made;
 use crate::volume::Volume;
 use journal::{Header, Told};
 use keeper::{Keeper, MadeBook, Unkept};
@@ -40,6 +42,8 @@ pub(crate) struct Sight {
     is_beginning: bool,
     /// Whether the current one misses a record.
     is_behind: bool,
+    /// Whether it is to stay, unless it misses one.
+    is_held: bool,
     /// How many bytes it had as it became the current one: those of its books, most of all.
     books: u64,
     /// How many bytes stand behind them.
@@ -68,7 +72,7 @@ fn wants_next(limits: Limits, sight: Sight) -> bool
 {
     let is_free = !sight.is_over && !sight.is_beginning && PAUSE <= sight.pause;
     let is_due = limits.length.max(sight.books) < sight.rest && limits.age <= sight.age;
-    is_free && (sight.is_behind || is_due)
+    is_free && (sight.is_behind || !sight.is_held && is_due)
 }
 
 /// The files of a journal: the current one, and the next one while that is being begun.
@@ -81,6 +85,10 @@ pub(crate) struct Shelf {
     is_behind: bool,
     /// Whether count was lost of a worker for want of memory. No further file can be begun then.
     is_over: bool,
+    /// Whether the current file is to stay while it misses nothing.
+    is_held: bool,
+    /// The mailboxes that lines made in this run: further books don't tell of them.
+    made: Made,
     /// How many bytes the current file had as it became that.
     books: u64,
     /// Since which second it is the current one, as the first look at it found.
@@ -100,8 +108,9 @@ pub(crate) struct Shelf {
 }
 
 impl Shelf {
-    /// One that goes on in this file, which was the current one for so many seconds before. The oldest file that is there has this number.
-    pub(crate) fn new(keeper: Keeper, current: Volume, been: u64, oldest: u64) -> Shelf
+    /// One that goes on in this file, which was the current one for so many seconds before. The oldest file that is there has this number. No line made
+    /// a mailbox yet.
+    pub(crate) fn new(keeper: Keeper, current: Volume, been: u64, oldest: u64, made: Made) -> Shelf
         ensures { result.is_behind ≡ false }
     {
         Shelf {
@@ -110,6 +119,8 @@ impl Shelf {
             next: None,
             is_behind: false,
             is_over: false,
+            is_held: false,
+            made,
             books: 0,
             since: None,
             been,
@@ -126,6 +137,31 @@ impl Shelf {
         ensures { result.now ≡ self.now.current }
     {
         &self.current
+    }
+
+    /// How many files there may be before the current one.
+    pub(crate) fn older(&self) -> u64 {
+        self.current.number().saturating_sub(self.oldest)
+    }
+
+    /// A line is to make this mailbox. From now on the current file stays while it misses nothing, and where a next one is begun all the same, what is
+    /// told of the mailbox stands there behind the books. False where one is being begun already, or for want of memory.
+    pub(crate) fn hold(&mut self, name: &str) -> bool
+        ensures made { result ≡ true → self.new.made.told ≡ with_name name.now self.old.made.told }
+    {
+        if self.next.is_some() {
+            return false;
+        }
+        let Ok(()) = self.made.add(name) else {
+            return false;
+        };
+        self.is_held = true;
+        true
+    }
+
+    /// The mailboxes that lines made.
+    pub(crate) fn made(&self) -> &Made {
+        &self.made
     }
 
     /// Whether it misses no record, and no count was lost.
@@ -270,6 +306,7 @@ impl Shelf {
     pub(crate) fn handled(&mut self, worker: u32, event: &Event) -> Result<(), Loss>
         ensures { Writes self.old self.new result }
     {
+        self.made.tell(event);
         if self.keeper.handled(worker, event).is_err() {
             let passed = self.keeper.passed(worker, event);
             self.miss(passed);
@@ -324,8 +361,30 @@ impl Shelf {
         }
     }
 
-    /// Puts the book of a worker into the next file, unless that was given up meanwhile. Where it was the last that was wanted this file is
-    /// the current one from now on.
+    /// The keeper counts as told anew what this worker was told of mailboxes that lines made: a line for each, which is handled. The worker's desk has
+    /// none of them, so it makes nothing of that.
+    fn tell_again(&mut self, worker: u32) -> Result<(), Unkept> {
+        for change in self.made.changes(worker)? {
+            self.keeper.handled(worker, &Event::Mail(change))?;
+            self.keeper.counted(worker)?;
+        }
+        Ok(())
+    }
+
+    /// Has what this worker was told of mailboxes that lines made stand behind its book in the next file. The book itself has none of it. For want of
+    /// memory that file is given up.
+    fn follow_book(&mut self, worker: u32) {
+        if self.next.is_none() {
+            return;
+        }
+        if self.tell_again(worker).is_err() {
+            self.give_up_next();
+        }
+        let _ = self.flush();
+    }
+
+    /// Puts the book of a worker into the next file, unless that was given up meanwhile, and behind it what the worker was told of mailboxes that
+    /// lines made. Where it was the last that was wanted this file is the current one from now on.
     pub(crate) fn book(&mut self, worker: u32, made: Result<MadeBook, Unkept>) {
         if !self.keeper.wants_book(worker) {
             return;
@@ -337,6 +396,7 @@ impl Shelf {
         };
         self.write_next(put.is_ok());
         self.keeper.clear();
+        self.follow_book(worker);
         if self.keeper.is_next_whole() {
             self.turn();
         }
@@ -372,6 +432,7 @@ impl Shelf {
             is_over: self.is_over,
             is_beginning: self.next.is_some(),
             is_behind: self.is_behind,
+            is_held: self.is_held,
             books: self.books,
             rest: length.saturating_sub(self.books),
             age: now.saturating_sub(since).saturating_add(self.been),

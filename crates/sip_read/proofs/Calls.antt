@@ -11,7 +11,7 @@ use Rattle.sip_text.specs.Grammar.{Stops, IsWord, number_of}
 use Rattle.sip_text.proofs.Pieces.{bind_some, some_is, and_both, span_takes, span_again, nonempty_length, length_nonempty, NoSpace, not_of_space, word_stops_spaces}
 use Rattle.sip_text.proofs.Utf8.{text_taken, text_again, text_from_ascii, token_small}
 use Rattle.sip_text.proofs.Words.{word_takes, word_again}
-use Rattle.sip_read.specs.declared.call.Sequence.{Sequence}
+use Rattle.sip_read.specs.declared.value.Sequence.{Sequence}
 use Rattle.sip_read.specs.Calls.{is_visible, IsCallId, IsSequence}
 use Rattle.sip_read.specs.ValuesComputed.{call_id_of, sequence_of}
 

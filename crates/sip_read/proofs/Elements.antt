@@ -9,9 +9,9 @@ use Rattle.sip_text.specs.Grammar.{Stops, AreElements}
 use Rattle.sip_text.proofs.Pieces.{Takes, bind_some, some_is, span_takes, span_again, stops_at_spaces}
 use Rattle.sip_text.proofs.Utf8.{text_taken, text_again}
 use Rattle.sip_text.proofs.CommaLists.{Tail, nothing_behind, comma_behind, tail_ends, elements_take, elements_again, utf8_cuts}
-use Rattle.sip_read.specs.declared.header.Header.TheVariants as headers
-use Rattle.sip_read.specs.declared.item.Listed.{Listed}
-use Rattle.sip_read.specs.declared.item.Listed.TheVariants as listed
+use Rattle.sip_read.specs.declared.datagram.Header.TheVariants as headers
+use Rattle.sip_read.specs.declared.value.Listed.{Listed}
+use Rattle.sip_read.specs.declared.value.Listed.TheVariants as listed
 use Rattle.sip_read.specs.Items.{Item, item, IsElement}
 use Rattle.sip_read.specs.ItemsComputed.{token_at, route_at, element_at}
 use Rattle.sip_read.specs.ViasComputed.{hop_at}

@@ -13,12 +13,12 @@ use Rattle.event_headers.proofs.Events.{event_takes, event_again, event_fit, eve
 use Rattle.event_headers.proofs.Expiries.{expires_takes, expires_again, expires_fit, expires_large}
 use Rattle.event_headers.proofs.Ranges.{accept_takes, accept_again, ranges_are_fit, ranges_are_large}
 use Rattle.sip_read.proofs.Kept.{kept_takes, kept_again}
-use Rattle.sip_read.specs.declared.call.Sequence.{Sequence}
+use Rattle.sip_read.specs.declared.value.Sequence.{Sequence}
 use Rattle.sip_read.specs.declared.error.HeaderName.{HeaderName}
 use Rattle.sip_read.specs.declared.error.HeaderName.TheVariants as names
 use Rattle.sip_read.specs.declared.error.ReadError.{ReadError}
 use Rattle.sip_read.specs.declared.error.ReadError.TheVariants as errors
-use Rattle.sip_read.specs.declared.header.Header.TheVariants as headers
+use Rattle.sip_read.specs.declared.datagram.Header.TheVariants as headers
 use Rattle.sip_read.specs.declared.message.Head.{Head}
 use Rattle.sip_read.specs.declared.message.Message.{Message}
 use Rattle.sip_read.specs.declared.message.Message.TheVariants as messages

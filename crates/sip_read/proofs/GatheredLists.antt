@@ -1,7 +1,7 @@
 -- What is gathered from a list of values, header by header.
 use Rattle.std.proofs.Common.{◌≡◌, ℕ, List, [], ◌∷◌, ◌++◌, Option, Some, None, refl, ◌∙◌, append_assoc, map}
 use Rattle.std.proofs.lemmas.List.{append-nil}
-use Rattle.sip_read.specs.declared.header.Header.TheVariants as headers
+use Rattle.sip_read.specs.declared.datagram.Header.TheVariants as headers
 use Rattle.sip_read.specs.declared.message.Via.{Via}
 use Rattle.sip_read.specs.declared.gathered.Once.{Once}
 use Rattle.sip_read.specs.declared.gathered.Once.TheVariants as once

@@ -4,15 +4,16 @@ use Rattle.std.specs.Str.{is_utf8}
 use Rattle.sip_text.specs.Reading.{◌>>=◌, after_comma, elements_at, elements_of}
 use Rattle.sip_text.proofs.Pieces.{bind_same, some_is}
 use Rattle.sip_text.proofs.CommaLists.{comma_shortens}
-use Rattle.sip_read.specs.declared.item.Listed.{Listed}
+use Rattle.sip_read.specs.declared.value.Listed.{Listed}
 use Rattle.sip_read.specs.Items.{Item}
 use Rattle.sip_read.specs.ItemsComputed.{element_at, alone, line_values, line_items, items_of, section_of}
 use Rattle.sip_read.specs.declared.error.ReadError.{ReadError}
 use Rattle.sip_read.specs.declared.error.ReadError.TheVariants as errors
 use Rattle.sip_read.specs.GatheredComputed.{Gathered, with_item, with_element, with_items, gather}
 use Rattle.sip_read.specs.Headers.{header_named}
+use Rattle.sip_read.specs.declared.datagram.Header.{Header}
 use Rattle.sip_read.specs.LineAnswers.{IsBad}
-use Rattle.sip_read.specs.LinesComputed.{line_at, header_of, unfolded_of, lines_at, lines_of}
+use Rattle.sip_read.specs.LinesComputed.{line_at, header_of, header_line, unfolded_of, lines_at, lines_of}
 use Rattle.sip_read.proofs.Continuations.{unfolded_shortens}
 use Rattle.sip_read.proofs.Elements.{element_shortens}
 use Rattle.sip_read.proofs.Sections.{step_of, no_lines, enough}
@@ -112,9 +113,22 @@ module _ (k : Listed) (g : Gathered) (t : List ℕ) (total : Option Gathered) (s
 pub bad_alone : {A : Type 0} (f : A → Item) (o : Option A) (g : Gathered) (e : ReadError) → IsBad e o → IsBad e (option_map (with_items g) (alone (option_map f o)))
 bad_alone f o g e h = bad_as o (option_map (with_items g) (alone (option_map f o))) (λ none. rw none refl) e h
 
-pub line_is : (line name value : List ℕ) → is_utf8 line ≡ true → header_of line ≡ Some (name, value) → line_items line ≡ line_values (header_named name) value
-unfolding line_items
-line_is line name value text is = rw (text, is) refl
+-- the values of a header, if the line is of one
+abbrev values_of : Option (Header × List ℕ) → Option (List Item)
+values_of o = o >>= λ h. line_values h.0 h.1
+
+by_header : (line : List ℕ) → is_utf8 line ≡ true → line_items line ≡ values_of (header_line line)
+unfolding line_items header_line
+by_header line text = rw text (step (header_of line)) where
+  step : (o : Option (List ℕ × List ℕ)) → (o >>= λ h. line_values (header_named h.0) h.1) ≡ values_of (o >>= λ h. Some (header_named h.0, h.1))
+  step None = refl
+  step (Some h) = refl
+
+pub line_is : (line : List ℕ) (header : Header) (value : List ℕ) → is_utf8 line ≡ true → header_line line ≡ Some (header, value) → line_items line ≡ line_values header value
+line_is line header value text is = by_header line text ∙ ap values_of is
+
+pub no_line : (line : List ℕ) → is_utf8 line ≡ true → header_line line ≡ None → line_items line ≡ None
+no_line line text is = by_header line text ∙ ap values_of is
 
 -- ---- lines
 

@@ -12,9 +12,9 @@ use Rattle.sip_text.specs.Grammar.{AreSpaces, IsTrimmed}
 use Rattle.sip_text.proofs.Pieces.{bind_some, some_is, and_both}
 use Rattle.sip_text.proofs.Utf8.{text_after_ascii, text_before_ascii, token_small, space_small}
 use Rattle.sip_text.proofs.Words.{all_takes, all_again}
-use Rattle.sip_read.specs.declared.header.Header.{Header}
-use Rattle.sip_read.specs.declared.header.Header.TheVariants as headers
-use Rattle.sip_read.specs.declared.item.Listed.TheVariants as listed
+use Rattle.sip_read.specs.declared.datagram.Header.{Header}
+use Rattle.sip_read.specs.declared.datagram.Header.TheVariants as headers
+use Rattle.sip_read.specs.declared.value.Listed.TheVariants as listed
 use Rattle.sip_read.specs.AddressesComputed.{party_of}
 use Rattle.sip_read.specs.Headers.{header_named}
 use Rattle.sip_read.specs.Items.{Item, item, AreValues, IsLine, AreItems}

@@ -1,11 +1,13 @@
 -- A line at the front, and a header's name and value.
-use Rattle.std.proofs.Common.{◌≡◌, ℕ, ◌+◌, List, ◌∷◌, ◌++◌, length, take, drop, Some, refl, sym, ap, subst, ◌∙◌, arith}
+use Rattle.std.proofs.Common.{◌≡◌, ℕ, ◌+◌, List, [], ◌∷◌, ◌++◌, length, take, drop, Option, Some, refl, sym, ap, subst, ◌∙◌, arith}
 use Rattle.std.specs.List.{prefix_len}
 use Rattle.std.proofs.lemmas.List.{take-append-drop, take_at, drop_at, length-append}
 use Rattle.sip_text.specs.declared.scan.Class.TheVariants as class
 use Rattle.sip_text.specs.Bytes.{is_in}
 use Rattle.sip_text.specs.Reading.{◌>>=◌, span_at, after_byte, after_spaces, trimmed}
-use Rattle.sip_read.specs.LinesComputed.{line_at, header_of}
+use Rattle.sip_read.specs.declared.datagram.Header.{Header}
+use Rattle.sip_read.specs.Headers.{header_named}
+use Rattle.sip_read.specs.LinesComputed.{line_at, header_of, header_line}
 use Rattle.sip_text.specs.Grammar.{AllPassing, AreSpaces, IsWord}
 use Rattle.sip_text.proofs.Pieces.{bind_some, some_is, span_takes, span_again, spaces_taken, spaces_again, byte_taken, NoSpace, stops_at_spaces, prefix_passes, prefix_again}
 use Rattle.sip_text.proofs.Trims.{Trims, trimmed_taken, trimmed_again}
@@ -64,3 +66,10 @@ header_again line name value h =
       spaces_again h.gap (58 ∷ h.after) h.spaces_gap refl,
       again,
     ) refl
+
+-- a line that begins with a name of this header and a colon
+pub begins_with : (name : List ℕ) (header : Header) (line rest : List ℕ) → IsWord class.Token name → header_named name ≡ header → line ≡ name ++ 58 ∷ rest → header_line line ≡ Some (header, trimmed rest)
+unfolding header_line
+begins_with name header line rest w same whole =
+    let is = header_again line name (trimmed rest) (record { gap = []; after = rest; is_name = w; spaces_gap = refl; trims = trimmed_taken rest; whole = whole }) in
+    ap (λ (o : Option (List ℕ × List ℕ)). o >>= λ h. Some (header_named h.0, h.1)) is ∙ ap (λ (x : Header). Some (x, trimmed rest)) same

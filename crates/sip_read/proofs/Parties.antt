@@ -1,6 +1,7 @@
 -- Values that are one address with its parameters.
 use Rattle.std.proofs.Common.{◌≡◌, ℕ, ◌<◌, Bool, true, false, eqb, cond, List, [], ◌∷◌, ◌++◌, length, drop, Option, Some, None, refl, sym, ap, subst, ◌∙◌, append_assoc, arith, one-add, inl, inr}
 use Rattle.std.specs.List.{list_all, prefix_len}
+use Rattle.std.specs.Option.{is_some}
 use Rattle.std.specs.Str.{IsUtf8}
 use Rattle.std.proofs.lemmas.Bool.Decides.{nat_tests}
 use Rattle.std.proofs.lemmas.List.{drop_at}
@@ -158,3 +159,18 @@ unfolding party_of
 party_again v p u h =
     let one : address_at v ≡ Some (h.uri, h.behind) = ap address_at h.whole ∙ address_again h.address h.uri h.behind h.is_address (group_behind h.behind h.parameters h.are) in
     rw (one, parameters_again h.parameters h.behind (length h.behind) h.are (omega arith), named_again class.Token token_small (codes "tag") h.parameters p.tag h.tag, text_again v u, ← h.same) refl
+
+-- where parameters follow the address, or something else
+pub contact_is : (t uri rest : List ℕ) → address_at t ≡ Some (uri, rest) → is_some (parameters_of rest) ≡ true → contact_of t ≡ text_of uri
+unfolding contact_of
+contact_is t uri rest at are = rw at (step (parameters_of rest) are) where
+  step : (o : Option (List Parameter)) → is_some o ≡ true → (o >>= λ ps. text_of uri) ≡ text_of uri
+  step None e = absurd cc
+  step (Some ps) e = refl
+
+pub no_contact : (t uri rest : List ℕ) → address_at t ≡ Some (uri, rest) → is_some (parameters_of rest) ≡ false → contact_of t ≡ None
+unfolding contact_of
+no_contact t uri rest at none = rw at (step (parameters_of rest) none) where
+  step : (o : Option (List Parameter)) → is_some o ≡ false → (o >>= λ ps. text_of uri) ≡ None
+  step None e = refl
+  step (Some ps) e = absurd cc

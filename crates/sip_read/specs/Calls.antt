@@ -4,7 +4,7 @@ use Rattle.std.specs.Str.{byte}
 use Rattle.sip_text.specs.declared.scan.Class.TheVariants as class
 use Rattle.sip_text.specs.Bytes.{is_within}
 use Rattle.sip_text.specs.Grammar.{AllPassing, IsWord, number_of}
-use Rattle.sip_read.specs.declared.call.Sequence.{Sequence}
+use Rattle.sip_read.specs.declared.value.Sequence.{Sequence}
 
 -- ! to ~
 abbrev pub is_visible : ℕ → Bool

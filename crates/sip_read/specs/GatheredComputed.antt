@@ -3,8 +3,8 @@ use Rattle.std.specs.Prelude.{ℕ, Bool, List, [], ◌∷◌, ◌++◌, Option, 
 use Rattle.std.specs.Str.{byte}
 use Rattle.sip_text.specs.Grammar.{number_of}
 use Rattle.event_headers.specs.Values.{EventValue}
-use Rattle.sip_read.specs.declared.call.Sequence.{Sequence}
-use Rattle.sip_read.specs.declared.header.Header.TheVariants as headers
+use Rattle.sip_read.specs.declared.value.Sequence.{Sequence}
+use Rattle.sip_read.specs.declared.datagram.Header.TheVariants as headers
 use Rattle.sip_read.specs.declared.message.Party.{Party}
 use Rattle.sip_read.specs.declared.message.Via.{Via}
 use Rattle.sip_read.specs.declared.gathered.Once.{Once}

@@ -1,8 +1,8 @@
 -- Names of headers (RFC 3261 section 7.3.3 has the compact names; o and u are of RFC 6665 section 8.2, r is of RFC 3515 section 2.1).
 use Rattle.std.specs.Prelude.{ℕ, Bool, ◌||◌, List, if◌then◌else◌, codes}
 use Rattle.std.specs.Str.{str_eq_ignore_ascii_case}
-use Rattle.sip_read.specs.declared.header.Header.{Header}
-use Rattle.sip_read.specs.declared.header.Header.TheVariants as headers
+use Rattle.sip_read.specs.declared.datagram.Header.{Header}
+use Rattle.sip_read.specs.declared.datagram.Header.TheVariants as headers
 
 -- whether it is this name or its compact form
 abbrev pub is_name : List ℕ → List ℕ → List ℕ → Bool

@@ -4,11 +4,11 @@ use Rattle.std.specs.List.{filter_map}
 use Rattle.std.specs.Str.{byte, IsUtf8}
 use Rattle.sip_text.specs.declared.scan.Class.TheVariants as class
 use Rattle.sip_text.specs.Grammar.{AreSpaces, IsWord, IsTrimmed, AreElements}
-use Rattle.sip_read.specs.declared.call.Sequence.{Sequence}
-use Rattle.sip_read.specs.declared.header.Header.{Header}
-use Rattle.sip_read.specs.declared.header.Header.TheVariants as headers
-use Rattle.sip_read.specs.declared.item.Listed.{Listed}
-use Rattle.sip_read.specs.declared.item.Listed.TheVariants as listed
+use Rattle.sip_read.specs.declared.value.Sequence.{Sequence}
+use Rattle.sip_read.specs.declared.datagram.Header.{Header}
+use Rattle.sip_read.specs.declared.datagram.Header.TheVariants as headers
+use Rattle.sip_read.specs.declared.value.Listed.{Listed}
+use Rattle.sip_read.specs.declared.value.Listed.TheVariants as listed
 use Rattle.sip_read.specs.declared.message.Party.{Party}
 use Rattle.sip_read.specs.Addresses.{IsParty, IsRoute}
 use Rattle.sip_read.specs.Calls.{IsCallId, IsSequence}

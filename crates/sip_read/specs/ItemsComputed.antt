@@ -4,10 +4,10 @@ use Rattle.std.specs.Str.{is_utf8}
 use Rattle.sip_text.specs.declared.scan.Class.TheVariants as class
 use Rattle.sip_text.specs.Bytes.{is_in}
 use Rattle.sip_text.specs.Reading.{◌>>=◌, span_at, some_of, text_of, all_of, elements_of}
-use Rattle.sip_read.specs.declared.header.Header.{Header}
-use Rattle.sip_read.specs.declared.header.Header.TheVariants as headers
-use Rattle.sip_read.specs.declared.item.Listed.{Listed}
-use Rattle.sip_read.specs.declared.item.Listed.TheVariants as listed
+use Rattle.sip_read.specs.declared.datagram.Header.{Header}
+use Rattle.sip_read.specs.declared.datagram.Header.TheVariants as headers
+use Rattle.sip_read.specs.declared.value.Listed.{Listed}
+use Rattle.sip_read.specs.declared.value.Listed.TheVariants as listed
 use Rattle.sip_read.specs.Items.{Item, item}
 use Rattle.sip_read.specs.AddressesComputed.{bracketed_at, party_of}
 use Rattle.sip_read.specs.Headers.{header_named}

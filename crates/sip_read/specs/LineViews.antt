@@ -1,7 +1,7 @@
 -- What contracts see of a line in one piece.
 use Rattle.std.specs.Prelude.{ℕ, List, Option, Some, None, option_map}
 use Rattle.std.specs.Borrow.{Bor}
-use Rattle.sip_read.specs.declared.header.Line.{Line}
+use Rattle.sip_read.specs.declared.datagram.Line.{Line}
 
 abbrev pub whole_or : List ℕ → Option (List ℕ) → List ℕ
 whole_or first None = first

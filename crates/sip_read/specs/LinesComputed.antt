@@ -4,6 +4,8 @@ use Rattle.std.specs.List.{prefix_len}
 use Rattle.std.specs.Str.{byte}
 use Rattle.sip_text.specs.declared.scan.Class.TheVariants as class
 use Rattle.sip_text.specs.Bytes.{is_in, is_space}
+use Rattle.sip_read.specs.declared.datagram.Header.{Header}
+use Rattle.sip_read.specs.Headers.{header_named}
 use Rattle.sip_text.specs.Reading.{◌>>=◌, span_at, after_spaces, after_byte, trim_end, trimmed}
 
 -- a line at the front, behind which a CRLF stands, and the rest
@@ -19,6 +21,12 @@ header_of line = do
   name ← span_at (is_in class.Token) line
   value ← after_byte (byte ":") (after_spaces name.1)
   Some (name.0, trimmed value)
+
+-- the header that a line is of, and its value
+unfoldable pub header_line : List ℕ → Option (Header × List ℕ)
+header_line line = do
+  h ← header_of line
+  Some (header_named h.0, h.1)
 
 abbrev pub begins_space : List ℕ → Bool
 begins_space [] = false

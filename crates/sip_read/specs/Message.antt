@@ -11,7 +11,7 @@ use Rattle.sip_read.specs.declared.error.HeaderName.{HeaderName}
 use Rattle.sip_read.specs.declared.error.HeaderName.TheVariants as names
 use Rattle.sip_read.specs.declared.error.ReadError.{ReadError}
 use Rattle.sip_read.specs.declared.error.ReadError.TheVariants as errors
-use Rattle.sip_read.specs.declared.header.Header.TheVariants as headers
+use Rattle.sip_read.specs.declared.datagram.Header.TheVariants as headers
 use Rattle.sip_read.specs.declared.message.Head.{Head}
 use Rattle.sip_read.specs.declared.message.Message.{Message}
 use Rattle.sip_read.specs.declared.message.Message.TheVariants as messages

@@ -3,7 +3,7 @@ use Rattle.std.specs.Prelude.{ℕ, List, length, take, nat_lt, if◌then◌else�
 use Rattle.sip_text.specs.declared.field.Field.{Field}
 use Rattle.sip_text.specs.declared.field.Field.TheVariants as field
 use Rattle.event_headers.specs.Values.{Range}
-use Rattle.sip_read.specs.declared.call.Sequence.{Sequence}
+use Rattle.sip_read.specs.declared.value.Sequence.{Sequence}
 use Rattle.sip_read.specs.declared.error.HeaderName.{HeaderName}
 use Rattle.sip_read.specs.declared.error.HeaderName.TheVariants as names
 use Rattle.sip_read.specs.declared.error.ReadError.{ReadError}

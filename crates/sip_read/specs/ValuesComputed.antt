@@ -5,7 +5,7 @@ use Rattle.sip_text.specs.Bytes.{is_in}
 use Rattle.sip_text.specs.Grammar.{number_of}
 use Rattle.sip_text.specs.Reading.{◌>>=◌, span_at, all_of, text_of, word_of}
 use Rattle.sip_text.specs.Reading.{token_with}
-use Rattle.sip_read.specs.declared.call.Sequence.{Sequence}
+use Rattle.sip_read.specs.declared.value.Sequence.{Sequence}
 use Rattle.sip_read.specs.Calls.{is_visible}
 use Rattle.sip_read.specs.ReferSub.{truth_of}
 

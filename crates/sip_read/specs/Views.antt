@@ -1,22 +1,17 @@
 -- What contracts see of the code's values.
 use Rattle.std.specs.Prelude.{ℕ, List, option_map}
 use Rattle.std.specs.Borrow.{Bor}
-use Rattle.sip_read.specs.declared.call.Sequence.{Sequence}
 use Rattle.sip_read.specs.declared.datagram.First.{First as FirstText}
 use Rattle.sip_read.specs.declared.datagram.First.TheVariants as firsts
 use Rattle.sip_read.specs.declared.gathered.Fields.{Fields as FieldsHeld}
 use Rattle.sip_read.specs.declared.gathered.Gathered.{Gathered as GatheredHeld}
-use Rattle.sip_read.specs.declared.via.Hop.{Hop as HopText}
-use Rattle.sip_read.specs.declared.via.Marks.{Marks as MarksText}
+use Rattle.sip_read.specs.declared.value.Hop.{Hop as HopText}
+use Rattle.sip_read.specs.declared.value.Marks.{Marks as MarksText}
 use Rattle.sip_read.specs.FirstLine.{First, request, status}
 use Rattle.sip_read.specs.GatheredComputed.{Fields, Gathered}
 use Rattle.sip_read.specs.Vias.{Hop}
 use Rattle.sip_read.specs.ViasComputed.{Marks}
 use Rattle.sip_text.specs.Views.{view}
-
--- a CSeq's number and method
-abbrev pub sequence_seen : (ℕ × Bor (List ℕ)) → Sequence
-sequence_seen x = record { number = x.0; method = x.1.now }
 
 abbrev pub marks : MarksText → Marks
 marks m = record { branch = option_map view m.branch; bare_rport = m.bare_rport }

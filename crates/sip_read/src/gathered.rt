@@ -1,25 +1,25 @@
-//! What the header lines say, header by header.
+//! What the header lines say, header by header, and the message that they make with the first line and the body.
+ghost use Rattle.sip_read.specs.Message.{Answers};
 ghost use Rattle.std.specs.Prelude.{◌≡◌, ◌<◌, option_map, IfOk, OnOk};
 ghost use Rattle.sip_text.specs.Bytes.{is_in};
 ghost use Rattle.sip_text.specs.Reading.{all_of, elements_of};
 ghost use Rattle.sip_text.specs.declared.scan.Class.TheVariants as class;
-ghost use Rattle.sip_read.specs.declared.header.Header.TheVariants as headers;
-ghost use Rattle.sip_read.specs.GatheredComputed.{nothing, fields_nothing, capped, with_element, with_field, with_items, gather};
+ghost use Rattle.sip_read.specs.declared.datagram.Header.TheVariants as headers;
+ghost use Rattle.sip_read.specs.GatheredComputed.{nothing, capped, with_element, with_field, with_items, gather};
 ghost use Rattle.sip_read.specs.Items.{item};
-ghost use Rattle.sip_read.specs.ItemsComputed.{element_at, line_items};
+ghost use Rattle.sip_read.specs.ItemsComputed.{element_at, line_items, line_values};
 ghost use Rattle.sip_read.specs.LineAnswers.{Takes};
-ghost use Rattle.sip_read.specs.MessageComputed.{head_of, request_of};
+ghost use Rattle.sip_read.specs.MessageComputed.{head_of, request_of, doubled, body_of, message_of};
 ghost use Rattle.sip_read.specs.OnceComputed.{once_more, is_several, field_of};
-ghost use Rattle.sip_read.specs.Views.{fields_seen, gathered_seen};
+ghost use Rattle.sip_read.specs.Views.{fields_seen, gathered_seen, first as first_view};
 
-use crate::address::{contact_of, party_of};
-use crate::call::{Sequence, call_id_of, sequence_of};
+use crate::datagram::{First, Header, header_line, line_at, unfolded_of};
 use crate::error::{HeaderName, ReadError};
-use crate::header::{Header, header_named, header_of, line_at, unfolded_of};
-use crate::item::{Listed, route_at};
-use crate::message::{Head, Party, Request, Via};
-use crate::value::{accept_of, event_of, expires_of, refer_sub_of};
-use crate::via::hop_at;
+use crate::message::{Boxed, Head, Message, Party, Request, Response, Via};
+use crate::value::{
+    Listed, Sequence, accept_of, call_id_of, contact_of, event_of, expires_of, hop_at, party_of,
+    refer_sub_of, route_at, sequence_of,
+};
 use event_headers::{EventValue, Range};
 use sip_text::{
     Class, Field, NoMemory, Octets, Text, Values, after_comma, all_of, capped_number, is_text,
@@ -97,21 +97,6 @@ impl Drop for Fields {
 }
 
 impl Fields {
-    pub fn new(alloc: Global) -> Fields
-        ensures { fields_seen result ≡ fields_nothing }
-    {
-        Fields {
-            event: Once::Absent,
-            expires: Once::Absent,
-            accept: None,
-            contact: Once::Absent,
-            refer_to: Once::Absent,
-            refer_sub: Once::Absent,
-            require: Vec::new(alloc),
-            record_routes: Vec::new(alloc),
-        }
-    }
-
     /// Takes in an Accept line, behind a comma where it isn't the first.
     pub fn add_accept(&mut self, alloc: Global, value: &[u8]) -> Result<(), NoMemory>
         ensures { OnOk result (fields_seen self.new ≡ with_field (fields_seen self.old) (item headers.Accept value.now)) }
@@ -253,7 +238,16 @@ impl Gathered {
                 cseq: Once::Absent,
             },
             content_length: Once::Absent,
-            fields: Fields::new(alloc),
+            fields: Fields {
+                event: Once::Absent,
+                expires: Once::Absent,
+                accept: None,
+                contact: Once::Absent,
+                refer_to: Once::Absent,
+                refer_sub: Once::Absent,
+                require: Vec::new(alloc),
+                record_routes: Vec::new(alloc),
+            },
         }
     }
 
@@ -313,17 +307,12 @@ impl Gathered {
         }
     }
 
-    /// Takes in a header line.
-    #[tactic(auto, using(crate::proofs::Gatherings::line_is), unfolding(crate::specs::ItemsComputed::line_items))]
-    fn add_line(&mut self, alloc: Global, line: &[u8]) -> Result<(), ReadError>
+    /// Takes in the value of a line of this header.
+    fn add_value(&mut self, alloc: Global, header: Header, value: &[u8]) -> Result<(), ReadError>
         ensures { Takes (λ done. gathered_seen self.new) result
-            (option_map (with_items (gathered_seen self.old)) (line_items line.now)) }
+            (option_map (with_items (gathered_seen self.old)) (line_values header value.now)) }
     {
-        if !is_text(line) {
-            return Err(ReadError::BadLine);
-        }
-        let (name, value) = header_of(line).ok_or(ReadError::BadLine)?;
-        match header_named(name) {
+        match header {
             Header::Via => self.add_elements(alloc, Listed::Via, value)?,
             Header::From => self.head.from.add(party_of(alloc, value)?),
             Header::To => self.head.to.add(party_of(alloc, value)?),
@@ -343,6 +332,19 @@ impl Gathered {
         Ok(())
     }
 
+    /// Takes in a header line.
+    #[tactic(auto, using(crate::proofs::Gatherings::line_is, crate::proofs::Gatherings::no_line), unfolding(crate::specs::ItemsComputed::line_items))]
+    fn add_line(&mut self, alloc: Global, line: &[u8]) -> Result<(), ReadError>
+        ensures { Takes (λ done. gathered_seen self.new) result
+            (option_map (with_items (gathered_seen self.old)) (line_items line.now)) }
+    {
+        if !is_text(line) {
+            return Err(ReadError::BadLine);
+        }
+        let (header, value) = header_line(line).ok_or(ReadError::BadLine)?;
+        self.add_value(alloc, header, value)
+    }
+
     /// Takes in the header lines at the front, up to the empty line. What follows that.
     pub fn add_lines<'a>(&mut self, alloc: Global, text: &'a [u8]) -> Result<&'a [u8], ReadError>
         ensures { Takes (λ r. (gathered_seen self.new, r.now)) result (gather (gathered_seen self.old) text.now) }
@@ -360,6 +362,76 @@ impl Gathered {
             };
             self.add_line(alloc, line.as_slice())?;
             rest = after;
+        }
+    }
+}
+
+/// What the Content-Length leaves of what follows the empty line. Several lines are refused before.
+fn body_of(content_length: Once<u64>, rest: &[u8]) -> Result<&[u8], ReadError>
+    ensures { Answers (λ x. x.now) result (body_of content_length rest.now) }
+{
+    match content_length {
+        Once::One(count) => {
+            let count = count as usize;
+            if rest.len() < count {
+                Err(ReadError::ShortBody)
+            } else {
+                Ok(rest.split_at(count).0)
+            }
+        }
+        Once::Absent | Once::Several => Ok(rest),
+    }
+}
+
+impl Gathered {
+    /// The first header that may stand once and stands in several lines.
+    fn doubled(&self) -> Option<HeaderName>
+        ensures { result ≡ doubled (gathered_seen self.now) }
+    {
+        if self.head.from.is_several() {
+            Some(HeaderName::From)
+        } else if self.head.to.is_several() {
+            Some(HeaderName::To)
+        } else if self.head.call_id.is_several() {
+            Some(HeaderName::CallId)
+        } else if self.head.cseq.is_several() {
+            Some(HeaderName::CSeq)
+        } else if self.content_length.is_several() {
+            Some(HeaderName::ContentLength)
+        } else {
+            None
+        }
+    }
+
+    /// The message of a first line, of what the header lines say, and of what follows the empty line.
+    #[tactic(auto, unfolding(crate::specs::MessageComputed::message_of))]
+    pub fn finish(self, alloc: Global, first: First<'_>, rest: &[u8]) -> Result<Message, ReadError>
+        ensures { Answers (λ m. m) result (message_of (first_view first.entry) (gathered_seen self) rest.now) }
+    {
+        if let Some(name) = self.doubled() {
+            return Err(ReadError::Twice(name));
+        }
+        let Gathered {
+            head,
+            content_length,
+            fields,
+        } = self;
+        let head = head.head()?;
+        let body = body_of(content_length, rest)?;
+        match first {
+            First::Request { method, uri } => {
+                let request = fields.request(alloc, head, method, uri, body)?;
+                Ok(Message::Request(Boxed::new(alloc, request)?))
+            }
+            First::Status { code, reason } => {
+                let reason = Text::of(alloc, reason)?;
+                let response = Response {
+                    status: code,
+                    reason,
+                    head,
+                };
+                Ok(Message::Response(Boxed::new(alloc, response)?))
+            }
         }
     }
 }

@@ -9,25 +9,19 @@
 //! the function on lists that stands between that relation and the code. The levels below the lines are those of `sip_text`,
 //! and the headers Event, Expires and Accept those of `event_headers`.
 //!
-//! The code begins in `datagram`: the first line, then `gathered` takes in line by line what `header` cuts and names, then the message. Values
-//! are read in `via`, `address`, `call`, `item` and `value`. A reader `.._at` reads at the front of a text and gives what follows, a reader
+//! The code begins in `datagram`: the first line, and how lines are cut and named. `gathered` takes them in, and makes the message. Values are
+//! read in `value`. A reader `.._at` reads at the front of a text and gives what follows, a reader
 //! `.._of` a whole text ([`unfolded_of`] alone, named after what it makes, gives what follows too).
 #![tactic(auto)]
 
-mod address;
-mod call;
 mod datagram;
 pub mod error;
 mod gathered;
-mod header;
-mod item;
 pub mod laws;
 pub mod message;
 mod value;
-mod via;
 
-pub use datagram::read;
+pub use datagram::{Line, header_of, line_at, read, unfolded_of};
 pub use error::{HeaderName, ReadError};
-pub use header::{Line, header_of, line_at, unfolded_of};
 pub use message::{Boxed, Head, Message, Party, Request, Response, Via};
 pub use sip_text::Addr;

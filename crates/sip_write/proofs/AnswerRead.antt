@@ -15,8 +15,8 @@ use Rattle.event_headers.specs.Written.{parameter_text, comma_joined}
 use Rattle.sip_text.proofs.NotEmpty.{cons_some, some_before}
 use Rattle.sip_text.proofs.Numerals.{spelled}
 use Rattle.sip_text.proofs.Trims.{all-append}
-use Rattle.sip_read.specs.declared.call.Sequence.{Sequence}
-use Rattle.sip_read.specs.declared.header.Header.TheVariants as headers
+use Rattle.sip_read.specs.declared.value.Sequence.{Sequence}
+use Rattle.sip_read.specs.declared.datagram.Header.TheVariants as headers
 use Rattle.sip_text.specs.declared.address.Addr.{Addr}
 use Rattle.sip_read.specs.declared.message.Party.{Party}
 use Rattle.sip_read.specs.Addresses.{IsParty}

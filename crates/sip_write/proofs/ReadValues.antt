@@ -15,10 +15,10 @@ use Rattle.sip_text.proofs.NotEmpty.{cons_some, some_behind, ends_more}
 use Rattle.sip_text.proofs.Pieces.{and_both}
 use Rattle.sip_text.proofs.Trims.{all-append, stops_front}
 use Rattle.sip_text.proofs.Utf8.{is_wide, text_after_ascii}
-use Rattle.sip_read.specs.declared.call.Sequence.{Sequence}
-use Rattle.sip_read.specs.declared.header.Header.{Header}
-use Rattle.sip_read.specs.declared.header.Header.TheVariants as headers
-use Rattle.sip_read.specs.declared.item.Listed.TheVariants as listed
+use Rattle.sip_read.specs.declared.value.Sequence.{Sequence}
+use Rattle.sip_read.specs.declared.datagram.Header.{Header}
+use Rattle.sip_read.specs.declared.datagram.Header.TheVariants as headers
+use Rattle.sip_read.specs.declared.value.Listed.TheVariants as listed
 use Rattle.sip_read.specs.declared.message.Head.{Head}
 use Rattle.sip_read.specs.declared.message.Party.{Party}
 use Rattle.sip_read.specs.Addresses.{IsUri, IsAddress, IsParty, IsContact, IsRoute}

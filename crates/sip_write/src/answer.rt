@@ -1,13 +1,12 @@
 //! Answers.
-ghost use Rattle.std.specs.Prelude.{◌≡◌, ◌++◌, ◌∷◌, [], IfOk, OnOk, OnErr, codes, decimal, option_map, map};
+ghost use Rattle.std.specs.Prelude.{◌≡◌, ◌++◌, IfOk, OnOk, OnErr, codes, decimal, option_map, map};
 ghost use Rattle.event_headers.specs.Written.{comma_joined};
-ghost use Rattle.sip_write.specs.Lines.{joined, header, header_of, contact_text};
-ghost use Rattle.sip_write.specs.Answer.{answer_text, bare, status_line, via_lines, dialog_lines, added_tag, option_lines, refer_sub_text};
+ghost use Rattle.sip_write.specs.Lines.{joined, header_of, contact_text};
+ghost use Rattle.sip_write.specs.Answer.{answer_text, bare, via_lines, added_tag, option_lines, refer_sub_text};
 ghost use Rattle.sip_write.specs.Pages.{Puts};
 ghost use Rattle.sip_write.specs.Views.{answer_view};
 
-use crate::line::texts_room;
-use crate::page::Page;
+use crate::page::{Page, texts_room};
 use crate::status::Status;
 use crate::via::put_top_via;
 use sip_read::{Addr, Head, Party};
@@ -68,17 +67,6 @@ impl<'a> Answer<'a> {
     }
 }
 
-/// Puts the first line.
-fn put_status_line(page: &mut Page, status: Status)
-    ensures { Puts page.old (joined (status_line status ∷ [])) page.new }
-{
-    page.put("SIP/2.0 ");
-    page.put_number(u64::from(status.code()));
-    page.put(" ");
-    page.put(status.phrase());
-    page.end_line();
-}
-
 /// Puts the Via lines.
 fn put_vias(page: &mut Page, head: &Head, source: &Addr)
     ensures { Puts page.old (joined (via_lines source.now head.now.top head.now.vias)) page.new }
@@ -97,16 +85,6 @@ fn tag_to_add<'a>(to: &Party, tag: Option<&'a str>) -> Option<&'a str>
         Some(_) => None,
         None => tag,
     }
-}
-
-/// Puts the lines From, To, Call-ID and CSeq.
-fn put_dialog(page: &mut Page, a: &Answer<'_>)
-    ensures { Puts page.old (joined (dialog_lines (answer_view a.now))) page.new }
-{
-    let head = a.head;
-    page.put_header("From", head.from.text.as_str());
-    page.put_party("To", head.to.text.as_str(), tag_to_add(&head.to, a.tag));
-    page.put_call(head.call_id.as_str(), head.cseq, head.cseq_method.as_str());
 }
 
 fn put_contact_of(page: &mut Page, contact: Option<Addr>)
@@ -156,26 +134,6 @@ fn put_options(page: &mut Page, a: &Answer<'_>)
     put_refer_sub(page, a.without_subscription);
 }
 
-/// Puts the length of the empty body, and the empty line.
-fn put_end(page: &mut Page)
-    ensures { Puts page.old (joined (header (codes "Content-Length") (codes "0") ∷ [] ∷ [])) page.new }
-{
-    page.put_header("Content-Length", "0");
-    page.end_line();
-}
-
-/// Puts the whole answer.
-fn put_answer(page: &mut Page, a: &Answer<'_>)
-    ensures { Puts page.old (answer_text (answer_view a.now)) page.new }
-{
-    put_status_line(page, a.status);
-    put_vias(page, a.head, &a.source);
-    page.put_headers("Record-Route", a.record_routes);
-    put_dialog(page, a);
-    put_options(page, a);
-    put_end(page);
-}
-
 /// About how many bytes an answer has: enough for the usual one.
 fn room_of(a: &Answer<'_>) -> usize {
     let head = a.head;
@@ -192,8 +150,21 @@ fn room_of(a: &Answer<'_>) -> usize {
 pub fn response(alloc: Global, a: &Answer<'_>) -> Result<Octets, NoMemory>
     ensures { IfOk result (λ octets. octets ≡ answer_text (answer_view a.now)) }
 {
+    let head = a.head;
     let mut page = Page::new(alloc, room_of(a));
-    put_answer(&mut page, a);
+    page.put("SIP/2.0 ");
+    page.put_number(u64::from(a.status.code()));
+    page.put(" ");
+    page.put(a.status.phrase());
+    page.end_line();
+    put_vias(&mut page, head, &a.source);
+    page.put_headers("Record-Route", a.record_routes);
+    page.put_header("From", head.from.text.as_str());
+    page.put_party("To", head.to.text.as_str(), tag_to_add(&head.to, a.tag));
+    page.put_call(head.call_id.as_str(), head.cseq, head.cseq_method.as_str());
+    put_options(&mut page, a);
+    page.put_header("Content-Length", "0");
+    page.end_line();
     page.octets()
 }
 

@@ -13,7 +13,6 @@
 mod address;
 pub mod answer;
 pub mod laws;
-mod line;
 pub mod notify;
 mod page;
 pub mod quoting;

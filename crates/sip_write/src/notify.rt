@@ -1,13 +1,9 @@
 //! NOTIFYs.
-ghost use Rattle.std.specs.Prelude.{◌≡◌, ◌++◌, ◌∷◌, [], codes, IfOk, OnOk, OnErr};
-ghost use Rattle.event_headers.specs.Written.{event_text, state_text};
-ghost use Rattle.sip_write.specs.Lines.{joined, header};
-ghost use Rattle.sip_write.specs.Notify.{notify_text, request_line, via_text, opening_lines, dialog_lines, event_lines, body_lines};
-ghost use Rattle.sip_write.specs.Pages.{Puts};
+ghost use Rattle.std.specs.Prelude.{◌≡◌, ◌++◌, IfOk, OnOk, OnErr};
+ghost use Rattle.sip_write.specs.Notify.{notify_text};
 ghost use Rattle.sip_write.specs.Views.{notify_view};
 
-use crate::line::texts_room;
-use crate::page::Page;
+use crate::page::{Page, texts_room};
 use event_headers::{EventValue, StateValue};
 use sip_read::Addr;
 use sip_text::{NoMemory, Octets, Text};
@@ -45,98 +41,6 @@ pub struct NotifyText<'a> {
     pub body: &'a [u8],
 }
 
-/// Puts the request line.
-fn put_request_line(page: &mut Page, target: &str)
-    ensures { Puts page.old (joined (request_line target.now ∷ [])) page.new }
-{
-    page.put("NOTIFY ");
-    page.put(target);
-    page.put(" SIP/2.0");
-    page.end_line();
-}
-
-/// Puts the Via value of this server.
-fn put_via_value(page: &mut Page, n: &NotifyText<'_>)
-    ensures { Puts page.old (via_text (notify_view n.now)) page.new }
-{
-    page.put("SIP/2.0/UDP ");
-    page.put_addr(&n.me);
-    page.put(";branch=z9hG4bK-");
-    page.put(n.local_tag);
-    page.put("-");
-    page.put_number(u64::from(n.number));
-}
-
-/// Puts the lines up to Max-Forwards.
-fn put_opening(page: &mut Page, n: &NotifyText<'_>)
-    ensures { Puts page.old (joined (opening_lines (notify_view n.now))) page.new }
-{
-    put_request_line(page, n.target);
-    page.put_name("Via");
-    put_via_value(page, n);
-    page.end_line();
-    page.put_header("Max-Forwards", "70");
-}
-
-/// Puts the lines from From to Contact.
-fn put_dialog(page: &mut Page, n: &NotifyText<'_>)
-    ensures { Puts page.old (joined (dialog_lines (notify_view n.now))) page.new }
-{
-    page.put_party("From", n.local, Some(n.local_tag));
-    page.put_header("To", n.remote);
-    page.put_call(n.call_id, n.number, "NOTIFY");
-    page.put_contact(&n.me);
-}
-
-fn put_event_line(page: &mut Page, event: &EventValue)
-    ensures { Puts page.old (joined (header (codes "Event") (event_text event.now) ∷ [])) page.new }
-{
-    page.put_name("Event");
-    page.put(event.package());
-    page.put_parameter("id", event.id());
-    page.end_line();
-}
-
-fn put_state_line(page: &mut Page, state: &StateValue)
-    ensures { Puts page.old (joined (header (codes "Subscription-State") (state_text state.now) ∷ [])) page.new }
-{
-    page.put_name("Subscription-State");
-    page.put(state.word());
-    page.put_seconds_parameter("expires", state.expires());
-    page.put_parameter("reason", state.reason());
-    page.put_seconds_parameter("retry-after", state.retry_after());
-    page.end_line();
-}
-
-/// Puts the lines of the event.
-fn put_event_lines(page: &mut Page, n: &NotifyText<'_>)
-    ensures { Puts page.old (joined (event_lines (notify_view n.now))) page.new }
-{
-    put_event_line(page, n.event);
-    put_state_line(page, n.state);
-}
-
-/// Puts the lines of the body and the empty line.
-fn put_body_lines(page: &mut Page, n: &NotifyText<'_>)
-    ensures { Puts page.old (joined (body_lines (notify_view n.now))) page.new }
-{
-    page.put_header("Content-Type", n.content_type);
-    page.put_count("Content-Length", n.body.len() as u64);
-    page.end_line();
-}
-
-/// Puts the whole NOTIFY.
-fn put_notify(page: &mut Page, n: &NotifyText<'_>)
-    ensures { Puts page.old (notify_text (notify_view n.now)) page.new }
-{
-    put_opening(page, n);
-    page.put_headers("Route", n.routes);
-    put_dialog(page, n);
-    put_event_lines(page, n);
-    put_body_lines(page, n);
-    page.put_bytes(n.body);
-}
-
 /// About how many bytes a NOTIFY has: enough for the usual one.
 fn room_of(n: &NotifyText<'_>) -> usize {
     let texts = [
@@ -162,7 +66,38 @@ pub fn notice(alloc: Global, n: &NotifyText<'_>) -> Result<Octets, NoMemory>
     ensures { IfOk result (λ octets. octets ≡ notify_text (notify_view n.now)) }
 {
     let mut page = Page::new(alloc, room_of(n));
-    put_notify(&mut page, n);
+    page.put("NOTIFY ");
+    page.put(n.target);
+    page.put(" SIP/2.0");
+    page.end_line();
+    page.put_name("Via");
+    page.put("SIP/2.0/UDP ");
+    page.put_addr(&n.me);
+    page.put(";branch=z9hG4bK-");
+    page.put(n.local_tag);
+    page.put("-");
+    page.put_number(u64::from(n.number));
+    page.end_line();
+    page.put_header("Max-Forwards", "70");
+    page.put_headers("Route", n.routes);
+    page.put_party("From", n.local, Some(n.local_tag));
+    page.put_header("To", n.remote);
+    page.put_call(n.call_id, n.number, "NOTIFY");
+    page.put_contact(&n.me);
+    page.put_name("Event");
+    page.put(n.event.package());
+    page.put_parameter("id", n.event.id());
+    page.end_line();
+    page.put_name("Subscription-State");
+    page.put(n.state.word());
+    page.put_seconds_parameter("expires", n.state.expires());
+    page.put_parameter("reason", n.state.reason());
+    page.put_seconds_parameter("retry-after", n.state.retry_after());
+    page.end_line();
+    page.put_header("Content-Type", n.content_type);
+    page.put_count("Content-Length", n.body.len() as u64);
+    page.end_line();
+    page.put_bytes(n.body);
     page.octets()
 }
 

@@ -2,7 +2,7 @@
 ghost use Rattle.std.specs.Prelude.{◌≡◌, ◌≢◌, ◌∷◌, [], ◌≤◌, ◌<◌, ◌&&◌, not, List, length, take, drop, codes, bytes_eq};
 ghost use Rattle.std.specs.List.{prefix_len, position_or_len, flat_map};
 ghost use Rattle.sip_write.specs.Lines.{joined, header};
-ghost use Rattle.sip_write.specs.Via.{top_via_text, marked_parts, marked_parameter, parts_of, is_lead as is_lead_byte, is_received as is_received_parameter, is_bare_rport as is_bare_rport_parameter, lead_of, behind_lead, ends_name, is_colon, host_of};
+ghost use Rattle.sip_write.specs.Via.{top_via_text, marked_parameter, parts_of, is_lead as is_lead_byte, is_received as is_received_parameter, is_bare_rport as is_bare_rport_parameter, lead_of, behind_lead, ends_name, is_colon, host_of};
 ghost use Rattle.sip_write.specs.Cutting.{first_cut};
 ghost use Rattle.sip_write.specs.Pages.{Puts};
 ghost use Rattle.sip_write.specs.declared.quoting.Quoting.TheVariants as quoting;
@@ -153,34 +153,22 @@ fn put_parameters(page: &mut Page, text: &[u8], source: &Addr)
     }
 }
 
-/// Puts a Via value with the source written into it.
-fn put_marked(page: &mut Page, text: &[u8], source: &Addr)
-    ensures { Puts page.old (marked_parts source.now (parts_of text.now)) page.new }
-{
-    let (front, parameters) = text.split_at(front_len(text));
-    page.put_bytes(front);
-    put_parameters(page, parameters, source);
-    page.put(";received=");
-    page.put_ip(source.ip);
-}
-
-/// Puts the top Via value: as it is where it names the source and asks for no port.
-fn put_value(page: &mut Page, text: &str, top: &Via, source: &Addr)
-    ensures { Puts page.old (top_via_text source.now top.now text.now) page.new }
-{
-    let mut room = [0; IP_LEN];
-    if names(top, ip_in(source.ip, &mut room)) {
-        page.put(text);
-        return;
-    }
-    put_marked(page, text.as_bytes(), source);
-}
-
-/// Puts the top Via line.
+/// Puts the top Via line: the value as it is where it names the source and asks for no port, else with the source written into it.
 pub fn put_top_via(page: &mut Page, text: &str, top: &Via, source: &Addr)
     ensures { Puts page.old (joined (header (codes "Via") (top_via_text source.now top.now text.now) ∷ [])) page.new }
 {
     page.put_name("Via");
-    put_value(page, text, top, source);
+    let mut room = [0; IP_LEN];
+    if names(top, ip_in(source.ip, &mut room)) {
+        page.put(text);
+        page.end_line();
+        return;
+    }
+    let value = text.as_bytes();
+    let (front, parameters) = value.split_at(front_len(value));
+    page.put_bytes(front);
+    put_parameters(page, parameters, source);
+    page.put(";received=");
+    page.put_ip(source.ip);
     page.end_line();
 }

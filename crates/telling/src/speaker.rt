@@ -1,10 +1,13 @@
 //! Speakers that ask one line behind the other.
 ghost use Rattle.std.specs.Prelude.{◌≡◌, IfOk};
 
-use control_lines::{Speaker, SpeakerFault, UdpSpeaker};
+use control_lines::{Speaker, SpeakerFault, TRIES, UdpSpeaker};
 use sip_text::Addr;
 use std::net::Net;
 use std::sync::Wait;
+
+/// So many answers to a line are waited for shortly, and the last one longer: the service may be beginning anew.
+const SHORT_WAITS: u32 = TRIES - 1;
 
 /// A speaker that asks one line behind the other.
 pub trait LineSpeaker: Speaker {
@@ -22,8 +25,8 @@ pub struct UdpLineSpeaker {
     /// Where the service is.
     service: Addr,
     asked: u64,
-    /// Whether an answer may still come.
-    is_owed: bool,
+    /// How many answers may still come.
+    owed: u32,
 }
 
 impl UdpLineSpeaker {
@@ -35,7 +38,7 @@ impl UdpLineSpeaker {
             speaker: UdpSpeaker::to(rt, service)?,
             service,
             asked: 0,
-            is_owed: false,
+            owed: 0,
         })
     }
 }
@@ -52,7 +55,10 @@ impl Speaker for UdpLineSpeaker {
         self.asked = self.asked.saturating_add(1);
         let came = self.speaker.ask(rt, line, room)?;
         if came.is_none() {
-            self.is_owed = true;
+            self.owed = self.owed.saturating_add(1);
+            if self.owed == SHORT_WAITS {
+                self.speaker.wait_longer()?;
+            }
         }
         Ok(came)
     }
@@ -60,9 +66,9 @@ impl Speaker for UdpLineSpeaker {
 
 impl LineSpeaker for UdpLineSpeaker {
     fn turn_over<R: Wait + Net>(&mut self, rt: &R) -> Result<(), SpeakerFault> {
-        if self.is_owed {
+        if self.owed > 0 {
             self.speaker = UdpSpeaker::to(rt, self.service)?;
-            self.is_owed = false;
+            self.owed = 0;
         }
         Ok(())
     }

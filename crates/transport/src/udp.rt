@@ -2,7 +2,7 @@
 ghost use Rattle.std.specs.Prelude.{◌≡◌, ◌≤◌, IfOk, Some};
 ghost use Rattle.std.specs.Net.Addr.{IsV4And, ipv4_octets};
 ghost use Rattle.std.specs.Net.Socket.{socket_ip, socket_port};
-ghost use Rattle.transport.specs.Sockets.{loopback, IsNew, IsFurther, failed, missed, heard};
+ghost use Rattle.transport.specs.Sockets.{loopback, IsNew, IsFurther, failed, missed};
 ghost use Rattle.transport.specs.Ears.{is_lost};
 
 use crate::ear::{Ear, ReceiveFault};
@@ -184,13 +184,6 @@ impl UdpWire {
         fault
     }
 
-    /// Counts a receive in time that didn't fail.
-    fn hear(&mut self)
-        ensures { self.new ≡ heard self.old }
-    {
-        self.row = 0;
-    }
-
     /// Counts a failure.
     fn fail(&mut self) -> WireFault
         ensures { self.new ≡ failed self.old }
@@ -250,13 +243,13 @@ impl Ear for UdpWire {
         match self.socket.recv_from(octets) {
             Ok((length, source)) => match ipv4_addr(source) {
                 Ok(source) => {
-                    self.hear();
+                    self.row = 0;
                     Ok(Some((length, source)))
                 }
                 Err(_) => Err(self.miss(ReceiveFault { number: None })),
             },
             Err(error) if error.kind() == ErrorKind::WouldBlock => {
-                self.hear();
+                self.row = 0;
                 Ok(None)
             }
             Err(error) => Err(self.miss(ReceiveFault::from(error))),

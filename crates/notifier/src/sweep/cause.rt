@@ -13,8 +13,7 @@ ghost use Rattle.notifier.specs.Told.{FollowsRule};
 
 use crate::incoming::Incoming;
 use crate::notice::Teller;
-use crate::store::rows::Rows;
-use crate::store::timers::alarm;
+use crate::store::rows::{Rows, alarm};
 use crate::sweep::row::{After, count, take_answer};
 use notifier_model::event::Out;
 use notifier_model::row::Row;

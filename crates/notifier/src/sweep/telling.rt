@@ -11,8 +11,7 @@ ghost use Rattle.notifier.specs.Sound.{IsOwn};
 ghost use Rattle.notifier.specs.Stored.{rows_of, IsIndexed};
 ghost use Rattle.notifier.specs.Tellers.{rule_by};
 
-use crate::boxes::tell_first;
-use crate::notice::Teller;
+use crate::notice::{Teller, tell_first};
 use crate::store::Ledger;
 use crate::store::rows::Rows;
 use crate::sweep::cause::Cause;

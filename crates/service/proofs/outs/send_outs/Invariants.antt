@@ -4,6 +4,7 @@ use Rattle.feeds.specs.Emitted.{wire_seen, writer_seen, count, fails_to_start}
 use Rattle.transactions.specs.Runs.{state_after}
 use Rattle.service.specs.Sending.{Act, calls, fates, Does}
 use Rattle.service.specs.Keeping.{AreKept}
+use Rattle.service.specs.Releasing.{AreHeld, waits}
 use Rattle.service.proofs.Departing.{Ahead}
 use Rattle.service.proofs.outs.send_outs.Given as goal
 
@@ -16,5 +17,6 @@ invariant-loop g l = record {
   does : Does acts l.fn.outgoing.waiting.transactions (state_after (calls acts) l.fn.outgoing.waiting.transactions)
       (wire_seen g.W.Wire.taken g.W.Wire.failures l.fn.exit.wire) (wire_seen g.W.Wire.taken g.W.Wire.failures l.exit.wire);
   kept : AreKept l.fn.outgoing.waiting.transactions l.fn.outgoing.waiting.watchers.rows acts l.outgoing.waiting;
+  held : AreHeld acts (waits l.outgoing.waiting.contacts);
   flushed : count fails_to_start (fates acts) ≡ 0 → (l.exit.sink ≡ l.fn.exit.sink) ⊎ (l.exit.sink.is_flushed ≡ true);
 }

@@ -6,5 +6,6 @@ returns-clause-fresh c = record {
   first = c.in_ok-desk.ensures.first;
   unkept = c.in_ok-desk.ensures.unkept;
   workers_are = c.in_ok-desk.ensures.workers;
+  most_is = c.in_ok-desk.ensures.most;
   networks_are = ap (λ networks. networks.items) c.in_ok-desk.ensures.networks;
 }

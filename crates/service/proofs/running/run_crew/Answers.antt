@@ -1,5 +1,6 @@
 use Rattle.std.proofs.Common.{ℕ, None, inr, get_or, sym, ap, ◌∙◌, arith}
 use Rattle.crew.specs.Desks.{standing_of}
+use Rattle.service.specs.Releasing.{waits}
 use Rattle.service.specs.Running.{opening}
 use Rattle.service.proofs.Ran.{on_ok, on_err, no_other, begun_is, runs_with, runs_as, leaves_with, leaves_as, fresh_with}
 use Rattle.service.proofs.running.run_crew.Goals as goal
@@ -15,6 +16,10 @@ run_to_end-requires-clause-new g c κs within =
 pub run_to_end-requires-clause-none_put : goal.run_to_end-requires-clause-none_put
 run_to_end-requires-clause-none_put g c κs within =
     ap (λ waiting. waiting.burst.items) c.in_ok-running.ensures.waiting ∙ c.in_ok-sources.ensures.none_put
+
+pub run_to_end-requires-clause-none_waits : goal.run_to_end-requires-clause-none_waits
+run_to_end-requires-clause-none_waits g c κs within =
+    λ tag. ap (λ waiting. waits waiting.contacts tag) c.in_ok-running.ensures.waiting ∙ c.in_ok-sources.ensures.none_waits tag
 
 pub run_to_end-requires-clause-unfailed : goal.run_to_end-requires-clause-unfailed
 run_to_end-requires-clause-unfailed g c κs within = ap (λ stopwatch. stopwatch.failures) c.in_ok-sources.ensures.stopwatch

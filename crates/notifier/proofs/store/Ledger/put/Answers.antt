@@ -13,7 +13,7 @@ returns-then-from-low-clause-rightly g c = λ may.
 pub returns-clause-sound : goal.returns-clause-sound
 returns-clause-sound g c =
     let low : c.args.low ≤ c.args.row.serial = omega (arith, c.if-from-low.false, c.from.ensures) in
-    sound_more c.args.place.now c.args.self.now (record { clock = c.args.self.now.clock; next = c.args.self.now.next; rows = c.push.new.self; boxes = c.args.self.now.boxes; ring = c.args.self.now.ring }) c.args.row c.requires.sound
+    sound_more c.args.place.now c.args.self.now (record { clock = c.args.self.now.clock; next = c.args.self.now.next; rows = c.push.new.self; boxes = c.args.self.now.boxes; ring = c.args.self.now.ring; tags = c.is_own.new.tags }) c.args.row c.requires.sound
     (record {
       live = c.is_live.ensures.0 c.if-not-is_live.false;
       own = c.in_ok-is_own.ensures.0 c.if-not-branch.false;

@@ -1,5 +1,6 @@
-use Rattle.std.proofs.Common.{◌≡◌, ◌∙◌, ◌∷◌, [], true, false, refl, sym, ap, take}
+use Rattle.std.proofs.Common.{◌≡◌, ◌≤◌, ◌∙◌, ◌∷◌, [], true, false, refl, sym, ap, take, arith}
 use Rattle.std.specs.Prelude.{nat_le}
+use Rattle.std.proofs.lemmas.Bool.{le-leb, lt-leb}
 use Rattle.transport.specs.Wires.{Grows, datagram}
 use Rattle.feeds.specs.Fed.{is_fault}
 use Rattle.feeds.proofs.Telling.{grows_none, grows_same}
@@ -34,13 +35,13 @@ loop-preserved-in-Nothing g c =
       deaf = deaf_after false false (g.W.Ear.misses c.args.self.now.coming) (g.W.Ear.misses c.loop.self.coming) (g.W.Ear.misses c.look.new.wire) at.deaf c.in-Nothing.ensures.deaf;
     }
 
-pub loop-preserved-then-not-takes : goal.loop-preserved-then-not-takes
-loop-preserved-then-not-takes g c =
+pub loop-preserved-then-length-self : goal.loop-preserved-then-length-self
+loop-preserved-then-length-self g c =
     let at = c.loop.invariant in let one = c.in-Datagram in
     let came = datagram one.source (take one.length c.look.new.octets) in
     let gave : Grows (g.W.Wire.given c.loop.self.coming) (g.W.Wire.given c.look.new.wire) (came ∷ []) = c.in-Datagram.ensures.given in
     let within = c.in-Datagram.ensures.came in
-    let long : false ≡ nat_le one.length c.args.self.now.longest = sym c.if-not-takes.true ∙ c.takes.ensures ∙ ap (λ k. nat_le one.length k) at.longest in record {
+    let long : false ≡ nat_le one.length c.args.self.now.longest = sym (lt-leb one.length c.loop.self.longest c.if-length-self.true) ∙ ap (λ k. nat_le one.length k) at.longest in record {
       still_open = at.still_open;
       seats = at.seats;
       longest = at.longest;
@@ -58,12 +59,13 @@ returns-then-not-take_one-clause-served g c =
     let came = datagram one.source octets in
     let gave : Grows (g.W.Wire.given c.loop.self.coming) (g.W.Wire.given c.look.new.wire) (came ∷ []) = c.in-Datagram.ensures.given in
     let within = c.in-Datagram.ensures.came in
-    let fits : true ≡ nat_le one.length c.args.self.now.longest = sym c.if-not-takes.false ∙ c.takes.ensures ∙ ap (λ k. nat_le one.length k) at.longest in
+    let fits : true ≡ nat_le one.length c.args.self.now.longest = sym (le-leb one.length c.loop.self.longest c.if-length-self.false) ∙ ap (λ k. nat_le one.length k) at.longest in
     let short = short_is c.args.self.now.longest one.length one.source c.look.new.octets true within fits in
+    let later : c.loop.moment ≤ c.max-moment.result = omega (arith, c.max-moment.ensures) in
     let mine = c.take_one.new.self in
     rw c.take_one.ensures.coming
-    (served_taken at.hearing one.source octets c.next_moment-moment.result mine.admission c.take_one.new.port (g.W.Wire.given c.look.new.wire)
-    (g.W.Wire.taken mine.going) (g.W.Wire.failures mine.going) true gave short c.next_moment-moment.ensures
+    (served_taken at.hearing one.source octets c.max-moment.result mine.admission c.take_one.new.port (g.W.Wire.given c.look.new.wire)
+    (g.W.Wire.taken mine.going) (g.W.Wire.failures mine.going) true gave short later
     (rw c.if-not-take_one.true at c.take_one.ensures.taken) refl)
 
 pub returns-then-not-take_one-clause-taken : goal.returns-then-not-take_one-clause-taken
@@ -84,11 +86,12 @@ loop-preserved g c =
     let came = datagram one.source octets in
     let gave : Grows (g.W.Wire.given c.loop.self.coming) (g.W.Wire.given c.look.new.wire) (came ∷ []) = c.in-Datagram.ensures.given in
     let within = c.in-Datagram.ensures.came in
-    let fits : true ≡ nat_le one.length c.args.self.now.longest = sym c.if-not-takes.false ∙ c.takes.ensures ∙ ap (λ k. nat_le one.length k) at.longest in
+    let fits : true ≡ nat_le one.length c.args.self.now.longest = sym (le-leb one.length c.loop.self.longest c.if-length-self.false) ∙ ap (λ k. nat_le one.length k) at.longest in
     let short = short_is c.args.self.now.longest one.length one.source c.look.new.octets true within fits in
+    let later : c.loop.moment ≤ c.max-moment.result = omega (arith, c.max-moment.ensures) in
     let mine = c.take_one.new.self in
-    let hearing = hearing_taken at.hearing one.source octets c.next_moment-moment.result mine.admission c.take_one.new.port (g.W.Wire.given c.look.new.wire)
-    (g.W.Wire.taken mine.going) (g.W.Wire.failures mine.going) false gave short c.next_moment-moment.ensures
+    let hearing = hearing_taken at.hearing one.source octets c.max-moment.result mine.admission c.take_one.new.port (g.W.Wire.given c.look.new.wire)
+    (g.W.Wire.taken mine.going) (g.W.Wire.failures mine.going) false gave short later
     (rw c.if-not-take_one.false at c.take_one.ensures.taken) refl in record {
       still_open = hearing_open hearing ∙ c.requires.still_open;
       seats = c.take_one.ensures.seats ∙ at.seats;

@@ -20,7 +20,7 @@ returns-clause-done g c =
     let d = c.take_line-done.result in
     let rows = c.take_line-done.new.told in
     let none : kept_answer desk.kept.lines.items (token c.args.octets.now) ≡ None = ap (kept_answer desk.kept.lines.items) (sym c.cut_token-token.ensures.token) ∙ sym c.answer_to.ensures ∙ c.in_default.is in
-    let K : KeptAnswers → DeskSeen = λ k. record { workers = desk.workers; hearing = desk.hearing; rows = rows; kept = k } in
+    let K : KeptAnswers → DeskSeen = λ k. record { workers = desk.workers; hearing = desk.hearing; most = desk.most; rows = rows; kept = k } in
     inr (
       sym c.hears.ensures ∙ c.if-not-hears.false,
       inr (
@@ -28,6 +28,6 @@ returns-clause-done g c =
         c.keep.result,
         rows,
         ap K (c.keep.ensures ∙ ap (λ (t : Option Token). kept_with c.keep.result t d desk.kept) c.cut_token-token.ensures.token),
-        subst (λ (l : List ℕ). IsDone l desk.rows rows c.args.port.now c.take_line-done.new.port d) c.cut_token-token.ensures.line c.take_line-done.ensures.done,
+        subst (λ (l : List ℕ). IsDone desk.most l desk.rows rows c.args.port.now c.take_line-done.new.port d) c.cut_token-token.ensures.line c.take_line-done.ensures.done,
       ),
     )

@@ -4,8 +4,19 @@ use Rattle.first_contact.specs.Steps.{tag_in}
 use Rattle.first_contact.specs.Tables.{at, room}
 use Rattle.service.specs.Sending.{Held}
 use Rattle.service.proofs.Keeping.{kept_same, kept_more}
-use Rattle.service.proofs.Letting.{goes_itself}
+use Rattle.service.proofs.Letting.{goes_itself, notice_itself}
+use Rattle.service.specs.Releasing.{waits}
+use Rattle.service.proofs.Releasing.{fewer_same, fewer_more, fewer_behind, behind_fewer, behind_as, offered_through, offered_behind}
 use Rattle.service.proofs.sending.Waiting.let_through.Goals as goal
+
+pub returns-then-lost-eq0-clause-through : goal.returns-then-lost-eq0-clause-through
+returns-then-lost-eq0-clause-through g c = λ s rows acts is. kept_same c.has_room-may_begin.new.self _ refl refl refl (c.has_room-may_begin.ensures.kept s rows acts is)
+
+pub returns-then-lost-eq0-clause-itself : goal.returns-then-lost-eq0-clause-itself
+returns-then-lost-eq0-clause-itself g c =
+    let old = c.has_room-may_begin.new.self.contacts in let n = c.in-Ok.notice in
+    goes_itself c.args.out n c.in-Ok.ensures.notify (room c.has_room-may_begin.result old) (at old (tag_in n.out)) c.in-Ok-Through.field-0 c.in-Ok-Through.notice c.in-Ok-Through.lost
+    c.in-Ok-Through.field-0-is c.in-Ok-Through.ensures.outcome
 
 pub returns-in-Ok-Through-clause-through : goal.returns-in-Ok-Through-clause-through
 returns-in-Ok-Through-clause-through g c = λ s rows acts is. kept_same c.has_room-may_begin.new.self _ refl refl refl (c.has_room-may_begin.ensures.kept s rows acts is)
@@ -24,3 +35,37 @@ returns-clause-held g c = λ s rows acts now is.
     let last = c.settle.ensures in
     kept_more (last.kept s rows acts (kept_same c.has_room-may_begin.new.self _ refl refl refl (c.has_room-may_begin.ensures.kept s rows acts is))) last.none
     (Held now c.args.out ∷ []) _ last.none refl (c.settle.new.self.watchers.rows, refl, refl)
+
+pub returns-then-lost-eq0-clause-fewer : goal.returns-then-lost-eq0-clause-fewer
+returns-then-lost-eq0-clause-fewer g c =
+    let old = c.has_room-may_begin.new.self.contacts in let n = c.in-Ok.notice in
+    fewer_more _ _ _ c.has_room-may_begin.ensures.fewer
+    (offered_through old _ (room c.has_room-may_begin.result old) n c.in-Ok-Through.field-0 c.in-Ok-Through.notice c.in-Ok-Through.lost
+    c.in-Ok-Through.field-0-is c.in-Ok-Through.ensures.offered c.in-Ok-Through.ensures.outcome)
+
+pub returns-in-Ok-Through-clause-fewer : goal.returns-in-Ok-Through-clause-fewer
+returns-in-Ok-Through-clause-fewer g c =
+    let old = c.has_room-may_begin.new.self.contacts in let n = c.in-Ok.notice in
+    fewer_more _ _ _ c.has_room-may_begin.ensures.fewer
+    (offered_through old _ (room c.has_room-may_begin.result old) n c.in-Ok-Through.field-0 c.in-Ok-Through.notice c.in-Ok-Through.lost
+    c.in-Ok-Through.field-0-is c.in-Ok-Through.ensures.offered c.in-Ok-Through.ensures.outcome)
+
+pub returns-clause-behind : goal.returns-clause-behind
+returns-clause-behind g c =
+    let old = c.has_room-may_begin.new.self.contacts in let n = c.in-Ok.notice in
+    behind_as n.out c.args.out _ _ (notice_itself c.args.out n c.in-Ok.ensures.notify)
+    (fewer_behind n.out _ _ _ c.has_room-may_begin.ensures.fewer
+    (behind_fewer n.out _ _ _ (offered_behind old _ (room c.has_room-may_begin.result old) n c.offer.result c.offer.ensures.offered) c.settle.ensures.fewer))
+
+pub returns-in-Err-clause-through : goal.returns-in-Err-clause-through
+returns-in-Err-clause-through g c = λ s rows acts is. kept_same c.has_room-may_begin.new.self _ refl refl refl (c.has_room-may_begin.ensures.kept s rows acts is)
+
+pub returns-in-Err-clause-fewer : goal.returns-in-Err-clause-fewer
+returns-in-Err-clause-fewer g c = c.has_room-may_begin.ensures.fewer
+
+pub returns-then-self-clause-fewer : goal.returns-then-self-clause-fewer
+returns-then-self-clause-fewer g c = fewer_same (waits c.args.self.now.contacts)
+
+pub returns-in_default : goal.returns-in_default
+returns-in_default g c =
+    record { itself = refl; notify = tt; through = λ s rows acts is. is; held = tt; fewer = fewer_same (waits c.args.self.now.contacts); behind = tt }

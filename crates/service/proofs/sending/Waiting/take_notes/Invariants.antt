@@ -2,6 +2,7 @@ use Rattle.std.proofs.Common.{◌≡◌, List, map}
 use Rattle.transactions.specs.Runs.{state_after}
 use Rattle.service.specs.Noted.{answer_of}
 use Rattle.service.specs.Watched.{noted_rows}
+use Rattle.service.specs.Releasing.{Fewer, waits}
 use Rattle.service.specs.declared.post.Note.{Note}
 use Rattle.service.proofs.sending.Waiting.take_notes.Given as goal
 
@@ -11,4 +12,5 @@ invariant-loop g l = record {
   noted : l.self.transactions ≡ state_after (map answer_of taken) l.fn.self.transactions;
   rows : l.self.watchers.rows ≡ noted_rows taken l.fn.self.watchers.rows;
   burst : l.self.burst ≡ l.fn.self.burst;
+  fewer : Fewer (waits l.fn.self.contacts) (waits l.self.contacts);
 }
