@@ -177,18 +177,27 @@ def what_others_wrote_counts_for_nothing(_program, folder):
 
 
 def crates_are_tried_as_libraries_come(_program, folder):
-    """Beside the process that makes them; once it has ended, a library that isn't there is told."""
-    house = House(folder)
+    """Beside the process that makes them, once its log says that the library is whole; once it has ended, a library that isn't there is told."""
+    house, log = House(folder), f"{folder}/log"
     house.edits(**GOOD)
+
+    def made(text):
+        with open(log, "w", encoding="utf-8") as file:
+            file.write("== low\n" + text)
+
     with subprocess.Popen(["sleep", "60"]) as beside:
-        running = house.start("--beside", str(beside.pid))
-        time.sleep(1)
-        same("how often the prover was called", 0, house.called())
+        made("")
+        running = house.start("--beside", str(beside.pid), "--log", log)
+        # Its files come one by one, and this one is not the last.
         house.library(names=["low"])
+        time.sleep(3)
+        same("how often the prover was called", 0, house.called())
+        made("rt: low proved\n")
         same("what is said once it is there", 0, running.wait(timeout=180))
         running.communicate()
+        made("rt: low NOT PROVED\n")
         shutil.rmtree(f"{house.folder}/crates/low/out")
-        running = house.start("--beside", str(beside.pid))
+        running = house.start("--beside", str(beside.pid), "--log", log)
         time.sleep(1)
         same("whether it waits", None, running.poll())
         beside.kill()
