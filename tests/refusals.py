@@ -178,17 +178,18 @@ def what_others_wrote_counts_for_nothing(_program, folder):
 
 def crates_are_tried_as_libraries_come(_program, folder):
     """Beside the process that makes them; once it has ended, a library that isn't there is told."""
-    house = House(folder)
+    house, log = House(folder), f"{folder}/log"
     house.edits(**GOOD)
-    with subprocess.Popen(["sleep", "60"]) as beside:
-        running = house.start("--beside", str(beside.pid))
+    with subprocess.Popen(["sleep", "60"]) as beside, open(log, "w", encoding="utf-8") as told:
+        running = house.start("--beside", str(beside.pid), "--log", log)
+        house.library(names=["low"])
         time.sleep(1)
         same("how often the prover was called", 0, house.called())
-        house.library(names=["low"])
+        print("rt: low proved", file=told, flush=True)
         same("what is said once it is there", 0, running.wait(timeout=180))
         running.communicate()
         shutil.rmtree(f"{house.folder}/crates/low/out")
-        running = house.start("--beside", str(beside.pid))
+        running = house.start("--beside", str(beside.pid), "--log", log)
         time.sleep(1)
         same("whether it waits", None, running.poll())
         beside.kill()
