@@ -625,7 +625,7 @@ def named_tells_faults(_program, _folder):
     wanted = sum(len(glob.glob(f"{TOP}/crates/{it}/must-fail/*.edit")) for it in named.graph())
     ended = "rt: ok; handles allowed: none; must-fail edits: {} refused{}; every proof and must-fail edit was done in this run"
     ended += "".join(f"\n{it.name}: refused" for it in named.marked())
-    limit = "rt: must-fail notifier/a_notify_follows_a_481.edit: refused, as it must be (only by a limit of the prover, which gave no verdict): x\n"
+    limit = "rt: must-fail message_summary/only_the_changed_class_is_told.edit: refused, as it must be (only by a limit of the prover, which gave no verdict): x\n"
     wrong = faults(good) + faults(good, ended.format(wanted, ""))
     for items, fault in FAULTS.items():
         wrong += [] if any(fault in it for it in faults(items)) else [f"{items} isn't told as: {fault}"]
