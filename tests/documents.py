@@ -610,13 +610,14 @@ FAULTS = {
     "- A: `notifier/wrong.edits/an_edit` (`f`).": "it isn't there",
     "- A: `service/wrong.edits/a_tick_is_told_twice` (`tell_time`).": "it is tried by no landing",
     "- A: `notifier/must-fail/an_id_has_no_case` (`same_text`).": "it isn't there",
-    "- A: `notifier/must-fail/a_notify_follows_a_481`; in `notifier/wrong.edits`, `another`.": "`notifier/wrong.edits` is no path of an edit",
-    "- A: `notifier/must-fail/a_notify_follows_a_481`; of the same, `the_ring_never_drops`.": "`the_ring_never_drops` is no path of an edit",
+    "- A: `message_summary/must-fail/only_the_changed_class_is_told`; in `notifier/wrong.edits`, `another`.": "`notifier/wrong.edits` is no path of an edit",
+    "- A: `message_summary/must-fail/only_the_changed_class_is_told`; of the same, `the_ring_never_drops`.": "`the_ring_never_drops` is no path of an edit",
 }
 
 
 def named_tells_faults(_program, _folder):
-    named, good = script_of("named"), "- A: `notifier/must-fail/a_notify_follows_a_481`, `notifier/wrong.edits/{an_id_has_no_case, the_ring_never_drops}` (`take_answer`)."
+    named, tried = script_of("named"), "message_summary/must-fail/only_the_changed_class_is_told"
+    good = f"- A: `{tried}`, `notifier/wrong.edits/{{an_id_has_no_case, the_ring_never_drops}}` (`set_counts`)."
 
     def faults(items, said=None):
         return named.faults(named.named(f"## {named.LIST}\n\n{items}\n"), said)
@@ -624,7 +625,7 @@ def named_tells_faults(_program, _folder):
     wanted = sum(len(glob.glob(f"{TOP}/crates/{it}/must-fail/*.edit")) for it in named.graph())
     ended = "rt: ok; handles allowed: none; must-fail edits: {} refused{}; every proof and must-fail edit was done in this run"
     ended += "".join(f"\n{it.name}: refused" for it in named.marked())
-    limit = "rt: must-fail notifier/a_notify_follows_a_481.edit: refused, as it must be (only by a limit of the prover, which gave no verdict): x\n"
+    limit = "rt: must-fail message_summary/only_the_changed_class_is_told.edit: refused, as it must be (only by a limit of the prover, which gave no verdict): x\n"
     wrong = faults(good) + faults(good, ended.format(wanted, ""))
     for items, fault in FAULTS.items():
         wrong += [] if any(fault in it for it in faults(items)) else [f"{items} isn't told as: {fault}"]
