@@ -1,5 +1,6 @@
 pub mod Named
 pub mod Once
+pub mod Ordered
 pub mod FirstOut
 pub mod Adopted
 pub mod Urgent

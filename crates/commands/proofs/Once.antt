@@ -12,7 +12,7 @@ use Rattle.commands.specs.Plans.{with_name, each_once}
 pub once_push : (names : List (List ℕ)) (name : List ℕ) → each_once (names ++ name ∷ []) ≡ with_name (each_once names) name
 once_push names name = fold-append with_name [] names (name ∷ [])
 
-held_keys : (keys : List (String Global)) (name : List ℕ) → is_held (map string_bytes keys) name ≡ list_any (λ k. bytes_eq name (string_bytes k)) keys
+pub held_keys : (keys : List (String Global)) (name : List ℕ) → is_held (map string_bytes keys) name ≡ list_any (λ k. bytes_eq name (string_bytes k)) keys
 held_keys [] name = refl
 held_keys (k ∷ keys) name = ap (λ b. bytes_eq name (string_bytes k) || b) (held_keys keys name)
 

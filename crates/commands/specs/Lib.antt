@@ -5,6 +5,7 @@ pub mod Ranges
 pub mod Plans
 pub mod Serving
 pub mod Reloading
+pub mod Runs
 pub mod Refused
 pub mod Telling
 pub mod UdpCall

@@ -1,9 +1,11 @@
 //! How a service with a journal begins: its folder is its own, what stands there is read, and its desks go on from that.
 
-ghost use Rattle.std.specs.Prelude.{◌<◌, ◌≤◌, ◌≡◌, ℕ, None, Some, IfOk, IfErr, vec_len};
+ghost use Rattle.std.specs.Prelude.{◌<◌, ◌≤◌, ◌≡◌, ◌++◌, ℕ, None, Some, map, option_map, IfOk, IfErr, OnOk, vec_len};
+ghost use Rattle.std.specs.List.{flat_map};
 ghost use Rattle.arguments.specs.declared.syncing.Syncing.TheVariants as said;
 ghost use Rattle.arguments.specs.Wanted.{Gives};
 ghost use Rattle.commands.specs.Refused.{IsOfJournal, IsOther};
+ghost use Rattle.commands.specs.Runs as spec;
 ghost use Rattle.commands.specs.Serving.{BeginsAnew};
 ghost use Rattle.service.specs.declared.journaling.Syncing.TheVariants as kept;
 
@@ -133,38 +135,70 @@ pub(crate) fn found_header(opened: &Option<Opened>) -> Option<&Header> {
     Some(&found.generation.header)
 }
 
-/// What it tells of each worker.
-fn found_accounts(opened: &Option<Opened>) -> Option<&[Account]> {
-    let (_, found) = opened.as_ref()?.found.as_ref()?;
-    Some(found.generation.accounts.as_slice())
+/// What the journal tells of each worker that is gone on from, if one is.
+fn found_accounts(opened: &Option<Opened>) -> &[Account]
+    ensures { result.now ≡ spec.journal_accounts opened.now }
+{
+    match opened {
+        Some(opened) => match &opened.found {
+            Some((_, found)) => found.generation.accounts.as_slice(),
+            None => &[],
+        },
+        None => &[],
+    }
+}
+
+/// Adds the name of the mailbox that this change is of, if it is of one.
+fn add_name(alloc: Global, names: &mut Vec<Text>, change: &Change) -> Result<(), NoMemory>
+    ensures { OnOk result (names.new.items ≡ names.old.items ++ spec.mailbox_named change.now) }
+{
+    match change {
+        Change::Mail(change) => {
+            names.push(Text::of(alloc, change.mailbox())?)?;
+            Ok(())
+        }
+        Change::Begin(_) | Change::Step(_) | Change::Forget(_) => Ok(()),
+    }
 }
 
 /// Adds the names of the mailboxes that these changes are of.
-fn add_names(alloc: Global, names: &mut Vec<Text>, changes: &[Change]) -> Result<(), NoMemory> {
+fn add_names(alloc: Global, names: &mut Vec<Text>, changes: &[Change]) -> Result<(), NoMemory>
+    ensures { OnOk result (names.new.items ≡ names.old.items ++ flat_map spec.mailbox_named changes.now) }
+{
     for change in changes {
-        if let Change::Mail(change) = change {
-            names.push(Text::of(alloc, change.mailbox())?)?;
-        }
+        add_name(alloc, names, change)?;
     }
     Ok(())
 }
 
-/// Adds the changes of mailboxes among these events.
-fn add_handled(alloc: Global, changes: &mut Vec<Change>, events: &[Event]) -> Result<(), NoMemory> {
-    for event in events {
-        if let Event::Mail(change) = event {
+/// Adds the change of a mailbox that this event tells of, if it tells of one.
+fn add_mail(alloc: Global, changes: &mut Vec<Change>, event: &Event) -> Result<(), NoMemory>
+    ensures { OnOk result (changes.new.items ≡ changes.old.items ++ spec.mail_told event.now) }
+{
+    match event {
+        Event::Mail(change) => {
             changes.push(Change::Mail(change.copy(alloc)?))?;
+            Ok(())
         }
+        Event::Request(..) | Event::Reply(_) | Event::Progress(_) | Event::Tick(_) | Event::Shut =>
+            Ok(()),
+    }
+}
+
+/// Adds the changes of mailboxes among these events.
+fn add_handled(alloc: Global, changes: &mut Vec<Change>, events: &[Event]) -> Result<(), NoMemory>
+    ensures { OnOk result (changes.new.items ≡ changes.old.items ++ flat_map spec.mail_told events.now) }
+{
+    for event in events {
+        add_mail(alloc, changes, event)?;
     }
     Ok(())
 }
 
 /// Adds these changes of mailboxes.
-fn add_lines(
-    alloc: Global,
-    changes: &mut Vec<Change>,
-    lines: &[MailChange],
-) -> Result<(), NoMemory> {
+fn add_lines(alloc: Global, changes: &mut Vec<Change>, lines: &[MailChange]) -> Result<(), NoMemory>
+    ensures { OnOk result (changes.new.items ≡ changes.old.items ++ map (λ m. Change.Mail m) lines.now) }
+{
     for change in lines {
         changes.push(Change::Mail(change.copy(alloc)?))?;
     }
@@ -172,23 +206,48 @@ fn add_lines(
 }
 
 /// What lines told a worker since its book: what it handled, and behind that what waits for it.
-fn told_since(alloc: Global, account: &Account) -> Result<Vec<Change>, NoMemory> {
+fn told_since(alloc: Global, account: &Account) -> Result<Vec<Change>, NoMemory>
+    ensures { IfOk result (λ changes. changes.items ≡ spec.told_since account.now) }
+{
     let mut changes = Vec::new(alloc);
     add_handled(alloc, &mut changes, account.events.as_slice())?;
     add_lines(alloc, &mut changes, account.lines.as_slice())?;
     Ok(changes)
 }
 
+/// Adds the names of the mailboxes of which lines told this worker: also those that it doesn't hold, and one as often as it was told.
+fn add_told(alloc: Global, names: &mut Vec<Text>, account: &Account) -> Result<(), NoMemory>
+    ensures { OnOk result (names.new.items ≡ names.old.items ++ spec.account_names account.now) }
+{
+    let mut changes = Vec::new(alloc);
+    add_mails(alloc, &mut changes, &account.book.told)?;
+    changes.append(&mut told_since(alloc, account)?)?;
+    add_names(alloc, names, changes.as_slice())
+}
+
 /// The mailboxes of which lines told, as it stands in these accounts of a journal: also those that no worker had yet, and one as often as it was told.
-fn names_told(alloc: Global, accounts: &[Account]) -> Result<Vec<Text>, NoMemory> {
+fn names_told(alloc: Global, accounts: &[Account]) -> Result<Vec<Text>, NoMemory>
+    ensures names { IfOk result (λ names. names.items ≡ spec.names_told accounts.now) }
+{
     let mut names = Vec::new(alloc);
     for account in accounts {
-        let mut changes = Vec::new(alloc);
-        add_mails(alloc, &mut changes, &account.book.told)?;
-        changes.append(&mut told_since(alloc, account)?)?;
-        add_names(alloc, &mut names, changes.as_slice())?;
+        add_told(alloc, &mut names, account)?;
     }
     Ok(names)
+}
+
+/// These names, in the order of the run before, if there was one.
+fn in_order(
+    alloc: Global,
+    former: Option<Vec<Text>>,
+    names: Vec<Text>,
+) -> Result<Vec<Text>, NoMemory>
+    ensures { IfOk result (λ ordered. ordered.items ≡ spec.in_order (option_map (λ f. f.items) former) names.items) }
+{
+    match former {
+        Some(former) => in_former_order(alloc, former, names),
+        None => Ok(names),
+    }
 }
 
 /// The mailboxes of which lines told, as it stands in the folder of a journal, where the plan has lines make mailboxes, in the order of the run
@@ -198,17 +257,14 @@ pub(crate) fn told_mailboxes(
     plan: &Plan,
     opened: &Option<Opened>,
     former: Option<Vec<Text>>,
-) -> Result<Vec<Text>, NoMemory> {
-    if !plan.choices.any_mailbox {
-        return Ok(Vec::new(alloc));
-    }
-    let Some(accounts) = found_accounts(opened) else {
-        return Ok(Vec::new(alloc));
-    };
-    let names = names_told(alloc, accounts)?;
-    match former {
-        Some(former) => in_former_order(alloc, former, names),
-        None => Ok(names),
+) -> Result<Vec<Text>, NoMemory>
+    ensures names { IfOk result (λ names. names.items ≡ spec.told_mailboxes plan.now opened.now (option_map (λ f. f.items) former)) }
+{
+    if plan.choices.any_mailbox {
+        let names = names_told(alloc, found_accounts(opened))?;
+        in_order(alloc, former, names)
+    } else {
+        Ok(Vec::new(alloc))
     }
 }
 

@@ -1,10 +1,12 @@
 //! The mailboxes that the settings of a service name, by themselves or by files.
-ghost use Rattle.std.specs.Prelude.{◌≡◌, ◌++◌, ℕ, List, map, string_bytes, IfOk, IfErr, OnOk, IsTrue};
+ghost use Rattle.std.specs.Prelude.{◌≡◌, ◌++◌, ℕ, not, List, filter, map, string_bytes, IfOk, IfErr, OnOk, IsTrue};
 ghost use Rattle.std.specs.List.{All};
+ghost use Rattle.control_lines.specs.Told.{is_held};
 ghost use Rattle.arguments.specs.Settings.{IsMailbox};
 ghost use Rattle.commands.specs.Plans as spec;
 ghost use Rattle.commands.specs.Plans.{Names, AddsNames, AreNamed};
 ghost use Rattle.commands.specs.Refused.{IsOfFile, IsOfSetting, IsOfOne};
+ghost use Rattle.commands.specs.Runs as runs;
 
 use crate::error::ServeError;
 use crate::line_file::{FileLine, TakesLines, take_file};
@@ -115,7 +117,9 @@ pub(crate) fn each_once(alloc: Global, names: Vec<Text>) -> Result<Vec<Text>, No
 }
 
 /// Copies of these names as a set.
-fn copied_names(alloc: Global, names: &[Text]) -> Result<IndexSet<String>, NoMemory> {
+fn copied_names(alloc: Global, names: &[Text]) -> Result<IndexSet<String>, NoMemory>
+    ensures { IfOk result (λ set. map string_bytes set.keys ≡ spec.each_once names.now) }
+{
     let mut set = IndexSet::new(alloc);
     for name in names {
         set.insert(String::from_str(alloc, name.as_str())?)?;
@@ -130,18 +134,41 @@ fn is_further(set: &IndexSet<String>, name: &str, most: usize) -> bool
     is_mailbox(name) && set.len() < most && !set.contains(name)
 }
 
-/// These names, in the order of a former run: first those that it had, as it had them, and behind them all, each of which may stand there twice.
+/// Whether this name is in the set.
+fn has_name(set: &IndexSet<String>, name: &Text) -> bool
+    ensures { result ≡ is_held (map string_bytes set.now.keys) name.now }
+{
+    set.contains(name.as_str())
+}
+
+/// Keeps those of these names that are in the set.
+fn keep_named(names: &mut Vec<Text>, set: &IndexSet<String>)
+    ensures { names.new.items ≡ filter (is_held (map string_bytes set.now.keys)) names.old.items }
+{
+    names.retain(|name| has_name(set, name));
+}
+
+/// Keeps those of these names that aren't in the set.
+fn keep_others(names: &mut Vec<Text>, set: &IndexSet<String>)
+    ensures { names.new.items ≡ filter (λ name. not (is_held (map string_bytes set.now.keys) name)) names.old.items }
+{
+    names.retain(|name| !has_name(set, name));
+}
+
+/// These names, in the order of a former run: first those that it had, as it had them, and behind them those that are new.
 pub(crate) fn in_former_order(
     alloc: Global,
     former: Vec<Text>,
     names: Vec<Text>,
 ) -> Result<Vec<Text>, NoMemory>
-    ensures all { IfOk result (λ ordered. (first : List (List ℕ)) × (ordered.items ≡ first ++ names.items)) }
+    ensures ordered { IfOk result (λ ordered. ordered.items ≡ runs.in_former_order former.items names.items) }
 {
-    let set = copied_names(alloc, names.as_slice())?;
-    let mut names = names;
+    let known = copied_names(alloc, former.as_slice())?;
+    let told = copied_names(alloc, names.as_slice())?;
     let mut ordered = former;
-    ordered.retain(|name| set.contains(name.as_str()));
+    let mut names = names;
+    keep_named(&mut ordered, &told);
+    keep_others(&mut names, &known);
     ordered.append(&mut names)?;
     Ok(ordered)
 }

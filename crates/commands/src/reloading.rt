@@ -3,10 +3,11 @@
 //! A thread of its own reads them while the service runs, so that it is known whether they are good before anything ends. Where they are, the
 //! run ends, and the next one begins from the journal as a start would, with the plan that this thread made. The lock on the folder of the
 //! journal is held from run to run, and the sockets stay open: what comes meanwhile waits there. The next run answers the RELOAD.
-ghost use Rattle.std.specs.Prelude.{◌≡◌, None, IfOk, IfErr, IfSome};
+ghost use Rattle.std.specs.Prelude.{◌≡◌, None, option_map, IfOk, IfErr, IfSome};
 ghost use Rattle.commands.specs.Plans.{IsPlan};
 ghost use Rattle.commands.specs.Refused.{IsOther};
 ghost use Rattle.commands.specs.Reloading.{IsRereading};
+ghost use Rattle.commands.specs.Runs.{AreFirst, AreAll};
 
 use crate::error::ServeError;
 use crate::journal_folder::Folder;
@@ -57,7 +58,9 @@ impl Carried {
 
 /// The mailboxes with which a run of this plan begins, in order, where lines make some. None also where there is no memory: then the next run has
 /// another order.
-pub(crate) fn first_mailboxes(alloc: Global, plan: &Plan) -> Option<Vec<Text>> {
+pub(crate) fn first_mailboxes(alloc: Global, plan: &Plan) -> Option<Vec<Text>>
+    ensures first { IfSome result (λ first. AreFirst plan.now first.items) }
+{
     if plan.choices.any_mailbox {
         copies(alloc, plan.mailboxes.as_slice()).ok()
     } else {
@@ -70,7 +73,9 @@ pub(crate) fn all_mailboxes<R: Wait>(
     rt: &R,
     first: Option<Vec<Text>>,
     shared: &Shared,
-) -> Option<Vec<Text>> {
+) -> Option<Vec<Text>>
+    ensures all { IfSome result (λ all. AreAll (option_map (λ f. f.items) first) all.items) }
+{
     let mut all = first?;
     let mut made = shared.made_mailboxes(rt).ok()?;
     all.append(&mut made).ok()?;

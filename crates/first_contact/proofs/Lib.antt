@@ -1,5 +1,6 @@
 pub mod Parts
 pub mod Places
+pub mod Going
 pub mod Firsts
 pub mod Histories
 pub mod Orders

@@ -1,5 +1,5 @@
 -- What each call makes of what is known of one dialog, what it lets through, and what it drops.
-use Rattle.std.specs.Prelude.{ℕ, Bool, true, false, ◌&&◌, ◌||◌, ◌==◌, nat_le, nat_lt, Option, Some, None, List, [], ◌∷◌, ◌++◌, length, bytes_eq, if◌then◌else◌}
+use Rattle.std.specs.Prelude.{ℕ, Bool, true, false, ◌&&◌, ◌||◌, ◌==◌, nat_le, nat_lt, Option, Some, None, List, [], ◌∷◌, ◌++◌, length, option_map, bytes_eq, if◌then◌else◌}
 use Rattle.std.specs.Option.{option_map_or}
 use Rattle.sip_text.specs.declared.address.Addr.{Addr}
 use Rattle.notifier_model.specs.declared.event.Out.{Out}
@@ -108,6 +108,18 @@ is_there to c = option_map_or (λ (x : ContactSeen). same_addr x.to to) c false
 abbrev pub offered : Room → Notice → Option ContactSeen → Step
 offered room n None = goes_first room n None
 offered room n (Some c) = if same_addr c.to n.to then offered_there room n c else goes_first room n (Some c)
+
+-- has this address answered one of the dialog, and does none wait for that?
+abbrev pub is_free : Addr → ContactSeen → Bool
+is_free to c = c.is_known && ((length c.held == 0) && same_addr c.to to)
+
+-- so a NOTIFY to it is let through at once
+abbrev pub goes_at_once : Addr → Option ContactSeen → Bool
+goes_at_once to c = option_map_or (is_free to) c false
+
+-- Where it is, and is the last one or not, this is known then: else what was known before.
+abbrev pub gone_on : Bool → Bool → Option ContactSeen → Option ContactSeen
+gone_on goes is_last c = if goes then option_map (λ (x : ContactSeen). record x { is_ending = is_last }) c else c
 
 -- ---- an answer comes, or a NOTIFY is given up
 

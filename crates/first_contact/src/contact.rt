@@ -1,7 +1,7 @@
 //! What is known of one dialog, and what calls make of it.
 ghost use Rattle.std.specs.Prelude.{◌≡◌, [], Some, None, true, length, OnOk, OnErr, IfOk, IfErr};
 ghost use Rattle.first_contact.specs.Steps as steps;
-ghost use Rattle.first_contact.specs.Outcomes.{IsOffered};
+ghost use Rattle.first_contact.specs.Outcomes.{IsOffered, IsHeard, known_then};
 
 use notifier_model::Out;
 use sip_text::{Addr, NoMemory};
@@ -75,6 +75,19 @@ pub struct Passed {
     pub through: Vec<Notice>,
     /// How many are never sent.
     pub lost: usize,
+}
+
+/// What a final answer makes of a dialog.
+#[derive(Drop)]
+pub(crate) enum Heard {
+    /// Nothing: it tells of no NOTIFY that is under way.
+    Nothing,
+    /// The address has answered, and more may follow. What waited for that.
+    Opened(Vec<Notice>),
+    /// The address has answered, and none follows: nothing more is to be known.
+    Ends,
+    /// Another address has answered.
+    Elsewhere,
 }
 
 /// Whether two addresses are the same.
@@ -181,6 +194,19 @@ impl Contact {
         Ok(Offered::Lost)
     }
 
+    /// A further NOTIFY goes to this address, behind which none follows, or more do. True where it is let through at once, since the address has
+    /// answered and none waits for that: else nothing changes.
+    pub(crate) fn go_on(&mut self, to: Addr, is_last: bool) -> bool
+        ensures goes { result ≡ steps.is_free to (steps.seen self.old) }
+        ensures contact { Some (steps.seen self.new) ≡ steps.gone_on result is_last (Some (steps.seen self.old)) }
+    {
+        let goes = self.is_known && self.held.is_empty() && is_same_addr(self.to, to);
+        if goes {
+            self.is_ending = is_last;
+        }
+        goes
+    }
+
     /// Whether an answer to this number, or a give-up of it, tells of the one under way, or of a known address.
     pub(crate) fn is_told_by(&self, number: u32) -> bool
         ensures { result ≡ steps.is_told_by number (steps.seen self.now) }
@@ -189,7 +215,7 @@ impl Contact {
     }
 
     /// The address has answered. What waited for that.
-    pub(crate) fn open(&mut self, alloc: Global) -> Vec<Notice>
+    fn open(&mut self, alloc: Global) -> Vec<Notice>
         ensures contact { steps.seen self.new ≡ record (steps.seen self.old) { is_known = true; held = [] } }
         ensures waited { result.items ≡ self.old.held.items }
     {
@@ -199,10 +225,28 @@ impl Contact {
 
     /// Whether an answer from this address comes from where its NOTIFYs go, or that has answered before. The IP addresses count alone: between a
     /// phone and the service a NAT may send an answer from another port than the one to which the NOTIFY went.
-    pub(crate) fn opens(&self, source: Addr) -> bool
+    fn opens(&self, source: Addr) -> bool
         ensures { result ≡ steps.opens source (steps.seen self.now) }
     {
         self.is_known || source.ip == self.to.ip
+    }
+
+    /// A final answer from this address came to the NOTIFY with this number. What it makes of the dialog: until that is done nothing changes,
+    /// unless its address has answered.
+    pub(crate) fn hear(&mut self, alloc: Global, number: u32, source: Addr) -> Heard
+        ensures heard { IsHeard number source (Some (steps.seen self.old)) result }
+        ensures contact { Some (steps.seen self.new) ≡ known_then result (Some (steps.seen self.old)) }
+    {
+        if !self.is_told_by(number) {
+            return Heard::Nothing;
+        }
+        if !self.opens(source) {
+            return Heard::Elsewhere;
+        }
+        if self.is_ending {
+            return Heard::Ends;
+        }
+        Heard::Opened(self.open(alloc))
     }
 
     /// Another address has answered the one under way. The next one that waits, if one does, which is under way then. An `Err` says that

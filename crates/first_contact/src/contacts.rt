@@ -1,11 +1,11 @@
 //! What calls make of what is known of all dialogs, by their local tags.
-ghost use Rattle.std.specs.Prelude.{◌≡◌, ◌⊎◌, ◌≤◌, ◌<◌, ◌+◌, ◌-◌, ℕ, List, [], None, Some, true, length, bytes_eq, option_map, if◌then◌else◌, IfOk, OnOk, OnErr, MatchResult};
+ghost use Rattle.std.specs.Prelude.{◌≡◌, ◌⊎◌, ◌≤◌, ◌<◌, ◌+◌, ◌-◌, ℕ, List, [], None, Some, true, false, length, bytes_eq, option_map, if◌then◌else◌, IfOk, OnOk, OnErr, MatchResult};
 ghost use Rattle.std.specs.HashMap.{get_by_text, hash_map_len};
 ghost use Rattle.first_contact.specs.Steps as steps;
-ghost use Rattle.first_contact.specs.Outcomes.{IsOffered, IsPassed, IsAnswer, counted};
+ghost use Rattle.first_contact.specs.Outcomes.{IsOffered, IsLetOn, IsHeard, IsPassed, IsAnswer, counted, known_then};
 ghost use Rattle.first_contact.specs.Tables.{IsStepped, IsSame, at, many, room};
 
-use crate::contact::{Contact, FINAL, GONE, Notice, Offered, Passed, Room, is_same_addr};
+use crate::contact::{Contact, FINAL, GONE, Heard, Notice, Offered, Passed, Room, is_same_addr};
 use crate::table::Contacts;
 use sip_text::{Addr, NoMemory};
 use std::alloc::Global;
@@ -34,18 +34,18 @@ fn take(known: &mut Known, tag: &str) -> Option<Contact>
     known.remove(tag)
 }
 
-/// The address of the dialog with this tag has answered. What waited for that: none where nothing is known of it.
+/// A final answer from this address came to the NOTIFY with this tag and this number. What it makes of the dialog.
 #[tactic(auto, using(std::proofs::lemmas::Map::Text::text_keys))]
-fn open_one(known: &mut Known, alloc: Global, tag: &str) -> Vec<Notice>
-    ensures waited { result.items ≡ steps.waiting (option_map steps.seen (get_by_text known.old tag.now)) }
+fn hear(known: &mut Known, alloc: Global, tag: &str, number: u32, source: Addr) -> Heard
+    ensures heard { IsHeard number source (option_map steps.seen (get_by_text known.old tag.now)) result }
     ensures at { (t : List ℕ) → option_map steps.seen (get_by_text known.new t)
-        ≡ (if bytes_eq tag.now t then (steps.opened_more (option_map steps.seen (get_by_text known.old tag.now))).contact
+        ≡ (if bytes_eq tag.now t then known_then result (option_map steps.seen (get_by_text known.old tag.now))
         else option_map steps.seen (get_by_text known.old t)) }
     ensures len { hash_map_len known.new ≡ hash_map_len known.old }
 {
     match known.get_mut(tag) {
-        Some(contact) => contact.open(alloc),
-        None => Vec::new(alloc),
+        Some(contact) => contact.hear(alloc, number, source),
+        None => Heard::Nothing,
     }
 }
 
@@ -64,6 +64,21 @@ fn pass_on_one(known: &mut Known, alloc: Global, tag: &str) -> Result<Vec<Notice
     match known.get_mut(tag) {
         Some(contact) => contact.pass_on(alloc),
         None => Ok(Vec::new(alloc)),
+    }
+}
+
+/// A further NOTIFY of the dialog with this tag goes to this address. Whether it is let through at once: else nothing changes.
+#[tactic(auto, using(std::proofs::lemmas::Map::Text::text_keys))]
+fn go_on(known: &mut Known, tag: &str, to: Addr, is_last: bool) -> bool
+    ensures goes { result ≡ steps.goes_at_once to (option_map steps.seen (get_by_text known.old tag.now)) }
+    ensures at { (t : List ℕ) → option_map steps.seen (get_by_text known.new t)
+        ≡ (if bytes_eq tag.now t then steps.gone_on result is_last (option_map steps.seen (get_by_text known.old tag.now))
+        else option_map steps.seen (get_by_text known.old t)) }
+    ensures len { hash_map_len known.new ≡ hash_map_len known.old }
+{
+    match known.get_mut(tag) {
+        Some(contact) => contact.go_on(to, is_last),
+        None => false,
     }
 }
 
@@ -214,6 +229,17 @@ impl Contacts {
         self.end(notice.tag()).len()
     }
 
+    /// A NOTIFY of the dialog with this tag goes to this address, behind which none follows, or more do. True where it is let through at once,
+    /// as by [`Contacts::offer`]: the address has answered one of the dialog, and none waits for that. Else nothing changes, and it is to be
+    /// offered. So most NOTIFYs are looked for once, and none of these is moved.
+    pub fn go_on(&mut self, tag: &str, to: Addr, is_last: bool) -> bool
+        ensures let_on { result ≡ true → IsLetOn self.old self.new tag.now to is_last }
+        ensures same { result ≡ false → IsSame self.old self.new }
+        ensures at_once { result ≡ steps.goes_at_once to (at self.old tag.now) }
+    {
+        go_on(&mut self.known, tag, to, is_last)
+    }
+
     /// A NOTIFY is offered; `may_begin` says whether the answer to a first one will be told, or its giving up. Where it won't be, or
     /// where of too many dialogs something is known, a first one is let through and nothing is known of its address then. An `Err` says that
     /// an allocation failed: it is dropped, and nothing changes.
@@ -249,13 +275,17 @@ impl Contacts {
         if status == GONE {
             return self.drop_held(tag);
         }
-        if !self.is_told(tag, number) {
-            return self.none();
-        }
-        if self.is_open(tag, source) {
-            self.let_through(tag)
-        } else {
-            self.pass_on(tag)
+        match hear(&mut self.known, self.alloc, tag, number, source) {
+            Heard::Nothing => self.none(),
+            Heard::Opened(through) => {
+                self.count_off(through.len());
+                Passed { through, lost: 0 }
+            }
+            Heard::Ends => Passed {
+                through: self.end(tag),
+                lost: 0,
+            },
+            Heard::Elsewhere => self.pass_on(tag),
         }
     }
 
@@ -290,26 +320,6 @@ impl Contacts {
         }
     }
 
-    /// Whether an answer from this address opens the address of the dialog with this tag, or that has answered before.
-    fn is_open(&self, tag: &str, source: Addr) -> bool
-        ensures { result ≡ steps.is_open source (at self.now tag.now) }
-    {
-        match self.known.get(tag) {
-            Some(contact) => contact.opens(source),
-            None => true,
-        }
-    }
-
-    /// Whether none follows the latest NOTIFY of the dialog with this tag.
-    fn is_ending(&self, tag: &str) -> bool
-        ensures { result ≡ steps.is_ending (at self.now tag.now) }
-    {
-        match self.known.get(tag) {
-            Some(contact) => contact.is_ending,
-            None => false,
-        }
-    }
-
     /// Nothing is let through, and nothing dropped.
     fn none(&self) -> Passed
         ensures through { result.through.items ≡ [] }
@@ -332,30 +342,6 @@ impl Contacts {
             through: Vec::new(self.alloc),
             lost: lost.len(),
         }
-    }
-
-    /// The address of the dialog with this tag has answered, and more may follow. What waited for that.
-    fn open(&mut self, tag: &str) -> Vec<Notice>
-        ensures opened { IsStepped self.old self.new tag.now (steps.opened_more (at self.old tag.now)) }
-        ensures waited { result.items ≡ steps.waiting (at self.old tag.now) }
-    {
-        let held = open_one(&mut self.known, self.alloc, tag);
-        self.count_off(held.len());
-        held
-    }
-
-    /// The address of the dialog with this tag has answered.
-    fn let_through(&mut self, tag: &str) -> Passed
-        ensures opened { IsStepped self.old self.new tag.now (steps.opened (at self.old tag.now)) }
-        ensures through { result.through.items ≡ (steps.opened (at self.old tag.now)).through }
-        ensures lost { result.lost ≡ length (steps.opened (at self.old tag.now)).lost }
-    {
-        if self.is_ending(tag) {
-            let through = self.end(tag);
-            return Passed { through, lost: 0 };
-        }
-        let through = self.open(tag);
-        Passed { through, lost: 0 }
     }
 
     /// Another address than that of the dialog with this tag has answered. The next one that waits is let through alone. Where none

@@ -109,6 +109,11 @@ kept_same {s = s} {rows = rows} w w' same_burst same_state same_rows is = record
   rowed = subst (λ (r : List Row). AreRowed is.kept rows r) (sym same_rows) is.rowed;
 }
 
+-- where only what waits for its first send changes
+pub kept_beside : {s : State} {rows : List Row} {acts : List Act} (w w' : Waiting) → w'.burst ≡ w.burst → w'.transactions ≡ w.transactions
+    → w'.watchers ≡ w.watchers → AreKept s rows acts w → AreKept s rows acts w'
+kept_beside w w' same_burst same_state same_watchers is = kept_same w w' (cc) same_state (cc) is
+
 -- ---- the first of the burst
 
 pub first_of : (p : OutPut) (items : List OutPut) → Some p ≡ slice_get items 0 → items ≡ p ∷ drop 1 items

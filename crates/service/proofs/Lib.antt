@@ -23,3 +23,5 @@ pub mod Refusing
 pub mod Owning
 pub mod Asking
 pub mod Newcoming
+pub mod Making
+pub mod Following

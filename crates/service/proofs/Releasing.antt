@@ -6,7 +6,9 @@ use Rattle.std.proofs.lemmas.List.{append-nil, map-append}
 use Rattle.std.proofs.lemmas.List.Elements.{filter-append, filter_map-append}
 use Rattle.std.proofs.lemmas.Slice.Eq.{bytes_eq-Decides}
 use Rattle.sip_text.specs.declared.address.Addr.{Addr}
+use Rattle.notifier_model.specs.declared.event.Note.{Note as KnownNote}
 use Rattle.notifier_model.specs.declared.event.Out.{Out}
+use Rattle.notifier_model.specs.declared.event.Out.TheVariants as out
 use Rattle.feeds.specs.declared.sending.Fate.{Fate}
 use Rattle.first_contact.specs.declared.contact.Notice.{Notice}
 use Rattle.first_contact.specs.declared.contact.Offered.{Offered}
@@ -15,7 +17,7 @@ use Rattle.first_contact.specs.declared.contact.Passed.{Passed}
 use Rattle.first_contact.specs.declared.contact.Room.{Room}
 use Rattle.first_contact.specs.declared.contact.TheConstants.{FINAL, GONE}
 use Rattle.first_contact.specs.declared.table.Contacts.{Contacts}
-use Rattle.first_contact.specs.Outcomes.{IsOffered, IsPassed, IsAnswer}
+use Rattle.first_contact.specs.Outcomes.{IsOffered, IsLetOn, IsPassed, IsAnswer}
 use Rattle.first_contact.specs.Tables.{at, IsStepped, IsSame}
 use Rattle.first_contact.specs.Steps.{ContactSeen, Step, tag_in, notice_of, waiting, idle, begun, same_addr, begins_anew, goes_once, goes_first, passes, waits as waiting_step, drops, has_place, offered, offered_there, answered, given_up, ended, is_ending, opened, opened_last, opened_more, is_open, passed_to, passed, heard, is_told}
 use Rattle.service.specs.declared.post.Note.{Note}
@@ -469,6 +471,17 @@ offered_through old new room n told m lost is stepped outcome =
     let P : Offered → Type 0 = λ x. IsOffered (offered room n (at old (tag_in n.out))) x in
     let here : IsOffered (offered room n (at old (tag_in n.out))) (Through m lost) = subst P is outcome in
     through_fewer old new room n m stepped here.0
+
+-- one that is let through at once, or isn't: then nothing changes
+pub gone_on_fewer : (old new : Contacts) (tag : List ℕ) (to : Addr) (is_last goes : Bool) → (goes ≡ true → IsLetOn old new tag to is_last)
+    → (goes ≡ false → IsSame old new) → Fewer (waits old) (waits new)
+gone_on_fewer old new tag to is_last true let_on same =
+    let room : Room = record { begins = true; waits = true } in
+    let note : KnownNote = record { watcher = []; resource = []; target = []; left = None } in
+    let n : Notice = record { number = 0; to = to; is_last = is_last; out = out.Notify to 0 is_last tag note [] } in
+    let so = let_on refl room n refl refl in through_fewer old new room n n so.0 so.1.0
+gone_on_fewer old new tag to is_last false let_on same =
+    λ t. subst (λ (c : Option ContactSeen). IsPart (outs (waiting c)) (waits old t)) (sym ((same refl).at_tag t)) (same_part (waits old t))
 
 -- ---- what is held back
 

@@ -19,4 +19,5 @@ pub mod Departing
 pub mod Handing
 pub mod Running
 pub mod Refused
+pub mod Made
 pub mod Shelved

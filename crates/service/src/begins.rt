@@ -101,7 +101,7 @@ impl Waiting {
         ensures fewer { Fewer (waits self.old.contacts) (waits self.new.contacts) }
     {
         for out in unanswered {
-            self.take_up(rt, 0, out, shared);
+            let _ = self.take_up(rt, 0, out, shared);
         }
     }
 

@@ -5,6 +5,8 @@
 //!
 //! So a service that is killed goes on where it was: who reads the journal plays the events again. What is written is in the system's
 //! hands then, which outlives the process. When it is brought to the disk, which outlives the machine, [`Syncing`] says.
+ghost use Rattle.std.specs.Prelude.{IfOk};
+ghost use Rattle.service.specs.Made.{AreNames};
 
 use crate::made::Made;
 use crate::shelf::{Chore, Limits, Loss, Shelf};
@@ -238,15 +240,18 @@ impl Journal {
         self.shelf.lock(rt).older() < MOST_OLDER
     }
 
-    /// A line is to make this mailbox. From now on no further file is begun while the current one misses nothing, and one that is begun otherwise has
-    /// what is told of the mailbox. False where the current one misses something, or one is being begun, or for want of memory.
-    pub(crate) fn hold<R: Wait>(&self, rt: &R, name: &str) -> bool {
+    /// A line is to make the mailbox of this change. From now on no further file is begun while the current one misses nothing, and one that
+    /// is begun otherwise has what is told of the mailbox. False where the current one misses something, or one is being begun, or for want
+    /// of memory.
+    pub(crate) fn hold<R: Wait>(&self, rt: &R, change: &MailChange) -> bool {
         let mut shelf = self.shelf.lock(rt);
-        shelf.is_whole() && shelf.hold(name)
+        shelf.is_whole() && shelf.hold(change)
     }
 
-    /// The mailboxes that lines made, in order.
-    pub(crate) fn made<R: Wait>(&self, rt: &R) -> Result<Vec<Text>, NoMemory> {
+    /// The mailboxes that lines made, each once, in the order in which lines made them.
+    pub(crate) fn made<R: Wait>(&self, rt: &R) -> Result<Vec<Text>, NoMemory>
+        ensures { IfOk result (λ names. AreNames names.items) }
+    {
         self.shelf.lock(rt).made().names()
     }
 

@@ -71,12 +71,13 @@ impl Post {
         drop(oldest);
     }
 
+    /// Whether none waits, as most often where a thread looks again and again: that costs less than to take none.
+    pub(crate) fn is_empty(&self) -> bool {
+        self.queue.is_empty()
+    }
+
     /// Takes the next one, if one waits.
     pub(crate) fn take<R: Wait>(&self, rt: &R) -> Option<Parcel> {
-        // Most often none waits: a look costs less than to take one.
-        if self.queue.is_empty() {
-            return None;
-        }
         self.queue.pop(rt)
     }
 }
@@ -141,6 +142,9 @@ impl Notes {
 
     /// Takes the next note, if one waits.
     pub(crate) fn take<R: Wait>(&self, rt: &R) -> Option<Note> {
+        if self.post.is_empty() {
+            return None;
+        }
         match self.post.take(rt) {
             Some(Parcel::Note(note)) => Some(note),
             _ => None,

@@ -73,7 +73,11 @@ impl RollCall {
 
     /// For which subscriptions the worker with this number is asked, if for any.
     pub(crate) fn asked<R: Wait>(&self, rt: &R, worker: u32) -> Option<Vec<String>> {
-        match self.asked.get(worker as usize)?.take(rt) {
+        let asked = self.asked.get(worker as usize)?;
+        if asked.is_empty() {
+            return None;
+        }
+        match asked.take(rt) {
             Some(Parcel::Tags(tags)) => Some(tags),
             _ => None,
         }
@@ -88,6 +92,9 @@ impl RollCall {
 
     /// Which are gone, if a worker said so.
     pub(crate) fn gone<R: Wait>(&self, rt: &R) -> Option<Vec<String>> {
+        if self.gone.is_empty() {
+            return None;
+        }
         match self.gone.take(rt) {
             Some(Parcel::Tags(tags)) => Some(tags),
             _ => None,

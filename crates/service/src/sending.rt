@@ -496,6 +496,29 @@ impl Waiting {
         }
     }
 
+    /// Whether an out goes out as it is, and nothing is dropped by that: it is no NOTIFY, or each is sent once, or its address has answered
+    /// one of its dialog, and none waits for that.
+    fn goes_out(&mut self, out: &Out) -> bool
+        ensures transactions { self.new.transactions ≡ self.old.transactions }
+        ensures watchers { self.new.watchers ≡ self.old.watchers }
+        ensures burst { self.new.burst ≡ self.old.burst }
+        ensures fewer { Fewer (waits self.old.contacts) (waits self.new.contacts) }
+    {
+        if self.is_off {
+            return true;
+        }
+        let Out::Notify {
+            to,
+            terminated,
+            tag,
+            ..
+        } = out
+        else {
+            return true;
+        };
+        self.contacts.go_on(tag.as_str(), *to, *terminated)
+    }
+
     /// The out, where it goes out now. A NOTIFY to an address that has not answered one of its dialog waits behind the first one, and is
     /// dropped where there is no room for it, or no memory. Where the next run is to begin each NOTIFY is left to that.
     #[tactic(auto, using(crate::proofs::Releasing::fewer_same))]
@@ -517,7 +540,7 @@ impl Waiting {
         if shared.is_reloading() {
             return self.leave_notify(rt, out, shared);
         }
-        if self.is_off {
+        if self.goes_out(&out) {
             return Some(out);
         }
         let Out::Notify { tag, number, .. } = &out else {
@@ -658,9 +681,17 @@ impl Waiting {
         }
     }
 
-    /// Notes what an out tells of its subscription. A NOTIFY is kept from this moment on, any other out is dropped.
-    pub(crate) fn take_up<R: Wait>(&mut self, rt: &R, now: u64, out: Out, shared: &Shared)
+    /// Notes what an out tells of its subscription. A NOTIFY is kept from this moment on, any other out is dropped. An error where memory is
+    /// wanting for the row: the NOTIFY is kept all the same.
+    pub(crate) fn take_up<R: Wait>(
+        &mut self,
+        rt: &R,
+        now: u64,
+        out: Out,
+        shared: &Shared,
+    ) -> Result<(), NoMemory>
         requires in_range { now < 2 ^ 63 }
+        ensures told { OnOk result (IsTold self.old.watchers.limit now out self.old.watchers.rows self.new.watchers.rows) }
         ensures kept { self.new.transactions ≡ kept_after now out self.old.transactions }
         ensures seen { IsSeen now out self.old.watchers.rows self.new.watchers.rows }
         ensures burst { self.new.burst ≡ self.old.burst }
@@ -674,7 +705,7 @@ impl Waiting {
             }
         );
         let before = self.told_source(&out);
-        let _ = self.watch(rt, now, &out, shared);
+        let watched = self.watch(rt, now, &out, shared);
         let after = self.told_source(&out);
         // A row begins, or goes.
         if before != after {
@@ -690,13 +721,14 @@ impl Waiting {
             },
         ) = out.into_notify()
         else {
-            return;
+            return watched;
         };
         self.doubt_where_full(now, tag.as_str(), number, is_last, shared);
         let kept = self.transactions.keep(now, tag, number, to, bytes);
         if kept.is_err() && !self.is_off {
             shared.count(Counter::Once);
         }
+        watched
     }
 
     /// Counts and tells what became of an out. A NOTIFY is kept, any other out is dropped.
@@ -708,7 +740,7 @@ impl Waiting {
     {
         let Put { now, out, fate } = put;
         tell_fate(rt, shared, &out, fate);
-        self.take_up(rt, now, out, shared);
+        let _ = self.take_up(rt, now, out, shared);
     }
 
     /// Keeps the outs of the burst, in their order.

@@ -1,5 +1,6 @@
 //! What the threads of a service share: how far it is, what they counted, and the notes of answers to NOTIFYs.
-ghost use Rattle.std.specs.Prelude.{◌<◌, ◌^◌, IfSome};
+ghost use Rattle.std.specs.Prelude.{◌<◌, ◌^◌, IfOk, IfSome};
+ghost use Rattle.service.specs.Made.{AreNames};
 
 use crate::asked::Asked;
 use crate::barred::Barred;
@@ -323,13 +324,15 @@ impl Shared {
     /// journal is begun before that run, unless this one misses a record: then the further one has what those lines told, too.
     pub(crate) fn may_make<R: Wait>(&self, rt: &R, change: &Change) -> bool {
         match (self.journal.get(), change) {
-            (Some(journal), Change::Mail(change)) => journal.hold(rt, change.mailbox()),
+            (Some(journal), Change::Mail(change)) => journal.hold(rt, change),
             _ => false,
         }
     }
 
-    /// The mailboxes that lines made in this run, in the order in which they did.
-    pub fn made_mailboxes<R: Wait>(&self, rt: &R) -> Result<Vec<Text>, NoMemory> {
+    /// The mailboxes that lines made in this run, each once, in the order in which they did.
+    pub fn made_mailboxes<R: Wait>(&self, rt: &R) -> Result<Vec<Text>, NoMemory>
+        ensures { IfOk result (λ names. AreNames names.items) }
+    {
         match self.journal.get() {
             Some(journal) => journal.made(rt),
             None => Ok(Vec::new(self.alloc)),

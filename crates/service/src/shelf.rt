@@ -1,8 +1,11 @@
 //! The files of a journal, as one lock guards them.
-ghost use Rattle.std.specs.Prelude.{◌≡◌, ◌+◌, ◌<◌, ℕ, true, false, OnOk, OnErr};
+ghost use Rattle.std.specs.Prelude.{◌≡◌, ◌+◌, ◌<◌, ℕ, true, false, [], is_some, OnOk, OnErr};
+ghost use Rattle.std.specs.Int.NonZero.{non_zero_u32_get};
+ghost use Rattle.keeper.specs.Keeping as keeping;
 ghost use Rattle.control_lines.specs.Told.{with_name};
 ghost use Rattle.service.specs.Shelved as spec;
-ghost use Rattle.service.specs.Shelved.{Writes};
+ghost use Rattle.service.specs.Made.{worker_changes};
+ghost use Rattle.service.specs.Shelved.{Writes, IsWritten, IsCutShort, HoldsBook, IsFollowed};
 ghost use Rattle.service.specs.declared.shelf.Chore.TheVariants as chore;
 
 use crate::made::Made;
@@ -75,6 +78,26 @@ fn wants_next(limits: Limits, sight: Sight) -> bool
     is_free && (sight.is_behind || !sight.is_held && is_due)
 }
 
+/// The next file gets a book, where it could be made. No more is counted of workers.
+fn put(keeper: &mut Keeper, made: Result<MadeBook, Unkept>) -> Result<(), Unkept>
+    ensures unmade { (error : _) → made ≡ Err error → result ≡ Err error }
+    ensures workers { HoldsBook made → keeper.new.workers ≡ keeper.old.workers }
+{
+    keeper.put(made?)
+}
+
+/// A worker is told these changes again, by a line for each, which is answered and handled.
+fn tell_all(keeper: &mut Keeper, worker: u32, changes: Vec<MailChange>) -> Result<(), Unkept>
+    ensures told { OnOk result (keeper.new ≡ spec.all_told_again worker changes.items keeper.old) }
+    ensures short { OnErr result (IsCutShort worker changes.items keeper.old keeper.new) }
+{
+    for change in changes {
+        keeper.handled(worker, &Event::Mail(change))?;
+        keeper.counted(worker)?;
+    }
+    Ok(())
+}
+
 /// The files of a journal: the current one, and the next one while that is being begun.
 #[derive(Drop)]
 pub(crate) struct Shelf {
@@ -144,15 +167,15 @@ impl Shelf {
         self.current.number().saturating_sub(self.oldest)
     }
 
-    /// A line is to make this mailbox. From now on the current file stays while it misses nothing, and where a next one is begun all the same, what is
-    /// told of the mailbox stands there behind the books. False where one is being begun already, or for want of memory.
-    pub(crate) fn hold(&mut self, name: &str) -> bool
-        ensures made { result ≡ true → self.new.made.told ≡ with_name name.now self.old.made.told }
+    /// A line is to make the mailbox of this change. From now on the current file stays while it misses nothing, and where a next one is begun
+    /// all the same, what is told of the mailbox stands there behind the books. False where one is being begun already, or for want of memory.
+    pub(crate) fn hold(&mut self, change: &MailChange) -> bool
+        ensures made { result ≡ true → self.new.made.told ≡ with_name change.now.mailbox self.old.made.told }
     {
         if self.next.is_some() {
             return false;
         }
-        let Ok(()) = self.made.add(name) else {
+        let Ok(()) = self.made.add(change) else {
             return false;
         };
         self.is_held = true;
@@ -160,7 +183,9 @@ impl Shelf {
     }
 
     /// The mailboxes that lines made.
-    pub(crate) fn made(&self) -> &Made {
+    pub(crate) fn made(&self) -> &Made
+        ensures { result.now ≡ self.now.made }
+    {
         &self.made
     }
 
@@ -180,6 +205,9 @@ impl Shelf {
     fn give_up_next(&mut self)
         ensures current { self.new.current ≡ self.old.current }
         ensures behind { self.new.is_behind ≡ self.old.is_behind }
+        ensures next { self.new.next ≡ None }
+        ensures keeper { self.new.keeper ≡ keeping.without_next self.old.keeper }
+        ensures made { self.new.made ≡ self.old.made }
     {
         self.keeper.give_up_next();
         self.next = None;
@@ -189,6 +217,10 @@ impl Shelf {
     fn write_next(&mut self, is_made: bool)
         ensures current { self.new.current ≡ self.old.current }
         ensures behind { self.new.is_behind ≡ self.old.is_behind }
+        ensures begun { is_some self.new.next ≡ true → is_some self.old.next ≡ true }
+        ensures unmade { is_made ≡ false → self.new.next ≡ None }
+        ensures workers { self.new.keeper.workers ≡ self.old.keeper.workers }
+        ensures made { self.new.made ≡ self.old.made }
     {
         let Some(next) = &mut self.next else {
             return;
@@ -202,6 +234,9 @@ impl Shelf {
     fn fall_behind(&mut self)
         ensures current { self.new.current ≡ self.old.current }
         ensures behind { self.new.is_behind ≡ true }
+        ensures next { self.new.next ≡ self.old.next }
+        ensures keeper { self.new.keeper ≡ self.old.keeper }
+        ensures made { self.new.made ≡ self.old.made }
     {
         self.is_behind = true;
         let _ = self.current.tear();
@@ -209,7 +244,11 @@ impl Shelf {
 
     /// Writes what waits for the current file, unless it misses a record. It does so where this one couldn't be made or isn't written.
     fn write_current(&mut self, is_made: bool) -> Result<(), Loss>
-        ensures { Writes self.old self.new result }
+        ensures writes { Writes self.old self.new result }
+        ensures file { self.new.current.number ≡ self.old.current.number }
+        ensures next { self.new.next ≡ self.old.next }
+        ensures keeper { self.new.keeper ≡ self.old.keeper }
+        ensures made { self.new.made ≡ self.old.made }
     {
         if self.is_behind {
             return Err(Loss::Behind);
@@ -231,6 +270,9 @@ impl Shelf {
     fn count(&mut self, written: Result<(), Loss>)
         ensures current { self.new.current ≡ self.old.current }
         ensures behind { self.new.is_behind ≡ self.old.is_behind }
+        ensures next { self.new.next ≡ self.old.next }
+        ensures keeper { self.new.keeper ≡ self.old.keeper }
+        ensures made { self.new.made ≡ self.old.made }
     {
         if let Err(loss) = written {
             self.lost = self.lost.saturating_add(self.waits);
@@ -243,7 +285,8 @@ impl Shelf {
 
     /// Writes what waits for each file.
     fn write(&mut self, is_made: bool) -> Result<(), Loss>
-        ensures { Writes self.old self.new result }
+        ensures writes { Writes self.old self.new result }
+        ensures written { IsWritten self.old self.new }
     {
         let written = self.write_current(is_made);
         self.write_next(is_made);
@@ -254,7 +297,8 @@ impl Shelf {
 
     /// Writes the records that wait.
     pub(crate) fn flush(&mut self) -> Result<(), Loss>
-        ensures { Writes self.old self.new result }
+        ensures writes { Writes self.old self.new result }
+        ensures written { IsWritten self.old self.new }
     {
         self.write(true)
     }
@@ -361,19 +405,29 @@ impl Shelf {
         }
     }
 
-    /// The keeper counts as told anew what this worker was told of mailboxes that lines made: a line for each, which is handled. The worker's desk has
+    /// The keeper counts as told again what this worker was told of mailboxes that lines made: a line for each, which is handled. The worker's desk has
     /// none of them, so it makes nothing of that.
-    fn tell_again(&mut self, worker: u32) -> Result<(), Unkept> {
-        for change in self.made.changes(worker)? {
-            self.keeper.handled(worker, &Event::Mail(change))?;
-            self.keeper.counted(worker)?;
-        }
-        Ok(())
+    fn tell_again(&mut self, worker: u32) -> Result<(), Unkept>
+        ensures told { OnOk result (self.new.keeper ≡ spec.followed worker self.old.made self.old.keeper) }
+        ensures short { OnErr result (IsCutShort worker
+            (worker_changes (non_zero_u32_get self.old.made.workers) worker self.old.made.told) self.old.keeper self.new.keeper) }
+        ensures current { self.new.current ≡ self.old.current }
+        ensures next { self.new.next ≡ self.old.next }
+        ensures made { self.new.made ≡ self.old.made }
+    {
+        let changes = self.made.changes(worker)?;
+        tell_all(&mut self.keeper, worker, changes)
     }
 
-    /// Has what this worker was told of mailboxes that lines made stand behind its book in the next file. The book itself has none of it. For want of
-    /// memory that file is given up.
-    fn follow_book(&mut self, worker: u32) {
+    /// Has what this worker was told of mailboxes that lines made stand behind its book in the next file, if one is being begun. The book itself has
+    /// none of it. For want of memory that file is given up.
+    fn follow_book(&mut self, worker: u32)
+        ensures none { self.old.next ≡ None → self.new ≡ self.old }
+        ensures told { is_some self.new.next ≡ true
+            → self.new.keeper.workers ≡ (spec.followed worker self.old.made self.old.keeper).workers }
+        ensures written { is_some self.old.next ≡ true → self.new.keeper.current ≡ [] }
+        ensures file { self.new.current.number ≡ self.old.current.number }
+    {
         if self.next.is_none() {
             return;
         }
@@ -383,19 +437,29 @@ impl Shelf {
         let _ = self.flush();
     }
 
+    /// Puts a book into the next file. Where it can't be that is given up.
+    fn put_book(&mut self, made: Result<MadeBook, Unkept>)
+        ensures unmade { (error : _) → made ≡ Err error → self.new.next ≡ None }
+        ensures put { HoldsBook made → is_some self.new.next ≡ true → self.new.keeper.workers ≡ self.old.keeper.workers }
+        ensures made { self.new.made ≡ self.old.made }
+        ensures file { self.new.current.number ≡ self.old.current.number }
+    {
+        let _ = self.flush();
+        let is_put = put(&mut self.keeper, made).is_ok();
+        self.write_next(is_put);
+        self.keeper.clear();
+    }
+
     /// Puts the book of a worker into the next file, unless that was given up meanwhile, and behind it what the worker was told of mailboxes that
     /// lines made. Where it was the last that was wanted this file is the current one from now on.
-    pub(crate) fn book(&mut self, worker: u32, made: Result<MadeBook, Unkept>) {
+    pub(crate) fn book(&mut self, worker: u32, made: Result<MadeBook, Unkept>)
+        ensures unwanted { keeping.wants_book worker self.old.keeper.booked ≡ false → self.new ≡ self.old }
+        ensures followed { HoldsBook made → keeping.wants_book worker self.old.keeper.booked ≡ true → IsFollowed worker self.old self.new }
+    {
         if !self.keeper.wants_book(worker) {
             return;
         }
-        let _ = self.flush();
-        let put = match made {
-            Ok(made) => self.keeper.put(made),
-            Err(error) => Err(error),
-        };
-        self.write_next(put.is_ok());
-        self.keeper.clear();
+        self.put_book(made);
         self.follow_book(worker);
         if self.keeper.is_next_whole() {
             self.turn();
@@ -403,7 +467,12 @@ impl Shelf {
     }
 
     /// The next file is the current one.
-    fn turn(&mut self) {
+    fn turn(&mut self)
+        ensures none { self.old.next ≡ None → self.new ≡ self.old }
+        ensures current { (next : _) → self.old.next ≡ Some next → self.new.current ≡ next }
+        ensures whole { is_some self.old.next ≡ true → self.new.is_behind ≡ false }
+        ensures workers { self.new.keeper.workers ≡ self.old.keeper.workers }
+    {
         let Some(next) = self.next.take() else {
             return;
         };

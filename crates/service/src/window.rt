@@ -112,6 +112,9 @@ impl Window {
     /// that this thread is busy.
     #[tactic(auto, using(crate::proofs::Paging::told_page))]
     pub(crate) fn answer<R: Wait>(&self, rt: &R, now: u64, watchers: &Watchers) {
+        if self.questions.is_empty() {
+            return;
+        }
         let Some(Parcel::Question(inquiry)) = self.questions.take(rt) else {
             return;
         };
