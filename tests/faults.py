@@ -17,7 +17,7 @@ from contextlib import suppress
 from phone import PATIENCE, Message, open_socket, persist
 from repeats import ends_within
 from service import HEARD, SUBSCRIBE, Service, address, counters_become, last_counters
-from suite import LONG_LIMIT, Running, comes_true, free_port, run, same, tell, tell_close
+from suite import LONG_LIMIT, Running, comes_true, free_port, run, same, stand_still, tell, tell_close
 from tags import home_of
 
 # A seldom receive of a thread fails: each one looks up some times a second.
@@ -175,7 +175,7 @@ def drops_of_the_system_are_told(program, folder):
     count = 400
     with Service(program, "--receive-buffer", "4096", "alice") as service, service.phone("alice") as phone, service.operator() as operator:
         counters_become(operator, lambda: {"kernel_drops": "0"})
-        service.running.process.send_signal(signal.SIGSTOP)
+        stand_still(service.running.process)
         for _ in range(count):
             phone.send(b"s" * 1000)
         service.running.process.send_signal(signal.SIGCONT)
@@ -216,7 +216,7 @@ def drops_at_the_control_socket_are_told(program, folder):
     with Service(program, "--receive-buffer", "4096", "alice") as service, service.operator() as operator, service.operator() as feeder:
         counters_become(operator, lambda: {"control_drops": "0"})
         before = int(operator.counters()["control_lines"])
-        service.running.process.send_signal(signal.SIGSTOP)
+        stand_still(service.running.process)
         for _ in range(count):
             feeder.say("x" * 1000)
         service.running.process.send_signal(signal.SIGCONT)

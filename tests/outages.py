@@ -18,7 +18,7 @@ import time
 from phone import PATIENCE, Message, Operator
 from repeats import GIVEN_UP, MOMENTS, Observer, are_sends
 from service import HEARD, SUBSCRIBE, Service, counters_become, forged, rows_become
-from suite import Running, comes_true, free_port, same
+from suite import Running, comes_true, free_port, same, stand_still
 
 # Where the service is, and where the phone.
 SERVICE, PHONE = "10.99.9.1", "10.99.9.2"
@@ -44,7 +44,7 @@ def a_process_that_stands_still(program, folder, seconds=STOPPED):
         phone.subscribe()
         same("seconds that weren't counted before", 0, seconds_told(operator))
         began = time.monotonic()
-        service.running.process.send_signal(signal.SIGSTOP)
+        stand_still(service.running.process)
         time.sleep(seconds)
         service.running.process.send_signal(signal.SIGCONT)
         told = service.running.lines_until(b"the process stood still")

@@ -11,7 +11,7 @@ import subprocess
 import time
 
 from phone import NO_MESSAGES, OVER, PATIENCE, Message, Operator, Phone, open_socket, persist
-from suite import LIMIT, LONG_LIMIT, Running, comes_true, ended_with, free_port, run, same, tell, tell_close
+from suite import LIMIT, LONG_LIMIT, Running, comes_true, ended_with, free_port, run, same, stand_still, tell, tell_close
 from tags import home_of, local_tag
 
 # With a seed of zeros and this address for phones a notifier's messages are known to the byte, at whatever port it listens.
@@ -312,7 +312,7 @@ def lines_wait_for_a_stalled_service(program, folder):
     """Two lines are sent again and again while the service stands still. Each is done once, in the order in which they came first."""
     first, second = "@0123456789abcdef MAIL alice voice 1 0 0 0", "@fedcba9876543210 MAIL alice voice 2 0 0 0"
     with Service(program, "--workers", "1", "alice") as service, service.operator() as one, service.operator() as two:
-        service.running.process.send_signal(signal.SIGSTOP)
+        stand_still(service.running.process)
         for _ in range(3):
             one.say(first)
             two.say(second)

@@ -26,6 +26,7 @@ import contextlib
 import glob
 import os
 import re
+import signal
 import socket
 import subprocess
 import threading
@@ -201,6 +202,19 @@ def comes_true(holds, limit=LIMIT):
     while not (held := holds()) and time.monotonic() < end:
         time.sleep(0.02)
     return held
+
+
+def stand_still(process):
+    """Stops a process. On a busy machine some of its threads go on for a while after the signal, so this waits until each stands still."""
+    process.send_signal(signal.SIGSTOP)
+
+    def states():
+        for path in glob.glob(f"/proc/{process.pid}/task/*/stat"):
+            with contextlib.suppress(OSError), open(path, encoding="utf-8", errors="replace") as file:
+                yield file.read().rpartition(")")[2].split()[0]
+
+    if not comes_true(lambda: set(states()) == {"T"}):
+        raise AssertionError("a thread of a process that was stopped goes on")
 
 
 def shown(thing):
