@@ -284,6 +284,8 @@ def a_phone_that_answers_from_elsewhere_is_told_all(program, folder):
             came = phone.notified(1)
             for new in range(1, 11):
                 operator.tell(f"MAIL alice voice {new} 0 0 0")
+            # A line is answered before its NOTIFY is made.
+            counters_become(operator, lambda: {"held": "10"})
             for number in range(2, 12):
                 elsewhere.reply(came)
                 came = phone.notified(number)
