@@ -823,6 +823,50 @@ def a_full_disk(program, folder):
             subprocess.run(["umount", town.journal], check=True)
 
 
+def a_full_disk_at_a_start(program, folder):
+    """Where a start with another mailbox finds no room for a new file, nobody goes on from the old one any more: its subscriptions went on, so
+    their numbers would come twice. The next start begins anew."""
+    with Town(program, folder, 6) as town:
+        if not is_mounted(town.journal, "192k"):
+            return
+        try:
+            town.operator.pause = 0.1
+            town.start()
+            town.subscribe()
+            town.turn(time.monotonic() + 0.5, True)
+            town.come_right(0)
+            town.kill()
+            fill(f"{town.journal}/ballast")
+            town.mailboxes = (*MAILBOXES, "new")
+            town.start()
+            for _ in range(3):
+                town.operator.truth = {mailbox: not is_on for mailbox, is_on in town.operator.truth.items()}
+                town.tell_all()
+                town.come_right(0)
+            assert "can't be written, so nothing is kept" in town.said(), town.said()
+            town.kill()
+            os.remove(f"{town.journal}/ballast")
+            town.start()
+            for phone in town.phones:
+                phone.ask(3600)
+            town.tell_all()
+            town.wait("requests in dialogs are answered", lambda: all(phone.status is not None for phone in town.phones))
+            town.turn(time.monotonic() + 0.5)
+            same("what is wrong with numbers", [], [fault for phone in town.phones for fault in phone.faults])
+            same("answers in dialogs that nobody knows", {481}, {phone.status for phone in town.phones})
+            same("files that are put aside", True, any(name.endswith(".old") for name in os.listdir(town.journal)))
+            for phone in town.phones:
+                phone.begin()
+            town.come_right(0)
+            town.kill()
+            town.start()
+            town.come_right(0)
+            town.all_stay()
+        finally:
+            town.kill()
+            subprocess.run(["umount", town.journal], check=True)
+
+
 def checks():
     yield "twenty kills while phones watch and mails come, and no lamp is wrong", twenty_kills
     yield "three kills where each record is brought to the disk at once", each_on_the_disk
@@ -844,6 +888,7 @@ def checks():
     yield "a read-only folder", a_read_only_folder
     yield "a planned stop", a_planned_stop
     yield "a full disk", a_full_disk
+    yield "a full disk at a start with another mailbox", a_full_disk_at_a_start
 
 
 def main():

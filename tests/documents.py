@@ -445,7 +445,7 @@ def scripts():
 
 
 def counters_are_explained(_program, _folder):
-    names = re.findall(r'\("([a-z_0-9]+)", &self\.', read("crates/service/src/shared.rt"))
+    names = re.findall(r'\("([a-z_0-9]+)", &self\.', read("crates/service/src/shared/counters.rt"))
     known = {it for cells in rows("docs/operating.md") for it in spans(cells[0])}
     told([f"{it} isn't in docs/operating.md" for it in names if it not in known])
 

@@ -20,8 +20,15 @@ from repeats import GIVEN_UP, MOMENTS, Observer, are_sends
 from service import HEARD, SUBSCRIBE, Service, counters_become, forged, rows_become
 from suite import Running, comes_true, free_port, same, stand_still
 
-# Where the service is, and where the phone.
+# Where the service is, and where the phone. A stranger is in another network, to which no way leads any more.
 SERVICE, PHONE = "10.99.9.1", "10.99.9.2"
+STRANGER, ELSEWHERE = "10.99.8.2", "10.99.8.0/24"
+
+# How often a NOTIFY is sent within so many seconds that nobody answers: at once, and after 0.5, 1.5, 3.5 and 7.5.
+WATCHED, SENDS = 8.5, 5
+
+# So many dialogs a stranger asks for.
+STRANGERS = 20
 
 # Seconds for which the process stands still, of which two count, and for which the link is down: longer than the first repeat's wait.
 STOPPED, DOWN = 5, 5
@@ -107,10 +114,10 @@ class Link:
         return made[0]
 
 
-def open_phone():
-    """A socket at the phone's place."""
+def open_phone(place=PHONE):
+    """A socket at the phone's place, or at another one."""
     opened = socket.socket(socket.AF_INET, socket.SOCK_DGRAM)
-    opened.bind((PHONE, 5070))
+    opened.bind((place, 5070))
     opened.connect((SERVICE, 5060))
     opened.settimeout(PATIENCE)
     return opened
@@ -153,6 +160,42 @@ def a_link_that_is_down(program, folder, seconds=DOWN):
                 same("whether what is told is about what it was down", True, int(re.search(rb"again: (\d+) seconds", told).group(1)) >= least)
                 same("whether that is counted", True, seconds_told(operator) >= least)
                 counters_become(operator, lambda: {"live": "1", "given_up": "0"})
+
+
+def unanswered(phone, seconds):
+    """How many NOTIFYs come within so many seconds, none of which is answered."""
+    count, end = 0, time.monotonic() + seconds
+    while (rest := end - time.monotonic()) > 0:
+        phone.settimeout(rest)
+        try:
+            count += phone.recv(65535).startswith(b"NOTIFY")
+        except TimeoutError:
+            pass
+    return count
+
+
+def no_way_is_no_outage(program, folder):
+    """No way leads to an address from which no NOTIFY was ever answered: a stranger may have named it. Another phone's NOTIFY is sent again
+    at the usual moments all the same."""
+    with Link() as link:
+        link.ip(link.here, "route", "add", ELSEWHERE, "dev", "near")
+        link.ip(link.there, "address", "add", f"{STRANGER}/24", "dev", "far")
+        words = ["serve", "--listen", f"{SERVICE}:5060", "--control", "127.0.0.1:5061", "alice"]
+        with Running("ip", link.inside(program, *words)) as running:
+            running.lines_until(b"listening at")
+            stranger = link.made_inside(link.there, lambda: open_phone(STRANGER))
+            with link.made_inside(link.here, lambda: Operator(5061)) as operator, stranger, link.made_inside(link.there, open_phone) as phone:
+                for number in range(STRANGERS):
+                    asked = SUBSCRIBE.replace(b"127.0.0.1:5070", f"{STRANGER}:5070".encode()).replace(b"Call-ID: c1", b"Call-ID: s%d" % number)
+                    stranger.send(asked.replace(b"z9hG4bKa1", b"z9hG4bKs%d" % number))
+                counters_become(operator, lambda: {"live": str(STRANGERS)})
+                link.ip(link.here, "route", "delete", ELSEWHERE, "dev", "near")
+                phone.send(SUBSCRIBE.replace(b"127.0.0.1:5070", f"{PHONE}:5070".encode()))
+                # Who had to wait for a processor may be as late.
+                came = unanswered(phone, WATCHED + running.delay())
+                same("whether the phone's NOTIFY was sent again at its moments", True, came >= SENDS)
+                counters_become(operator, lambda: {"outage_seconds": "0"})
+                same("whether sends to the stranger failed", True, int(operator.counters()["failed"]) > 0)
 
 
 def no_port_is_no_outage(program, folder):
@@ -201,8 +244,9 @@ def checks():
     yield "serve: what the process stood still for isn't counted", a_process_that_stands_still
     if can_link():
         yield "serve: a link that is down for a while ends no subscription", a_link_that_is_down
+        yield "serve: where no way leads to a stranger is no outage", no_way_is_no_outage
     else:
-        print("  outages: a link that is down was not tried: no network namespaces with a link can be had", flush=True)
+        print("  outages: a link that is down, and a stranger to whom no way leads, were not tried: no network namespaces with a link can be had", flush=True)
     if can_forge():
         yield "serve: what can't be sent to a stranger without a port is no outage", no_port_is_no_outage
     else:

@@ -178,7 +178,7 @@ def changes_are_counted(program, folder):
     """STATUS tells a feed that is dead from one that has nothing to tell: lines that change something are counted, those that can't, and how
     long ago the last one did. A repeat with its token, and a question, are none of them."""
     once = "@0123456789abcdef MAIL alice voice 2 0 0 0"
-    lines = (("MAIL alice voice 1 0 0 0", "ok"), (once, "ok"), (once, "ok"), ("MAIL bob voice 1 0 0 0", "unknown mailbox"), ("MAIL alice", "bad line"))
+    lines = (("MAIL alice voice 1 0 0 0", "ok"), (once, "ok"), (once, "ok"), ("MAIL bob voice 1 0 0 0", "unknown mailbox"), ("SHOW bob", "unknown mailbox"), ("WATCHERS bob", "unknown mailbox"), ("MAIL alice", "bad line"))
     names = ("changes", "unknown_mailboxes", "bad_lines")
     with Service(program, "alice") as service, service.operator() as operator:
         same("what is counted at first", ["0"] * 3, [operator.counters()[name] for name in names])

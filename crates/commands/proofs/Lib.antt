@@ -1,6 +1,7 @@
 pub mod Named
 pub mod Once
 pub mod Ordered
+pub mod Names
 pub mod FirstOut
 pub mod Adopted
 pub mod Urgent

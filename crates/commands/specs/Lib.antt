@@ -6,6 +6,8 @@ pub mod Plans
 pub mod Serving
 pub mod Reloading
 pub mod Runs
+pub mod GoingOn
+pub mod Feeding
 pub mod Refused
 pub mod Telling
 pub mod UdpCall

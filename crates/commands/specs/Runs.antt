@@ -13,7 +13,7 @@ use Rattle.journal.specs.declared.file.Account.{Account}
 use Rattle.resumption.specs.declared.found.Found.{Found}
 use Rattle.resumption.specs.Accounts.{events_since}
 use Rattle.resumption.specs.Told.{mails}
-use Rattle.commands.specs.declared.journal_start.Opened.{Opened}
+use Rattle.commands.specs.declared.journal_opened.Opened.{Opened}
 use Rattle.commands.specs.declared.plan.Plan.{Plan}
 
 -- ---- of which mailboxes lines told (RFC 3842 section 5.2)

@@ -38,6 +38,11 @@ start_at plan local worker = record {
   boxes = boxes_told plan.choices.no_refer plan.changes.items (dealt_names plan.workers worker plan.mailboxes.items);
 }
 
+-- both choose the same two addresses
+pub record AreAlike (one other : Choices) : Type 0 where
+  pub listen : one.listen ≡ other.listen
+  pub control : one.control ≡ other.control
+
 -- the sockets that were chosen: each of the two addresses has a wire that receives, which hasn't failed yet, and one that sends; that of
 -- SIP has one for refusals, too
 pub record AreOpen (choices : Choices) (s : Sockets) : Type 0 where

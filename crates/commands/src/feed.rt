@@ -1,6 +1,7 @@
 //! Voicemail systems that are heard, each of whose NOTIFYs is told to the service by control lines of its own.
 
-ghost use Rattle.std.specs.Prelude.{IfErr};
+ghost use Rattle.std.specs.Prelude.{◌≡◌, ◌↔◌, [], IsNone, IfOk, IfErr, IfSome};
+ghost use Rattle.commands.specs.Feeding.{IsFeedDesk, reached_at};
 ghost use Rattle.commands.specs.Refused.{IsOther};
 
 use crate::error::ServeError;
@@ -39,7 +40,9 @@ impl Clerk for FeedClerk {
 }
 
 /// Where this machine reaches a socket that is bound to this address: 0.0.0.0 is reached at 127.0.0.1.
-fn reached(bound: Addr) -> Addr {
+fn reached(bound: Addr) -> Addr
+    ensures { result ≡ reached_at bound }
+{
     if bound.ip == [0; 4] {
         Addr {
             ip: [127, 0, 0, 1],
@@ -57,6 +60,8 @@ pub(crate) fn open_feed<R: Wait + Net + AllocGlobal>(
     plan: &Plan,
     control: Addr,
 ) -> Result<Option<FeedDesk>, ServeError>
+    ensures none { IfOk result (λ feed. IsNone feed ↔ (plan.now.feeds.items ≡ [])) }
+    ensures desk { IfOk result (λ feed. IfSome feed (IsFeedDesk plan.now control)) }
     ensures refused { IfErr result IsOther }
 {
     if plan.feeds.is_empty() {

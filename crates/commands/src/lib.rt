@@ -22,6 +22,7 @@ mod input;
 mod input_telling;
 mod journal_folder;
 mod journal_new;
+mod journal_opened;
 mod journal_start;
 mod line_file;
 mod logging;

@@ -1,8 +1,9 @@
 //! The mailboxes that the settings of a service name, by themselves or by files.
-ghost use Rattle.std.specs.Prelude.{◌≡◌, ◌++◌, ℕ, not, List, filter, map, string_bytes, IfOk, IfErr, OnOk, IsTrue};
-ghost use Rattle.std.specs.List.{All};
+ghost use Rattle.std.specs.Prelude.{◌≡◌, ◌↔◌, ◌++◌, ℕ, not, List, filter, map, string_bytes, IfOk, IfErr, OnOk, IsTrue};
+ghost use Rattle.std.specs.List.{All, list_all};
 ghost use Rattle.control_lines.specs.Told.{is_held};
 ghost use Rattle.arguments.specs.Settings.{IsMailbox};
+ghost use Rattle.commands.specs.GoingOn.{AreSameNames};
 ghost use Rattle.commands.specs.Plans as spec;
 ghost use Rattle.commands.specs.Plans.{Names, AddsNames, AreNamed};
 ghost use Rattle.commands.specs.Refused.{IsOfFile, IsOfSetting, IsOfOne};
@@ -208,15 +209,18 @@ pub(crate) fn with_further(
     each_once(alloc, all)
 }
 
+/// Whether each of these names is in the set.
+fn has_all(set: &IndexSet<String>, names: &[Text]) -> bool
+    ensures { result ≡ list_all (is_held (map string_bytes set.now.keys)) names.now }
+{
+    names.iter().all(|name| has_name(set, name))
+}
+
 /// Whether these are the same names, in any order.
-pub(crate) fn are_same(
-    alloc: Global,
-    names: &[Text],
-    others: Vec<String>,
-) -> Result<bool, NoMemory> {
-    let mut set = IndexSet::new(alloc);
-    for name in others {
-        set.insert(name)?;
-    }
-    Ok(set.len() == names.len() && names.iter().all(|name| set.contains(name.as_str())))
+pub(crate) fn are_same(alloc: Global, names: &[Text], others: &[Text]) -> Result<bool, NoMemory>
+    ensures { IfOk result (λ same. IsTrue same ↔ AreSameNames names.now others.now) }
+{
+    let ours = copied_names(alloc, names)?;
+    let theirs = copied_names(alloc, others)?;
+    Ok(has_all(&theirs, names) && has_all(&ours, others))
 }

@@ -298,6 +298,7 @@ pub(crate) fn adopted(plan: Plan, seed: [u8; 32], workers: u32) -> Plan
 #[tactic(auto, using(crate::proofs::Adopted::told_too))]
 pub(crate) fn with_told(alloc: Global, plan: Plan, told: Vec<Text>) -> Result<Plan, NoMemory>
     ensures plan { (words : List (List ℕ)) → IsPlan words plan → IfOk result (IsPlan words) }
+    ensures same { IfOk result (λ r. r ≡ record plan { mailboxes = r.mailboxes }) }
 {
     if !plan.choices.any_mailbox {
         return Ok(plan);

@@ -1,5 +1,5 @@
 //! `notifyd serve`.
-ghost use Rattle.std.specs.Prelude.{◌≡◌, ◌<◌, ◌≤◌, ◌⊎◌, ℕ, List, None, true, false, get_or, vec_len, IfOk, IfErr, IfSome, OnOk};
+ghost use Rattle.std.specs.Prelude.{◌≡◌, ◌≢◌, ◌<◌, ◌≤◌, ◌⊎◌, ℕ, List, None, true, false, get_or, vec_len, IfOk, IfErr, IfSome, IsSome, OnOk};
 ghost use Rattle.crew.specs.Desks.{standing_of};
 ghost use Rattle.arguments.specs.Wanted.{Gives};
 ghost use Rattle.transport.specs.Sockets.{misses};
@@ -17,9 +17,8 @@ use crate::feed::{FeedDesk, open_feed};
 use crate::help::{HELP, asked_text};
 use crate::input::Watch;
 use crate::journal_folder::Folder;
-use crate::journal_start::{
-    Opened, Started, found_header, held_folder, open_journal, start, told_mailboxes,
-};
+use crate::journal_opened::{Opened, found_header, held_folder, open_journal, told_mailboxes};
+use crate::journal_start::{Started, start};
 use crate::logging::{
     say_goodbye, say_hello, say_journal, say_spent_worker, say_why, warn_of_control,
 };
@@ -313,6 +312,7 @@ fn set_log<R: Clock>(rt: &R, plan: &Plan, shared: &Shared) {
 fn stand_by(plan: &Plan, sockets: &Sockets) -> Result<Option<Standby>, ServeError>
     requires open { AreOpen plan.now.choices sockets.now }
     ensures open { IfOk result (λ standby. IfSome standby (λ s. AreOpen s.choices s.sockets)) }
+    ensures kept { plan.now.journal ≢ None → IfOk result IsSome }
     ensures refused { IfErr result IsOther }
 {
     match &plan.journal {

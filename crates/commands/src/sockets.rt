@@ -6,7 +6,7 @@ ghost use Rattle.transport.specs.Sockets.{misses};
 ghost use Rattle.arguments.specs.declared.choices.Choices.{Choices};
 ghost use Rattle.commands.specs.declared.error.ServeError.TheVariants as error;
 ghost use Rattle.commands.specs.Refused.{IsTooMany, IsNoSocket, IsOther};
-ghost use Rattle.commands.specs.Serving.{IsAt, AreOpen};
+ghost use Rattle.commands.specs.Serving.{AreAlike, AreOpen, IsAt};
 
 use crate::error::ServeError;
 use crate::logging::say_room;
@@ -184,8 +184,7 @@ impl Standby {
 
     /// Whether these choices name the same addresses.
     fn is_at(&self, choices: &Choices) -> bool
-        ensures listen { result ≡ true → self.now.choices.listen ≡ choices.now.listen }
-        ensures control { result ≡ true → self.now.choices.control ≡ choices.now.control }
+        ensures { IsTrue result ↔ AreAlike self.now.choices choices.now }
     {
         self.choices.listen == choices.listen && self.choices.control == choices.control
     }
@@ -202,6 +201,7 @@ where
     R: Wait + Net + Clock + Eprint + AllocGlobal,
     requires open { IfSome standby (λ s. AreOpen s.choices s.sockets) }
     ensures opened { IfOk result (AreOpen choices.now) }
+    ensures stands { IfSome standby (λ s. AreAlike s.choices choices.now → IfOk result (λ sockets. sockets ≡ s.sockets)) }
     ensures refused { IfErr result IsOther }
 {
     let Some(standby) = standby else {

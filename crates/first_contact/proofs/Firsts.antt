@@ -8,7 +8,7 @@ use Rattle.first_contact.specs.declared.contact.Notice.{Notice}
 use Rattle.first_contact.specs.declared.contact.Room.{Room}
 use Rattle.first_contact.specs.declared.contact.TheConstants.{FINAL, GONE}
 use Rattle.first_contact.specs.Steps.{ContactSeen, Step, idle, begun, same_addr, is_from, begins_anew, goes_once, goes_first, passes, waits, drops, has_place, offered, offered_there, answered, ended, opened, opened_last, opened_more, opens, moved_to, passed_to, passed, heard, is_told}
-use Rattle.first_contact.specs.Runs.{Call, Offer, Answer, GiveUp, Close, tag_of, step_of, step_at, known_after, through, is_silent_of, is_silent, is_final, answers, sent_to, IsUnanswered, OneAtMost}
+use Rattle.first_contact.specs.Runs.{Call, Offer, Answer, GiveUp, Close, Forget, tag_of, step_of, step_at, known_after, through, is_silent_of, is_silent, is_final, answers, sent_to, IsUnanswered, OneAtMost}
 use Rattle.first_contact.proofs.Places.{and_true, addr_is, addr_same, GoThere, IsPlaced, at_placed, all_placed}
 
 -- ---- the first is under way
@@ -199,6 +199,7 @@ of_goes to k (Offer tag room n) c u placed e = let both = and_true room.begins (
 of_goes to k (Answer tag number status source) c u placed e = answer_goes to k number status source c u placed e
 of_goes to k (GiveUp tag number) c u placed e = absurd (cc)
 of_goes to k (Close tag) c u placed e = absurd (cc)
+of_goes to k (Forget tag source) c u placed e = ended_goes to k c
 
 at_goes : (tag : List ℕ) (to : Addr) (k : ℕ) (call : Call) (c : Option ContactSeen) → Leaves to k c → IsPlaced c → is_silent tag to call ≡ true
     → Goes to k (one_if (bytes_eq (tag_of call) tag && is_final call)) (step_at tag call c)

@@ -10,7 +10,7 @@ use Rattle.first_contact.specs.declared.contact.Notice.{Notice}
 use Rattle.first_contact.specs.declared.contact.Room.{Room}
 use Rattle.first_contact.specs.declared.contact.TheConstants.{FINAL, GONE}
 use Rattle.first_contact.specs.Steps.{ContactSeen, Step, idle, begun, same_addr, begins_anew, goes_once, goes_first, passes, waits, drops, has_place, offered, offered_there, answered, given_up, ended, opened, opened_last, opened_more, is_from, opens, moved_to, passed_to, passed, heard, is_told, is_told_by}
-use Rattle.first_contact.specs.Runs.{Call, Offer, Answer, GiveUp, Close, tag_of, step_of, step_at, known_after, through, IsAnswered, KnownIsAnswered}
+use Rattle.first_contact.specs.Runs.{Call, Offer, Answer, GiveUp, Close, Forget, tag_of, step_of, step_at, known_after, through, IsAnswered, KnownIsAnswered}
 use Rattle.first_contact.proofs.Places.{GoThere, IsPlaced, all_placed}
 
 through_push : (tag : List ℕ) (past : List Call) (call : Call) (c : Option ContactSeen)
@@ -263,6 +263,7 @@ module _ (tag : List ℕ) (past : List Call) (call : Call) (h : (c : ContactSeen
   of_call (Answer named number status source) e ours s d is = answers_it named number status source e ours s d is
   of_call (GiveUp named number) e ours s d is = gives_up number d is
   of_call (Close named) e ours s d is = ends d is
+  of_call (Forget named source) e ours s d is = ends d is
 
   at_call : (d : ContactSeen) → (step_at tag call before).contact ≡ Some d → History tag now d
   at_call d is = by (bytes_eq (tag_of call) tag) refl

@@ -7,7 +7,7 @@ use Rattle.first_contact.specs.declared.contact.Notice.{Notice}
 use Rattle.first_contact.specs.declared.contact.Room.{Room}
 use Rattle.first_contact.specs.declared.contact.TheConstants.{FINAL, GONE}
 use Rattle.first_contact.specs.Steps.{ContactSeen, Step, waiting, idle, begun, same_addr, begins_anew, goes_once, goes_first, passes, waits, drops, has_place, offered, offered_there, answered, ended, is_ending, opened, opened_last, opened_more, is_open, moved_to, passed_to, passed, heard, is_told}
-use Rattle.first_contact.specs.Runs.{Call, Offer, Answer, GiveUp, Close, tag_of, step_of, step_at, known_after, through, lost, offer_of, offer_at, offers, ends_it, IsPart, EachInOrder, NoneAfterItsEnd, NoneVanishes}
+use Rattle.first_contact.specs.Runs.{Call, Offer, Answer, GiveUp, Close, Forget, tag_of, step_of, step_at, known_after, through, lost, offer_of, offer_at, offers, ends_it, IsPart, EachInOrder, NoneAfterItsEnd, NoneVanishes}
 
 -- ---- parts
 
@@ -113,6 +113,7 @@ step_fair (Answer tag number status source) c =
     (idle_fair c)
 step_fair (GiveUp tag number) c = if_fair (is_told number c) (ended c) (idle c) c [] (ended_fair c) (idle_fair c)
 step_fair (Close tag) c = ended_fair c
+step_fair (Forget tag source) c = ended_fair c
 
 at_fair : (tag : List ℕ) (call : Call) (c : Option ContactSeen) → IsFair (step_at tag call c) c (offer_at tag call)
 at_fair tag call c = by (bytes_eq (tag_of call) tag)
@@ -152,6 +153,7 @@ ends_none (Offer tag room n) c e = absurd (cc)
 ends_none (Answer tag number status source) c e = ap (λ (s : ℕ). (answered number s source c).contact) ((Decides-eqb status GONE).0 e)
 ends_none (GiveUp tag number) c e = ap (λ (b : Bool). (if b then ended c else idle c).contact) e
 ends_none (Close tag) c e = refl
+ends_none (Forget tag source) c e = refl
 
 pub none_after_its_end : NoneAfterItsEnd
 none_after_its_end tag before since end ours ends =

@@ -9,7 +9,7 @@ use Rattle.first_contact.specs.declared.contact.Notice.{Notice}
 use Rattle.first_contact.specs.declared.contact.Room.{Room}
 use Rattle.first_contact.specs.declared.contact.TheConstants.{FINAL, GONE}
 use Rattle.first_contact.specs.Steps.{ContactSeen, Step, idle, same_addr, begins_anew, goes_once, goes_first, passes, waits, drops, has_place, offered, offered_there, answered, given_up, ended, is_ending, opened, opened_last, opened_more, is_open, moved_to, passed_to, passed, heard, is_told}
-use Rattle.first_contact.specs.Runs.{Call, Offer, Answer, GiveUp, Close, tag_of, step_of, step_at, known_after}
+use Rattle.first_contact.specs.Runs.{Call, Offer, Answer, GiveUp, Close, Forget, tag_of, step_of, step_at, known_after}
 
 -- ---- addresses
 
@@ -88,6 +88,7 @@ step_placed (Answer tag number status source) c p =
     p
 step_placed (GiveUp tag number) c p = placed_if (is_told number c) (ended c) (idle c) tt p
 step_placed (Close tag) c p = tt
+step_placed (Forget tag source) c p = tt
 
 pub at_placed : (tag : List ℕ) (call : Call) (c : Option ContactSeen) → IsPlaced c → IsPlaced (step_at tag call c).contact
 at_placed tag call c p = placed_if (bytes_eq (tag_of call) tag) (step_of call c) (idle c) (step_placed call c p) p

@@ -1,5 +1,5 @@
 -- What a caller is told of a NOTIFY that it offered, and of an answer.
-use Rattle.std.specs.Prelude.{◌≡◌, ◌⊎◌, ℕ, ◌+◌, ◌-◌, Bool, true, false, Option, List, [], ◌∷◌, length}
+use Rattle.std.specs.Prelude.{◌≡◌, ◌⊎◌, ◌==◌, ℕ, ◌+◌, ◌-◌, nat_le, Bool, true, false, Option, List, [], ◌∷◌, length}
 use Rattle.sip_text.specs.declared.address.Addr.{Addr}
 use Rattle.first_contact.specs.declared.contact.Heard.{Heard}
 use Rattle.first_contact.specs.declared.contact.Heard.TheVariants.{Nothing, Opened, Ends, Elsewhere}
@@ -8,6 +8,7 @@ use Rattle.first_contact.specs.declared.contact.Offered.{Offered}
 use Rattle.first_contact.specs.declared.contact.Offered.TheVariants.{Through, Waits, Lost}
 use Rattle.first_contact.specs.declared.contact.Passed.{Passed}
 use Rattle.first_contact.specs.declared.contact.Room.{Room}
+use Rattle.first_contact.specs.declared.contact.TheConstants.{GONE, FINAL}
 use Rattle.first_contact.specs.declared.table.Contacts.{Contacts}
 use Rattle.first_contact.specs.Steps.{ContactSeen, Step, waiting, offered, opened_more, ended, answered, is_told, is_open, is_ending}
 use Rattle.first_contact.specs.Tables.{IsStepped, at}
@@ -50,8 +51,17 @@ pub record IsPassed (old new : Contacts) (tag : List ℕ) (step : Step) (passed 
   pub through : passed.through.items ≡ step.through
   pub lost : passed.lost ≡ length step.lost
 
--- An answer does what the definition says. Where it came from elsewhere, and memory for the next one that waits is wanting, the dialog ends.
+-- A final answer with this status to the NOTIFY with this number, which is under way, comes from an address that opens nothing; it doesn't say
+-- that the dialog is gone.
+pub record IsElsewhere (number status : ℕ) (source : Addr) (c : Option ContactSeen) : Type 0 where
+  pub final : nat_le FINAL status ≡ true
+  pub alive : (status == GONE) ≡ false
+  pub told : is_told number c ≡ true
+  pub closed : is_open source c ≡ false
+
+-- An answer does what the definition says. Where a final one came from elsewhere, and memory for the next one that waits is wanting, the dialog
+-- ends (`Forget` in specs/Runs).
 abbrev pub IsAnswer : Contacts → Contacts → List ℕ → ℕ → ℕ → Addr → Passed → Type 0
 IsAnswer old new tag number status source passed =
     IsPassed old new tag (answered number status source (at old tag)) passed
-    ⊎ ((is_open source (at old tag) ≡ false) × IsPassed old new tag (ended (at old tag)) passed)
+    ⊎ (IsElsewhere number status source (at old tag) × IsPassed old new tag (ended (at old tag)) passed)

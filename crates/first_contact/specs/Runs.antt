@@ -13,12 +13,15 @@ pub data Call : Type 0 where
   Answer : (tag : List ℕ) (number status : ℕ) (source : Addr) → Call
   GiveUp : (tag : List ℕ) (number : ℕ) → Call
   Close : (tag : List ℕ) → Call
+  -- a final answer came from this address, which opens nothing, and memory for the next one that waits was wanting
+  Forget : (tag : List ℕ) (source : Addr) → Call
 
 abbrev pub tag_of : Call → List ℕ
 tag_of (Offer tag room n) = tag
 tag_of (Answer tag number status source) = tag
 tag_of (GiveUp tag number) = tag
 tag_of (Close tag) = tag
+tag_of (Forget tag source) = tag
 
 -- what a call does to its dialog
 abbrev pub step_of : Call → Option ContactSeen → Step
@@ -26,6 +29,7 @@ step_of (Offer tag room n) c = offered room n c
 step_of (Answer tag number status source) c = answered number status source c
 step_of (GiveUp tag number) c = given_up number c
 step_of (Close tag) c = ended c
+step_of (Forget tag source) c = ended c
 
 -- what it does to the dialog with this tag: nothing, where that is another one
 abbrev pub step_at : List ℕ → Call → Option ContactSeen → Step
@@ -51,6 +55,7 @@ offer_of (Offer tag room n) = n ∷ []
 offer_of (Answer tag number status source) = []
 offer_of (GiveUp tag number) = []
 offer_of (Close tag) = []
+offer_of (Forget tag source) = []
 
 abbrev pub offer_at : List ℕ → Call → List Notice
 offer_at tag call = if bytes_eq (tag_of call) tag then offer_of call else []
@@ -71,12 +76,13 @@ IsPart xs (y ∷ ys) = IsPart xs ys ⊎ ((rest : List Notice) × (xs ≡ y ∷ r
 abbrev pub EachInOrder : Type 0
 EachInOrder = (tag : List ℕ) (calls : List Call) → IsPart (through tag calls None) (offers tag calls)
 
--- the call ends the dialog: a give-up that tells of its address, a 481, or its subscription is gone
+-- the call ends the dialog: a give-up that tells of its address, a 481, want of memory at an answer, or its subscription is gone
 abbrev pub ends_it : Call → Option ContactSeen → Bool
 ends_it (Offer tag room n) c = false
 ends_it (Answer tag number status source) c = status == GONE
 ends_it (GiveUp tag number) c = is_told number c
 ends_it (Close tag) c = true
+ends_it (Forget tag source) c = true
 
 -- What is let through after the end of the dialog was offered after it: what waited then is dropped at that moment.
 abbrev pub NoneAfterItsEnd : Type 0
@@ -90,13 +96,14 @@ abbrev pub IsUnanswered : Addr → Option ContactSeen → Type 0
 IsUnanswered to None = Unit {0}
 IsUnanswered to (Some c) = (same_addr c.to to ≡ false) ⊎ (c.is_known ≡ false)
 
--- a call is no final answer of this address to the dialog, no end of it, and no offer to another address; where one is offered a dialog may
--- begin
+-- a call is no final answer of this address to the dialog, no end of it but by an answer from elsewhere, and no offer to another address; where
+-- one is offered a dialog may begin
 abbrev pub is_silent_of : Addr → Call → Bool
 is_silent_of to (Offer tag room n) = room.begins && same_addr n.to to
 is_silent_of to (Answer tag number status source) = not (nat_le FINAL status) || not (is_from source to)
 is_silent_of to (GiveUp tag number) = false
 is_silent_of to (Close tag) = false
+is_silent_of to (Forget tag source) = not (is_from source to)
 
 abbrev pub is_silent : List ℕ → Addr → Call → Bool
 is_silent tag to call = not (bytes_eq (tag_of call) tag) || is_silent_of to call
@@ -107,6 +114,7 @@ is_final (Offer tag room n) = false
 is_final (Answer tag number status source) = nat_le FINAL status
 is_final (GiveUp tag number) = false
 is_final (Close tag) = false
+is_final (Forget tag source) = true
 
 -- the final answers to the dialog
 abbrev pub answers : List ℕ → List Call → List Call

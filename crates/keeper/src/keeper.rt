@@ -7,7 +7,7 @@ ghost use Rattle.journal.specs.Records.{written, book_record, IsRecord};
 ghost use Rattle.journal.specs.declared.record.Record.TheVariants as entry;
 ghost use Rattle.keeper.specs.Told as kept;
 ghost use Rattle.keeper.specs.Keeping as spec;
-ghost use Rattle.keeper.specs.Refusing.{WorkerFails, PutFails, KeepFails};
+ghost use Rattle.keeper.specs.Refusing.{WorkerFails, LookFails, PutFails, KeepFails, BookFails, BookingFails, HasNoPlace};
 ghost use Rattle.keeper.specs.declared.error.Unkept.TheVariants as unkept;
 ghost use Rattle.keeper.specs.Keeping.{first, after_handled, after_answered, after_passed, after_counted, after_clock, after_begin, after_book, IsBookOf, IsOutdated, after_catching_up, turned, without_next, cleared, has_book, next_line};
 
@@ -88,7 +88,7 @@ fn copy_header(alloc: Global, header: &Header) -> Result<Header, NoMemory>
 /// What is kept of the worker with this number.
 fn find(workers: &[Kept], worker: u32) -> Result<&Kept, Unkept>
     ensures found { IfOk result (λ k. slice_get workers.now worker ≡ Some k.now) }
-    ensures fails { IfErr result (WorkerFails workers.now worker) }
+    ensures fails { IfErr result (λ e. (e ≡ unkept.NoSuchWorker) × (length workers.now ≤ worker)) }
 {
     match workers.get(worker as usize) {
         Some(kept) => Ok(kept),
@@ -240,6 +240,10 @@ impl Keeper {
             → OnOk result (IsRecord (book_record worker (kept.told_of k) saved)) }
         ensures begun { OnOk result (is_some self.old.booked ≡ true) }
         ensures not_begun { result ≡ Err unkept.NotBegun → is_some self.old.booked ≡ false }
+        ensures not_outdated { result ≡ Err unkept.Outdated → ⊥ }
+        ensures no_place { result ≡ Err unkept.NoSuchWorker → HasNoPlace self.old worker }
+        ensures fails { (saved : Saved) (k : kept.Kept) → IsBook desk.now saved → slice_get self.old.workers worker ≡ Some k
+            → IfErr result (BookingFails (book_record worker (kept.told_of k) saved) self.old worker) }
         ensures unchanged { OnErr result (self.new ≡ self.old) }
     {
         let told = self.told(worker)?;
@@ -256,6 +260,7 @@ impl Keeper {
         ensures begun { OnOk result (is_some self.old.booked ≡ true) }
         ensures not_begun { result ≡ Err unkept.NotBegun → is_some self.old.booked ≡ false }
         ensures outdated { result ≡ Err unkept.Outdated → IsOutdated made self.old.workers }
+        ensures fails { IfErr result (BookFails made self.old) }
         ensures unchanged { OnErr result (self.new ≡ self.old) }
     {
         let worker = made.worker();
@@ -325,7 +330,7 @@ impl Keeper {
     /// What a worker was told so far.
     pub fn told(&self, worker: u32) -> Result<Told, Unkept>
         ensures told { IfOk result (λ told. option_map kept.told_of (slice_get self.now.workers worker) ≡ Some told) }
-        ensures fails { IfErr result (WorkerFails self.now.workers worker) }
+        ensures fails { IfErr result (LookFails self.now.workers worker) }
     {
         let kept = find(self.workers.as_slice(), worker)?;
         Ok(kept.told(self.alloc)?)

@@ -1,9 +1,10 @@
 //! The record of a worker's book, made beside the keeper.
-ghost use Rattle.std.specs.Prelude.{◌≡◌, Err, IfOk, OnOk};
+ghost use Rattle.std.specs.Prelude.{◌≡◌, Err, IfOk, IfErr, OnOk};
 ghost use Rattle.notifier_model.specs.declared.saved.Saved.{Saved};
 ghost use Rattle.snapshots.specs.Books.{IsBook};
 ghost use Rattle.journal.specs.Records.{book_record, IsRecord};
 ghost use Rattle.keeper.specs.Keeping.{IsBookOf};
+ghost use Rattle.keeper.specs.Refusing.{IsUnwritten, PutFails};
 ghost use Rattle.keeper.specs.declared.error.Unkept.TheVariants as unkept;
 
 use crate::error::Unkept;
@@ -33,6 +34,10 @@ impl MadeBook {
     pub fn new(alloc: Global, worker: u32, told: Told, desk: &[u8]) -> Result<MadeBook, Unkept>
         ensures made { (saved : Saved) → IsBook desk.now saved → IfOk result (λ made. IsBookOf worker told saved made) }
         ensures readable { (saved : Saved) → IsBook desk.now saved → OnOk result (IsRecord (book_record worker told saved)) }
+        ensures worker { IfOk result (λ made. made.worker ≡ worker) }
+        ensures told { IfOk result (λ made. made.told ≡ told) }
+        ensures unwritten { IfErr result IsUnwritten }
+        ensures fails { (saved : Saved) → IsBook desk.now saved → IfErr result (PutFails (book_record worker told saved)) }
         ensures begun { result ≡ Err unkept.NotBegun → ⊥ }
     {
         let mut bytes = Vec::new(alloc);

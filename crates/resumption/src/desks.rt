@@ -8,7 +8,7 @@ ghost use Rattle.resumption.specs.Noted.{noted, passed_all, handled_all};
 
 use crate::told::{boxes_told, held_names};
 use arguments::Wanted;
-use journal::{Account, Book, Told};
+use journal::{Account, Book, Told, Unwritten};
 use keeper::{Keeper, Unkept};
 use notifier::{Desk, Event, Out, ResumeError, Setup};
 use package::{MailChange, Package, Progress};
@@ -54,7 +54,7 @@ impl From<ResumeError> for Halt {
 impl From<Unkept> for Halt {
     fn from(error: Unkept) -> Halt {
         match error {
-            Unkept::NoMemory => Halt::NoMemory,
+            Unkept::NoMemory | Unkept::Unwritten(Unwritten::NoMemory) => Halt::NoMemory,
             _ => Halt::Unfit,
         }
     }

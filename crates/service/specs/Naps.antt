@@ -1,6 +1,6 @@
 -- For how many milliseconds a thread of a service sleeps at most, and when the one that sends does nothing but send.
 use Rattle.std.specs.Prelude.{ℕ, ◌-◌, min, max, Bool, ◌&&◌, ◌||◌, nat_lt, Option, Some, None, if◌then◌else◌}
-use Rattle.service.specs.declared.sending.Watch.{Watch}
+use Rattle.service.specs.declared.sending.watch.Watch.{Watch}
 
 -- until a NOTIFY is sent again, but 20 at most. Where none waits for its answer: a second, since whoever posts wakes the thread, or 20 where each is sent once
 abbrev pub idle_nap : Option ℕ → Bool → ℕ → ℕ

@@ -99,8 +99,8 @@ pub record ThenCloses (sends : PortSeats → PortSeats → Type 0) (old new : Po
   pub ends : IsLeftByClose fed_to new
   pub seats : SameSeats old new
 
--- what a thread that ended so leaves of what it was to send, and whether it told of a fault late, behind that: a wire that is deaf exactly
--- where it was before or the thread tells of a fault, or a clock that failed once more exactly where it ends with one
+-- What a thread leaves that ended so. Its wire is deaf exactly where it was deaf before, or where the thread tells of a fault: as its end, or
+-- `late`, behind its end. Its clock failed once more exactly where the end says so.
 abbrev pub IsLeftBehind : Task → FeedEnd → Bool → Task → Type 0
 IsLeftBehind (task.Datagrams desk) end late left =
     (d : SipDesk UdpWire) × (left ≡ task.Datagrams d) × IsDeafAsTold (is_fault end || late) (misses desk.coming) (misses d.coming)
@@ -145,9 +145,9 @@ anew start allowance = record { stands = λ w. first_standing (start w); first =
 
 -- ---- all of it
 
--- workers whose desks stood so handled, as their reports tell, what the three ports sent until all were closed, the first of them what those
--- SIP datagrams say that this admission allows; and each of their
--- outs was sent, written or failed, in order, and NOTIFYs again as their transactions ask for it, those that were open first, too
+-- A service ran so. Its workers began with desks that stood so, and handled, as their reports tell, what its three ports sent until all were
+-- closed. Through the first came what those SIP datagrams say that this admission allows. Each out of the workers was sent, written or failed,
+-- in order. NOTIFYs were sent again as their transactions ask for it, also those that were open at the start.
 pub record Runs (begins : Beginning) (workers : ℕ) (opened : Opening) (admission : Admission) (flow : Outflow) (outcome : ServiceEnd) : Type 0 where
   -- as it was started
   pub crew : List Hired

@@ -16,7 +16,7 @@ use Rattle.feeds.specs.declared.sending.Fate.{Fate}
 use Rattle.feeds.specs.declared.sending.Fate.TheVariants.{Sent}
 use Rattle.feeds.specs.declared.sending.Fate.TheVariants as became
 use Rattle.feeds.specs.declared.sending.EmitReport.{EmitReport}
-use Rattle.feeds.specs.Emitted.{Fates, WireSeen, WriterSeen, wire_seen, writer_seen, AreMet, datagram_sent, sent_datagrams, fails_to_send}
+use Rattle.feeds.specs.Emitted.{Fates, WireSeen, WriterSeen, wire_seen, writer_seen, MayMeet, AreMet, datagram_sent, sent_datagrams, fails_to_send, is_held}
 use Rattle.first_contact.specs.Steps.{tag_in}
 use Rattle.service.specs.declared.outs.Exit.{Exit}
 use Rattle.transactions.specs.declared.allowance.Allowance.{Allowance}
@@ -130,6 +130,10 @@ taking now o became.Held = Held now o
 -- the open transactions after a NOTIFY was put, or another out
 abbrev pub kept_after : ℕ → Out → State → State
 kept_after now o s = state_after (option_to_list (kept_by now o)) s
+
+-- it was sent or written, or that failed: it waits no longer
+abbrev pub WentOut : Out → Fate → Type 0
+WentOut o fate = MayMeet o fate × (is_held fate ≡ false)
 
 -- the transactions ask for it
 abbrev pub IsAsked : State → Act → Type 0

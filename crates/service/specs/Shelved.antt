@@ -1,5 +1,5 @@
 -- When a journal writes a record into its current file, when it begins a next one, and what stands there of mailboxes that lines made.
-use Rattle.std.specs.Prelude.{◌≡◌, ◌⊎◌, ℕ, max, Bool, true, false, not, ◌&&◌, ◌||◌, List, [], ◌∷◌, ◌++◌, nat_le, nat_lt, is_some, None, Result, OnOk, OnErr, IfOk}
+use Rattle.std.specs.Prelude.{◌≡◌, ◌⊎◌, ◌+◌, ◌-◌, ◌^◌, ℕ, min, max, unwrap_or, Bool, true, false, not, ◌&&◌, ◌||◌, List, [], ◌∷◌, ◌++◌, nat_le, nat_lt, is_some, None, Result, OnOk, OnErr, IfOk}
 use Rattle.std.specs.List.{fold}
 use Rattle.std.specs.Int.NonZero.{non_zero_u32_get}
 use Rattle.package.specs.Values.{MailChange}
@@ -22,6 +22,10 @@ is_due limits sight = nat_lt (max limits.length sight.books) sight.rest && nat_l
 -- one can be begun, and none is; the last try is long enough ago; and the current one misses a record, or isn't to stay and is due
 abbrev pub wants_next : Limits → Sight → Bool
 wants_next limits sight = (not sight.is_over && (not sight.is_beginning && nat_le PAUSE sight.pause)) && (sight.is_behind || (not sight.is_held && is_due limits sight))
+
+-- For how many seconds the current file is it: since this run looked at it first, and in runs before
+abbrev pub age : ℕ → Shelf → ℕ
+age now s = min ((now - unwrap_or s.since now) + s.been) (2 ^ 64 - 1)
 
 -- a record goes into the current file only where that misses none. Where it doesn't, the file misses one from then on, and stays as it is
 pub record Writes (old new : Shelf) (written : Result Unit Loss) : Type 0 where

@@ -30,17 +30,25 @@ impl ChangeCounts {
     }
 
     /// A line was answered so when the service was up for so many milliseconds. One that came before with its token isn't counted again.
+    /// Questions are answered `unknown mailbox` too: so changes that are count themselves.
     pub(crate) fn count(&self, answer: ControlAnswer, moment: u64) {
         let counted = match answer {
             ControlAnswer::Done => &self.done,
-            ControlAnswer::UnknownMailbox => &self.unknown,
             ControlAnswer::BadLine => &self.bad,
-            ControlAnswer::Closed | ControlAnswer::NoMemory | ControlAnswer::Busy => return,
+            ControlAnswer::UnknownMailbox
+            | ControlAnswer::Closed
+            | ControlAnswer::NoMemory
+            | ControlAnswer::Busy => return,
         };
         counted.fetch_add(1, Ordering::SeqCst);
         if matches!(answer, ControlAnswer::Done) {
             self.last.store(moment, Ordering::SeqCst);
         }
+    }
+
+    /// A change named a mailbox that the service neither has nor makes.
+    pub(crate) fn count_unknown(&self) {
+        self.unknown.fetch_add(1, Ordering::SeqCst);
     }
 
     /// Appends a line for each count, and how many seconds ago the last line was answered `ok`, where the service is up for so many

@@ -123,10 +123,11 @@ fn take_in<R: Wait + Clock>(
     if is_known(told, change) {
         return Ok(());
     }
+    let shared = asking.shared;
     if !makes(asking.most, told, change) {
+        shared.count_unknown_mailbox();
         return Err(ControlAnswer::UnknownMailbox);
     }
-    let shared = asking.shared;
     // What is told of it must outlive this run.
     if !shared.may_make(rt, change) {
         return Err(ControlAnswer::NoMemory);

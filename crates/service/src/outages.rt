@@ -26,6 +26,9 @@ const ENOBUFS: u32 = 105;
 /// No way leads to the host.
 const EHOSTUNREACH: u32 = 113;
 
+/// The number of a dialog's first NOTIFY.
+const FIRST: u32 = 1;
+
 /// Whether a send that fails so speaks of this machine's link or its way out. Any other error speaks of one datagram alone, whose address
 /// a stranger may have chosen.
 fn is_of_link(number: u32) -> bool {
@@ -163,11 +166,14 @@ impl Outages {
         }
     }
 
-    /// A send failed, at which the system told this number, if it told one. Where that speaks of one datagram, or where none is told, an
-    /// outage neither begins nor ends.
-    pub(crate) fn note_failed(&self, number: Option<u32>) {
-        match number {
-            Some(number) if is_of_link(number) => self.fails.store(true, Ordering::SeqCst),
+    /// A NOTIFY with this number in its dialog was not sent, at which the system told this error, if it told one. Where that speaks of one
+    /// datagram, or where none is told, an outage neither begins nor ends. Nor does it at a dialog's first NOTIFY: nobody answered from its
+    /// address yet, so a stranger may have named one to which no way leads.
+    pub(crate) fn note_failed(&self, number: u32, error: Option<u32>) {
+        match error {
+            Some(error) if number > FIRST && is_of_link(error) => {
+                self.fails.store(true, Ordering::SeqCst);
+            }
             Some(_) | None => {}
         }
     }

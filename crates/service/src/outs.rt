@@ -18,7 +18,8 @@ ghost use Rattle.service.specs.Watched.{AreRowed};
 
 use crate::fates::Put;
 use crate::owners::concerns_dialogs;
-use crate::sending::{Waiting, Watch};
+use crate::sending::Waiting;
+use crate::sending::watch::Watch;
 use crate::shared::{Counter, Shared};
 use crew::Gate;
 use crossbeam_utils::sync::{Parker, Unparker};
@@ -363,7 +364,7 @@ fn send_on<R: Wait + Eprint, W: Wire, F: Write>(
     match (&out, fate) {
         (_, Fate::Sent) => shared.outages.note_sent(),
         (Out::Answer { .. } | Out::Notify { .. }, Fate::Failed) => {
-            shared.note_send_error(exit.wire.send_error());
+            shared.note_unsent(&out, exit.wire.send_error());
         }
         _ => {}
     }

@@ -9,6 +9,7 @@
 
 ghost use Rattle.std.specs.Prelude.{◌≡◌, ℕ};
 ghost use Rattle.service.specs.Naps.{reading_nap};
+ghost use Rattle.service.specs.declared.reload.Reloading.TheVariants as reloading;
 
 use crate::logging::has_room;
 use crate::shared::Shared;
@@ -37,6 +38,9 @@ const GATHERING: u64 = 100;
 
 /// How many milliseconds a run lasts at least that ends for mailboxes.
 const SHORTEST: u64 = 1000;
+
+/// How many times as long as its start a run lasts at least that ends for mailboxes: where starts take long, most of the time is left for phones.
+const STARTS: u64 = 4;
 
 /// How many milliseconds pass till it is tried again to end a run for mailboxes: files were bad, or the journal has too many of them.
 const AGAIN: u64 = 5000;
@@ -144,12 +148,19 @@ impl Wish {
         self.number
     }
 
-    /// The number of what is to be read next: for who asks, or else for mailboxes, where these are due.
-    fn next(&mut self, is_due: bool) -> Option<u64> {
+    /// The number of what is to be read next: for who asks, or else for mailboxes, where these are due. Where files were good already the run
+    /// ends, and whoever asked for that stays known: the next run answers.
+    fn next(&mut self, is_due: bool) -> Option<u64>
+        ensures good { self.old.stage ≡ reloading.Begins → self.new ≡ self.old }
+    {
         if let Some(number) = self.wanted() {
             return Some(number);
         }
-        if is_due { Some(self.ask_alone()) } else { None }
+        if is_due && self.stage != Reloading::Begins {
+            Some(self.ask_alone())
+        } else {
+            None
+        }
     }
 
     /// The files are good, as was asked by this number. What is asked since is read for anew. Whether the service itself asked.
@@ -189,6 +200,8 @@ pub(crate) struct Reloads {
     due: AtomicU64,
     /// Whether those files are good.
     is_read: AtomicBool,
+    /// The moment at which the start of this run was over, or NEVER before that.
+    started: AtomicU64,
 }
 
 impl Reloads {
@@ -199,13 +212,28 @@ impl Reloads {
             reader: OnceLock::new(),
             due: AtomicU64::new(NEVER),
             is_read: AtomicBool::new(false),
+            started: AtomicU64::new(NEVER),
         }
+    }
+
+    /// At this moment, in milliseconds, the start of this run was over, unless it was before.
+    fn note_start(&self, now: u64) {
+        if self.started.load(Ordering::SeqCst) == NEVER {
+            self.started.store(now, Ordering::SeqCst);
+        }
+    }
+
+    /// The moment until which this run lasts at least, where it ends for mailboxes.
+    fn shortest(&self) -> u64 {
+        let noted = self.started.load(Ordering::SeqCst);
+        let started = if noted == NEVER { 0 } else { noted };
+        started.saturating_add(SHORTEST.max(started.saturating_mul(STARTS)))
     }
 
     /// A line made a mailbox at this moment, in milliseconds: soon the files are read for it. Who comes meanwhile comes along.
     pub(crate) fn want_names(&self, now: u64) {
         if self.due.load(Ordering::SeqCst) == NEVER {
-            let due = now.saturating_add(GATHERING).max(SHORTEST);
+            let due = now.saturating_add(GATHERING).max(self.shortest());
             self.due.store(due, Ordering::SeqCst);
             self.wake();
         }
@@ -323,6 +351,7 @@ impl Rereader {
                 return None;
             }
             let now = self.shared.moment(rt).unwrap_or(0);
+            self.shared.reloads.note_start(now);
             if let Some(number) = self.wanted(rt, now) {
                 return Some(number);
             }

@@ -1,6 +1,9 @@
-//! What the threads of a service share: how far it is, what they counted, and the notes of answers to NOTIFYs.
-ghost use Rattle.std.specs.Prelude.{◌<◌, ◌^◌, IfOk, IfSome};
-ghost use Rattle.service.specs.Made.{AreNames};
+//! What the threads of a service share: how far it is, what they counted, and the notes of answers to NOTIFYs. [`counters`] tells what was
+//! counted, and [`next_run`] has what they ask of the journal, from which a next run goes on.
+ghost use Rattle.std.specs.Prelude.{◌<◌, ◌^◌, IfSome};
+
+mod counters;
+mod next_run;
 
 use crate::asked::Asked;
 use crate::barred::Barred;
@@ -13,18 +16,15 @@ use crate::newcomers::{Newcomer, Newcomers};
 use crate::outages::Outages;
 use crate::owners::Owners;
 use crate::post::{LostStarts, Notes};
-use crate::reload::{Caller, Reloading, Reloads};
+use crate::reload::Reloads;
 use crate::roll::RollCall;
-use crate::tallies::{HeardCounts, NO_ERROR, SentCounts};
+use crate::tallies::{HeardCounts, SentCounts};
 use crate::window::Window;
-use control_lines::{ControlAnswer, Token};
 use log_lines::{Record, tell};
 use outage_clock::Look;
-use package::{Change, MailChange};
-use sip_read::{ReadError, Request};
-use sip_text::{Addr, NoMemory, Text};
+use sip_read::Request;
+use sip_text::{Addr, NoMemory};
 use std::alloc::Global;
-use std::fs::File;
 use std::rt::{Clock, Files};
 use std::sync::atomic::{AtomicBool, AtomicU32, AtomicU64, Ordering};
 use std::sync::{Mutex, OnceLock, Wait};
@@ -98,17 +98,6 @@ pub struct Shared {
     journal_lost: AtomicU64,
 }
 
-/// The causes for which a datagram couldn't be read, by the number of the error, from 1.
-const CAUSES: [&str; 7] = [
-    "not_sip",
-    "bad_header",
-    "header_missing",
-    "header_twice",
-    "short_body",
-    "too_long",
-    "no_memory",
-];
-
 /// Of how many things an operator hears once a minute and at the end.
 pub(crate) const COMPLAINTS: usize = 21;
 
@@ -170,27 +159,6 @@ pub enum Counter {
     StartDropped,
     /// A request was refused since its source has as many live subscriptions as it may.
     Crowded,
-}
-
-/// Appends what was counted by this name, on a line of its own.
-fn add_line(
-    alloc: Global,
-    text: &mut String,
-    name: &str,
-    counted: &AtomicU64,
-) -> Result<(), NoMemory> {
-    let count = counted.load(Ordering::SeqCst);
-    let line = format!(in alloc; "{name} {count}\n")?;
-    text.push_str(line.as_str())?;
-    Ok(())
-}
-
-/// Appends what was counted, behind a space.
-fn add_word(alloc: Global, text: &mut String, counted: &AtomicU64) -> Result<(), NoMemory> {
-    let count = counted.load(Ordering::SeqCst);
-    let word = format!(in alloc; " {count}")?;
-    text.push_str(word.as_str())?;
-    Ok(())
 }
 
 impl Shared {
@@ -320,92 +288,6 @@ impl Shared {
         self.is_finished.store(true, Ordering::SeqCst);
     }
 
-    /// Whether the mailbox of a change can be made: what lines tell of it is in the journal, from which the next run has it. No further file of the
-    /// journal is begun before that run, unless this one misses a record: then the further one has what those lines told, too.
-    pub(crate) fn may_make<R: Wait>(&self, rt: &R, change: &Change) -> bool {
-        match (self.journal.get(), change) {
-            (Some(journal), Change::Mail(change)) => journal.hold(rt, change),
-            _ => false,
-        }
-    }
-
-    /// The mailboxes that lines made in this run, each once, in the order in which they did.
-    pub fn made_mailboxes<R: Wait>(&self, rt: &R) -> Result<Vec<Text>, NoMemory>
-        ensures { IfOk result (λ names. AreNames names.items) }
-    {
-        match self.journal.get() {
-            Some(journal) => journal.made(rt),
-            None => Ok(Vec::new(self.alloc)),
-        }
-    }
-
-    /// Whether the next run may begin for mailboxes that were made: it goes on from a journal that misses nothing, and has not too many files.
-    pub(crate) fn may_end_for_mailboxes<R: Wait>(&self, rt: &R) -> bool {
-        match self.journal.get() {
-            Some(journal) => journal.is_whole(rt) && journal.is_short(rt),
-            None => false,
-        }
-    }
-
-    /// A mailbox was made: lines know it, and the next run will tell phones of it. So that begins soon.
-    pub(crate) fn await_mailbox<R: Clock>(&self, rt: &R) {
-        self.reloads.want_names(self.moment(rt).unwrap_or(0));
-    }
-
-    /// Ends the run where mailboxes were made and the files of the next one are good, unless it ends anyway. Where the journal misses a record since
-    /// those files were read, the run goes on until a further file has all.
-    pub(crate) fn end_for_mailboxes<R: Wait>(&self, rt: &R) {
-        if self.reloads.has_names() && !self.is_closing() && self.may_end_for_mailboxes(rt) {
-            self.is_reloading.store(true, Ordering::SeqCst);
-            self.close();
-        }
-    }
-
-    /// Whether the run ends as by a kill that loses nothing, since the next one is to begin with files that were read again. Nobody is told
-    /// of an end then, and no more NOTIFYs are sent: their events are in the journal, so the next run sends them.
-    pub fn is_reloading(&self) -> bool {
-        self.is_reloading.load(Ordering::SeqCst)
-    }
-
-    /// Who asked for the RELOAD by which the next run begins. That run answers it.
-    pub fn reload_caller<R: Wait>(&self, rt: &R) -> Option<Caller> {
-        self.reloads.caller(rt)
-    }
-
-    /// This run began by the RELOAD with this token: where that comes again it is answered again, and not done again.
-    pub fn begin_behind<R: Wait>(&self, rt: &R, token: Option<Token>) {
-        self.reloads.begin_behind(rt, token);
-    }
-
-    /// The run has ended: who reads files reads no more.
-    pub fn finish_reading(&self) {
-        self.finish();
-        self.reloads.wake();
-    }
-
-    /// Why no next run could go on from the journal, behind the exit status that a start without it would have.
-    fn lack<R: Wait>(&self, rt: &R) -> Option<&'static str> {
-        match self.journal.get() {
-            Some(journal) if journal.is_whole(rt) => None,
-            Some(_) => Some("3 the journal misses records"),
-            None => Some("1 no journal: RELOAD needs --journal <folder>"),
-        }
-    }
-
-    /// Has the files read again for a RELOAD, and waits a while for it. Where they are good the run is to end.
-    pub(crate) fn reload<R: Wait + Clock>(&self, rt: &R, caller: Caller) -> Reloading {
-        if let Some(why) = self.lack(rt) {
-            let why = String::from_str(self.alloc, why).ok();
-            self.reloads.refuse(rt, caller, why);
-            return Reloading::Refused;
-        }
-        let came = self.reloads.ask(rt, caller);
-        if came == Reloading::Begins {
-            self.is_reloading.store(true, Ordering::SeqCst);
-        }
-        came
-    }
-
     /// From now on each request that is answered is told on standard error.
     pub fn log_requests(&self) {
         self.logs_requests.store(true, Ordering::SeqCst);
@@ -464,112 +346,6 @@ impl Shared {
             Counter::Crowded => &self.heard.per_source,
         };
         counted.fetch_add(1, Ordering::SeqCst);
-    }
-
-    /// From now on what the workers handle is written to this journal.
-    pub fn keep_journal(&self, journal: Journal) {
-        if let Err(other) = self.journal.try_set(journal) {
-            drop(other);
-        }
-    }
-
-    /// Whether that is written.
-    pub(crate) fn has_journal(&self) -> bool {
-        self.journal.get().is_some()
-    }
-
-    /// Counts records of the journal that were not written.
-    pub fn count_unwritten(&self, lost: u64) {
-        if lost > 0 {
-            self.journal_lost.fetch_add(lost, Ordering::SeqCst);
-        }
-    }
-
-    /// How many were not.
-    pub(crate) fn unwritten(&self) -> u64 {
-        self.journal_lost.load(Ordering::SeqCst)
-    }
-
-    /// The number of the system's error at the last of them. None where it told none yet.
-    pub(crate) fn journal_error(&self) -> Option<u32> {
-        self.journal.get()?.error()
-    }
-
-    /// Writes all records that wait, where a journal is kept: nothing more is handled.
-    pub(crate) fn end_journal<R: Wait>(&self, rt: &R) {
-        if let Some(journal) = self.journal.get() {
-            self.count_unwritten(journal.write_all(rt));
-        }
-    }
-
-    /// A control line that changes a mailbox of this worker is about to be answered `ok`: that is written, where a journal is kept.
-    pub(crate) fn write_answered<R: Wait>(&self, rt: &R, worker: u32, change: &MailChange) {
-        if let Some(journal) = self.journal.get() {
-            self.count_unwritten(journal.answered(rt, worker, change));
-        }
-    }
-
-    /// A control line that changes a mailbox is about to be answered `ok`, but it can't be read again for want of memory.
-    pub(crate) fn lose_line<R: Wait>(&self, rt: &R) {
-        if let Some(journal) = self.journal.get() {
-            self.count_unwritten(journal.lose_count(rt));
-        }
-    }
-
-    /// The book of this worker after all that it handled, for the journal.
-    pub(crate) fn write_book<R: Wait>(&self, rt: &R, worker: u32, written: &[u8]) {
-        if let Some(journal) = self.journal.get() {
-            self.count_unwritten(journal.book(rt, worker, written));
-        }
-    }
-
-    /// Writes what waits for the journal, begins a next file of it where one is due, and removes one that is not needed any more. It is asked
-    /// once a second.
-    pub(crate) fn look_at_journal<R: Wait + Files<File = File>>(&self, rt: &R, now: u64) {
-        if let Some(journal) = self.journal.get() {
-            // Also the records of events without outs, which await no send: they wait a second at most.
-            self.count_unwritten(journal.write_all(rt));
-            journal.look(rt, now);
-        }
-    }
-
-    /// Has the system bring the journal to the disk, where that is asked for and its time has come.
-    pub(crate) fn sync_journal<R: Wait>(&self, rt: &R, now: u64) {
-        if let Some(journal) = self.journal.get() {
-            journal.sync(rt, now);
-        }
-    }
-
-    /// A send failed, at which the system told this number, if it told one.
-    pub(crate) fn note_send_error(&self, number: Option<u32>) {
-        self.outages.note_failed(number);
-        if let Some(number) = number {
-            self.sent.send_error.store(number, Ordering::SeqCst);
-        }
-    }
-
-    /// Counts what was not sent, at which the system told this number, if it told one.
-    pub(crate) fn count_unsent(&self, number: Option<u32>) {
-        self.count(Counter::Failed);
-        self.note_send_error(number);
-    }
-
-    /// How much was not sent or written.
-    pub(crate) fn unsent(&self) -> u64 {
-        self.sent.failed.load(Ordering::SeqCst)
-    }
-
-    /// The number of the system's error at the last send that failed. None where it told none yet.
-    pub(crate) fn send_error(&self) -> Option<u32> {
-        match self.sent.send_error.load(Ordering::SeqCst) {
-            NO_ERROR => None,
-            number => Some(number),
-        }
-    }
-
-    /// Counts a control line that was done and answered so. It reads no clock: a tenth of a second doesn't count.
-    pub(crate) fn count_change(&self, answer: ControlAnswer) {
-        self.changes.count(answer, self.read.load(Ordering::SeqCst));
     }
 
     /// The service has so many workers.
@@ -643,14 +419,6 @@ impl Shared {
         let _ = self.owners.lock(rt).pass(request, user);
     }
 
-    /// Counts a datagram that couldn't be read for this reason.
-    pub fn count_unread(&self, error: &ReadError) {
-        let place = (error.number() as usize).saturating_sub(1);
-        if let Some(counted) = self.heard.unread.get(place) {
-            counted.fetch_add(1, Ordering::SeqCst);
-        }
-    }
-
     /// Counts the subscriptions that began, and those whose last NOTIFY was made, by the NOTIFY with this number.
     pub fn count_notice(&self, number: u32, is_terminated: bool) {
         if number == 1 && !is_terminated {
@@ -659,175 +427,6 @@ impl Shared {
         if number > 1 && is_terminated {
             self.sent.over.fetch_add(1, Ordering::SeqCst);
         }
-    }
-
-    /// What an operator hears of once a minute and at the end: the name of its counter, what happened, and how often. What could not be
-    /// sent is told apart.
-    pub(crate) fn complaints(&self) -> [(&'static str, &'static str, u64); COMPLAINTS] {
-        let told = |counted: &AtomicU64| counted.load(Ordering::SeqCst);
-        let challenged = told(&self.heard.challenged).saturating_add(told(&self.heard.stale));
-        let forbidden = told(&self.heard.forbidden).saturating_add(self.sent.statuses.sent("403"));
-        let sent = |code: &str| self.sent.statuses.sent(code);
-        [
-            ("unread", "datagrams were no SIP messages", self.unread()),
-            (
-                "foreign",
-                "datagrams came from none of the networks of --allow",
-                told(&self.heard.foreign),
-            ),
-            (
-                "limited",
-                "datagrams were more than --rate",
-                told(&self.heard.limited),
-            ),
-            (
-                "too_long",
-                "datagrams were longer than --max-datagram",
-                told(&self.heard.too_long),
-            ),
-            ("challenged", "requests were answered 401", challenged),
-            ("forbidden", "requests were answered 403", forbidden),
-            (
-                "barred",
-                "passwords were more than --guesses",
-                told(&self.heard.barred),
-            ),
-            (
-                "large",
-                "requests were more than --max-texts",
-                told(&self.heard.large),
-            ),
-            (
-                "per_source",
-                "requests were more than --per-source",
-                told(&self.heard.per_source),
-            ),
-            (
-                "bad_summaries",
-                "datagrams at --feed-listen told nothing",
-                told(&self.heard.bad_summaries),
-            ),
-            ("answers_400", "requests were answered 400", sent("400")),
-            ("answers_404", "requests were answered 404", sent("404")),
-            ("answers_405", "requests were answered 405", sent("405")),
-            ("answers_406", "requests were answered 406", sent("406")),
-            ("answers_416", "requests were answered 416", sent("416")),
-            ("answers_420", "requests were answered 420", sent("420")),
-            ("answers_423", "requests were answered 423", sent("423")),
-            ("answers_481", "requests were answered 481", sent("481")),
-            ("answers_489", "requests were answered 489", sent("489")),
-            ("answers_500", "requests were answered 500", sent("500")),
-            ("answers_503", "requests were answered 503", sent("503")),
-        ]
-    }
-
-    /// Whether a source whose user is barred is to be told on standard error at this moment, in milliseconds.
-    pub(crate) fn is_barred_anew<R: Wait>(&self, rt: &R, source: Addr, moment: u64) -> bool {
-        self.barred_lately.lock(rt).is_news(source.ip, moment)
-    }
-
-    /// Says on standard error once a minute what went wrong in it.
-    pub(crate) fn complain<R: Wait + Eprint>(&self, rt: &R, now: u64) {
-        self.complaints.lock(rt).look(rt, self, now);
-    }
-
-    /// Says on standard error what went wrong that was not told yet.
-    pub(crate) fn complain_last<R: Wait + Eprint>(&self, rt: &R) {
-        self.complaints.lock(rt).tell(rt, self);
-    }
-
-    /// Counts the NOTIFYs that nobody had answered when the service ended.
-    pub(crate) fn count_lost(&self, count: usize) {
-        self.sent.lost.fetch_add(count as u64, Ordering::SeqCst);
-    }
-
-    /// Counts NOTIFYs that waited, or were to wait, for the answer to another one, and are never sent.
-    pub(crate) fn count_held_dropped(&self, count: usize) {
-        self.sent
-            .held_dropped
-            .fetch_add(count as u64, Ordering::SeqCst);
-    }
-
-    /// Counts a NOTIFY that was refused with this status code.
-    pub(crate) fn count_refusal(&self, code: u16) {
-        self.sent.refusals.count(code);
-    }
-
-    /// How many NOTIFYs were given up.
-    pub(crate) fn given_up(&self) -> u64 {
-        self.sent.given_up.load(Ordering::SeqCst)
-    }
-
-    /// How many datagrams couldn't be read.
-    pub fn unread(&self) -> u64 {
-        let mut sum = 0u64;
-        for counted in &self.heard.unread {
-            sum = sum.saturating_add(counted.load(Ordering::SeqCst));
-        }
-        sum
-    }
-
-    /// Appends what is counted by a name.
-    fn add_named(&self, alloc: Global, text: &mut String) -> Result<(), NoMemory> {
-        let named = [
-            ("datagrams", &self.heard.datagrams),
-            ("events", &self.heard.events),
-            ("answers", &self.sent.answers),
-            ("notifies", &self.sent.notifies),
-            ("starts", &self.sent.starts),
-            ("failed", &self.sent.failed),
-            ("begun", &self.sent.begun),
-            ("over", &self.sent.over),
-            ("repeats", &self.sent.repeats),
-            ("given_up", &self.sent.given_up),
-            ("once", &self.sent.once),
-            ("lost", &self.sent.lost),
-            ("gone_by_481", &self.sent.gone_by_481),
-            ("failed_receives", &self.heard.failed_receives),
-            ("too_long", &self.heard.too_long),
-            ("foreign", &self.heard.foreign),
-            ("limited", &self.heard.limited),
-            ("challenged", &self.heard.challenged),
-            ("wrong", &self.heard.wrong),
-            ("stale", &self.heard.stale),
-            ("forbidden", &self.heard.forbidden),
-            ("barred", &self.heard.barred),
-            ("large", &self.heard.large),
-            ("control_lines", &self.heard.control_lines),
-            ("workers", &self.workers),
-            ("workers_ended", &self.workers_ended),
-            ("control_foreign", &self.heard.control_foreign),
-            ("bad_summaries", &self.heard.bad_summaries),
-            ("starts_dropped", &self.sent.starts_dropped),
-            ("per_source", &self.heard.per_source),
-            ("journal_lost", &self.journal_lost),
-            ("held", &self.sent.held),
-            ("held_dropped", &self.sent.held_dropped),
-        ];
-        for (name, counted) in named {
-            add_line(alloc, text, name, counted)?;
-        }
-        Ok(())
-    }
-
-    /// Appends the datagrams that couldn't be read, by the number of the error, from 1.
-    fn add_unread(&self, alloc: Global, text: &mut String) -> Result<(), NoMemory> {
-        text.push_str("unread")?;
-        for counted in &self.heard.unread {
-            add_word(alloc, text, counted)?;
-        }
-        text.push_str("\n")?;
-        Ok(())
-    }
-
-    /// Appends the datagrams that couldn't be read, a line for each cause.
-    fn add_causes(&self, alloc: Global, text: &mut String) -> Result<(), NoMemory> {
-        for (cause, counted) in CAUSES.iter().zip(self.heard.unread.iter()) {
-            let count = counted.load(Ordering::SeqCst);
-            let line = format!(in alloc; "unread_{cause} {count}\n")?;
-            text.push_str(line.as_str())?;
-        }
-        Ok(())
     }
 
     /// Control lines come in at this address.
@@ -843,48 +442,5 @@ impl Shared {
     /// Looks at what the system dropped before it could be heard. Where it doesn't tell that the last look counts.
     pub(crate) fn look_at_drops<R: Files>(&self, rt: &R) {
         look_at_drops(rt, self.alloc, &self.drops);
-    }
-
-    /// Appends what the system dropped until the last look, by the socket, where it told that.
-    fn add_drops(&self, alloc: Global, text: &mut String) -> Result<(), NoMemory> {
-        for drops in &self.drops {
-            drops.add_line(alloc, text)?;
-        }
-        Ok(())
-    }
-
-    /// Appends how many bytes the current file of the journal has: 0 without one.
-    fn add_journal(&self, alloc: Global, text: &mut String) -> Result<(), NoMemory> {
-        match self.journal.get() {
-            Some(journal) => add_line(alloc, text, "journal_bytes", journal.bytes()),
-            None => add_line(alloc, text, "journal_bytes", &AtomicU64::new(0)),
-        }
-    }
-
-    /// Appends how many seconds were not counted.
-    fn add_outages(&self, alloc: Global, text: &mut String) -> Result<(), NoMemory> {
-        let seconds = self.outages.seconds();
-        let line = format!(in alloc; "outage_seconds {seconds}\n")?;
-        text.push_str(line.as_str())?;
-        Ok(())
-    }
-
-    /// The counters, each on a line of its own, behind the seconds that the service is up. The datagrams that couldn't be
-    /// read are counted by the number of the error, from 1, on one line, and by cause, the answers and the NOTIFYs that were
-    /// refused by status code. What the system dropped at each socket stands there where it tells that.
-    pub fn lines(&self, alloc: Global, seconds: u64) -> Result<String, NoMemory> {
-        let mut text = format!(in alloc; "up {seconds}\n")?;
-        self.add_named(alloc, &mut text)?;
-        self.add_unread(alloc, &mut text)?;
-        add_line(alloc, &mut text, "live", &self.live)?;
-        self.add_outages(alloc, &mut text)?;
-        self.add_journal(alloc, &mut text)?;
-        self.changes
-            .add_lines(alloc, &mut text, self.read.load(Ordering::SeqCst))?;
-        self.sent.statuses.add_lines(alloc, &mut text)?;
-        self.sent.refusals.add_lines(alloc, &mut text)?;
-        self.add_causes(alloc, &mut text)?;
-        self.add_drops(alloc, &mut text)?;
-        Ok(text)
     }
 }

@@ -1,6 +1,8 @@
 //! The files of a journal, as one lock guards them.
-ghost use Rattle.std.specs.Prelude.{◌≡◌, ◌+◌, ◌<◌, ℕ, true, false, [], is_some, OnOk, OnErr};
+ghost use Rattle.std.specs.Prelude.{◌≡◌, ◌+◌, ◌≤◌, ◌<◌, ℕ, true, false, [], ◌++◌, is_some, OnOk, OnErr};
 ghost use Rattle.std.specs.Int.NonZero.{non_zero_u32_get};
+ghost use Rattle.journal.specs.Records.{written};
+ghost use Rattle.journal.specs.declared.record.Record.TheVariants as entry;
 ghost use Rattle.keeper.specs.Keeping as keeping;
 ghost use Rattle.control_lines.specs.Told.{with_name};
 ghost use Rattle.service.specs.Shelved as spec;
@@ -245,6 +247,7 @@ impl Shelf {
     /// Writes what waits for the current file, unless it misses a record. It does so where this one couldn't be made or isn't written.
     fn write_current(&mut self, is_made: bool) -> Result<(), Loss>
         ensures writes { Writes self.old self.new result }
+        ensures unmade { is_made ≡ false → self.new.is_behind ≡ true }
         ensures file { self.new.current.number ≡ self.old.current.number }
         ensures next { self.new.next ≡ self.old.next }
         ensures keeper { self.new.keeper ≡ self.old.keeper }
@@ -286,6 +289,7 @@ impl Shelf {
     /// Writes what waits for each file.
     fn write(&mut self, is_made: bool) -> Result<(), Loss>
         ensures writes { Writes self.old self.new result }
+        ensures unmade { is_made ≡ false → self.new.is_behind ≡ true }
         ensures written { IsWritten self.old self.new }
     {
         let written = self.write_current(is_made);
@@ -305,7 +309,8 @@ impl Shelf {
 
     /// A record could not be made. Those that wait are written; the current file misses this one.
     fn lose(&mut self) -> Result<(), Loss>
-        ensures { Writes self.old self.new result }
+        ensures writes { Writes self.old self.new result }
+        ensures behind { self.new.is_behind ≡ true }
     {
         self.waits = self.waits.saturating_add(1);
         self.flush()?;
@@ -348,7 +353,10 @@ impl Shelf {
 
     /// A worker handled an event: its record waits to be written, unless the current file misses one.
     pub(crate) fn handled(&mut self, worker: u32, event: &Event) -> Result<(), Loss>
-        ensures { Writes self.old self.new result }
+        ensures writes { Writes self.old self.new result }
+        // Where the current file misses nothing, the record of this event waits for it.
+        ensures noted { self.new.is_behind ≡ false
+            → self.new.keeper.current ≡ self.old.keeper.current ++ written (entry.Handled worker event.now) }
     {
         self.made.tell(event);
         if self.keeper.handled(worker, event).is_err() {
@@ -466,8 +474,9 @@ impl Shelf {
         }
     }
 
-    /// The next file is the current one.
+    /// The next file, which has the book of each worker, is the current one.
     fn turn(&mut self)
+        requires whole { is_some self.old.next ≡ true → keeping.is_whole self.old.keeper.booked ≡ true }
         ensures none { self.old.next ≡ None → self.new ≡ self.old }
         ensures current { (next : _) → self.old.next ≡ Some next → self.new.current ≡ next }
         ensures whole { is_some self.old.next ≡ true → self.new.is_behind ≡ false }
@@ -490,6 +499,7 @@ impl Shelf {
         ensures oldest { self.new.oldest ≡ self.old.oldest }
         ensures behind { result.is_behind ≡ self.old.is_behind }
         ensures over { result.is_over ≡ self.old.is_over }
+        ensures age { result.age ≡ spec.age now self.old }
     {
         let since = match self.since {
             Some(since) => since,
@@ -514,6 +524,7 @@ impl Shelf {
     pub(crate) fn chore(&mut self, now: u64, limits: Limits) -> Chore
         ensures current { self.new.current ≡ self.old.current }
         ensures kept { (n : ℕ) → result ≡ chore.Remove n → n + 1 < self.old.current.number }
+        ensures settled { (n : ℕ) → result ≡ chore.Remove n → limits.age ≤ spec.age now self.old }
         ensures further { (n : ℕ) → result ≡ chore.Begin n → self.old.current.number < n }
     {
         let sight = self.sight(now);

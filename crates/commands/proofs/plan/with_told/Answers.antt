@@ -7,7 +7,7 @@ was_true : (b : Bool) → not b ≡ false → b ≡ true
 was_true true e = refl
 was_true false e = absurd cc
 
-pub returns : goal.returns
-returns c =
+pub returns-clause-plan : goal.returns-clause-plan
+returns-clause-plan c =
     let more = c.in_ok-plan.ensures in
-    record { plan = λ words is. told_too words c.args.plan c.in_ok-plan.field-0 more.0 (was_true c.args.plan.choices.any_mailbox c.if-not-plan.false) more.1 more.2 is }
+    λ words is. told_too words c.args.plan c.in_ok-plan.field-0 more.0 (was_true c.args.plan.choices.any_mailbox c.if-not-plan.false) more.1 more.2 is

@@ -1,5 +1,5 @@
 use Rattle.commands.proofs.Ordered.{all_since}
-use Rattle.commands.proofs.journal_start.told_since.Goals as goal
+use Rattle.commands.proofs.journal_opened.told_since.Goals as goal
 
 pub returns : goal.returns
 returns c =

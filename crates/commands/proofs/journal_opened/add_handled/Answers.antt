@@ -1,6 +1,6 @@
 use Rattle.commands.specs.Runs.{mail_told}
 use Rattle.commands.proofs.Ordered.{flat_more}
-use Rattle.commands.proofs.journal_start.add_handled.Goals as goal
+use Rattle.commands.proofs.journal_opened.add_handled.Goals as goal
 
 pub loop-event-preserved : goal.loop-event-preserved
 loop-event-preserved c =

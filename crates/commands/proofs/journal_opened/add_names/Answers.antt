@@ -1,6 +1,6 @@
 use Rattle.commands.specs.Runs.{mailbox_named}
 use Rattle.commands.proofs.Ordered.{flat_more}
-use Rattle.commands.proofs.journal_start.add_names.Goals as goal
+use Rattle.commands.proofs.journal_opened.add_names.Goals as goal
 
 pub loop-change-preserved : goal.loop-change-preserved
 loop-change-preserved c =

@@ -1,7 +1,7 @@
 use Rattle.std.proofs.Common.{[]}
 use Rattle.commands.specs.Runs.{account_names}
 use Rattle.commands.proofs.Ordered.{flat_more}
-use Rattle.commands.proofs.journal_start.names_told.Goals as goal
+use Rattle.commands.proofs.journal_opened.names_told.Goals as goal
 
 pub loop-account-preserved : goal.loop-account-preserved
 loop-account-preserved c =

@@ -1,0 +1,277 @@
+//! What goes on from the files of a journal: its desks, the NOTIFYs of earlier files that nobody answered, and what lines told of mailboxes
+//! that no desk has.
+ghost use Rattle.std.specs.Prelude.{◌≡◌, filter, IfOk};
+ghost use Rattle.arguments.specs.Wanted.{Gives};
+ghost use Rattle.commands.specs.GoingOn.{awaited_by, awaits_any};
+
+use crate::journal_opened::{Opened, read_file, told_since};
+use crate::journal_start::volume::{Newest, last_second};
+use crate::journal_start::{Order, is_own, may_miss};
+use arguments::Wanted;
+use indexmap::IndexSet;
+use journal::{Account, Told};
+use keeper::Keeper;
+use notifier::{Desk, Out, Saved};
+use package::{Change, MailChange, Package};
+use resumption::{Found, Halt, Reading, Replayed, held_names, replay, saved};
+use service::SETTLED;
+use sip_text::{NoMemory, Values};
+use std::alloc::Global;
+use std::fs::File;
+use std::rt::Files;
+
+/// The newest file of a journal, with those before it, for a service of this order.
+#[derive(Clone, Copy)]
+pub(crate) struct Past<'a> {
+    pub(crate) order: &'a Order<'a>,
+    pub(crate) opened: &'a Opened,
+    pub(crate) newest: Newest,
+}
+
+/// What an earlier file of a journal tells.
+#[derive(Drop)]
+struct Earlier {
+    /// The NOTIFYs that nobody had answered as it ended, in order.
+    outs: Vec<Out>,
+    /// The second of the notifier in which its books were written.
+    begun: u64,
+    /// Whether it follows the one before.
+    follows: bool,
+}
+
+/// What the file at this place of the list tells. None where it isn't whole, is of another service, or may miss what was handled last.
+fn read_earlier<R, P, M>(
+    rt: &R,
+    past: Past<'_>,
+    place: usize,
+    make: &M,
+) -> Result<Option<Earlier>, Halt>
+where
+    R: Files<File = File> + AllocGlobal,
+    P: Package,
+    M: Fn(Wanted) -> Result<P, NoMemory>,
+    requires callable { M.IsAlwaysCallable make.now }
+    requires gives { Gives P.seen (M.post make.now) }
+{
+    let Past { order, opened, .. } = past;
+    let Some(number) = opened.numbers.get(place).copied() else {
+        return Ok(None);
+    };
+    let before = opened.numbers.get(place.saturating_add(1)).copied();
+    let Reading::Found(found) = read_file(rt, &opened.folder, number, before)? else {
+        return Ok(None);
+    };
+    if !is_own(&found, order) || may_miss(&found, order) {
+        return Ok(None);
+    }
+    let worked = order.worked(&found);
+    let Found {
+        generation,
+        begun,
+        follows,
+        ..
+    } = found;
+    let accounts = generation.accounts.into_vec();
+    match replay(rt.alloc(), &worked, accounts, make) {
+        Ok(replayed) => Ok(Some(Earlier {
+            outs: replayed.unanswered,
+            begun,
+            follows,
+        })),
+        Err(Halt::Unfit) => Ok(None),
+        Err(error) => Err(error),
+    }
+}
+
+/// How many NOTIFYs wait for their answers, as a book has it.
+fn unanswered_in(book: &Saved) -> usize {
+    let mut count = 0usize;
+    for row in book.rows.as_slice() {
+        count = count.saturating_add(row.unanswered.as_slice().len());
+    }
+    count
+}
+
+/// How many NOTIFYs of these desks wait for their answers.
+fn count_awaited<P: Package>(alloc: Global, desks: &[Desk<P>]) -> Result<usize, Halt> {
+    let mut count = 0usize;
+    for desk in desks {
+        let book = saved(alloc, desk)?;
+        count = count.saturating_add(unanswered_in(&book));
+    }
+    Ok(count)
+}
+
+/// Whether one of these desks waits for the answer to the NOTIFY with this local tag and this number.
+fn any_awaits<P: Package>(desks: &[Desk<P>], tag: &str, number: u32) -> bool
+    ensures { result ≡ awaits_any P.seen desks.now tag.now number }
+{
+    desks.iter().any(|desk| desk.awaits(tag, number))
+}
+
+/// Whether one of these desks waits for the answer to this NOTIFY.
+fn is_awaited<P: Package>(desks: &[Desk<P>], out: &Out) -> bool
+    ensures { result ≡ awaited_by P.seen desks.now out.now }
+{
+    match out {
+        Out::Notify { tag, number, .. } => any_awaits(desks, tag.as_str(), *number),
+        Out::Answer { .. } | Out::Start { .. } => false,
+    }
+}
+
+/// Those of these outs that one of these desks awaits the answers to.
+fn awaited<P: Package>(
+    alloc: Global,
+    desks: &[Desk<P>],
+    outs: Vec<Out>,
+) -> Result<Vec<Out>, NoMemory>
+    ensures { IfOk result (λ awaited. awaited.items ≡ filter (awaited_by P.seen desks.now) outs.items) }
+{
+    let mut awaited = Vec::new(alloc);
+    for out in outs {
+        if is_awaited(desks, &out) {
+            awaited.push(out)?;
+        }
+    }
+    Ok(awaited)
+}
+
+/// The NOTIFYs that these desks await the answers to, in order: behind those that earlier files tell of, these of the newest one. A file that
+/// was begun with other mailboxes doesn't follow the one before, so its own events don't tell all of them. What is older than [`SETTLED`]
+/// seconds is answered or given up.
+fn all_awaited<R, P, M>(
+    rt: &R,
+    past: Past<'_>,
+    desks: &[Desk<P>],
+    newest: Vec<Out>,
+    make: &M,
+) -> Result<Vec<Out>, Halt>
+where
+    R: Files<File = File> + AllocGlobal,
+    P: Package,
+    M: Fn(Wanted) -> Result<P, NoMemory>,
+    requires callable { M.IsAlwaysCallable make.now }
+    requires gives { Gives P.seen (M.post make.now) }
+{
+    let clock = last_second(desks);
+    let numbers = past.opened.numbers.as_slice();
+    let mut outs = newest;
+    let Newest {
+        number,
+        mut begun,
+        mut follows,
+        ..
+    } = past.newest;
+    for place in 0..numbers.len() {
+        if numbers[place] >= number {
+            continue;
+        }
+        if follows || SETTLED <= clock.saturating_sub(begun) {
+            break;
+        }
+        if count_awaited(rt.alloc(), desks)? <= outs.len() {
+            break;
+        }
+        let Some(earlier) = read_earlier(rt, past, place, make)? else {
+            break;
+        };
+        begun = earlier.begun;
+        follows = earlier.follows;
+        let mut first = awaited(rt.alloc(), desks, earlier.outs)?;
+        first.append(&mut outs)?;
+        outs = first;
+    }
+    Ok(outs)
+}
+
+/// What goes on from what was found, with the NOTIFYs of earlier files that are still unanswered.
+pub(crate) fn replay_found<R, P, M>(
+    rt: &R,
+    past: Past<'_>,
+    found: Found,
+    make: &M,
+) -> Result<Replayed<P>, Halt>
+where
+    R: Files<File = File> + AllocGlobal,
+    P: Package,
+    M: Fn(Wanted) -> Result<P, NoMemory>,
+    requires callable { M.IsAlwaysCallable make.now }
+    requires gives { Gives P.seen (M.post make.now) }
+{
+    let worked = past.order.worked(&found);
+    let Found { generation, .. } = found;
+    let Replayed {
+        desks,
+        unanswered,
+        keeper,
+    } = replay(rt.alloc(), &worked, generation.accounts.into_vec(), make)?;
+    let unanswered = all_awaited(rt, past, desks.as_slice(), unanswered, make)?;
+    Ok(Replayed {
+        desks,
+        unanswered,
+        keeper,
+    })
+}
+
+/// What lines told a worker since its book of mailboxes that it doesn't hold.
+fn unheld_since(alloc: Global, account: &Account) -> Result<Vec<MailChange>, NoMemory> {
+    let mut held = IndexSet::new(alloc);
+    for name in held_names(alloc, &account.book.told)? {
+        held.insert(name)?;
+    }
+    let mut unheld = Vec::new(alloc);
+    for change in told_since(alloc, account)? {
+        if let Change::Mail(change) = change {
+            if !held.contains(change.mailbox()) {
+                unheld.push(change)?;
+            }
+        }
+    }
+    Ok(unheld)
+}
+
+/// The same of each worker, where lines make mailboxes. They are of mailboxes that the next run has.
+pub(crate) fn all_unheld(
+    alloc: Global,
+    order: &Order<'_>,
+    found: &Found,
+) -> Result<Vec<Vec<MailChange>>, NoMemory> {
+    let mut all = Vec::new(alloc);
+    if order.plan.choices.any_mailbox {
+        for account in found.generation.accounts.as_slice() {
+            all.push(unheld_since(alloc, account)?)?;
+        }
+    }
+    Ok(all)
+}
+
+/// What a worker was told, with these changes behind it.
+fn told_also(alloc: Global, told: Told, changes: Vec<MailChange>) -> Result<Told, NoMemory> {
+    let mut changes = changes;
+    let mut told = told;
+    let mut mail = told.mail.into_vec();
+    mail.append(&mut changes)?;
+    told.mail = Values::new(mail);
+    Ok(told)
+}
+
+/// Desks that go on, whose workers were told these changes too, of mailboxes that they didn't hold.
+pub(crate) fn with_unheld<P: Package>(
+    alloc: Global,
+    replayed: Replayed<P>,
+    unheld: Vec<Vec<MailChange>>,
+) -> Result<Replayed<P>, Halt> {
+    if unheld.is_empty() {
+        return Ok(replayed);
+    }
+    let mut replayed = replayed;
+    let mut all = Vec::new(alloc);
+    let mut worker = 0u32;
+    for changes in unheld {
+        let told = replayed.keeper.told(worker)?;
+        all.push(told_also(alloc, told, changes)?)?;
+        worker = worker.saturating_add(1);
+    }
+    replayed.keeper = Keeper::new(alloc, all)?;
+    Ok(replayed)
+}

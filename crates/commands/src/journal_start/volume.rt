@@ -1,0 +1,269 @@
+//! The file of its journal in which a service goes on: a new one with the books of its desks, or the newest one.
+ghost use Rattle.std.specs.Prelude.{◌≡◌, filter, nat_lt, IfOk};
+
+use crate::journal_opened::Opened;
+use crate::journal_start::{Order, Started};
+use journal::Header;
+use keeper::Keeper;
+use notifier::{Desk, Out};
+use package::{Change, Package};
+use restarts::Living as Row;
+use resumption::{Found, Halt, Renewed, Replayed, add_mails};
+use service::{Begins, Journal, Living, Volume};
+use sip_text::NoMemory;
+use std::alloc::Global;
+use std::fs::File;
+use std::rt::Files;
+
+/// Adds what is known of the subscriptions that go on.
+fn add_living(living: &mut Vec<Living>, rows: Vec<Row>) -> Result<(), NoMemory> {
+    for row in rows {
+        let Row {
+            tag,
+            number,
+            to,
+            note,
+        } = row;
+        living.push(Living {
+            tag,
+            number,
+            to,
+            note,
+        })?;
+    }
+    Ok(())
+}
+
+/// The last second of which one of these desks was told.
+pub(crate) fn last_second<P: Package>(desks: &[Desk<P>]) -> u64 {
+    let mut second = 0u64;
+    for desk in desks {
+        second = second.max(desk.clock());
+    }
+    second
+}
+
+/// What a service begins with beside these desks, where these NOTIFYs are sent first.
+fn begin_with<P: Package>(
+    alloc: Global,
+    desks: &[Desk<P>],
+    first: Vec<Out>,
+) -> Result<Begins, Halt> {
+    let mut begins = Begins::anew(alloc);
+    begins.unanswered = first;
+    for desk in desks {
+        begins.tick = begins.tick.max(desk.clock());
+        add_living(&mut begins.living, Row::of_desk(alloc, desk)?)?;
+    }
+    Ok(begins)
+}
+
+/// What was told of the mailboxes of these workers.
+fn told_changes(alloc: Global, keeper: &Keeper, workers: u32) -> Result<Vec<Change>, Halt> {
+    let mut changes = Vec::new(alloc);
+    for worker in 0..workers {
+        add_mails(alloc, &mut changes, &keeper.told(worker)?)?;
+    }
+    Ok(changes)
+}
+
+/// Has the book of a worker's desk stand in the next file.
+fn put_book<P: Package>(
+    alloc: Global,
+    keeper: &mut Keeper,
+    worker: u32,
+    desk: &Desk<P>,
+) -> Result<(), Halt> {
+    let mut bytes = Vec::new(alloc);
+    if desk.save(alloc, &mut bytes).is_err() {
+        return Err(Halt::NoMemory);
+    }
+    keeper.book(worker, bytes.as_slice())?;
+    Ok(())
+}
+
+/// Has the books of these desks stand in the next file.
+fn put_books<P: Package>(
+    alloc: Global,
+    keeper: &mut Keeper,
+    desks: &[Desk<P>],
+) -> Result<(), Halt> {
+    let mut worker = 0u32;
+    for desk in desks {
+        put_book(alloc, keeper, worker, desk)?;
+        worker = worker.saturating_add(1);
+    }
+    Ok(())
+}
+
+/// A new file with the books of these desks. None where it can't be written.
+fn new_volume<R, P>(
+    rt: &R,
+    opened: &Opened,
+    header: &Header,
+    keeper: &mut Keeper,
+    desks: &[Desk<P>],
+) -> Result<Option<Volume>, Halt>
+where
+    R: Files<File = File> + AllocGlobal,
+    P: Package,
+{
+    let alloc = rt.alloc();
+    let last = opened.numbers.first().copied().unwrap_or(0);
+    let number = last.saturating_add(1);
+    keeper.begin_next(header)?;
+    put_books(alloc, keeper, desks)?;
+    keeper.turn();
+    let Some(file) = opened.folder.file(rt, number, 0)? else {
+        return Ok(None);
+    };
+    let mut volume = Volume::new(file, number, 0);
+    if volume.append(keeper.current()).is_err() {
+        opened.folder.remove(rt, &[number])?;
+        return Ok(None);
+    }
+    keeper.clear();
+    Ok(Some(volume))
+}
+
+/// A service with these desks, which writes a new file. Once it stands there those with these numbers are removed. Where it can't be written
+/// nobody goes on from an older one any more: numbers of NOTIFYs would come twice.
+pub(crate) fn begin_file<R, P>(
+    rt: &R,
+    order: Order<'_>,
+    opened: &Opened,
+    renewed: Renewed<P>,
+    spare: &[u64],
+) -> Result<Started<P>, Halt>
+where
+    R: Files<File = File> + AllocGlobal,
+    P: Package,
+{
+    let alloc = rt.alloc();
+    let Renewed { desks, first, told } = renewed;
+    let mut keeper = Keeper::new(alloc, told)?;
+    let volume = new_volume(rt, opened, &order.header, &mut keeper, desks.as_slice())?;
+    let begins = begin_with(alloc, desks.as_slice(), first)?;
+    let changes = told_changes(alloc, &keeper, order.plan.workers)?;
+    let upkeep = order.upkeep(alloc, opened, 0)?;
+    let journal = match volume {
+        Some(volume) => {
+            let journal = Journal::new(alloc, keeper, order.header, volume, upkeep)?;
+            opened.folder.remove(rt, spare)?;
+            Some(journal)
+        }
+        None => {
+            opened.folder.put_aside(rt, opened.numbers.as_slice())?;
+            None
+        }
+    };
+    Ok(Started {
+        desks,
+        begins,
+        changes: Some(changes),
+        journal,
+    })
+}
+
+/// Where the newest file of a journal stands.
+#[derive(Clone, Copy)]
+pub(crate) struct Newest {
+    /// Its number.
+    pub(crate) number: u64,
+    /// The second of the notifier in which its books were written.
+    pub(crate) begun: u64,
+    /// Where its whole records end.
+    whole: u64,
+    /// Whether it follows the one before.
+    pub(crate) follows: bool,
+}
+
+impl Newest {
+    /// The file with this number, in which this was found.
+    pub(crate) fn of(number: u64, found: &Found) -> Newest {
+        Newest {
+            number,
+            begun: found.begun,
+            whole: found.whole,
+            follows: found.follows,
+        }
+    }
+}
+
+/// A service whose desks stand where they stood, and which goes on in this file.
+pub(crate) fn go_straight<R, P>(
+    rt: &R,
+    order: Order<'_>,
+    opened: &Opened,
+    newest: Newest,
+    replayed: Replayed<P>,
+) -> Result<Started<P>, Halt>
+where
+    R: Files<File = File> + AllocGlobal,
+    P: Package,
+{
+    let alloc = rt.alloc();
+    let Replayed {
+        desks,
+        unanswered,
+        mut keeper,
+    } = replayed;
+    let begins = begin_with(alloc, desks.as_slice(), unanswered)?;
+    let changes = told_changes(alloc, &keeper, order.plan.workers)?;
+    let been = begins.tick.saturating_sub(newest.begun);
+    let upkeep = order.upkeep(alloc, opened, been)?;
+    let journal = match old_volume(rt, opened, newest, &mut keeper)? {
+        Some(volume) => Some(Journal::new(alloc, keeper, order.header, volume, upkeep)?),
+        None => None,
+    };
+    Ok(Started {
+        desks,
+        begins,
+        changes: Some(changes),
+        journal,
+    })
+}
+
+/// Those of these files that a service doesn't need which goes on from the one with this number, or from none: newer ones, which were never
+/// whole. Older ones it removes as it runs.
+pub(crate) fn spare_numbers(
+    alloc: Global,
+    numbers: &[u64],
+    number: u64,
+) -> Result<Vec<u64>, NoMemory>
+    ensures { IfOk result (λ spare. spare.items ≡ filter (λ other. nat_lt number other) numbers.now) }
+{
+    let mut spare = Vec::new(alloc);
+    for other in numbers {
+        if *other > number {
+            spare.push(*other)?;
+        }
+    }
+    Ok(spare)
+}
+
+/// This file, to be gone on in behind its whole records, with what waits in the keeper: the lines that are handled now. None where it can't be written;
+/// then nobody goes on from it any more.
+fn old_volume<R>(
+    rt: &R,
+    opened: &Opened,
+    newest: Newest,
+    keeper: &mut Keeper,
+) -> Result<Option<Volume>, Halt>
+where
+    R: Files<File = File> + AllocGlobal,
+{
+    let Newest { number, whole, .. } = newest;
+    let numbers = opened.numbers.as_slice();
+    let spare = spare_numbers(rt.alloc(), numbers, number)?;
+    opened.folder.remove(rt, spare.as_slice())?;
+    if let Some(file) = opened.folder.file(rt, number, whole)? {
+        let mut volume = Volume::new(file, number, whole);
+        if volume.append(keeper.current()).is_ok() {
+            keeper.clear();
+            return Ok(Some(volume));
+        }
+    }
+    opened.folder.put_aside(rt, numbers)?;
+    Ok(None)
+}
