@@ -7,7 +7,7 @@ use Rattle.admission.specs.declared.judging.Admission.{Admission}
 use Rattle.admission.specs.declared.judging.Arrival.{Arrival}
 use Rattle.admission.specs.declared.judging.Verdict.{Verdict}
 use Rattle.admission.specs.declared.judging.Verdict.TheVariants as verdict
-use Rattle.admission.specs.Verdicts.{IsOpen, has_none, is_one_of, hears, is_counted, counting, lets_one, lets, with_rates, behind, newcomer, is_most, one_more, asked, oversized, too_large, IsUnbarred, IsFree, Judges, IsAllowed, after, judged}
+use Rattle.admission.specs.Verdicts.{IsOpen, has_none, is_one_of, hears, is_counted, counting, lets_one, lets, with_rates, behind, newcomer, is_most, one_more, answered, oversized, too_large, IsUnbarred, IsFree, Judges, IsAllowed, after, judged}
 
 none_over : (o : Option Request) → oversized None o ≡ None
 none_over None = refl
@@ -27,7 +27,7 @@ module _ (a : Admission) (is : IsOpen a) where
   open_asks x k r asked = let none = is.anyone in let some = asked.0 in absurd cc
 
   pub open_weighs : (x : Arrival) → too_large a x ≡ None
-  open_weighs x = ap (λ (most : Option ℕ). oversized most (asked x.reading)) is.any_size ∙ none_over (asked x.reading)
+  open_weighs x = ap (λ (most : Option ℕ). oversized most (answered x.reading)) is.any_size ∙ none_over (answered x.reading)
 
   pub open_bars : (x : Arrival) → IsUnbarred a x
   open_bars x k r c asked shows = let none = is.anyone in let some = asked.0 in absurd cc

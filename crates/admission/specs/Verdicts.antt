@@ -4,6 +4,7 @@ use Rattle.std.specs.List.{list_any, list_all}
 use Rattle.sip_read.specs.declared.message.Request.{Request}
 use Rattle.admission.specs.declared.table.Rates.{Rates}
 use Rattle.admission.specs.Table as rates
+use Rattle.notifier_model.specs.Requests.{is_ack}
 use Rattle.digest.specs.declared.credentials.Credentials.{Credentials}
 use Rattle.admission.specs.declared.guesses.Guesses.{Guesses}
 use Rattle.admission.specs.Guesses.{minute_clock, bars, guessed, half_guessed}
@@ -97,15 +98,21 @@ inquiry x r = record { request = r; octets = x.octets.now; source = x.source; no
 abbrev pub IsAsked : Admission → Arrival → Authentication → Request → Type 0
 IsAsked a x k r = (a.authentication ≡ Some k) × (asked x.reading ≡ Some r)
 
--- ---- how much a subscription would keep of it
+-- ---- how much is kept of it
 
--- the request of which a subscription would keep more than it may, if it is one
+-- the request that is answered, if it is one: any but an ACK (RFC 3261 section 17)
+abbrev pub answered : Reading → Option Request
+answered (reading.Request r) = if is_ack r.now then None else Some r.now
+answered reading.Response = None
+answered reading.Unread = None
+
+-- the request of which more is kept than may be, if it is one
 abbrev pub oversized : Option ℕ → Option Request → Option Request
 oversized most None = None
 oversized most (Some r) = if is_over most r then Some r else None
 
 abbrev pub too_large : Admission → Arrival → Option Request
-too_large a x = oversized a.max_texts (asked x.reading)
+too_large a x = oversized a.max_texts (answered x.reading)
 
 -- these octets say so
 abbrev pub IsLarge : Admission → Arrival → List ℕ → Type 0
@@ -226,7 +233,7 @@ IsWeighed a x v =
 
 -- ---- all of it
 
--- its source is heard, and has a token for it, and a subscription would keep no more of it than it may
+-- its source is heard, and has a token for it, and no more is kept of it than may be
 pub record IsHeard (a : Admission) (x : Arrival) : Type 0 where
   pub near : hears a x.source.ip ≡ true
   pub seldom : lets a x ≡ true

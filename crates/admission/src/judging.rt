@@ -1,5 +1,5 @@
 //! What comes of a datagram.
-ghost use Rattle.std.specs.Prelude.{◌≡◌, ◌⊎◌, true, option_map, IfOk, IfSome, OnOk, OnErr, ◌+◌, ◌-◌, ◌≤◌, length, sum_by, SomeIff, not, nat_le};
+ghost use Rattle.std.specs.Prelude.{◌≡◌, ◌⊎◌, true, option_map, IfOk, IfSome, OnOk, OnErr, ◌+◌, ◌-◌, ◌≤◌, SomeIff, not, nat_le};
 ghost use Rattle.admission.specs.declared.judging.Arrival.{Arrival as ArrivalSeen};
 ghost use Rattle.admission.specs.declared.judging.Reading.TheVariants as reading;
 ghost use Rattle.admission.specs.declared.judging.Verdict.{Verdict as VerdictSeen};
@@ -16,7 +16,7 @@ use crate::network::{Network, number};
 use crate::shown::{Shown, show};
 use crate::table::Rates;
 use event_headers::EventValue;
-use sip_read::Request;
+use sip_read::{Head, Request};
 use sip_text::{Addr, Field, NoMemory, Octets, Text};
 use std::alloc::Global;
 
@@ -55,7 +55,7 @@ pub enum Verdict {
     Foreign,
     /// It is dropped: its source sends too much.
     Limited,
-    /// It isn't heard, and this 413 goes to its source: a subscription would keep more of it than it may.
+    /// It isn't heard, and this 413 goes to its source: more would be kept of it than may be.
     Large(Octets),
     /// It isn't heard, and this 403 goes to its source: too many wrong passwords came from there, or some from there and too many for this
     /// user. The password isn't looked at.
@@ -76,6 +76,10 @@ pub const CROWD_TAG: &str = "crowded";
 /// The same of a 413.
 pub const LARGE_TAG: &str = "large";
 
+/// What a line of an answer has beside its value: name, colon, space and end of line. Of the headers that an answer repeats, each value on a
+/// line of its own, `Record-Route` has the longest name: 16 octets. A `Via` takes 7, so a tiny one counts for more than it is.
+const LINE: usize = 16;
+
 /// Who is heard.
 #[derive(Drop)]
 pub struct Admission {
@@ -87,7 +91,7 @@ pub struct Admission {
     pub authentication: Option<Authentication>,
     /// How many wrong passwords each source and each user's name may show: as many as they like, where there is none.
     pub guesses: Option<Guesses>,
-    /// How many octets a subscription may keep of a request: as many as come, where there is none.
+    /// How many octets may be kept of a request, by a subscription and in the answer: as many as come, where there is none.
     pub max_texts: Option<u32>,
     /// How many live subscriptions each source may have: as many as it likes, where there is none.
     pub per_source: Option<u32>,
@@ -138,6 +142,16 @@ fn asked(reading: Reading<'_>) -> Option<&Request>
     }
 }
 
+/// The request that is answered, if the datagram is one: any is but an ACK (RFC 3261 section 17).
+fn answered(reading: Reading<'_>) -> Option<&Request>
+    ensures { option_map (λ r. r.now) result ≡ spec.answered reading.entry }
+{
+    match reading {
+        Reading::Request(request) if !request.method.is("ACK") => Some(request),
+        _ => None,
+    }
+}
+
 /// The request that asks for a new subscription, if the datagram is one: a SUBSCRIBE or a REFER outside a dialog.
 fn newcomer(reading: Reading<'_>) -> Option<&Request>
     ensures { option_map (λ r. r.now) result ≡ spec.newcomer reading.entry }
@@ -160,13 +174,13 @@ fn username(shown: &Shown) -> Option<&Text>
     }
 }
 
-/// What is left of so much room behind these texts, if they fit there.
-fn room_behind(room: usize, texts: &[Text]) -> Option<usize>
-    ensures { SomeIff result (sum_by length texts.now ≤ room) (room - sum_by length texts.now) }
+/// What is left of so much room behind the lines of these values, if they fit there.
+fn room_behind(room: usize, values: &[Text]) -> Option<usize>
+    ensures { SomeIff result (amounts.lines_length values.now ≤ room) (room - amounts.lines_length values.now) }
 {
     let mut left = room;
-    for text in texts {
-        left = left.checked_sub(text.as_str().len())?;
+    for value in values {
+        left = left.checked_sub(value.as_str().len())?.checked_sub(LINE)?;
     }
     Some(left)
 }
@@ -195,20 +209,41 @@ fn room_behind_contact(room: usize, contact: &Field<Text>) -> Option<usize>
     }
 }
 
-/// What is left of so much room behind all that a subscription would keep of the request, if it fits there.
-fn room_behind_all(room: usize, request: &Request) -> Option<usize>
-    ensures { SomeIff result (amounts.kept request.now ≤ room) (room - amounts.kept request.now) }
+/// What is left of so much room behind the top Via once more, if it fits there.
+fn room_behind_top(room: usize, vias: &[Text]) -> Option<usize>
+    ensures { SomeIff result (amounts.top_length vias.now ≤ room) (room - amounts.top_length vias.now) }
 {
-    let head = &request.head;
+    match vias {
+        [top, ..] => room.checked_sub(top.as_str().len()),
+        [] => Some(room),
+    }
+}
+
+/// What is left of so much room behind what each answer repeats, if it fits there.
+fn room_behind_head(room: usize, head: &Head) -> Option<usize>
+    ensures { SomeIff result (amounts.head_length head.now ≤ room) (room - amounts.head_length head.now) }
+{
     let left = room.checked_sub(head.from.text.as_str().len())?;
     let left = left.checked_sub(head.to.text.as_str().len())?;
     let left = left.checked_sub(head.call_id.as_str().len())?;
-    let left = room_behind_contact(left, &request.contact)?;
-    let left = room_behind_event(left, &request.event)?;
-    room_behind(left, request.record_routes.as_slice())
+    let left = left.checked_sub(head.cseq_method.as_str().len())?;
+    let left = room_behind(left, head.vias.as_slice())?;
+    room_behind_top(left, head.vias.as_slice())
 }
 
-/// Whether a subscription would keep more of the request than it may.
+/// What is left of so much room behind all that is kept of the request, if it fits there.
+fn room_behind_all(room: usize, request: &Request) -> Option<usize>
+    ensures { SomeIff result (amounts.kept request.now ≤ room) (room - amounts.kept request.now) }
+{
+    let left = room_behind_head(room, &request.head)?;
+    let left = left.checked_sub(request.method.as_str().len())?;
+    let left = room_behind_contact(left, &request.contact)?;
+    let left = room_behind_event(left, &request.event)?;
+    let left = room_behind(left, request.record_routes.as_slice())?;
+    room_behind(left, request.require.as_slice())
+}
+
+/// Whether more is kept of the request than may be.
 fn is_over(most: Option<u32>, request: &Request) -> bool
     ensures { result ≡ amounts.is_over most request.now }
 {
@@ -298,7 +333,7 @@ impl Admission {
         }
     }
 
-    /// What comes of a datagram of a source that is heard and has a token, of which a subscription would keep no more than it may.
+    /// What comes of a datagram of a source that is heard and has a token, of which no more is kept than may be.
     fn conclude(&self, alloc: Global, arrival: Arrival<'_>) -> Result<Verdict, NoMemory>
         ensures concluded { IfOk result (spec.IsConcluded self.now arrival.entry) }
         ensures free { IfOk result (λ v. IsUnbarred self.now arrival.entry → IsFree self.now arrival.entry
@@ -338,7 +373,7 @@ impl Admission {
         ensures wanting { OnErr result (self.now.authentication ≡ None → self.now.max_texts ≡ None → self.now.per_source ≡ None → ⊥) }
         ensures answers { OnErr result (arrival.entry.reading ≡ reading.Response → ⊥) }
     {
-        match asked(arrival.reading) {
+        match answered(arrival.reading) {
             Some(request) if is_over(self.max_texts, request) => {
                 let source = arrival.source;
                 let reply = Reply {

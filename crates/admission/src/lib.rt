@@ -6,7 +6,8 @@
 //! 1. Is the source's address within one of the [`Network`]s? Else [`Verdict::Foreign`].
 //! 2. Has the source a token left ([`Rates`])? Else [`Verdict::Limited`]. Each request takes one, in a dialog too, and what can't be read;
 //!    answers and keep-alives take none.
-//! 3. Would a subscription keep no more of a SUBSCRIBE or a REFER than it may? Else [`Verdict::Large`], with the bytes of a 413.
+//! 3. Is no more kept of a request, by a subscription or in the answer, than may be? Else [`Verdict::Large`], with the bytes of a 413. An ACK
+//!    isn't asked, since it has no answer.
 //! 4. Were few enough wrong passwords shown ([`Guesses`])? Else [`Verdict::Barred`], with those of a 403, without a look at the password.
 //! 5. Does a SUBSCRIBE or a REFER, in a dialog too, answer a challenge (RFC 3261 section 22, [`digest`])? Else [`Verdict::Challenge`] or
 //!    [`Verdict::Guess`], with the bytes of a 401. May the user have the mailbox that it names, and did they make the dialog that

@@ -47,7 +47,7 @@ pub struct Numbers {
     pub per_source: Option<u32>,
     /// How many octets a file of the journal has at most before the next one is begun.
     pub journal_bytes: u32,
-    /// How many octets of a request a subscription keeps at most.
+    /// How many octets of a request are kept at most.
     pub max_texts: u32,
     /// How many mailboxes there are at most where MAIL lines make further ones.
     pub max_mailboxes: u32,

@@ -1,9 +1,11 @@
 pub mod Named
 pub mod Once
 pub mod Ordered
+pub mod Further
 pub mod Names
 pub mod FirstOut
 pub mod Adopted
+pub mod Begun
 pub mod Urgent
 pub mod LastLine
 pub mod ToldLines
@@ -16,3 +18,4 @@ pub mod UdpClosed
 pub mod UdpStarted
 pub mod UdpServed
 pub mod UdpEnded
+pub mod Lives

@@ -2,8 +2,8 @@
 --
 -- Phones know a service by their dialogs (RFC 3261 section 12): by its local tags, which come from its seed and its number of workers, and by its
 -- contact, their remote target. In a dialog no CSeq may stand in front of two NOTIFYs (section 12.2.1.1).
-use Rattle.std.specs.Prelude.{◌≡◌, ◌≢◌, ◌↔◌, ℕ, Bool, false, List, [], Option}
-use Rattle.std.specs.List.{list_any, flat_map}
+use Rattle.std.specs.Prelude.{◌≡◌, ◌≢◌, ◌↔◌, ℕ, Bool, true, false, List, [], ◌++◌, Option}
+use Rattle.std.specs.List.{list_any, list_all, flat_map}
 use Rattle.package.specs.Content.{Seen}
 use Rattle.notifier_model.specs.declared.event.Out.{Out}
 use Rattle.notifier_model.specs.declared.event.Out.TheVariants as out
@@ -69,6 +69,11 @@ abbrev pub awaited_by : {P : Type 0} → (P → Seen) → List (Option (Held P))
 awaited_by seen desks (out.Answer to octets) = false
 awaited_by seen desks (out.Notify to number terminated tag note octets) = awaits_any seen desks tag number
 awaited_by seen desks (out.Start tag refer_to) = false
+
+-- NOTIFYs that earlier files tell of stand in front of those of the newest one, and a desk waits for the answer to each of them. Which files are
+-- read no contract tells
+abbrev pub AreSentFirst : {P : Type 0} → (P → Seen) → List (Option (Held P)) → List Out → List Out → Type 0
+AreSentFirst seen desks newest outs = (earlier : List Out) × (list_all (awaited_by seen desks) earlier ≡ true) × (outs ≡ earlier ++ newest)
 
 -- ---- how its journal is kept
 

@@ -89,8 +89,8 @@ guess_rate asked = record { burst = asked.burst; per_second = asked.per_minute }
 abbrev pub guesses_of : Asked → Guesses
 guesses_of asked = record { sources = empty (guess_rate asked) 16384; names = empty (guess_rate asked) 16384 }
 
--- the networks that are let in, how much each source may send, who may subscribe and refer, how many wrong passwords are looked at, how much a
--- subscription may keep of a request, and how many live subscriptions each source may have
+-- the networks that are let in, how much each source may send, who may subscribe and refer, how many wrong passwords are looked at, how much
+-- may be kept of a request, and how many live subscriptions each source may have
 pub record IsAdmission (settings : List Setting) (a : Admission) : Type 0 where
   pub networks : a.networks.items ≡ allowed_networks settings
   pub rates : a.rates ≡ rates_of (choices_of settings).rate

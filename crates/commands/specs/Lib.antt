@@ -7,6 +7,7 @@ pub mod Serving
 pub mod Reloading
 pub mod Runs
 pub mod GoingOn
+pub mod Begun
 pub mod Feeding
 pub mod Refused
 pub mod Telling
@@ -16,3 +17,4 @@ pub mod UdpHearing
 pub mod UdpServing
 pub mod UdpEnds
 pub mod UdpRunning
+pub mod Laws

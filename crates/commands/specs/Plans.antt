@@ -1,5 +1,5 @@
 -- What the words behind `notifyd serve` ask for, and what its workers start from.
-use Rattle.std.specs.Prelude.{◌≡◌, ◌≢◌, ℕ, min, max, true, false, not, List, [], ◌∷◌, ◌++◌, Option, Some, None, if◌then◌else◌}
+use Rattle.std.specs.Prelude.{◌≡◌, ◌≢◌, ℕ, min, max, nat_lt, Bool, true, false, not, ◌&&◌, List, [], ◌∷◌, ◌++◌, length, Option, Some, None, if◌then◌else◌}
 use Rattle.std.specs.List.{All, fold}
 use Rattle.control_lines.specs.Told.{is_held}
 use Rattle.sip_text.specs.declared.address.Addr.{Addr}
@@ -16,6 +16,7 @@ use Rattle.arguments.specs.Choices.{choices_of, state_of, journal_folder, contro
 use Rattle.commands.specs.State.{IsState}
 use Rattle.commands.specs.Heard.{IsAdmission}
 use Rattle.arguments.specs.Settings.{IsMailbox, AreSettings}
+use Rattle.arguments.specs.Reading.{is_mailbox}
 use Rattle.arguments.specs.MailboxFile as file
 use Rattle.commands.specs.declared.plan.Plan.{Plan}
 
@@ -58,6 +59,19 @@ with_name names name = if is_held names name then names else names ++ name ∷ [
 -- these names, each once, where it comes first
 abbrev pub each_once : List (List ℕ) → List (List ℕ)
 each_once names = fold with_name [] names
+
+-- ---- mailboxes of which lines told
+
+-- a name of which a line told is added to these: a file of mailboxes may hold it, there are fewer than so many, and it isn't there yet
+abbrev pub is_further : ℕ → List (List ℕ) → List ℕ → Bool
+is_further most names name = is_mailbox name && (nat_lt (length names) most && not (is_held names name))
+
+abbrev pub with_one_told : ℕ → List (List ℕ) → List ℕ → List (List ℕ)
+with_one_told most names name = if is_further most names name then names ++ name ∷ [] else names
+
+-- these names, and behind them those of which lines told, in their order
+abbrev pub with_told : ℕ → List (List ℕ) → List (List ℕ) → List (List ℕ)
+with_told most names told = fold (with_one_told most) names told
 
 -- ---- numbers
 

@@ -8,7 +8,11 @@
 --
 -- A run ends so, too, where lines made mailboxes: nobody asks then, and nobody is answered. The mailboxes of the next run are those of the words
 -- and those of which lines told (`IsPlan`), so phones may watch what the lines made.
-use Rattle.std.specs.Prelude.{◌≡◌, ℕ, List, IfSome}
+use Rattle.std.specs.Prelude.{◌≡◌, ◌⊎◌, ℕ, List, [], ◌∷◌, Option, IfSome, codes}
+use Rattle.sip_text.specs.declared.address.Addr.{Addr}
+use Rattle.transport.specs.Devices.{one_more}
+use Rattle.transport.specs.Wires.{datagram, Grows}
+use Rattle.transport.specs.declared.datagram.Datagram.{Datagram}
 use Rattle.commands.specs.Plans.{IsPlan}
 use Rattle.commands.specs.Serving.{AreOpen}
 use Rattle.commands.specs.declared.reloading.Carried.{Carried}
@@ -23,3 +27,8 @@ IsRereading words r = IfSome r.reader (λ h. h.promise.words.value.items ≡ wor
 pub record IsCarried (words : List (List ℕ)) (c : Carried) : Type 0 where
   pub plan : IfSome c.plan (IsPlan words)
   pub sockets : IfSome c.sockets (λ (s : Standby). AreOpen s.choices s.sockets)
+
+-- a wire took the answer that the RELOAD is done, for who asked, or failed at it once
+abbrev pub IsAnswered : Addr → Option (List Datagram) → Option (List Datagram) → ℕ → ℕ → Type 0
+IsAnswered to taken taken' failures failures' =
+    (Grows taken taken' (datagram to (codes "ok") ∷ []) × (failures' ≡ failures)) ⊎ (Grows taken taken' [] × (failures' ≡ one_more failures))

@@ -61,7 +61,7 @@ usage: notifyd serve [options] [<mailbox>...]      (also --option=value)
   --linger <0 to 32>         seconds that a stop waits for answers (2)
   --outage <0 to 3600>       seconds that don't count while each send fails (600)
   --max-datagram <octets>    the longest SIP datagram that is read (8192)
-  --max-texts <octets>       what a subscription keeps of a request (2048)
+  --max-texts <octets>       how much is kept of a request (2048)
   --receive-buffer <octets>  room asked for datagrams that wait (4194304)
 
 Lines for tell: MAIL, PROGRESS, STATUS, SHOW, DUMP, WATCHERS, RELOAD, CLOSE.

@@ -43,6 +43,14 @@ fn add_number(numbers: &mut Vec<u64>, name: &str) -> Result<(), NoMemory> {
     Ok(())
 }
 
+/// Whether something stands there that is no regular file. Nobody opens it: at a FIFO that may wait for ever.
+fn is_irregular<R: Files<File = File>>(rt: &R, path: &str) -> bool {
+    match fs::metadata(rt, path) {
+        Ok(metadata) => !metadata.is_file(),
+        Err(_) => false,
+    }
+}
+
 /// Has the folder for this service alone, and makes it where it isn't there.
 pub(crate) fn take_folder<R>(rt: &R, path: &Text) -> Result<Access, NoMemory>
 where
@@ -55,6 +63,9 @@ where
         .recursive(true)
         .mode(FOLDER_MODE)
         .create(rt, place);
+    if is_irregular(rt, name.as_str()) {
+        return Ok(Access::Refused);
+    }
     let Ok(lock) = File::options()
         .create(true)
         .append(true)
@@ -100,24 +111,31 @@ impl Folder {
         Ok(numbers)
     }
 
-    /// What stands in its file with this number. Nothing, where it can't be read.
-    pub(crate) fn bytes<R>(&self, rt: &R, number: u64) -> Result<Vec<u8>, NoMemory>
+    /// What stands in its file with this number. None, where it can't be read or is no regular file.
+    pub(crate) fn bytes<R>(&self, rt: &R, number: u64) -> Result<Option<Vec<u8>>, NoMemory>
     where
         R: Files<File = File> + AllocGlobal,
     {
         let path = self.file_path(rt.alloc(), number)?;
+        if is_irregular(rt, path.as_str()) {
+            return Ok(None);
+        }
         match fs::read(rt, path.as_str()) {
-            Ok(bytes) => Ok(bytes),
-            Err(_) => Ok(Vec::new(rt.alloc())),
+            Ok(bytes) => Ok(Some(bytes)),
+            Err(_) => Ok(None),
         }
     }
 
-    /// Its file with this number, to be written behind so many bytes: what stands behind them is cut off. It is made where it isn't there.
+    /// Its file with this number, to be written behind so many bytes: what stands behind them is cut off. It is made where it isn't there. None,
+    /// where it can't be written or is no regular file.
     pub(crate) fn file<R>(&self, rt: &R, number: u64, length: u64) -> Result<Option<File>, NoMemory>
     where
         R: Files<File = File> + AllocGlobal,
     {
         let path = self.file_path(rt.alloc(), number)?;
+        if is_irregular(rt, path.as_str()) {
+            return Ok(None);
+        }
         let Ok(file) = File::options()
             .create(true)
             .append(true)

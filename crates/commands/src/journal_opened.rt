@@ -28,7 +28,7 @@ pub(crate) struct Opened {
     pub(crate) found: Option<(u64, Found)>,
 }
 
-/// Reads the file with this number, with the one before, if there is one.
+/// Reads the file with this number, with the one before, if there is one. Where it can't be read, what was handled last may stand there.
 pub(crate) fn read_file<R>(
     rt: &R,
     folder: &Folder,
@@ -39,9 +39,11 @@ where
     R: Files<File = File> + AllocGlobal,
 {
     let alloc = rt.alloc();
-    let newer = folder.bytes(rt, number)?;
+    let Some(newer) = folder.bytes(rt, number)? else {
+        return Ok(Reading::Nothing { is_torn: true });
+    };
     let older = match before {
-        Some(number) => folder.bytes(rt, number)?,
+        Some(number) => folder.bytes(rt, number)?.unwrap_or(Vec::new(alloc)),
         None => Vec::new(alloc),
     };
     read_files(alloc, VERSION, newer.as_slice(), older.as_slice())

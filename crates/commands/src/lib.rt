@@ -9,7 +9,7 @@
 //! What it isn't: what the threads of a service do is `service`'s, what the words mean `arguments`'s, and what a control line
 //! says `control_lines`'s. Of what is said on standard error, and of the answer that [`tell`] prints, no contract tells. Begin with
 //! [`serve_words`], then `specs/Plans` and `specs/Serving`, and with [`udp::run`], then `specs/UdpCall`, `specs/UdpServing` and
-//! `specs/UdpEnds`.
+//! `specs/UdpEnds`. [`laws`] says what a run tells the watchers of its subscriptions.
 #![tactic(auto)]
 
 mod admitting;
@@ -24,6 +24,7 @@ mod journal_folder;
 mod journal_new;
 mod journal_opened;
 mod journal_start;
+pub mod laws;
 mod line_file;
 mod logging;
 mod mailboxes;

@@ -128,18 +128,19 @@ fn copied_names(alloc: Global, names: &[Text]) -> Result<IndexSet<String>, NoMem
     Ok(set)
 }
 
-/// Whether a name of which a line told is added to these: a file of mailboxes may hold it, it isn't there yet, and there is room.
-fn is_further(set: &IndexSet<String>, name: &str, most: usize) -> bool
-    ensures { IsTrue result → IsMailbox name.now }
-{
-    is_mailbox(name) && set.len() < most && !set.contains(name)
-}
-
 /// Whether this name is in the set.
 fn has_name(set: &IndexSet<String>, name: &Text) -> bool
     ensures { result ≡ is_held (map string_bytes set.now.keys) name.now }
 {
     set.contains(name.as_str())
+}
+
+/// Whether a name of which a line told is added to these: a file of mailboxes may hold it, there is room, and it isn't there yet.
+fn is_further(set: &IndexSet<String>, name: &Text, most: usize) -> bool
+    ensures mailbox { IsTrue result → IsMailbox name.now }
+    ensures further { result ≡ spec.is_further most (map string_bytes set.now.keys) name.now }
+{
+    is_mailbox(name.as_str()) && set.len() < most && !has_name(set, name)
 }
 
 /// Keeps those of these names that are in the set.
@@ -182,11 +183,12 @@ fn further_names(
     most: usize,
 ) -> Result<Vec<Text>, NoMemory>
     ensures mailboxes { IfOk result (λ further. All IsMailbox further.items) }
+    ensures told { IfOk result (λ further. spec.each_once (names.now ++ further.items) ≡ spec.with_told most (spec.each_once names.now) told.items) }
 {
     let mut set = copied_names(alloc, names)?;
     let mut further = Vec::new(alloc);
     for name in told {
-        if is_further(&set, name.as_str(), most) {
+        if is_further(&set, &name, most) {
             set.insert(String::from_str(alloc, name.as_str())?)?;
             further.push(name)?;
         }
@@ -201,7 +203,8 @@ pub(crate) fn with_further(
     told: Vec<Text>,
     most: usize,
 ) -> Result<Vec<Text>, NoMemory>
-    ensures { IfOk result (λ all. (further : List (List ℕ)) × All IsMailbox further × (all.items ≡ spec.each_once (names.items ++ further))) }
+    ensures mailboxes { IfOk result (λ all. (further : List (List ℕ)) × All IsMailbox further × (all.items ≡ spec.each_once (names.items ++ further))) }
+    ensures told { IfOk result (λ all. all.items ≡ spec.with_told most (spec.each_once names.items) told.items) }
 {
     let mut further = further_names(alloc, names.as_slice(), told, most)?;
     let mut all = names;

@@ -6,7 +6,7 @@
 ghost use Rattle.std.specs.Prelude.{◌≡◌, None, option_map, IfOk, IfErr, IfSome};
 ghost use Rattle.commands.specs.Plans.{IsPlan};
 ghost use Rattle.commands.specs.Refused.{IsOther};
-ghost use Rattle.commands.specs.Reloading.{IsRereading};
+ghost use Rattle.commands.specs.Reloading.{IsAnswered, IsRereading};
 ghost use Rattle.commands.specs.Runs.{AreFirst, AreAll};
 
 use crate::error::ServeError;
@@ -15,7 +15,7 @@ use crate::plan::{Plan, next_plan};
 use crate::sockets::Standby;
 use control_lines::ControlAnswer;
 use service::{Caller, Rereader, Shared};
-use sip_text::{NoMemory, Text};
+use sip_text::{Addr, NoMemory, Text};
 use std::alloc::{AllocError, Global};
 use std::fs::File;
 use std::random::RandomSource;
@@ -82,6 +82,14 @@ pub(crate) fn all_mailboxes<R: Wait>(
     Some(all)
 }
 
+/// Answers by this wire that a RELOAD is done. Where that can't be sent, who asked asks again.
+fn send_done<R: Wait, W: Wire>(rt: &R, wire: &mut W, to: Addr)
+    ensures { IsAnswered to (W.taken wire.old) (W.taken wire.new) (W.failures wire.old) (W.failures wire.new) }
+{
+    let answer = ControlAnswer::Done.text().as_bytes();
+    let _ = wire.send(rt, to, answer);
+}
+
 /// Answers who asked for the RELOAD by which a run begins, if it begins by one, by a further wire over this one: whatever comes behind the answer
 /// is taken by this run. Where it can't be sent who asks asks again, and is answered then.
 pub(crate) fn answer_reload<R: Wait>(
@@ -97,8 +105,7 @@ pub(crate) fn answer_reload<R: Wait>(
     let Ok(mut wire) = replies.further() else {
         return;
     };
-    let answer = ControlAnswer::Done.text().as_bytes();
-    let _ = wire.send(rt, caller.source, answer);
+    send_done(rt, &mut wire, caller.source);
 }
 
 /// Why files are refused: the exit status of a start with them, and the words that such a start has for it. None where memory runs out.

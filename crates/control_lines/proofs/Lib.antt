@@ -2,4 +2,5 @@ pub mod Lines
 pub mod Slots
 pub mod Unasked
 mod PageSteps
+mod Dumping
 mod Rows

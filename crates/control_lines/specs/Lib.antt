@@ -6,3 +6,4 @@ pub mod Slots
 pub mod Tokens
 pub mod Pages
 pub mod Told
+pub mod Dumped

@@ -18,7 +18,7 @@ use Rattle.control_lines.specs.declared.answer.ControlAnswer.{ControlAnswer}
 use Rattle.control_lines.specs.declared.answer.ControlAnswer.TheVariants as answer
 use Rattle.control_lines.specs.declared.line.Asked.{Asked}
 use Rattle.control_lines.specs.declared.line.Asked.TheVariants as asked
-use Rattle.control_lines.specs.Questions.{question_in}
+use Rattle.control_lines.specs.Questions.{IsOneWord, question_in}
 
 -- ---- answers
 
@@ -69,7 +69,11 @@ is_word (Some line) = bytes_eq line (codes "RELOAD")
 unfoldable pub is_reload : List ℕ → Bool
 is_reload octets = is_word (bare_line octets)
 
--- what the bytes ask for. An answer asks for nothing, and neither that nor a RELOAD nor a CLOSE needs memory
+-- the bytes are no question of one word
+abbrev pub IsNoQuestionOfOneWord : List ℕ → Type 0
+IsNoQuestionOfOneWord octets = (line : List ℕ) → bare_line octets ≡ Some line → IsOneWord line → question_in octets ≡ None
+
+-- what the bytes ask for. An answer asks for nothing, and neither that nor a RELOAD nor a CLOSE nor a question of one word needs memory
 abbrev pub Asks : List ℕ → Asked → Type 0
 Asks octets (asked.Change c) = IsControlLine octets (control.Change c)
 Asks octets asked.Close = IsControlLine octets control.Close
@@ -77,4 +81,4 @@ Asks octets (asked.Question q) = question_in octets ≡ Some q
 Asks octets asked.Nothing = is_answer octets ≡ true
 Asks octets asked.Reload = is_reload octets ≡ true
 Asks octets asked.Bad = (is_answer octets ≡ false) × (is_reload octets ≡ false) × (question_in octets ≡ None) × IsNoLine octets
-Asks octets asked.NoMemory = (is_answer octets ≡ false) × (is_reload octets ≡ false) × ¬ (IsControlLine octets control.Close)
+Asks octets asked.NoMemory = (is_answer octets ≡ false) × (is_reload octets ≡ false) × ¬ (IsControlLine octets control.Close) × IsNoQuestionOfOneWord octets

@@ -9,12 +9,13 @@
 //!
 //! What it isn't: it changes nothing of a service, which is the crate `service`. Begin with `specs/Lines`: which bytes are
 //! which line, `specs/Questions`: what may be asked, `specs/Asking`: how often is asked, and
-//! `specs/Told`, `specs/Pages`: what is told of the counts.
+//! `specs/Told`, `specs/Pages`: what is told of the counts, and `specs/Dumped`: what all pages tell together.
 #![tactic(auto)]
 
 mod answer;
 mod asking;
 mod kept;
+pub mod laws;
 mod line;
 mod pages;
 mod question;

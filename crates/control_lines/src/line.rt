@@ -58,8 +58,8 @@ fn hear_control(alloc: Global, octets: &[u8]) -> Asked
     }
 }
 
-/// What the bytes of a datagram ask for. Without memory, too, an answer asks for nothing, a RELOAD is one, and a
-/// CLOSE closes.
+/// What the bytes of a datagram ask for. Without memory, too, an answer asks for nothing, a RELOAD is one, a CLOSE closes, and a
+/// question of one word is one.
 pub fn hear_line(alloc: Global, octets: &[u8]) -> Asked
     ensures { Asks octets.now result }
 {

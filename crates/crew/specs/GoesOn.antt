@@ -96,8 +96,8 @@ RisingGoesOnLaw = (start : ℕ → Start) (before : ℕ → List Event) (crew : 
     WentOn start before crew got reports → AllBy (length crew) got → slice_get crew w ≡ Some h → serial < 2 ^ 64 →
     Rise (notifies_with (its_tag h serial) (outs (start w) (before w) ++ values got))
 
--- Where a subscription was born of the events before or of what worker w took since, and those before came to it, no other worker
--- took anything that concerns it, but what goes to all.
+-- The events before all came to worker w, and a subscription was born of these, or of what w took since. Then no other worker took anything
+-- that concerns the subscription, but what goes to all.
 abbrev pub OneHomeGoesOnLaw : Type 0
 OneHomeGoesOnLaw = (start : ℕ → Start) (before : ℕ → List Event) (crew : List Hired) (got : List (Item Out)) (reports : List WorkerReport)
     (w v serial : ℕ) (x : Request) (h g : Hired) (r s : WorkerReport) (run : WentOn start before crew got reports) →

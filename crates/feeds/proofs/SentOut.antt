@@ -8,32 +8,29 @@ use Rattle.life.specs.Laws.{AreNotifies, notifies_with, outs}
 use Rattle.schedules.specs.Laws.{Rise}
 use Rattle.crew.specs.GoesOn.{notices_in_all}
 use Rattle.crew.specs.Laws.{its_notices, its_tag}
-use Rattle.feeds.specs.declared.sending.EmitReport.{EmitReport}
-use Rattle.feeds.specs.Emitted.{Fates, IsEmitted, WireSeen, WriterSeen}
+use Rattle.feeds.specs.Emitted.{AreGot, Fates}
 use Rattle.feeds.specs.Laws.{EmittedLaw, EmittedGoesOnLaw, outs_of}
 use Rattle.crew.proofs.Others.{rising_law, rising_goes_on_law, whole_law, whole_goes_on_law}
 
 -- what was got is what met a fate, all of it of the crew's workers
-got_is : (n : ℕ) (got : List (Item Out)) (fates : Fates) (wire wire' : WireSeen) (writer writer' : WriterSeen) (report : EmitReport) → IsEmitted n fates [] got wire wire' writer writer' report
-    → AllBy n got × (values got ≡ outs_of fates)
-got_is n got fates wire wire' writer writer' report emitted =
-    let sent = emitted.met.outs in
-    let same : sent.0 ≡ got = sym sent.1 in
-    (subst (AllBy n) same sent.3, ap values (sym same) ∙ sent.2)
+got_is : (n : ℕ) (got : List (Item Out)) (fates : Fates) → AreGot n fates [] got → AllBy n got × (values got ≡ outs_of fates)
+got_is n got fates are =
+    let same : are.0 ≡ got = sym are.1 in
+    (subst (AllBy n) same are.3, ap values (sym same) ∙ are.2)
 
 pub emitted_law : EmittedLaw
-emitted_law start crew got reports w serial h r fates wire wire' writer writer' report run emitted here there small =
+emitted_law start crew got reports w serial h r fates run are here there small =
     let tag : List ℕ = its_tag h serial in
-    let is = got_is (length crew) got fates wire wire' writer writer' report emitted in (
+    let is = got_is (length crew) got fates are in (
       subst (λ (l : List Out). AreNotifies tag (its_notices (start w) h r serial) (notifies_with tag l)) is.1 (whole_law start crew got reports w serial h r run is.0 here there small),
       subst (λ (l : List Out). Rise (notifies_with tag l)) is.1 (rising_law start crew got reports w serial h run is.0 here small),
     )
 
 pub emitted_goes_on_law : EmittedGoesOnLaw
-emitted_goes_on_law start before crew got reports w serial h r fates wire wire' writer writer' report run emitted here there small =
+emitted_goes_on_law start before crew got reports w serial h r fates run are here there small =
     let tag : List ℕ = its_tag h serial in
     let first : List Out = outs (start w) (before w) in
-    let is = got_is (length crew) got fates wire wire' writer writer' report emitted in (
+    let is = got_is (length crew) got fates are in (
       subst (λ (l : List Out). AreNotifies tag (notices_in_all (start w) (before w) h r serial) (notifies_with tag (first ++ l))) is.1 (whole_goes_on_law start before crew got reports w serial h r run is.0 here there small),
       subst (λ (l : List Out). Rise (notifies_with tag (first ++ l))) is.1 (rising_goes_on_law start before crew got reports w serial h run is.0 here small),
     )

@@ -65,7 +65,7 @@ is_mail (Progress step) = false
 is_mail (Tick second) = false
 is_mail Shut = false
 
--- the changes of the lines behind this one, in their order
+-- the changes of the lines with a number above `handled`, in their order: the worker hasn't handled these yet
 abbrev pub waiting : ℕ → List Line → List MailChange
 waiting handled [] = []
 waiting handled (l ∷ ls) = if nat_lt handled l.number then l.change ∷ waiting handled ls else waiting handled ls

@@ -8,9 +8,9 @@ use Rattle.std.proofs.lemmas.List.Concat.{flat_map-append}
 use Rattle.journal.specs.declared.record.Record.{Record}
 use Rattle.journal.specs.declared.record.Record.TheVariants.{Handled, Line as Answered, Clock as Shown}
 use Rattle.journal.specs.Records.{file, written, book_record}
-use Rattle.keeper.specs.Told.{Kept, told_of, told_event}
-use Rattle.keeper.specs.Keeping.{State, at_worker, has_book, next_line, with_handled, with_answered, with_book}
-use Rattle.keeper.specs.Laws.{Call, Handles, Answers, Shows, Books, after, run, kept_after}
+use Rattle.keeper.specs.Told.{Kept, told_of, told_event, forgotten}
+use Rattle.keeper.specs.Keeping.{State, at_worker, has_book, next_line, with_handled, with_answered, with_book, with_worker}
+use Rattle.keeper.specs.Laws.{Call, Handles, Answers, Shows, Books, Forgets, after, run, kept_after}
 use Rattle.keeper.proofs.Lists.{get_set_same, get_set_other}
 
 -- ---- what is kept of a worker
@@ -44,6 +44,7 @@ kept_one w k (Handles v event) = cond (eqb v w) (told_event event k) k
 kept_one w k (Answers v change) = cond (eqb v w) (record k { lines = k.lines + 1 }) k
 kept_one w k (Shows clock) = k
 kept_one w k (Books v saved) = k
+kept_one w k (Forgets v tags) = cond (eqb v w) (forgotten tags k) k
 
 pub kept_step : (c : Call) (s : State) (w : ℕ) (k : Kept) → slice_get s.workers w ≡ Some k → slice_get (after s c).workers w ≡ Some (kept_one w k c)
 kept_step (Handles v event) s w k is = at_step s v w k is (told_event event) (with_handled v event s) (λ j. refl)
@@ -53,12 +54,14 @@ kept_step (Books v saved) s w k is = step (slice_get s.workers v) where
   step : (o : Option Kept) → slice_get (option_map_or (with_book v saved s) o s).workers w ≡ Some k
   step None = is
   step (Some j) = is
+kept_step (Forgets v tags) s w k is = at_step s v w k is (forgotten tags) (with_worker v (forgotten tags) s) (λ j. refl)
 
 pub kept_then : (c : Call) (cs : List Call) (w : ℕ) (k : Kept) → kept_after w k (c ∷ cs) ≡ kept_after w (kept_one w k c) cs
 kept_then (Handles v event) cs w k = refl
 kept_then (Answers v change) cs w k = refl
 kept_then (Shows clock) cs w k = refl
 kept_then (Books v saved) cs w k = refl
+kept_then (Forgets v tags) cs w k = refl
 
 pub kept_run : (cs : List Call) (s : State) (w : ℕ) (k : Kept) → slice_get s.workers w ≡ Some k → slice_get (run s cs).workers w ≡ Some (kept_after w k cs)
 kept_run [] s w k is = is
@@ -72,6 +75,7 @@ put s (Handles v event) = option_map_or (λ (k : Kept). Handled v event ∷ []) 
 put s (Answers v change) = option_map_or (λ (k : Kept). Answered (next_line v change k) ∷ []) (slice_get s.workers v) []
 put s (Shows clock) = Shown clock ∷ []
 put s (Books v saved) = []
+put s (Forgets v tags) = []
 
 abbrev pub all_put : State → List Call → List Record
 all_put s [] = []
@@ -95,6 +99,10 @@ put_bytes (Books v saved) s = step (slice_get s.workers v) where
   step : (o : Option Kept) → (option_map_or (with_book v saved s) o s).current ≡ s.current ++ []
   step None = sym (append-nil s.current)
   step (Some k) = sym (append-nil s.current)
+put_bytes (Forgets v tags) s = step (slice_get s.workers v) where
+  step : (o : Option Kept) → (option_map_or (with_worker v (forgotten tags) s) o s).current ≡ s.current ++ []
+  step None = sym (append-nil s.current)
+  step (Some k) = sym (append-nil s.current)
 
 -- some bytes, some records, and more records behind them
 joined_bytes : (a b c : List ℕ) (xs ys : List Record) → c ≡ b ++ file ys → b ≡ a ++ file xs → c ≡ a ++ file (xs ++ ys)
@@ -114,6 +122,7 @@ put_next s (Handles v event) = option_map_or (λ (k : Kept). cond (has_book v s.
 put_next s (Answers v change) = []
 put_next s (Shows clock) = []
 put_next s (Books v saved) = option_map_or (λ (k : Kept). book_record v (told_of k) saved ∷ []) (slice_get s.workers v) []
+put_next s (Forgets v tags) = []
 
 abbrev pub all_put_next : State → List Call → List Record
 all_put_next s [] = []
@@ -138,6 +147,10 @@ put_next_bytes (Books v saved) s = step (slice_get s.workers v) where
   step : (o : Option Kept) → (option_map_or (with_book v saved s) o s).next ≡ s.next ++ file (option_map_or (λ (k : Kept). book_record v (told_of k) saved ∷ []) o [])
   step None = sym (append-nil s.next)
   step (Some k) = behind s.next (book_record v (told_of k) saved)
+put_next_bytes (Forgets v tags) s = step (slice_get s.workers v) where
+  step : (o : Option Kept) → (option_map_or (with_worker v (forgotten tags) s) o s).next ≡ s.next ++ []
+  step None = sym (append-nil s.next)
+  step (Some k) = sym (append-nil s.next)
 
 pub all_put_next_bytes : (cs : List Call) (s : State) → (run s cs).next ≡ s.next ++ file (all_put_next s cs)
 all_put_next_bytes [] s = sym (append-nil s.next)

@@ -11,9 +11,9 @@ use Rattle.journal.specs.declared.record.Record.TheVariants.{Handled}
 use Rattle.journal.specs.Records.{book_record}
 use Rattle.journal.specs.Generations.{Known, unknown, known, taken, after as noted}
 use Rattle.journal.specs.Chains.{between}
-use Rattle.keeper.specs.Told.{Kept, told_of, told_event}
-use Rattle.keeper.specs.Keeping.{State, has_book, with_handled, with_answered, with_book}
-use Rattle.keeper.specs.Laws.{Call, Handles, Answers, Shows, Books, after, run, events_of, kept_after, HasNoBook, with_more, TheNextFileSaysWhatCameSince, BothFilesSayAllEvents}
+use Rattle.keeper.specs.Told.{Kept, told_of, told_event, forgotten}
+use Rattle.keeper.specs.Keeping.{State, has_book, with_handled, with_answered, with_book, with_worker}
+use Rattle.keeper.specs.Laws.{Call, Handles, Answers, Shows, Books, Forgets, after, run, events_of, kept_after, HasNoBook, with_more, TheNextFileSaysWhatCameSince, BothFilesSayAllEvents}
 use Rattle.keeper.proofs.Lists.{get_set_same, get_set_other}
 use Rattle.keeper.proofs.Calls.{found, kept_one, kept_step, kept_run, put_next, all_put_next, all_put_next_bytes, all_put_next_then}
 use Rattle.keeper.proofs.Saying.{with_same, nothing_more, more_and_more, one_event_more, noted_other}
@@ -37,6 +37,7 @@ IsOther w (Handles v event) = Unit {0}
 IsOther w (Answers v change) = Unit {0}
 IsOther w (Shows clock) = Unit {0}
 IsOther w (Books v saved) = eqb v w ≡ false
+IsOther w (Forgets v tags) = Unit {0}
 
 mark_step : (c : Call) (s : State) (w : ℕ) → IsOther w c → mark w (after s c) ≡ mark w s
 mark_step (Handles v event) s w other = step (slice_get s.workers v) where
@@ -56,6 +57,10 @@ mark_step (Books v saved) s w other = step (slice_get s.workers v) where
   step : (o : Option Kept) → mark w (option_map_or (with_book v saved s) o s) ≡ mark w s
   step None = refl
   step (Some k) = marks s.booked
+mark_step (Forgets v tags) s w other = step (slice_get s.workers v) where
+  step : (o : Option Kept) → mark w (option_map_or (with_worker v (forgotten tags) s) o s) ≡ mark w s
+  step None = refl
+  step (Some k) = refl
 
 mark_run : (cs : List Call) (s : State) (w : ℕ) → HasNoBook w cs → mark w (run s cs) ≡ mark w s
 mark_run [] s w none = refl
@@ -63,6 +68,7 @@ mark_run (Handles v event ∷ cs) s w none = mark_run cs (after s (Handles v eve
 mark_run (Answers v change ∷ cs) s w none = mark_run cs (after s (Answers v change)) w none ∙ mark_step (Answers v change) s w tt
 mark_run (Shows clock ∷ cs) s w none = mark_run cs (after s (Shows clock)) w none
 mark_run (Books v saved ∷ cs) s w none = mark_run cs (after s (Books v saved)) w none.1 ∙ mark_step (Books v saved) s w none.0
+mark_run (Forgets v tags ∷ cs) s w none = mark_run cs (after s (Forgets v tags)) w none ∙ mark_step (Forgets v tags) s w tt
 
 marked : (s : State) (w : ℕ) (k : Kept) (saved : Saved) → slice_get s.workers w ≡ Some k → mark w s ≡ Some false
     → mark w (after s (Books w saved)) ≡ Some true
@@ -137,6 +143,8 @@ said_next there w (Books v saved ∷ cs) s k before is m none =
     fold-append (noted w) before (put_next s (Books v saved)) (all_put_next (after s (Books v saved)) cs)
     ∙ ap (λ (x : Known). fold (noted w) x (all_put_next (after s (Books v saved)) cs)) (book_other w v before s saved none.0)
     ∙ said_next there w cs (after s (Books v saved)) k before (kept_step (Books v saved) s w k is) (mark_step (Books v saved) s w none.0 ∙ m) none.1
+said_next there w (Forgets v tags ∷ cs) s k before is m none =
+    said_next there w cs (after s (Forgets v tags)) (kept_one w k (Forgets v tags)) before (kept_step (Forgets v tags) s w k is) (mark_step (Forgets v tags) s w tt ∙ m) none
 
 book_mine : (w : ℕ) (s : State) (k : Kept) (saved : Saved) (before : Known) → slice_get s.workers w ≡ Some k
     → fold (noted w) before (put_next s (Books w saved)) ≡ record { book = Some (record { worker = w; told = told_of k; saved = saved }); events = []; lines = before.lines }
@@ -188,6 +196,12 @@ counted w (Answers v change ∷ cs) k = step (eqb v w) (counted w cs (record k {
   step false mine others = others
 counted w (Shows clock ∷ cs) k = counted w cs k
 counted w (Books v saved ∷ cs) k = counted w cs k
+counted w (Forgets v tags ∷ cs) k = step (eqb v w) (counted w cs (forgotten tags k)) (counted w cs k) where
+  step : (b : Bool) → (kept_after w (forgotten tags k) cs).events ≡ k.events + length (events_of w cs)
+      → (kept_after w k cs).events ≡ k.events + length (events_of w cs)
+      → (kept_after w (cond b (forgotten tags k) k) cs).events ≡ k.events + length (events_of w cs)
+  step true mine others = mine
+  step false mine others = others
 
 pub both_say : BothFilesSayAllEvents
 both_say w k early first more older newer count are told =

@@ -4,3 +4,4 @@ pub mod Calls
 pub mod Saying
 pub mod Following
 pub mod Same
+pub mod Few

@@ -13,9 +13,9 @@ use Rattle.journal.specs.declared.record.Book.{Book}
 use Rattle.journal.specs.declared.record.Line.{Line}
 use Rattle.journal.specs.declared.record.Record.TheVariants.{Handled, Line as Answered}
 use Rattle.journal.specs.Generations.{Known, unknown, known, taken, after as noted, waiting}
-use Rattle.keeper.specs.Told.{Kept, told_event}
+use Rattle.keeper.specs.Told.{Kept, told_event, forgotten}
 use Rattle.keeper.specs.Keeping.{State, next_line}
-use Rattle.keeper.specs.Laws.{Call, Handles, Answers, Shows, Books, after, events_of, changes_of, numbered, with_more, TheCurrentFileSaysWhatCame, WhatWaitsWasNotHandled}
+use Rattle.keeper.specs.Laws.{Call, Handles, Answers, Shows, Books, Forgets, after, events_of, changes_of, numbered, with_more, TheCurrentFileSaysWhatCame, WhatWaitsWasNotHandled}
 use Rattle.keeper.proofs.Calls.{found, kept_one, kept_step, put, all_put, all_put_bytes}
 
 same_lines : (event : Event) (k : Kept) → (told_event event k).lines ≡ k.lines
@@ -106,6 +106,12 @@ said w (Answers v change ∷ cs) s k before is =
       step false e = ap (λ (x : Known). with_more x (events_of w cs) (numbered w k.lines (changes_of w cs))) (line_other w v before s k is change e)
 said w (Shows clock ∷ cs) s k before is = said w cs (after s (Shows clock)) k before is
 said w (Books v saved ∷ cs) s k before is = said w cs (after s (Books v saved)) k before (kept_step (Books v saved) s w k is)
+said w (Forgets v tags ∷ cs) s k before is =
+    said w cs (after s (Forgets v tags)) (kept_one w k (Forgets v tags)) before (kept_step (Forgets v tags) s w k is)
+    ∙ ap (λ (n : ℕ). with_more before (events_of w cs) (numbered w n (changes_of w cs))) (step (eqb v w)) where
+      step : (b : Bool) → (cond b (forgotten tags k) k).lines ≡ k.lines
+      step true = refl
+      step false = refl
 
 pub what_came : TheCurrentFileSaysWhatCame
 what_came s cs before w k is = record {

@@ -12,7 +12,7 @@ use Rattle.journal.specs.declared.record.Clock.{Clock}
 use Rattle.journal.specs.declared.record.Told.{Told}
 use Rattle.journal.specs.declared.record.Record.TheVariants.{Header as First, Handled, Line as Answered, Clock as Shown}
 use Rattle.journal.specs.Records.{written, book_record}
-use Rattle.keeper.specs.Told.{Kept, kept_from, told_of, told_event, caught_up}
+use Rattle.keeper.specs.Told.{Kept, kept_from, told_of, told_event, forgotten, caught_up}
 
 -- what is kept of each worker; what waits for the two files; and, while a next one is begun, of which workers it has the book
 pub record State : Type 0 where
@@ -74,6 +74,10 @@ after_passed w event s = at_worker w (with_worker w (told_event event) s) s
 -- a line was answered whose record couldn't be written
 abbrev pub after_counted : ℕ → State → State
 after_counted w s = at_worker w (with_worker w one_line_more s) s
+
+-- nobody watches these transfers of a worker any more
+abbrev pub after_forgetting : ℕ → List (List ℕ) → State → State
+after_forgetting w tags s = at_worker w (with_worker w (forgotten tags) s) s
 
 abbrev pub after_clock : Clock → State → State
 after_clock clock s = record s { current = s.current ++ written (Shown clock) }

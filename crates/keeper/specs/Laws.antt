@@ -1,5 +1,6 @@
 -- What the files say of each worker, whatever calls came.
-use Rattle.std.specs.Prelude.{◌≡◌, ℕ, ◌+◌, Bool, false, ◌==◌, List, [], ◌∷◌, ◌++◌, length, fold, drop, slice_get, Some, if◌then◌else◌}
+use Rattle.std.specs.Prelude.{◌≡◌, ℕ, ◌+◌, ◌≤◌, Bool, true, false, ◌==◌, List, [], ◌∷◌, ◌++◌, length, fold, drop, slice_get, Some, if◌then◌else◌, bytes_eq}
+use Rattle.std.specs.List.{list_any, IsDistinct}
 use Rattle.package.specs.Values.{MailChange}
 use Rattle.notifier_model.specs.declared.event.Event.{Event}
 use Rattle.notifier_model.specs.declared.saved.Saved.{Saved}
@@ -10,8 +11,8 @@ use Rattle.journal.specs.declared.file.Account.{Account}
 use Rattle.journal.specs.Records.{file}
 use Rattle.journal.specs.Chains.{Follows, joined}
 use Rattle.journal.specs.Generations.{Known, known, waiting}
-use Rattle.keeper.specs.Told.{Kept, told_of, told_event}
-use Rattle.keeper.specs.Keeping.{State, after_handled, after_answered, after_clock, after_book}
+use Rattle.keeper.specs.Told.{Kept, told_of, told_event, transfers, forgotten}
+use Rattle.keeper.specs.Keeping.{State, after_handled, after_answered, after_clock, after_book, after_forgetting}
 
 -- what is kept while one file is the current one, and no next one is begun or given up
 pub data Call : Type 0 where
@@ -19,12 +20,14 @@ pub data Call : Type 0 where
   Answers : (worker : ℕ) (change : MailChange) → Call
   Shows : (clock : Clock) → Call
   Books : (worker : ℕ) (saved : Saved) → Call
+  Forgets : (worker : ℕ) (tags : List (List ℕ)) → Call
 
 abbrev pub after : State → Call → State
 after s (Handles w event) = after_handled w event s
 after s (Answers w change) = after_answered w change s
 after s (Shows clock) = after_clock clock s
 after s (Books w saved) = after_book w saved s
+after s (Forgets w tags) = after_forgetting w tags s
 
 abbrev pub run : State → List Call → State
 run s calls = fold after s calls
@@ -41,6 +44,7 @@ events_of w (Handles v event ∷ calls) = if_of v w event (events_of w calls)
 events_of w (Answers v change ∷ calls) = events_of w calls
 events_of w (Shows clock ∷ calls) = events_of w calls
 events_of w (Books v saved ∷ calls) = events_of w calls
+events_of w (Forgets v tags ∷ calls) = events_of w calls
 
 -- the changes of the lines that were answered
 abbrev pub changes_of : ℕ → List Call → List MailChange
@@ -49,6 +53,7 @@ changes_of w (Handles v event ∷ calls) = changes_of w calls
 changes_of w (Answers v change ∷ calls) = if_of v w change (changes_of w calls)
 changes_of w (Shows clock ∷ calls) = changes_of w calls
 changes_of w (Books v saved ∷ calls) = changes_of w calls
+changes_of w (Forgets v tags ∷ calls) = changes_of w calls
 
 -- these lines, numbered from the one behind n
 abbrev pub numbered : ℕ → ℕ → List MailChange → List Line
@@ -62,6 +67,7 @@ kept_after w k (Handles v event ∷ calls) = kept_after w (if v == w then told_e
 kept_after w k (Answers v change ∷ calls) = kept_after w (if v == w then record k { lines = k.lines + 1 } else k) calls
 kept_after w k (Shows clock ∷ calls) = kept_after w k calls
 kept_after w k (Books v saved ∷ calls) = kept_after w k calls
+kept_after w k (Forgets v tags ∷ calls) = kept_after w (if v == w then forgotten tags k else k) calls
 
 -- no book of it is handed over
 abbrev pub HasNoBook : ℕ → List Call → Type 0
@@ -70,6 +76,7 @@ HasNoBook w (Handles v event ∷ calls) = HasNoBook w calls
 HasNoBook w (Answers v change ∷ calls) = HasNoBook w calls
 HasNoBook w (Shows clock ∷ calls) = HasNoBook w calls
 HasNoBook w (Books v saved ∷ calls) = ((v == w) ≡ false) × HasNoBook w calls
+HasNoBook w (Forgets v tags ∷ calls) = HasNoBook w calls
 
 -- ---- the current file
 
@@ -123,3 +130,22 @@ BothFilesSayAllEvents =
     (w : ℕ) (k : Kept) (early : List Call) (first more : List Event) (older newer : Account)
     → k.events ≡ older.book.told.events + length first → older.events ≡ (first ++ events_of w early) ++ more
     → newer.book.told ≡ told_of (kept_after w k early) → AreAllEvents w k early first older newer
+
+-- ---- how much is kept
+
+-- of no transfer it has two steps
+abbrev pub HasOneOfEach : Kept → Type 0
+HasOneOfEach k = IsDistinct bytes_eq (transfers k)
+
+abbrev pub OneStepOfEachIsKept : Type 0
+OneStepOfEachIsKept = (w : ℕ) (k : Kept) (calls : List Call) → HasOneOfEach k → HasOneOfEach (kept_after w k calls)
+
+-- each of its steps is of a transfer with one of these tags
+abbrev pub AreOf : List (List ℕ) → Kept → Type 0
+AreOf tags k = (tag : List ℕ) → list_any (bytes_eq tag) (transfers k) ≡ true → list_any (bytes_eq tag) tags ≡ true
+
+-- Once those are forgotten that are gone, so many steps are kept at most as transfers live, and as events came since.
+abbrev pub FewStepsAreKept : Type 0
+FewStepsAreKept =
+    (w : ℕ) (k : Kept) (calls : List Call) (live gone : List (List ℕ)) → HasOneOfEach k → AreOf (live ++ gone) k
+    → length (kept_after w k (Forgets w gone ∷ calls)).steps ≤ length live + length (events_of w calls)

@@ -59,6 +59,10 @@ told_step p steps =
     let others : List Progress = filter (λ q. not (bytes_eq p.tag q.tag)) steps in
     if is_final p.code then others else others ++ p ∷ []
 
+-- the last steps of other transfers than those with these tags
+abbrev pub without : List (List ℕ) → List Progress → List Progress
+without tags steps = filter (λ p. not (list_any (bytes_eq p.tag) tags)) steps
+
 -- ---- a worker
 
 -- how many events it handled since the journal began, how many of them were mails, which line was answered last; and what it was told
@@ -76,6 +80,14 @@ kept_from t = record { events = t.events; mails = t.mails; lines = t.mails; boxe
 -- what it was told, as its book says it
 abbrev pub told_of : Kept → Told
 told_of k = record { events = k.events; mails = k.mails; mail = last_changes k.boxes; progress = k.steps }
+
+-- the tags of the transfers of which it has a last step
+abbrev pub transfers : Kept → List (List ℕ)
+transfers k = map (λ (p : Progress). p.tag) k.steps
+
+-- Nobody watches the transfers with these tags any more: their last steps are forgotten.
+abbrev pub forgotten : List (List ℕ) → Kept → Kept
+forgotten tags k = record k { steps = without tags k.steps }
 
 -- each line that was answered is handled
 abbrev pub caught_up : Kept → Kept

@@ -1,5 +1,5 @@
 //! What a service keeps of all its workers.
-ghost use Rattle.std.specs.Prelude.{◌≡◌, ◌≤◌, ◌<◌, true, false, length, slice_get, replicate, is_some, Option, Some, None, option_map, IfOk, IfErr, OnOk, OnErr, Err};
+ghost use Rattle.std.specs.Prelude.{◌≡◌, ◌≤◌, ◌<◌, true, false, length, slice_get, replicate, is_some, map, string_bytes, Option, Some, None, option_map, IfOk, IfErr, OnOk, OnErr, Err};
 ghost use Rattle.std.specs.List.{list_all};
 ghost use Rattle.notifier_model.specs.declared.saved.Saved.{Saved};
 ghost use Rattle.snapshots.specs.Books.{IsBook};
@@ -9,12 +9,13 @@ ghost use Rattle.keeper.specs.Told as kept;
 ghost use Rattle.keeper.specs.Keeping as spec;
 ghost use Rattle.keeper.specs.Refusing.{WorkerFails, LookFails, PutFails, KeepFails, BookFails, BookingFails, HasNoPlace};
 ghost use Rattle.keeper.specs.declared.error.Unkept.TheVariants as unkept;
-ghost use Rattle.keeper.specs.Keeping.{first, after_handled, after_answered, after_passed, after_counted, after_clock, after_begin, after_book, IsBookOf, IsOutdated, after_catching_up, turned, without_next, cleared, has_book, next_line};
+ghost use Rattle.keeper.specs.Keeping.{first, after_handled, after_answered, after_passed, after_counted, after_forgetting, after_clock, after_begin, after_book, IsBookOf, IsOutdated, after_catching_up, turned, without_next, cleared, has_book, next_line};
 
 use crate::error::Unkept;
 use crate::kept::Kept;
 use crate::made_book::MadeBook;
 use crate::waiting::Waiting;
+use indexmap::IndexSet;
 use journal::{Clock, Header, Line, Record, Told, put_handled, put_line, put_record};
 use notifier_model::Event;
 use package::MailChange;
@@ -334,6 +335,26 @@ impl Keeper {
     {
         let kept = find(self.workers.as_slice(), worker)?;
         Ok(kept.told(self.alloc)?)
+    }
+
+    /// The tags of the transfers of whose last steps it knows that a worker was told them.
+    pub fn transfers(&self, worker: u32) -> Result<Vec<String>, Unkept>
+        ensures tags { IfOk result (λ tags. option_map kept.transfers (slice_get self.now.workers worker) ≡ Some (map string_bytes tags.items)) }
+        ensures fails { IfErr result (LookFails self.now.workers worker) }
+    {
+        let kept = find(self.workers.as_slice(), worker)?;
+        Ok(kept.transfers(self.alloc)?)
+    }
+
+    /// Nobody watches the transfers with these tags at this worker any more: further books tell nothing of them. No file says so, since who
+    /// reads a book makes nothing of a step of a transfer that none of its rows watches.
+    pub fn forget(&mut self, worker: u32, tags: &IndexSet<String>)
+        ensures { self.new ≡ after_forgetting worker (map string_bytes tags.now.keys) self.old }
+    {
+        let Some(kept) = self.workers.get_mut(worker as usize) else {
+            return;
+        };
+        kept.forget(tags);
     }
 
     /// Each line for this worker that was answered is handled: so it is behind a replay, in which these lines were played too.

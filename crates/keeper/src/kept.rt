@@ -1,5 +1,5 @@
 //! What is kept of one worker.
-ghost use Rattle.std.specs.Prelude.{◌≡◌, ◌↔◌, ◌+◌, ◌≤◌, ◌^◌, OnOk, OnErr, IfOk, IfErr, IsTrue};
+ghost use Rattle.std.specs.Prelude.{◌≡◌, ◌↔◌, ◌+◌, ◌≤◌, ◌^◌, map, string_bytes, OnOk, OnErr, IfOk, IfErr, IsTrue};
 ghost use Rattle.keeper.specs.Told as spec;
 ghost use Rattle.keeper.specs.Told.{kept_from, told_of, told_event};
 ghost use Rattle.keeper.specs.Refusing.{CountFails};
@@ -8,7 +8,8 @@ ghost use Rattle.keeper.specs.declared.error.Unkept.TheVariants as unkept;
 use crate::comparison::are_steps;
 use crate::error::Unkept;
 use crate::mailboxes::Mailboxes;
-use crate::steps::{copy_steps, take_step};
+use crate::steps::{copy_steps, copy_tags, forget_steps, take_step};
+use indexmap::IndexSet;
 use journal::Told;
 use notifier_model::Event;
 use package::{MailChange, Progress};
@@ -143,6 +144,20 @@ impl Kept {
         ensures { self.new ≡ record self.old { lines = number } }
     {
         self.lines = number;
+    }
+
+    /// The tags of the transfers of which it has a last step.
+    pub(crate) fn transfers(&self, alloc: Global) -> Result<Vec<String>, NoMemory>
+        ensures { IfOk result (λ tags. map string_bytes tags.items ≡ spec.transfers self.now) }
+    {
+        copy_tags(alloc, self.steps.as_slice())
+    }
+
+    /// Nobody watches the transfers with these tags any more.
+    pub(crate) fn forget(&mut self, tags: &IndexSet<String>)
+        ensures { self.new ≡ spec.forgotten (map string_bytes tags.now.keys) self.old }
+    {
+        forget_steps(&mut self.steps, tags);
     }
 
     /// Each line that was answered is handled.

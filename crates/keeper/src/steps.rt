@@ -1,8 +1,10 @@
 //! The last step of each transfer.
-ghost use Rattle.std.specs.Prelude.{◌≡◌, ◌≤◌, not, filter, bytes_eq, vec_len, vec_capacity, OnOk, OnErr, IfOk};
+ghost use Rattle.std.specs.Prelude.{◌≡◌, ◌≤◌, not, map, filter, bytes_eq, string_bytes, vec_len, vec_capacity, OnOk, OnErr, IfOk};
+ghost use Rattle.std.specs.List.{list_any};
 ghost use Rattle.package.specs.Content as content;
-ghost use Rattle.keeper.specs.Told.{told_step};
+ghost use Rattle.keeper.specs.Told.{told_step, without};
 
+use indexmap::IndexSet;
 use package::Progress;
 use sip_text::NoMemory;
 use std::alloc::Global;
@@ -52,6 +54,31 @@ pub(crate) fn take_step(
         unreachable!()
     };
     Ok(())
+}
+
+/// Whether the transfer of this step has one of these tags.
+fn is_among(tags: &IndexSet<String>, step: &Progress) -> bool
+    ensures { result ≡ list_any (bytes_eq step.now.tag) (map string_bytes tags.now.keys) }
+{
+    tags.contains(step.tag())
+}
+
+/// The steps of other transfers than those with these tags.
+pub(crate) fn forget_steps(steps: &mut Vec<Progress>, tags: &IndexSet<String>)
+    ensures { steps.new.items ≡ without (map string_bytes tags.now.keys) steps.old.items }
+{
+    steps.retain(|step| !is_among(tags, step));
+}
+
+/// The tags of the transfers of these steps.
+pub(crate) fn copy_tags(alloc: Global, steps: &[Progress]) -> Result<Vec<String>, NoMemory>
+    ensures { IfOk result (λ tags. map string_bytes tags.items ≡ map (λ p. p.tag) steps.now) }
+{
+    let mut tags = Vec::new(alloc);
+    for step in steps {
+        tags.push(String::from_str(alloc, step.tag())?)?;
+    }
+    Ok(tags)
 }
 
 /// Copies of these steps.

@@ -21,6 +21,7 @@ of_record tag to mailbox n same = record {
   body = refl;
   watcher = refl;
   target = refl;
+  call_id = refl;
   out_is = ap (λ (t : Bytes). Notify to n.number (is_last n.state) t (note_of t (notification to mailbox n)) (notify_text n)) same;
 }
 

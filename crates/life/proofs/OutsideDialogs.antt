@@ -290,7 +290,7 @@ unfolding fetch new_usage
 fetch_follows start past b source r begins plain asks =
     over_follows start (first_boxes b.boxes (tag_of start.place b.next) Fetch) b.clock source (new_row b.next r) (new_usage (tag_of start.place b.next) r) (new_want start.place (tag_of start.place b.next) source r) 1 Timeout b.next (Comes source r ∷ past) (Born (now past) source r)
     (unfold new_usage in refl) (unfold number is_touched in (rw (plain-watched r plain) refl)) (unfold address last_heard in refl) (born_body start past b source r Fetch begins (λ refers. absurd (never_both (is_refer r) refers plain)))
-    (unfold new_usage new_want birth mailbox target last_heard in (record { watcher = refl; watched = watched-is r (tag_of start.place b.next); target = refl }))
+    (unfold new_usage new_want birth mailbox target last_heard in (record { watcher = refl; watched = watched-is r (tag_of start.place b.next); target = refl; call_id = refl }))
     (unfold is_touched in (ap not (plain-watched r plain))) (unfold terminated is_touched ended in (rw (plain-watched r plain, asks) refl))
 
 -- the turn of a birth

@@ -41,11 +41,12 @@ pub record Follows (start : Start) (serial : ℕ) (es : List Event) (told : Turn
   pub own : notifications (tag_of start.place serial) told.notifies ≡ notices_at start es (Some l)
   pub others : (tag : Bytes) → bytes_eq (tag_of start.place serial) tag ≡ false → notifications tag told.notifies ≡ []
 
--- what a NOTIFY tells of this dialog and of what it asked for is who watches in this life, what, and its remote target
+-- what a NOTIFY tells of this dialog and of what it asked for is who watches in this life, what, its remote target, and its Call-ID
 pub record Knows (start : Start) (usage : Usage) (asked : Want) (l : Life) : Type 0 where
   pub watcher : usage.remote ≡ (birth l).head.from.text
   pub watched : mailbox_of asked ≡ mailbox l
   pub target : usage.target ≡ target start.place.limits l
+  pub call_id : usage.call_id ≡ (birth l).head.call_id
 
 -- a REFER makes the event `refer`
 pub watched-is : (r : Request) (tag : Bytes) → (if is_of_refer (event_of r) then None else Some (if is_refer r then tag else user_part r.uri)) ≡ (if is_of_refer (event_of r) then None else Some (user_part r.uri))
@@ -58,7 +59,7 @@ watched-is r tag = by_refer (is_refer r) refl
 
 pub knows_own : (start : Start) (serial : ℕ) (l : Life) → Knows start (usage_of start serial l) (want_of start serial l) l
 unfolding usage_of want_of mailbox
-knows_own start serial l = record { watcher = refl; watched = watched-is (birth l) (tag_of start.place serial); target = refl }
+knows_own start serial l = record { watcher = refl; watched = watched-is (birth l) (tag_of start.place serial); target = refl; call_id = refl }
 
 -- the same of a life that goes on
 pub knows_on : (start : Start) (serial : ℕ) (l m : Life) → birth l ≡ birth m → target start.place.limits l ≡ target start.place.limits m → Knows start (usage_of start serial l) (want_of start serial l) m
@@ -69,16 +70,17 @@ knows_on start serial l m born same =
       watcher = own.watcher ∙ ap (λ (r : Request). r.head.from.text) born;
       watched = own.watched ∙ ap (λ (r : Request). if is_of_refer (event_of r) then None else Some (user_part r.uri)) born;
       target = own.target ∙ same;
+      call_id = own.call_id ∙ ap (λ (r : Request). r.head.call_id) born;
     }
 
-abbrev noticed : ℕ → StateValue → Bytes → Addr → Bytes → Option Bytes → Bytes → Notification
-noticed n s b a w m t = record { number = n; state = s; body = b; to = a; watcher = w; mailbox = m; target = t }
+abbrev noticed : ℕ → StateValue → Bytes → Addr → Bytes → Option Bytes → Bytes → Bytes → Notification
+noticed n s b a w m t c = record { number = n; state = s; body = b; to = a; watcher = w; mailbox = m; target = t; call_id = c }
 
 -- one NOTIFY
-notice-is : (start : Start) (es : List Event) (l : Life) (to : Addr) (watched : Option Bytes) (n : NotifyText) → n.number ≡ number start.place.limits l → n.state ≡ state_of (phase start.place.limits (now es) l (terminated start.place.limits l)) → n.body ≡ body start es l → to ≡ address start.place.limits l → n.remote ≡ (birth l).head.from.text → watched ≡ mailbox l → n.target ≡ target start.place.limits l → notification to watched n ≡ notice_of start es l
+notice-is : (start : Start) (es : List Event) (l : Life) (to : Addr) (watched : Option Bytes) (n : NotifyText) → n.number ≡ number start.place.limits l → n.state ≡ state_of (phase start.place.limits (now es) l (terminated start.place.limits l)) → n.body ≡ body start es l → to ≡ address start.place.limits l → n.remote ≡ (birth l).head.from.text → watched ≡ mailbox l → n.target ≡ target start.place.limits l → n.call_id ≡ (birth l).head.call_id → notification to watched n ≡ notice_of start es l
 unfolding notice_of
-notice-is start es l to watched n a b c d w m t =
-    let e : noticed n.number n.state n.body to n.remote watched n.target ≡ noticed (number start.place.limits l) (state_of (phase start.place.limits (now es) l (terminated start.place.limits l))) (body start es l) (address start.place.limits l) (birth l).head.from.text (mailbox l) (target start.place.limits l) = cc in e
+notice-is start es l to watched n a b c d w m t i =
+    let e : noticed n.number n.state n.body to n.remote watched n.target n.call_id ≡ noticed (number start.place.limits l) (state_of (phase start.place.limits (now es) l (terminated start.place.limits l))) (body start es l) (address start.place.limits l) (birth l).head.from.text (mailbox l) (target start.place.limits l) (birth l).head.call_id = cc in e
 
 own_notify : (start : Start) (serial : ℕ) (es : List Event) (l : Life) (to : Addr) (watched : Option Bytes) (n : NotifyText) → is_touched start.place.limits l ≡ true → n.local_tag ≡ tag_of start.place serial → notification to watched n ≡ notice_of start es l → notifications (tag_of start.place serial) (Notifies to watched n ∷ []) ≡ notices_at start es (Some l)
 unfolding notifications notices_at
@@ -99,7 +101,7 @@ pub over_follows : (start : Start) (boxes : List Seen) (clock : ℕ) (to : Addr)
 unfolding turned notify live_row is_gone phase
 over_follows start boxes clock to mk usage asked n reason serial es l tag num at b knows touched out = record {
   row = rw out refl;
-  own = own_notify start serial es l to (mailbox_of asked) (notify (told_from start.place boxes clock) usage asked (record { number = n; phase = Terminated reason })) touched tag (notice-is start es l to (mailbox_of asked) (notify (told_from start.place boxes clock) usage asked (record { number = n; phase = Terminated reason })) num (rw out refl) b at knows.watcher knows.watched knows.target);
+  own = own_notify start serial es l to (mailbox_of asked) (notify (told_from start.place boxes clock) usage asked (record { number = n; phase = Terminated reason })) touched tag (notice-is start es l to (mailbox_of asked) (notify (told_from start.place boxes clock) usage asked (record { number = n; phase = Terminated reason })) num (rw out refl) b at knows.watcher knows.watched knows.target knows.call_id);
   others = λ other h. others_notify other (tag_of start.place serial) to (mailbox_of asked) (notify (told_from start.place boxes clock) usage asked (record { number = n; phase = Terminated reason })) tag h;
 }
 
@@ -111,7 +113,7 @@ live_follows : (start : Start) (boxes : List Seen) (clock : ℕ) (to : Addr) (mk
 unfolding turned notify live_row is_gone phase
 live_follows start boxes clock to mk sub n left serial es l tag num at b knows row time touched out not_removed = record {
   row = rw (out, not_removed) (ap Some row);
-  own = own_notify start serial es l to (mailbox_of sub.want) (notify (told_from start.place boxes clock) sub.usage sub.want (record { number = n; phase = Active left })) touched tag (notice-is start es l to (mailbox_of sub.want) (notify (told_from start.place boxes clock) sub.usage sub.want (record { number = n; phase = Active left })) num (rw (out, time) refl) b at knows.watcher knows.watched knows.target);
+  own = own_notify start serial es l to (mailbox_of sub.want) (notify (told_from start.place boxes clock) sub.usage sub.want (record { number = n; phase = Active left })) touched tag (notice-is start es l to (mailbox_of sub.want) (notify (told_from start.place boxes clock) sub.usage sub.want (record { number = n; phase = Active left })) num (rw (out, time) refl) b at knows.watcher knows.watched knows.target knows.call_id);
   others = λ other h. others_notify other (tag_of start.place serial) to (mailbox_of sub.want) (notify (told_from start.place boxes clock) sub.usage sub.want (record { number = n; phase = Active left })) tag h;
 }
 

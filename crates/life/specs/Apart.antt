@@ -34,7 +34,7 @@ has_new_key past (Progresses p) = true
 has_new_key past (Ticks t) = true
 has_new_key past Shuts = true
 
--- may it hear this event, as far as itself goes: a request, while it lives?
+-- is the event a request that this life, unless it is gone, would hear if that is fresh?
 abbrev pub is_open_to : Limits → Option Life → Event → Bool
 is_open_to limits None e = false
 is_open_to limits (Some l) (Comes source r) = not (is_gone limits l) && may_hear r l
@@ -47,7 +47,7 @@ is_open_to limits (Some l) Shuts = false
 -- ---- requests that matter
 
 module _ {maps : Maps} where
-  -- does the event matter to it as a request: is it born of it, or may it hear it, in its dialog?
+  -- does the event matter as a request: does the subscription begin by it, or may the subscription hear it in its dialog?
   unfoldable pub matters : StartBy maps → ℕ → Request → List Event → Event → Bool
   matters start serial x past e =
       is_born_at start serial past e

@@ -15,7 +15,7 @@ use Rattle.life.specs.Apart.{matters, own_requests_are_new, own_keys_are_unique}
 
 -- ---- its own events alone
 
--- the same limits, and for what x asks a package with the same content type and the same content of the resource
+-- Both starts have the same limits. The package that x asks for has the same content type in both, and holds the same of x's resource.
 pub record IsLike (start other : Start) (x : Request) : Type 0 where
   pub limits : other.place.limits ≡ start.place.limits
   pub content_type :

@@ -35,7 +35,7 @@ notifies_with tag (Notify to number terminated other note bytes ∷ more) =
     if bytes_eq other tag then Notify to number terminated other note bytes ∷ notifies_with tag more else notifies_with tag more
 
 -- This out is the NOTIFY of this notice: it goes to the notice's address, and its bytes are the text of a NOTIFY with this
--- local tag and the notice's number, state and body, to the notice's watcher at its remote target. With it goes what is known of
+-- local tag and the notice's number, state and body, in its dialog's Call-ID, to the notice's watcher at its remote target. With it goes what is known of
 -- the subscription: who watches, which mailbox or transfer, and how long still.
 pub record IsNotify (tag : List ℕ) (notice : Notification) (out : Out) : Type 0 where
   pub text : NotifyText
@@ -45,6 +45,7 @@ pub record IsNotify (tag : List ℕ) (notice : Notification) (out : Out) : Type 
   pub body : text.body ≡ notice.body
   pub watcher : text.remote ≡ notice.watcher
   pub target : text.target ≡ notice.target
+  pub call_id : text.call_id ≡ notice.call_id
   pub out_is : out ≡ Notify notice.to notice.number (is_last notice.state) tag (note_of tag notice) (notify_text text)
 
 -- one for one, in order

@@ -27,7 +27,7 @@ module _ {maps : Maps} where
       if is_refer (birth l) then status_body (status l).0 (status l).1
       else body_of_held (content start past (event_of_life l).package (user_part (birth l).uri))
 
-  -- number, state, body, and where it goes; who watches what, and the remote target
+  -- number, state, body, and where it goes; who watches what, and the remote target and the Call-ID of the dialog
   unfoldable pub notice_of : StartBy maps → List Event → Life → Notification
   notice_of start past l = record {
     number = number start.place.limits l;
@@ -37,6 +37,7 @@ module _ {maps : Maps} where
     watcher = (birth l).head.from.text;
     mailbox = mailbox l;
     target = target start.place.limits l;
+    call_id = (birth l).head.call_id;
   }
 
   -- the NOTIFY at an event, by what befell the subscription there

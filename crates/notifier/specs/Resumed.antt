@@ -35,7 +35,7 @@ pub record IsAbove (low : ℕ) (rows : List Row) : Type 0 where
   pub above : All (λ r. r.serial < low) rows
   pub least : (bound : ℕ) → All (λ r. r.serial < bound) rows → low ≤ bound
 
--- where it is refused for another reason than want of memory, this isn't so
+-- a refusal is right: unless memory was wanting, p doesn't hold
 abbrev pub IsRightly : {X : Type 0} → Result X ResumeError → Type 0 → Type 0
 IsRightly (Ok x) p = Unit {0}
 IsRightly (Err NoMemory) p = Unit {0}

@@ -146,6 +146,7 @@ pub fn note(
       watcher = usage.now.remote;
       resource = unwrap_or (spec.mailbox_of want.now) usage.now.local_tag;
       target = usage.now.target;
+      call_id = usage.now.call_id;
       left = (state_of phase).expires;
     }) }
 {
@@ -153,6 +154,7 @@ pub fn note(
         watcher: usage.remote.copy(alloc)?,
         resource: watched(usage, want).copy(alloc)?,
         target: usage.target.copy(alloc)?,
+        call_id: usage.call_id.copy(alloc)?,
         left: left(phase),
     };
     Boxed::new(alloc, note)

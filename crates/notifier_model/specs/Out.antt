@@ -22,10 +22,11 @@ pub record Notification : Type 0 where
   pub state : StateValue
   pub body : List ℕ
   pub to : Addr
-  -- who watches, what (none: the transfer of its tag), and the remote target of its dialog
+  -- who watches, what (none: the transfer of its tag), and the remote target and the Call-ID of its dialog
   pub watcher : List ℕ
   pub mailbox : Option (List ℕ)
   pub target : List ℕ
+  pub call_id : List ℕ
 
 abbrev pub notification : Addr → Option (List ℕ) → NotifyText → Notification
 notification to mailbox n = record {
@@ -36,6 +37,7 @@ notification to mailbox n = record {
   watcher = n.remote;
   mailbox = mailbox;
   target = n.target;
+  call_id = n.call_id;
 }
 
 -- what is noted with the NOTIFY of a subscription with this local tag: a transfer is named by it
@@ -44,6 +46,7 @@ note_of tag notice = record {
   watcher = notice.watcher;
   resource = unwrap_or notice.mailbox tag;
   target = notice.target;
+  call_id = notice.call_id;
   left = notice.state.expires;
 }
 

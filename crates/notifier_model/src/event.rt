@@ -63,6 +63,8 @@ pub struct Note {
     pub resource: Text,
     /// The remote target of its dialog, the subscriber's Contact (RFC 3261 section 12.1.1).
     pub target: Text,
+    /// The Call-ID of its dialog (RFC 3261 section 12).
+    pub call_id: Text,
     /// How many seconds are left of it, unless it is refreshed: none where it is over.
     pub left: Option<u32>,
 }

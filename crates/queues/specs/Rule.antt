@@ -29,7 +29,7 @@ module _ {T : Type 0} where
   abbrev pub with_item : View T → Item T → View T
   with_item v x = record v { is_receiver = true; taken = v.taken ++ x ∷ [] }
 
-  -- at the receiver's, which takes over the seat of a sender that knows s
+  -- at the receiver's, once a sender's seat is joined to it, where s was known: now both lists are known here
   abbrev pub taken_over : View T → View T → View T
   taken_over v s = record v { is_receiver = true; is_sender = true; number = s.number; sent = s.sent }
 

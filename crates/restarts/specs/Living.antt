@@ -19,6 +19,7 @@ known clock row = record {
     watcher = row.sub.usage.remote;
     resource = unwrap_or (mailbox_of row.sub.want) row.sub.usage.local_tag;
     target = row.sub.usage.target;
+    call_id = row.sub.usage.call_id;
     left = Some (left clock row.sub.due);
   };
 }

@@ -5,3 +5,5 @@ pub mod Replaying
 pub mod Renewing
 pub mod Ending
 pub mod Reloaded
+pub mod Looking
+pub mod Forgetting

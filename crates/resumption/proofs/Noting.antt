@@ -109,10 +109,10 @@ caught_one before after current k =
     ∙ ap (with_workers current) (set_at before k after (caught_up k) (length before) refl)
 
 noted_one : (before after : List Kept) (a : Account) (current : List ℕ)
-    → noted (length before) a (state before after current (kept_from a.book.told)) ≡ state before after (current ++ lines_written (length before) a) (kept_then a)
+    → noted (length before) a (state before after current (kept_from (told_then a))) ≡ state before after (current ++ lines_written (length before) a) (kept_then a)
 noted_one before after a current =
     let w = length before in
-    let k = kept_from a.book.told in
+    let k = kept_from (told_then a) in
     let then = fold tell k a.events in
     ap (λ (s : State). after_catching_up w (handled_all w (lines_of a) s)) (passed_many before after a.events current k)
     ∙ ap (after_catching_up w) (handled_many before after (lines_of a) current then)
@@ -122,7 +122,7 @@ noted_one before after a current =
 -- ---- one worker more
 
 abbrev pub first_kept : Account → Kept
-first_kept a = kept_from a.book.told
+first_kept a = kept_from (told_then a)
 
 abbrev pub all_lines : List Account → List ℕ
 all_lines accounts = flat_map (λ n. lines_written n.0 n.1) (numbered accounts)

@@ -11,9 +11,9 @@ use Rattle.std.proofs.lemmas.Slice.Eq.{bytes_eq-Decides}
 use Rattle.package.specs.declared.change.Change.{Change}
 use Rattle.package.specs.declared.change.Change.TheVariants as change
 use Rattle.package.specs.Texts.{is_word}
-use Rattle.package.specs.Values.{MailChange, IsMailChange}
+use Rattle.package.specs.Values.{MailChange, Progress, IsMailChange}
 use Rattle.notifier_model.specs.declared.row.Row.{Row}
-use Rattle.resumption.specs.Told.{is_mark, mark, marks, mails, with_name, each_once, told_of, is_of_refer, begins}
+use Rattle.resumption.specs.Told.{is_mark, mark, marks, mails, with_name, each_once, told_of, is_of_refer, begins, tags, steps_of}
 use Rattle.resumption.proofs.Lists.{taken_more, any-map}
 
 pub mails-append : (a b : List MailChange) → mails (a ++ b) ≡ mails a ++ mails b
@@ -25,6 +25,14 @@ pub begins-append : (a b : List Row) → begins (a ++ b) ≡ begins a ++ begins 
 begins-append a b =
     ap (map (λ (row : Row). change.Begin row.sub.usage.local_tag)) (filter-append is_of_refer a b)
     ∙ map-append (λ (row : Row). change.Begin row.sub.usage.local_tag) (filter is_of_refer a) (filter is_of_refer b)
+
+pub tags-append : (a b : List Row) → tags (a ++ b) ≡ tags a ++ tags b
+tags-append a b =
+    ap (map (λ (row : Row). row.sub.usage.local_tag)) (filter-append is_of_refer a b)
+    ∙ map-append (λ (row : Row). row.sub.usage.local_tag) (filter is_of_refer a) (filter is_of_refer b)
+
+pub steps-append : (names : List (List ℕ)) (a b : List Progress) → steps_of names (a ++ b) ≡ steps_of names a ++ steps_of names b
+steps-append names a b = filter-append (λ (p : Progress). list_any (bytes_eq p.tag) names) a b
 
 pub marks-append : (a b : List (List ℕ)) → marks (a ++ b) ≡ marks a ++ marks b
 marks-append a b = ap (map mark) (filter-append is_word a b) ∙ map-append mark (filter is_word a) (filter is_word b)
@@ -112,6 +120,18 @@ told_yes keys m there = ap (λ b. cond b (m ∷ []) []) (any-map (bytes_eq m.mai
 
 pub told_no : (keys : List (String Global)) (m : MailChange) → list_any (λ k. bytes_eq m.mailbox (string_bytes k)) keys ≡ false → told_of (map string_bytes keys) (change.Mail m) ≡ []
 told_no keys m there = ap (λ b. cond b (m ∷ []) []) (any-map (bytes_eq m.mailbox) string_bytes keys ∙ there)
+
+-- ---- one step
+
+-- by the tags, or by each of these once
+pub step_once : (names : List (List ℕ)) (p : Progress) → steps_of (each_once names) (p ∷ []) ≡ steps_of names (p ∷ [])
+step_once names p = ap (λ b. cond b (p ∷ []) []) (any_once p.tag names)
+
+pub step_yes : (keys : List (String Global)) (p : Progress) → list_any (λ k. bytes_eq p.tag (string_bytes k)) keys ≡ true → steps_of (map string_bytes keys) (p ∷ []) ≡ p ∷ []
+step_yes keys p there = ap (λ b. cond b (p ∷ []) []) (any-map (bytes_eq p.tag) string_bytes keys ∙ there)
+
+pub step_no : (keys : List (String Global)) (p : Progress) → list_any (λ k. bytes_eq p.tag (string_bytes k)) keys ≡ false → steps_of (map string_bytes keys) (p ∷ []) ≡ []
+step_no keys p there = ap (λ b. cond b (p ∷ []) []) (any-map (bytes_eq p.tag) string_bytes keys ∙ there)
 
 -- ---- marks
 

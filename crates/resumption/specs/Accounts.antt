@@ -23,7 +23,7 @@ use Rattle.journal.specs.Records.{written}
 use Rattle.keeper.specs.Told.{Kept, kept_from, told_event, caught_up}
 use Rattle.keeper.specs.Keeping.{State}
 use Rattle.resumption.specs.declared.desks.Worked.{Worked}
-use Rattle.resumption.specs.Told.{held_names, boxes_told}
+use Rattle.resumption.specs.Told.{held_names, boxes_told, watched}
 
 -- ---- a worker
 
@@ -54,13 +54,18 @@ abbrev pub unanswered : Worked → ℕ → Account → List Out
 unanswered worked worker a =
     filter (is_open (stands worked worker a).book.rows) (map out_of (made_from (place_of worked.setup worker) (book_then worked a) (events_since a)))
 
--- what it had been told at its book
+-- what it had been told at its book, of transfers that it watched
 abbrev pub told_then : Account → Told
-told_then a = a.book.told
+told_then a = record {
+  events = a.book.told.events;
+  mails = a.book.told.mails;
+  mail = a.book.told.mail;
+  progress = watched a.book.saved.rows a.book.told.progress;
+}
 
 -- what was told to it by now, and counted
 abbrev pub kept_then : Account → Kept
-kept_then a = caught_up (fold (λ (k : Kept) e. told_event e k) (kept_from a.book.told) (events_since a))
+kept_then a = caught_up (fold (λ (k : Kept) e. told_event e k) (kept_from (told_then a)) (events_since a))
 
 -- what is to be written of it: that it handles the lines now
 abbrev pub lines_written : ℕ → Account → List ℕ

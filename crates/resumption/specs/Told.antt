@@ -2,7 +2,7 @@
 --
 -- A mailbox that was never told anything is another than one that was told of no messages: its content names no class. So what stands
 -- there of it is a count that nobody has.
-use Rattle.std.specs.Prelude.{ℕ, ◌==◌, ◌&&◌, not, Bool, true, false, List, [], ◌∷◌, ◌++◌, map, filter, fold, if◌then◌else◌, codes, bytes_eq}
+use Rattle.std.specs.Prelude.{◌≡◌, ℕ, ◌==◌, ◌&&◌, not, Bool, true, false, List, [], ◌∷◌, ◌++◌, map, filter, fold, if◌then◌else◌, codes, bytes_eq}
 use Rattle.std.specs.List.{list_any, flat_map}
 use Rattle.package.specs.declared.change.Change.{Change}
 use Rattle.package.specs.declared.change.Change.TheVariants as change
@@ -13,6 +13,7 @@ use Rattle.package.specs.Content.{Seen}
 use Rattle.package.specs.Values.{MailChange, Progress}
 use Rattle.notifier_model.specs.declared.row.Row.{Row}
 use Rattle.journal.specs.declared.record.Told.{Told}
+use Rattle.keeper.specs.Told.{without}
 use Rattle.arguments.specs.Told.{boxes_left}
 
 -- ---- mailboxes (RFC 3842 section 5.2)
@@ -76,6 +77,18 @@ is_of_refer row = bytes_eq row.sub.want.event.package (codes "refer")
 abbrev pub begins : List Row → List Change
 begins rows = map (λ (row : Row). change.Begin row.sub.usage.local_tag) (filter is_of_refer rows)
 
+-- the tags of the transfers that these rows watch
+abbrev pub tags : List Row → List (List ℕ)
+tags rows = map (λ (row : Row). row.sub.usage.local_tag) (filter is_of_refer rows)
+
+-- of these steps those of the transfers with these tags
+abbrev pub steps_of : List (List ℕ) → List Progress → List Progress
+steps_of tags steps = filter (λ (p : Progress). list_any (bytes_eq p.tag) tags) steps
+
+-- A transfer that no row watches is told to nobody any more: its last step is forgotten.
+abbrev pub watched : List Row → List Progress → List Progress
+watched rows steps = steps_of (tags rows) steps
+
 -- what was told of the transfers that these rows watch: each began, and then its last step
 abbrev pub transfers : List Row → List Progress → List Change
 transfers rows steps = begins rows ++ map (λ p. change.Step p) steps
@@ -85,3 +98,14 @@ transfers rows steps = begins rows ++ map (λ p. change.Step p) steps
 -- of these names: the mailboxes, with what was told of them, and the transfers that these rows watch, with their last steps
 abbrev pub boxes_told : Bool → List (List ℕ) → Told → List Row → List Seen
 boxes_told no_refer names told rows = boxes_left no_refer (mails told.mail) (transfers rows told.progress) names
+
+-- What is forgotten of transfers makes nothing of the packages: they are as all steps make them.
+abbrev pub ForgottenLaw : Type 0
+ForgottenLaw = (no_refer : Bool) (names : List (List ℕ)) (told : Told) (rows : List Row) →
+    boxes_told no_refer names (record told { progress = watched rows told.progress }) rows ≡ boxes_told no_refer names told rows
+
+-- Nor does what a keeper forgets of transfers that are gone, where these rows watch none of them.
+abbrev pub GoneLaw : Type 0
+GoneLaw = (no_refer : Bool) (names gone : List (List ℕ)) (told : Told) (rows : List Row) →
+    ((tag : List ℕ) → list_any (bytes_eq tag) (tags rows) ≡ true → list_any (bytes_eq tag) gone ≡ false) →
+    boxes_told no_refer names (record told { progress = without gone told.progress }) rows ≡ boxes_told no_refer names told rows

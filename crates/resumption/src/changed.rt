@@ -1,6 +1,6 @@
 //! Desks that don't go on as they stood in a journal: with other mailboxes, under other limits, behind another start of the machine, or not at all.
 
-ghost use Rattle.std.specs.Prelude.{◌≡◌, ◌<◌, ◌++◌, ◌∷◌, [], if◌then◌else◌, map, length, take, option_map, string_bytes, Some, IfOk, IfErr, OnOk};
+ghost use Rattle.std.specs.Prelude.{◌≡◌, ◌<◌, ◌≤◌, ◌++◌, ◌∷◌, [], if◌then◌else◌, map, length, take, option_map, string_bytes, Some, IfOk, IfErr, OnOk};
 ghost use Rattle.arguments.specs.Wanted.{Gives};
 ghost use Rattle.notifier_model.specs.Start.{place_of};
 ghost use Rattle.notifier.specs.Held.{seen_by};
@@ -309,7 +309,8 @@ where
 
 /// Ends all subscriptions of a desk, and gives what is told of that.
 fn shut<P: Package>(alloc: Global, desk: Desk<P>) -> Result<Vec<Out>, Halt>
-    ensures { IfOk result (λ outs. outs.items ≡ spec.shut_outs (seen_by P.seen desk)) }
+    ensures outs { IfOk result (λ outs. outs.items ≡ spec.shut_outs (seen_by P.seen desk)) }
+    ensures memory { IfErr result (λ e. e ≡ Halt.NoMemory) }
 {
     let mut desk = desk;
     let Ok(outs) = desk.handle(alloc, &Event::Shut) else {
@@ -324,7 +325,8 @@ pub fn shut_all<P: Package>(
     desks: Vec<Desk<P>>,
     outs: &mut Vec<Out>,
 ) -> Result<(), Halt>
-    ensures { OnOk result (outs.new.items ≡ outs.old.items ++ spec.all_shut (map (seen_by P.seen) desks.items)) }
+    ensures outs { OnOk result (outs.new.items ≡ outs.old.items ++ spec.all_shut (map (seen_by P.seen) desks.items)) }
+    ensures memory { IfErr result (λ e. e ≡ Halt.NoMemory) }
 {
     for desk in desks {
         let mut more = shut(alloc, desk)?;
@@ -334,6 +336,7 @@ pub fn shut_all<P: Package>(
 }
 
 /// What all workers were told of mailboxes, and the greatest counts of events and of mails.
+#[tactic(auto, using(crate::proofs::Looking::told_by_all))]
 pub fn told_of_all(
     alloc: Global,
     keeper: &Keeper,
@@ -342,6 +345,8 @@ pub fn told_of_all(
     ensures changes { IfOk result (λ all. all.0.items ≡ spec.all_mails (take workers keeper.now.workers)) }
     ensures events { IfOk result (λ all. all.1 ≡ spec.most_events (take workers keeper.now.workers)) }
     ensures mails { IfOk result (λ all. all.2 ≡ spec.most_mails (take workers keeper.now.workers)) }
+    // Of workers that it knows.
+    ensures memory { workers ≤ length keeper.now.workers → IfErr result (λ e. e ≡ Halt.NoMemory) }
 {
     let mut changes = Vec::new(alloc);
     let mut events = 0;

@@ -6,12 +6,12 @@ ghost use Rattle.notifier.specs.Held.{seen_by};
 ghost use Rattle.resumption.specs.Accounts as spec;
 ghost use Rattle.resumption.specs.Noted.{noted, passed_all, handled_all};
 
-use crate::told::{boxes_told, held_names};
+use crate::told::{boxes_told, held_names, watched};
 use arguments::Wanted;
 use journal::{Account, Book, Told, Unwritten};
 use keeper::{Keeper, Unkept};
 use notifier::{Desk, Event, Out, ResumeError, Setup};
-use package::{MailChange, Package, Progress};
+use package::{MailChange, Package};
 use restarts::{Left, restart};
 use sip_text::{NoMemory, Values};
 use std::alloc::{AllocError, AllocFailed, Global};
@@ -25,18 +25,30 @@ pub enum Halt {
 }
 
 impl From<NoMemory> for Halt {
+    ghost use Rattle.resumption.specs.declared.desks.Halt.TheVariants as halt;
+
+    ghost from_gives = { λ _ e. e ≡ halt.NoMemory };
+
     fn from(_refused: NoMemory) -> Halt {
         Halt::NoMemory
     }
 }
 
 impl From<AllocError> for Halt {
+    ghost use Rattle.resumption.specs.declared.desks.Halt.TheVariants as halt;
+
+    ghost from_gives = { λ _ e. e ≡ halt.NoMemory };
+
     fn from(_refused: AllocError) -> Halt {
         Halt::NoMemory
     }
 }
 
 impl<T: Drop> From<AllocFailed<T>> for Halt {
+    ghost use Rattle.resumption.specs.declared.desks.Halt.TheVariants as halt;
+
+    ghost from_gives = { λ _ e. e ≡ halt.NoMemory };
+
     fn from(_refused: AllocFailed<T>) -> Halt {
         Halt::NoMemory
     }
@@ -52,6 +64,10 @@ impl From<ResumeError> for Halt {
 }
 
 impl From<Unkept> for Halt {
+    ghost use Rattle.resumption.specs.Halts.{halted};
+
+    ghost from_gives = { λ why e. e ≡ halted why };
+
     fn from(error: Unkept) -> Halt {
         match error {
             Unkept::NoMemory | Unkept::Unwritten(Unwritten::NoMemory) => Halt::NoMemory,
@@ -100,23 +116,15 @@ fn copy_mails(alloc: Global, changes: &[MailChange]) -> Result<Vec<MailChange>, 
     Ok(copy)
 }
 
-/// A copy of steps of transfers.
-fn copy_steps(alloc: Global, steps: &[Progress]) -> Result<Vec<Progress>, NoMemory>
-    ensures { IfOk result (λ copy. copy.items ≡ steps.now) }
+/// What a worker had been told at its book. Of a transfer that it didn't watch any more nothing is kept: so what is kept doesn't grow with
+/// transfers whose subscriptions ended before their last steps came.
+fn told_then(alloc: Global, account: &Account) -> Result<Told, NoMemory>
+    ensures { IfOk result (λ told. told ≡ spec.told_then account.now) }
 {
-    let mut copy = Vec::new(alloc);
-    for step in steps {
-        copy.push(step.copy(alloc)?)?;
-    }
-    Ok(copy)
-}
-
-/// A copy of what a worker was told.
-fn copy_told(alloc: Global, told: &Told) -> Result<Told, NoMemory>
-    ensures { IfOk result (λ copy. copy ≡ told.now) }
-{
+    let told = &account.book.told;
     let mail = copy_mails(alloc, told.mail.as_slice())?;
-    let progress = copy_steps(alloc, told.progress.as_slice())?;
+    let rows = account.book.saved.rows.as_slice();
+    let progress = watched(alloc, rows, told.progress.as_slice())?;
     Ok(Told {
         events: told.events,
         mails: told.mails,
@@ -126,12 +134,12 @@ fn copy_told(alloc: Global, told: &Told) -> Result<Told, NoMemory>
 }
 
 /// What workers had been told at their books.
-fn told_then(alloc: Global, accounts: &[Account]) -> Result<Vec<Told>, NoMemory>
+fn all_told_then(alloc: Global, accounts: &[Account]) -> Result<Vec<Told>, NoMemory>
     ensures { IfOk result (λ all. all.items ≡ map spec.told_then accounts.now) }
 {
     let mut all = Vec::new(alloc);
     for account in accounts {
-        all.push(copy_told(alloc, &account.book.told)?)?;
+        all.push(told_then(alloc, account)?)?;
     }
     Ok(all)
 }
@@ -263,7 +271,7 @@ where
     ensures unanswered { IfOk result (λ r. r.unanswered.items ≡ spec.all_unanswered worked.now accounts.items) }
     ensures kept { IfOk result (λ r. r.keeper ≡ spec.all_kept accounts.items) }
 {
-    let told = told_then(alloc, accounts.as_slice())?;
+    let told = all_told_then(alloc, accounts.as_slice())?;
     let keeper = Keeper::new(alloc, told)?;
     let mut replayed = Replayed {
         desks: Vec::new(alloc),

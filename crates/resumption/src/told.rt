@@ -183,6 +183,62 @@ fn add_begins(alloc: Global, changes: &mut Vec<Change>, rows: &[Row]) -> Result<
     Ok(())
 }
 
+/// Adds the tag of the transfer that is watched by this row, if it watches one.
+fn add_tag(alloc: Global, tags: &mut Vec<String>, row: &Row) -> Result<(), NoMemory>
+    ensures { OnOk result (map string_bytes tags.new.items ≡ map string_bytes tags.old.items ++ spec.tags (row.now ∷ [])) }
+{
+    let sub = &row.sub;
+    if sub.want().event.package() == "refer" {
+        let tag = String::from_str(alloc, sub.usage().local_tag.as_str())?;
+        tags.push(tag)?;
+    }
+    Ok(())
+}
+
+/// The tags of the transfers that these rows watch.
+fn transfer_tags(alloc: Global, rows: &[Row]) -> Result<Vec<String>, NoMemory>
+    ensures { IfOk result (λ tags. map string_bytes tags.items ≡ spec.tags rows.now) }
+{
+    let mut tags = Vec::new(alloc);
+    for row in rows {
+        add_tag(alloc, &mut tags, row)?;
+    }
+    Ok(tags)
+}
+
+/// Adds a step, if its transfer has one of these tags.
+fn add_watched(
+    alloc: Global,
+    steps: &mut Vec<Progress>,
+    tags: &IndexSet<String>,
+    step: &Progress,
+) -> Result<(), NoMemory>
+    ensures { OnOk result (steps.new.items ≡ steps.old.items ++ spec.steps_of (map string_bytes tags.now.keys) (step.now ∷ [])) }
+{
+    if tags.contains(step.tag()) {
+        steps.push(step.copy(alloc)?)?;
+        return Ok(());
+    }
+    Ok(())
+}
+
+/// Copies of those of these steps whose transfers are watched by these rows.
+pub(crate) fn watched(
+    alloc: Global,
+    rows: &[Row],
+    steps: &[Progress],
+) -> Result<Vec<Progress>, NoMemory>
+    ensures { IfOk result (λ left. left.items ≡ spec.watched rows.now steps.now) }
+{
+    let tags = transfer_tags(alloc, rows)?;
+    let held = name_set(alloc, tags.as_slice())?;
+    let mut left = Vec::new(alloc);
+    for step in steps {
+        add_watched(alloc, &mut left, &held, step)?;
+    }
+    Ok(left)
+}
+
 /// Adds these steps of transfers.
 fn add_steps(alloc: Global, changes: &mut Vec<Change>, steps: &[Progress]) -> Result<(), NoMemory>
     ensures { OnOk result (changes.new.items ≡ changes.old.items ++ map (λ p. Change.Step p) steps.now) }

@@ -8,3 +8,4 @@ pub mod Sent
 pub mod Kept
 pub mod Finished
 pub mod Counted
+pub mod Lives

@@ -5,3 +5,4 @@ pub mod Hearing
 pub mod Working
 pub mod Gathering
 pub mod Crew
+pub mod Laws

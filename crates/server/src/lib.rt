@@ -15,6 +15,7 @@
 mod crew_work;
 mod gathering;
 mod hearing;
+pub mod laws;
 mod printing;
 pub mod program;
 pub mod script;

@@ -23,7 +23,7 @@ use Rattle.first_contact.specs.Steps.{notice_of}
 use Rattle.service.specs.declared.post.Note.{Note}
 use Rattle.service.specs.Noted.{answer_of}
 use Rattle.service.specs.Taken.{failures_then}
-use Rattle.service.specs.Sending.{Act, Put, Held, Released, Noted, Repeated, Tried, GaveUp, Gone, fate_of, fates, sent_by, sent_again, datagrams, fails_at, failures, call_of, calls, kept_after, taking, AreAsked, Does, WithoutRepeatsLaw}
+use Rattle.service.specs.Sending.{Act, Put, Held, Released, Noted, Repeated, Tried, GaveUp, Gone, noting, fate_of, fates, sent_by, sent_again, datagrams, fails_at, failures, call_of, calls, kept_after, taking, WentOut, AreAsked, Does, WithoutRepeatsLaw}
 
 -- ---- two parts of what it did
 
@@ -62,30 +62,27 @@ does_more {a = a} {b = b} {s = s} {t = t} {v = v} {w = w} {x = x} first then =
 
 -- ---- notes
 
-abbrev pub noted : Note → Act
-noted n = Noted n.tag n.number n.status
-
-noted_calls : (notes : List Note) → calls (map noted notes) ≡ map answer_of notes
+noted_calls : (notes : List Note) → calls (map noting notes) ≡ map answer_of notes
 noted_calls [] = refl
 noted_calls (n ∷ notes) = ap (λ l. answer_of n ∷ l) (noted_calls notes)
 
-pub noted_fates : (notes : List Note) → fates (map noted notes) ≡ []
+pub noted_fates : (notes : List Note) → fates (map noting notes) ≡ []
 noted_fates [] = refl
 noted_fates (n ∷ notes) = noted_fates notes
 
-noted_datagrams : (notes : List Note) → datagrams (map noted notes) ≡ []
+noted_datagrams : (notes : List Note) → datagrams (map noting notes) ≡ []
 noted_datagrams [] = refl
 noted_datagrams (n ∷ notes) = noted_datagrams notes
 
-noted_failures : (notes : List Note) → failures (map noted notes) ≡ 0
+noted_failures : (notes : List Note) → failures (map noting notes) ≡ 0
 noted_failures [] = refl
 noted_failures (n ∷ notes) = noted_failures notes
 
-noted_asked : (notes : List Note) (s : State) → AreAsked s (map noted notes)
+noted_asked : (notes : List Note) (s : State) → AreAsked s (map noting notes)
 noted_asked [] s = tt
-noted_asked (n ∷ notes) s = (tt, noted_asked notes (state_after (option_to_list (call_of (noted n))) s))
+noted_asked (n ∷ notes) s = (tt, noted_asked notes (state_after (option_to_list (call_of (noting n))) s))
 
-pub does_notes : (notes : List Note) (s t : State) (w : WireSeen) → t ≡ state_after (map answer_of notes) s → Does (map noted notes) s t w w
+pub does_notes : (notes : List Note) (s t : State) (w : WireSeen) → t ≡ state_after (map answer_of notes) s → Does (map noting notes) s t w w
 does_notes notes s t w is =
     let P : List Datagram → Type 0 = λ l. Grows w.taken w.taken l in record {
       taken = subst P (sym (noted_datagrams notes)) (grows_none w.taken);
@@ -149,11 +146,11 @@ late_failures now (out.Notify to number terminated tag note octets) Failed = ref
 late_failures now (out.Start tag refer_to) Failed = refl
 
 pub does_late : (now : ℕ) (o : Out) (f : Fate) (s t : State) (v w : WireSeen) → Grows v.taken w.taken (sent_datagrams (one o f))
-    → w.failures ≡ rises (count fails_to_send (one o f)) v.failures → t ≡ kept_after now o s → Does (Released now o f ∷ []) s t v w
-does_late now o f s t v w taken failed is = record {
+    → w.failures ≡ rises (count fails_to_send (one o f)) v.failures → t ≡ kept_after now o s → WentOut o f → Does (Released now o f ∷ []) s t v w
+does_late now o f s t v w taken failed is went = record {
   taken = taken;
   failed = failed ∙ ap (λ n. rises n v.failures) (sym (late_failures now o f));
-  asked = (tt, tt);
+  asked = (went, tt);
   open_now = is ∙ sym (state_first (call_of (Released now o f)) [] s);
 }
 
@@ -223,7 +220,7 @@ without_repeats [] = refl
 without_repeats (Put now o fate ∷ acts) = ap (cons_option (datagram_sent o fate)) (without_repeats acts)
 without_repeats (Held now o ∷ acts) = without_repeats acts
 without_repeats (Released now o fate ∷ acts) = without_repeats acts
-without_repeats (Noted tag number status ∷ acts) = without_repeats acts
+without_repeats (Noted tag call_id number status ∷ acts) = without_repeats acts
 without_repeats (Repeated now sent fails ∷ acts) = without_repeats acts
 without_repeats (Tried now sent fails ∷ acts) = without_repeats acts
 without_repeats (GaveUp now ∷ acts) = without_repeats acts

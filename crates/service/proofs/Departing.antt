@@ -23,7 +23,7 @@ use Rattle.feeds.proofs.Emitting.{one, meeting_none, meeting_out}
 use Rattle.feeds.proofs.Telling.{grows_none, grows_same}
 use Rattle.transactions.specs.Machine.{State}
 use Rattle.service.specs.Departing.{Takes, next_outs}
-use Rattle.service.specs.Sending.{Act, fate_of, fates, taking, Does, EachWasHeld, IsSentOut}
+use Rattle.service.specs.Sending.{Act, fate_of, fates, taking, Does, EachWasHeld, NoneOvertakes, IsSentOut}
 use Rattle.service.proofs.Acts.{taken_fates}
 
 -- ---- what is taken
@@ -159,8 +159,8 @@ module _ {acts : List Act} {outs : List Out} {t0 t : TakerSeat} {left : ℕ} {to
 -- all that was taken has left
 pub sent_out : {t0 t : TakerSeat} {left : ℕ} {told told' : Option (List Datagram)} {acts : List Act} {outs : List Out} {s u : State} {wire wire' : WireSeen}
     {writer writer' : WriterSeen} {report : EmitReport} → Ahead acts outs t0 t left told told' writer writer' report → outs ≡ []
-    → Does acts s u wire wire' → EachWasHeld acts → IsSentOut s t0.workers acts t0.got t.got (record { wire = wire; wire' = wire'; writer = writer; writer' = writer' }) report
-sent_out {acts = acts} was none did each =
+    → Does acts s u wire wire' → EachWasHeld acts → NoneOvertakes acts → IsSentOut s t0.workers acts t0.got t.got (record { wire = wire; wire' = wire'; writer = writer; writer' = writer' }) report
+sent_out {acts = acts} was none did each order =
     let got = was.takes.got in let met = was.met.1 in
     let front : List Out = map (λ (x : Out × Fate). x.0) (fates acts) in record {
       met = record {
@@ -173,4 +173,5 @@ sent_out {acts = acts} was none did each =
       };
       does = record { taken = did.taken; failed = did.failed; asked = did.asked; open_now = refl };
       was_held = each;
+      in_order = order;
     }

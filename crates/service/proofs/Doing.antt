@@ -177,6 +177,14 @@ module _ (most : ℕ) (octets : List ℕ) (rows : List Row) (old new : PortSeats
   done_reload did.Ending asks is = done_none did.Ending (refl, asks)
   done_reload did.Gone asks is = absurd is
 
+-- a change is never known again, nor is a question
+pub changed_anew : (most : ℕ) (c : Change) (rows rows' : List Row) (old new : PortSeats) (d : Handled) (a : ControlAnswer)
+    → IsChanged most c rows rows' old new d → d ≡ did.Repeated a → ⊥
+changed_anew most c rows rows' old new d a is again = subst (λ (x : Handled). IsChanged most c rows rows' old new x) again is
+
+pub found_anew : (rows : List Row) (q : Question) (d : Handled) (a : ControlAnswer) → IsFound rows q d → d ≡ did.Repeated a → ⊥
+found_anew rows q d a is again = subst (λ (x : Handled). IsFound rows q x) again is
+
 pub behind_is : (o : Option ℕ) (n : ℕ) → Some n ≡ option_map (λ k. k + 1) o → (before : ℕ) × (o ≡ Some before) × (n ≡ before + 1)
 behind_is None n e = absurd cc
 behind_is (Some k) n e = (k, refl, (cc))

@@ -1,6 +1,6 @@
 -- What is released was held back before.
 use Rattle.std.proofs.Common.{◌≡◌, ◌∙◌, ◌⊎◌, ℕ, Bool, true, false, List, [], ◌∷◌, ◌++◌, length, map, Option, Some, None, refl, ap, sym, subst, inl, inr, append_assoc, arith}
-use Rattle.std.specs.Prelude.{bytes_eq, nat_le, ◌==◌, Result, Ok, Err, MatchResult, if◌then◌else◌}
+use Rattle.std.specs.Prelude.{bytes_eq, nat_le, ◌==◌, is_some, Result, Ok, Err, MatchResult, if◌then◌else◌}
 use Rattle.std.specs.List.{filter, AllByRecursion}
 use Rattle.std.proofs.lemmas.List.{append-nil, map-append}
 use Rattle.std.proofs.lemmas.List.Elements.{filter-append, filter_map-append}
@@ -21,9 +21,8 @@ use Rattle.first_contact.specs.Outcomes.{IsOffered, IsLetOn, IsPassed, IsAnswer}
 use Rattle.first_contact.specs.Tables.{at, IsStepped, IsSame}
 use Rattle.first_contact.specs.Steps.{ContactSeen, Step, tag_in, notice_of, waiting, idle, begun, same_addr, begins_anew, goes_once, goes_first, passes, waits as waiting_step, drops, has_place, offered, offered_there, answered, given_up, ended, is_ending, opened, opened_last, opened_more, is_open, passed_to, passed, heard, is_told}
 use Rattle.service.specs.declared.post.Note.{Note}
-use Rattle.service.specs.Sending.{Act, Held, Released, held_back, held, let_go, released, of_dialog, IsPart, EachWasHeld}
-use Rattle.service.specs.Releasing.{outs, Waits, waits, Fewer, WaitsBehind, ahead, AreReleased, AreHeld, HoldsOn, ReleasesFirst}
-use Rattle.service.proofs.Acts.{noted}
+use Rattle.service.specs.Sending.{Act, Put, Held, Released, noting, held_back, held, let_go, released, of_dialog, IsPart, fate_of, fates, leaves, sent_first, taken_outs, notifies, notifys}
+use Rattle.service.specs.Releasing.{outs, Waits, waits, Fewer, WaitsBehind, PassesNone, ahead, AreReleased, AreHeld, HoldsOn, ReleasesFirst}
 use Rattle.service.proofs.Letting.{notice_itself}
 
 -- ---- parts
@@ -88,14 +87,31 @@ first_holds P x xs (y ∷ ys) h all = elim h [
 
 -- ---- of one dialog
 
-all_of_dialog : (tag : List ℕ) (os : List Out) → AllByRecursion (λ (o : Out). bytes_eq (tag_in o) tag ≡ true) (of_dialog tag os)
-all_of_dialog tag [] = tt
-all_of_dialog tag (o ∷ os) = by (bytes_eq (tag_in o) tag) refl (all_of_dialog tag os)
+all_notifys : (tag : List ℕ) (os : List Out) → AllByRecursion (λ (o : Out). notifies tag o ≡ true) (notifys tag os)
+all_notifys tag [] = tt
+all_notifys tag (o ∷ os) = by (notifies tag o) refl (all_notifys tag os)
   where
-    by : (b : Bool) → bytes_eq (tag_in o) tag ≡ b → AllByRecursion (λ (x : Out). bytes_eq (tag_in x) tag ≡ true) (of_dialog tag os)
-        → AllByRecursion (λ (x : Out). bytes_eq (tag_in x) tag ≡ true) (if b then o ∷ of_dialog tag os else of_dialog tag os)
+    by : (b : Bool) → notifies tag o ≡ b → AllByRecursion (λ (x : Out). notifies tag x ≡ true) (notifys tag os)
+        → AllByRecursion (λ (x : Out). notifies tag x ≡ true) (if b then o ∷ notifys tag os else notifys tag os)
     by true is all = (is, all)
     by false is all = all
+
+-- a NOTIFY of a dialog has its tag
+notifies_tag : (tag : List ℕ) (o : Out) → notifies tag o ≡ true → tag_in o ≡ tag
+notifies_tag tag (out.Answer to octets) is = absurd cc
+notifies_tag tag (out.Notify to number terminated named note octets) is = (bytes_eq-Decides named tag).0 is
+notifies_tag tag (out.Start named refer_to) is = absurd cc
+
+notifies_some : (tag : List ℕ) (o : Out) → notifies tag o ≡ true → is_some (notice_of o) ≡ true
+notifies_some tag (out.Answer to octets) is = absurd cc
+notifies_some tag (out.Notify to number terminated named note octets) is = refl
+notifies_some tag (out.Start named refer_to) is = absurd cc
+
+-- a NOTIFY alone
+notify_alone : (tag : List ℕ) (o : Out) → is_some (notice_of o) ≡ true → notifys tag (o ∷ []) ≡ of_dialog tag (o ∷ [])
+notify_alone tag (out.Answer to octets) is = absurd cc
+notify_alone tag (out.Notify to number terminated named note octets) is = refl
+notify_alone tag (out.Start named refer_to) is = absurd cc
 
 released_more : (tag : List ℕ) (a b : List Act) → of_dialog tag (released (a ++ b)) ≡ of_dialog tag (released a) ++ of_dialog tag (released b)
 released_more tag a b = ap (of_dialog tag) (filter_map-append let_go a b) ∙ filter-append (λ (o : Out). bytes_eq (tag_in o) tag) (released a) (released b)
@@ -122,32 +138,66 @@ beginnings (x ∷ acts) a (b ∷ before) after e =
       | inr is ↦ inr (is.0, ap (λ (l : List Act). x ∷ l) is.1 ∙ ap (λ (y : Act). y ∷ (before ++ is.0)) same)
     ]
 
--- it releases what was first, or holds back what is last then
+sent_more : (tag : List ℕ) (a b : List Act) → notifys tag (sent_first (a ++ b)) ≡ notifys tag (sent_first a) ++ notifys tag (sent_first b)
+sent_more tag a b = ap (notifys tag) (filter_map-append leaves a b) ∙ filter-append (notifies tag) (sent_first a) (sent_first b)
+
+taken_more : (tag : List ℕ) (a b : List Act) → notifys tag (taken_outs (a ++ b)) ≡ notifys tag (taken_outs a) ++ notifys tag (taken_outs b)
+taken_more tag a b =
+    let outs_of : Out × Fate → Out = λ x. x.0 in
+    ap (λ l. notifys tag (map outs_of l)) (filter_map-append fate_of a b) ∙ ap (notifys tag) (map-append outs_of (fates a) (fates b))
+    ∙ filter-append (notifies tag) (taken_outs a) (taken_outs b)
+
+-- what left of a dialog, and what came of it
+module _ (left came : List Act → List Out) (left_more : (a b : List Act) → left (a ++ b) ≡ left a ++ left b)
+    (came_more : (a b : List Act) → came (a ++ b) ≡ came a ++ came b) (v v' : List Out) (a : Act) (moves : IsPart (left (a ∷ []) ++ v') (v ++ came (a ∷ []))) where
+  -- by one act more what was first leaves, or what is last then comes
+  order_then : (acts : List Act) → IsPart (left acts ++ v) (came acts) → IsPart (left (acts ++ a ∷ []) ++ v') (came (acts ++ a ∷ []))
+  order_then acts is =
+      let l : List Out = left acts in let l1 : List Out = left (a ∷ []) in let k : List Out = came acts in let k1 : List Out = came (a ∷ []) in
+      let here : IsPart (l ++ (l1 ++ v')) (l ++ (v ++ k1)) = front l (l1 ++ v') (v ++ k1) moves in
+      let was : IsPart ((l ++ v) ++ k1) (k ++ k1) = behind (l ++ v) k k1 is in
+      let before : IsPart (l ++ (v ++ k1)) (k ++ k1) = subst (λ (x : List Out). IsPart x (k ++ k1)) (append_assoc l v k1) was in
+      let all : IsPart (l ++ (l1 ++ v')) (k ++ k1) = part_more (l ++ (l1 ++ v')) (l ++ (v ++ k1)) (k ++ k1) here before in
+      subst (λ (x : List Out). IsPart x (came (acts ++ a ∷ []))) (sym (ap (λ (x : List Out). x ++ v') (left_more acts (a ∷ [])) ∙ append_assoc l l1 v'))
+      (subst (λ (x : List Out). IsPart (l ++ (l1 ++ v')) x) (sym (came_more acts (a ∷ []))) all)
+
+  -- so at every moment
+  always_then : (acts : List Act) → IsPart (left acts ++ v) (came acts) → ((before after : List Act) → acts ≡ before ++ after → IsPart (left before) (came before))
+      → (before after : List Act) → acts ++ a ∷ [] ≡ before ++ after → IsPart (left before) (came before)
+  always_then acts is so_far before after e = elim (beginnings acts a before after e) [
+    | inl all ↦ subst (λ (l : List Act). IsPart (left l) (came l)) (sym all)
+        (part_more (left (acts ++ a ∷ [])) (left (acts ++ a ∷ []) ++ v') (came (acts ++ a ∷ [])) (first_part (left (acts ++ a ∷ [])) v') (order_then acts is))
+    | inr some ↦ so_far before some.0 some.1
+  ]
+
+-- it releases what was first, or holds back what is last then; and what goes out first by it was taken first, or what is taken is last
 module _ (w w' : Waits) (a : Act)
-    (moves : (tag : List ℕ) → IsPart (of_dialog tag (released (a ∷ [])) ++ w' tag) (w tag ++ of_dialog tag (held (a ∷ [])))) where
-  in_order_then : (acts : List Act) → AreHeld acts w → (tag : List ℕ)
-      → IsPart (of_dialog tag (released (acts ++ a ∷ [])) ++ w' tag) (of_dialog tag (held (acts ++ a ∷ [])))
-  in_order_then acts is tag =
-      let r : List Out = of_dialog tag (released acts) in let r1 : List Out = of_dialog tag (released (a ∷ [])) in
-      let h : List Out = of_dialog tag (held acts) in let h1 : List Out = of_dialog tag (held (a ∷ [])) in
-      let here : IsPart (r ++ (r1 ++ w' tag)) (r ++ (w tag ++ h1)) = front r (r1 ++ w' tag) (w tag ++ h1) (moves tag) in
-      let was : IsPart ((r ++ w tag) ++ h1) (h ++ h1) = behind (r ++ w tag) h h1 (is.in_order tag) in
-      let before : IsPart (r ++ (w tag ++ h1)) (h ++ h1) = subst (λ (l : List Out). IsPart l (h ++ h1)) (append_assoc r (w tag) h1) was in
-      let all : IsPart (r ++ (r1 ++ w' tag)) (h ++ h1) = part_more (r ++ (r1 ++ w' tag)) (r ++ (w tag ++ h1)) (h ++ h1) here before in
-      let left : of_dialog tag (released (acts ++ a ∷ [])) ++ w' tag ≡ r ++ (r1 ++ w' tag) =
-      ap (λ (l : List Out). l ++ w' tag) (released_more tag acts (a ∷ [])) ∙ append_assoc r r1 (w' tag) in
-      subst (λ (l : List Out). IsPart l (of_dialog tag (held (acts ++ a ∷ [])))) (sym left)
-      (subst (λ (l : List Out). IsPart (r ++ (r1 ++ w' tag)) l) (sym (held_more tag acts (a ∷ []))) all)
+    (moves : (tag : List ℕ) → IsPart (of_dialog tag (released (a ∷ [])) ++ w' tag) (w tag ++ of_dialog tag (held (a ∷ []))))
+    (goes : (tag : List ℕ) → IsPart (notifys tag (sent_first (a ∷ [])) ++ w' tag) (w tag ++ notifys tag (taken_outs (a ∷ [])))) where
+  abbrev was_released : List ℕ → List Act → List Out
+  was_released tag acts = of_dialog tag (released acts)
+
+  abbrev was_held : List ℕ → List Act → List Out
+  was_held tag acts = of_dialog tag (held acts)
+
+  abbrev was_sent : List ℕ → List Act → List Out
+  was_sent tag acts = notifys tag (sent_first acts)
+
+  abbrev was_taken : List ℕ → List Act → List Out
+  was_taken tag acts = notifys tag (taken_outs acts)
 
   pub one_on : HoldsOn (a ∷ []) w w'
   one_on acts is = record {
-    so_far = λ before after e tag. elim (beginnings acts a before after e) [
-      | inl all ↦ subst (λ (l : List Act). IsPart (of_dialog tag (released l)) (of_dialog tag (held l))) (sym all)
-          (part_more (of_dialog tag (released (acts ++ a ∷ []))) (of_dialog tag (released (acts ++ a ∷ [])) ++ w' tag) (of_dialog tag (held (acts ++ a ∷ [])))
-          (first_part (of_dialog tag (released (acts ++ a ∷ []))) (w' tag)) (in_order_then acts is tag))
-      | inr some ↦ is.so_far before some.0 some.1 tag
-    ];
-    in_order = in_order_then acts is;
+    so_far = λ before after e tag.
+        always_then (was_released tag) (was_held tag) (released_more tag) (held_more tag) (w tag) (w' tag) a (moves tag) acts (is.in_order tag)
+        (λ first rest p. is.so_far first rest p tag) before after e;
+    in_order = λ tag.
+        order_then (was_released tag) (was_held tag) (released_more tag) (held_more tag) (w tag) (w' tag) a (moves tag) acts (is.in_order tag);
+    none_overtook = λ before after e tag.
+        always_then (was_sent tag) (was_taken tag) (sent_more tag) (taken_more tag) (w tag) (w' tag) a (goes tag) acts (is.behind_sent tag)
+        (λ first rest p. is.none_overtook first rest p tag) before after e;
+    behind_sent = λ tag.
+        order_then (was_sent tag) (was_taken tag) (sent_more tag) (taken_more tag) (w tag) (w' tag) a (goes tag) acts (is.behind_sent tag);
   }
 
 -- ---- several acts
@@ -156,17 +206,27 @@ pub none_held : (w : Waits) → ((tag : List ℕ) → w tag ≡ []) → AreHeld 
 none_held w none = record {
   so_far = λ before after e tag. nothing before after e tag;
   in_order = λ tag. none tag;
+  none_overtook = λ before after e tag. nothing_sent before after e tag;
+  behind_sent = λ tag. none tag;
 }
   where
     nothing : (before after : List Act) → [] ≡ before ++ after → (tag : List ℕ) → IsPart (of_dialog tag (released before)) (of_dialog tag (held before))
     nothing [] after e tag = refl
     nothing (b ∷ before) after e tag = absurd cc
 
+    nothing_sent : (before after : List Act) → [] ≡ before ++ after → (tag : List ℕ)
+        → IsPart (notifys tag (sent_first before)) (notifys tag (taken_outs before))
+    nothing_sent [] after e tag = refl
+    nothing_sent (b ∷ before) after e tag = absurd cc
+
 pub fewer_held : (w w' : Waits) → Fewer w w' → (acts : List Act) → AreHeld acts w → AreHeld acts w'
 fewer_held w w' fewer acts is = record {
   so_far = is.so_far;
   in_order = λ tag. part_more (of_dialog tag (released acts) ++ w' tag) (of_dialog tag (released acts) ++ w tag) (of_dialog tag (held acts))
       (front (of_dialog tag (released acts)) (w' tag) (w tag) (fewer tag)) (is.in_order tag);
+  none_overtook = is.none_overtook;
+  behind_sent = λ tag. part_more (notifys tag (sent_first acts) ++ w' tag) (notifys tag (sent_first acts) ++ w tag) (notifys tag (taken_outs acts))
+      (front (notifys tag (sent_first acts)) (w' tag) (w tag) (fewer tag)) (is.behind_sent tag);
 }
 
 pub fewer_on : (w w' : Waits) → Fewer w w' → HoldsOn [] w w'
@@ -188,16 +248,43 @@ fewer_more u v w first second tag = part_more (w tag) (v tag) (u tag) (second ta
 pub fewer_same : (w : Waits) → Fewer w w
 fewer_same w tag = same_part (w tag)
 
--- an act that releases nothing and holds nothing back
-pub idle_on : (a : Act) (w w' : Waits) → released (a ∷ []) ≡ [] → held (a ∷ []) ≡ [] → Fewer w w' → HoldsOn (a ∷ []) w w'
-idle_on a w w' none none' fewer = one_on w w' a (λ tag.
-    subst (λ (l : List Out). IsPart (of_dialog tag l ++ w' tag) (w tag ++ of_dialog tag (held (a ∷ [])))) (sym none)
-    (subst (λ (l : List Out). IsPart (w' tag) (w tag ++ of_dialog tag l)) (sym none')
-    (subst (λ (l : List Out). IsPart (w' tag) l) (sym (append-nil (w tag))) (fewer tag))))
+-- an act by which nothing goes out first, and that takes nothing
+released_none : (a : Act) → sent_first (a ∷ []) ≡ [] → released (a ∷ []) ≡ []
+released_none (Released now o fate) none = absurd cc
+released_none _ none = refl
 
-pub notes_on : (notes : List Note) (w w' : Waits) → Fewer w w' → HoldsOn (map noted notes) w w'
+held_none : (a : Act) → taken_outs (a ∷ []) ≡ [] → held (a ∷ []) ≡ []
+held_none (Held now o) none = absurd cc
+held_none _ none = refl
+
+-- where nothing leaves and nothing comes
+still_part : (left came v v' : List Out) → left ≡ [] → came ≡ [] → IsPart v' v → IsPart (left ++ v') (v ++ came)
+still_part left came v v' none none' part =
+    subst (λ (l : List Out). IsPart (l ++ v') (v ++ came)) (sym none)
+    (subst (λ (l : List Out). IsPart v' (v ++ l)) (sym none') (subst (λ (l : List Out). IsPart v' l) (sym (append-nil v)) part))
+
+pub idle_on : (a : Act) (w w' : Waits) → sent_first (a ∷ []) ≡ [] → taken_outs (a ∷ []) ≡ [] → Fewer w w' → HoldsOn (a ∷ []) w w'
+idle_on a w w' none none' fewer = one_on w w' a
+    (λ tag. still_part (of_dialog tag (released (a ∷ []))) (of_dialog tag (held (a ∷ []))) (w tag) (w' tag)
+    (ap (of_dialog tag) (released_none a none)) (ap (of_dialog tag) (held_none a none')) (fewer tag))
+    (λ tag. still_part (notifys tag (sent_first (a ∷ []))) (notifys tag (taken_outs (a ∷ []))) (w tag) (w' tag)
+    (ap (notifys tag) none) (ap (notifys tag) none') (fewer tag))
+
+-- one that goes out at once, and passes none
+pub put_on : (now : ℕ) (o : Out) (fate : Fate) (w w' : Waits) → Fewer w w' → PassesNone o w' → HoldsOn (Put now o fate ∷ []) w w'
+put_on now o fate w w' fewer passes_none = one_on w w' (Put now o fate)
+    (λ tag. still_part [] [] (w tag) (w' tag) refl refl (fewer tag))
+    (λ tag. by tag (notifies tag o) refl)
+  where
+    by : (tag : List ℕ) (b : Bool) → notifies tag o ≡ b → IsPart ((if b then o ∷ [] else []) ++ w' tag) (w tag ++ (if b then o ∷ [] else []))
+    by tag true is =
+        let none : w' tag ≡ [] = subst (λ (t : List ℕ). w' t ≡ []) (notifies_tag tag o is) (passes_none (notifies_some tag o is)) in
+        subst (λ (l : List Out). IsPart (o ∷ l) (w tag ++ o ∷ [])) (sym none) (last_part (w tag) (o ∷ []))
+    by tag false is = still_part [] [] (w tag) (w' tag) refl refl (fewer tag)
+
+pub notes_on : (notes : List Note) (w w' : Waits) → Fewer w w' → HoldsOn (map noting notes) w w'
 notes_on [] w w' fewer = fewer_on w w' fewer
-notes_on (n ∷ notes) w w' fewer = on_more (noted n ∷ []) (map noted notes) w w w' (idle_on (noted n) w w refl refl (fewer_same w)) (notes_on notes w w' fewer)
+notes_on (n ∷ notes) w w' fewer = on_more (noting n ∷ []) (map noting notes) w w w' (idle_on (noting n) w w refl refl (fewer_same w)) (notes_on notes w w' fewer)
 
 -- ---- what is released
 
@@ -205,16 +292,15 @@ module _ (now : ℕ) (tag : List ℕ) (w : Waits) where
   ahead_more : (notices : List Notice) → Fewer (ahead tag notices w) w
   ahead_more notices t = last_part (if bytes_eq tag t then outs notices else []) (w t)
 
-  -- the first one that is to be released is one of the dialog, since it was held back as one
-  first_of_dialog : (n : Notice) (notices : List Notice) (acts : List Act) → AreHeld acts (ahead tag (n ∷ notices) w) → tag_in n.out ≡ tag
-  first_of_dialog n notices acts is =
+  -- the first one that is to be released is a NOTIFY of the dialog, since it was taken as one
+  first_notifies : (n : Notice) (notices : List Notice) (acts : List Act) → AreHeld acts (ahead tag (n ∷ notices) w) → notifies tag n.out ≡ true
+  first_notifies n notices acts is =
       let own : bytes_eq tag tag ≡ true = (bytes_eq-Decides tag tag).1 refl in
-      let r : List Out = of_dialog tag (released acts) in let h : List Out = of_dialog tag (held acts) in
+      let r : List Out = notifys tag (sent_first acts) in let h : List Out = notifys tag (taken_outs acts) in
       let rest : List Out = outs notices ++ w tag in
-      let all : IsPart (r ++ n.out ∷ rest) h = subst (λ (b : Bool). IsPart (r ++ ((if b then outs (n ∷ notices) else []) ++ w tag)) h) own (is.in_order tag) in
+      let all : IsPart (r ++ n.out ∷ rest) h = subst (λ (b : Bool). IsPart (r ++ ((if b then outs (n ∷ notices) else []) ++ w tag)) h) own (is.behind_sent tag) in
       let part : IsPart (n.out ∷ rest) h = part_more (n.out ∷ rest) (r ++ n.out ∷ rest) h (last_part r (n.out ∷ rest)) all in
-      (bytes_eq-Decides (tag_in n.out) tag).0
-      (first_holds (λ (o : Out). bytes_eq (tag_in o) tag ≡ true) n.out rest h part (all_of_dialog tag (held acts)))
+      first_holds (λ (o : Out). notifies tag o ≡ true) n.out rest h part (all_notifys tag (taken_outs acts))
 
   goes_first_now : (n : Notice) (notices : List Notice) → tag_in n.out ≡ tag → (t : List ℕ)
       → IsPart (of_dialog t (n.out ∷ []) ++ ahead tag notices w t) (ahead tag (n ∷ notices) w t ++ [])
@@ -227,12 +313,21 @@ module _ (now : ℕ) (tag : List ℕ) (w : Waits) where
       by true = same_part (n.out ∷ (outs notices ++ w t))
       by false = same_part (w t)
 
+  notify_first_now : (n : Notice) (notices : List Notice) → notifies tag n.out ≡ true → (t : List ℕ)
+      → IsPart (notifys t (n.out ∷ []) ++ ahead tag notices w t) (ahead tag (n ∷ notices) w t ++ [])
+  notify_first_now n notices ours t =
+      subst (λ (l : List Out). IsPart (l ++ ahead tag notices w t) (ahead tag (n ∷ notices) w t ++ [])) (sym (notify_alone t n.out (notifies_some tag n.out ours)))
+      (goes_first_now n notices (notifies_tag tag n.out ours) t)
+
   pub released_on : (notices : List Notice) (more : List Act) → AreReleased now notices more → HoldsOn more (ahead tag notices w) w
   released_on [] more none = subst (λ (l : List Act). HoldsOn l (ahead tag [] w) w) (sym none) (fewer_on (ahead tag [] w) w (ahead_more []))
   released_on (n ∷ notices) more is =
       let one : Act = Released now n.out is.0 in
       let first : HoldsOn (one ∷ []) (ahead tag (n ∷ notices) w) (ahead tag notices w) = λ acts held_so.
-      one_on (ahead tag (n ∷ notices) w) (ahead tag notices w) one (goes_first_now n notices (first_of_dialog n notices acts held_so)) acts held_so in
+      (let ours : notifies tag n.out ≡ true = first_notifies n notices acts held_so in
+      one_on (ahead tag (n ∷ notices) w) (ahead tag notices w) one
+      (goes_first_now n notices (notifies_tag tag n.out ours))
+      (notify_first_now n notices ours) acts held_so) in
       subst (λ (l : List Act). HoldsOn l (ahead tag (n ∷ notices) w) w) (sym is.2)
       (on_more (one ∷ []) is.1 (ahead tag (n ∷ notices) w) (ahead tag notices w) w first (released_on notices is.1 is.3))
 
@@ -441,6 +536,15 @@ module _ (old new : Contacts) (room : Room) (n : Notice) where
           (none_part (outs (waiting (at old t))))
       by false = same_part (outs (waiting (at old t)))
 
+  -- and then none of its dialog waits
+  pub through_none : (m : Notice) → IsStepped old new (tag_in n.out) offer_step → offer_step.through ≡ m ∷ [] → waits new (tag_in n.out) ≡ []
+  through_none m is goes =
+      let tag : List ℕ = tag_in n.out in
+      let own : bytes_eq tag tag ≡ true = (bytes_eq-Decides tag tag).1 refl in
+      ap (λ (c : Option ContactSeen). outs (waiting c)) (is.at_tag tag)
+      ∙ ap (λ (b : Bool). outs (waiting (if b then offer_step.contact else at old tag))) own
+      ∙ ap outs (offered_passes room n (at old tag) m goes)
+
   -- it doesn't, or it does
   stepped_behind : IsStepped old new (tag_in n.out) offer_step → WaitsBehind n.out (waits old) (waits new)
   stepped_behind is t =
@@ -477,7 +581,7 @@ pub gone_on_fewer : (old new : Contacts) (tag : List ℕ) (to : Addr) (is_last g
     → (goes ≡ false → IsSame old new) → Fewer (waits old) (waits new)
 gone_on_fewer old new tag to is_last true let_on same =
     let room : Room = record { begins = true; waits = true } in
-    let note : KnownNote = record { watcher = []; resource = []; target = []; left = None } in
+    let note : KnownNote = record { watcher = []; resource = []; target = []; call_id = []; left = None } in
     let n : Notice = record { number = 0; to = to; is_last = is_last; out = out.Notify to 0 is_last tag note [] } in
     let so = let_on refl room n refl refl in through_fewer old new room n n so.0 so.1.0
 gone_on_fewer old new tag to is_last false let_on same =
@@ -500,5 +604,42 @@ left_behind o w w' fewer t = part_more (w' t) (w t) (w t ++ of_dialog t (o ∷ [
 pub behind_as : (o o' : Out) (w w' : Waits) → o ≡ o' → WaitsBehind o w w' → WaitsBehind o' w w'
 behind_as o o' w w' same waits_so = subst (λ (x : Out). WaitsBehind x w w') same waits_so
 
-pub held_on : (now : ℕ) (o : Out) (w w' : Waits) → WaitsBehind o w w' → HoldsOn (Held now o ∷ []) w w'
-held_on now o w w' waits_so = one_on w w' (Held now o) (λ tag. waits_so tag)
+pub held_on : (now : ℕ) (o : Out) (w w' : Waits) → is_some (notice_of o) ≡ true → WaitsBehind o w w' → HoldsOn (Held now o ∷ []) w w'
+held_on now o w w' is waits_so = one_on w w' (Held now o) (λ tag. waits_so tag)
+    (λ tag. subst (λ (l : List Out). IsPart (w' tag) (w tag ++ l)) (sym (notify_alone tag o is)) (waits_so tag))
+
+-- ---- what goes out passes none
+
+-- it is no NOTIFY
+pub unnoticed_passes : (o : Out) (w : Waits) → notice_of o ≡ None → PassesNone o w
+unnoticed_passes o w none some = let is : false ≡ true = sym (ap is_some none) ∙ some in absurd cc
+
+pub other_passes : (o : Out) (w : Waits)
+    → ((to : Addr) (number : ℕ) (terminated : Bool) (tag : List ℕ) (note : KnownNote) (octets : List ℕ)
+    → o ≡ out.Notify to number terminated tag note octets → ⊥)
+    → PassesNone o w
+other_passes (out.Answer to octets) w other = unnoticed_passes (out.Answer to octets) w refl
+other_passes (out.Notify to number terminated tag note octets) w other = absurd (other to number terminated tag note octets refl)
+other_passes (out.Start tag refer_to) w other = unnoticed_passes (out.Start tag refer_to) w refl
+
+-- its address has answered
+pub gone_on_passes : (o : Out) (old new : Contacts) (tag : List ℕ) (to : Addr) (is_last : Bool) → tag_in o ≡ tag
+    → IsLetOn old new tag to is_last → PassesNone o (waits new)
+gone_on_passes o old new tag to is_last same let_on some =
+    let room : Room = record { begins = true; waits = true } in
+    let note : KnownNote = record { watcher = []; resource = []; target = []; call_id = []; left = None } in
+    let n : Notice = record { number = 0; to = to; is_last = is_last; out = out.Notify to 0 is_last tag note [] } in
+    let so = let_on room n refl refl in
+    subst (λ (t : List ℕ). waits new t ≡ []) (sym same) (through_none old new room n n so.0 so.1.0)
+
+-- it was offered
+pub offered_passes_none : (o : Out) (old new : Contacts) (room : Room) (n : Notice) (told : Offered) (m : Notice) (lost : ℕ)
+    → notice_of o ≡ Some n → told ≡ Through m lost → IsStepped old new (tag_in n.out) (offered room n (at old (tag_in n.out)))
+    → IsOffered (offered room n (at old (tag_in n.out))) told → PassesNone o (waits new)
+offered_passes_none o old new room n told m lost notify is stepped outcome some =
+    let P : Offered → Type 0 = λ x. IsOffered (offered room n (at old (tag_in n.out))) x in
+    let here : IsOffered (offered room n (at old (tag_in n.out))) (Through m lost) = subst P is outcome in
+    subst (λ (x : Out). waits new (tag_in x) ≡ []) (notice_itself o n notify) (through_none old new room n m stepped here.0)
+
+pub fewer_passes : (o : Out) (w w' : Waits) → PassesNone o w → Fewer w w' → PassesNone o w'
+fewer_passes o w w' none fewer some = subst (λ (l : List Out). IsPart (w' (tag_in o)) l) (none some) (fewer (tag_in o))

@@ -12,7 +12,7 @@ use Rattle.admission.specs.declared.judging.Reading.TheVariants as reading
 use Rattle.admission.specs.declared.judging.Verdict.{Verdict}
 use Rattle.admission.specs.declared.judging.Verdict.TheVariants as verdict
 use Rattle.admission.specs.declared.table.Rates.{Rates}
-use Rattle.admission.specs.Verdicts.{has_none, is_one_of, hears, is_counted, counting, lets_one, lets, with_rates, behind, asked, oversized, too_large, newcomer, is_full, one_more, after, half_noted}
+use Rattle.admission.specs.Verdicts.{has_none, is_one_of, hears, is_counted, counting, lets_one, lets, with_rates, behind, asked, answered, oversized, too_large, newcomer, is_full, one_more, after, half_noted}
 use Rattle.admission.proofs.Concluding.{noted_networks}
 use Rattle.service.specs.Admitted.{Case, IsRead, Meets, IsJudged, AreJudged, is_allowed, IsSentOn, EachAnswerIsSentOn}
 
@@ -36,7 +36,7 @@ unasked x r is asks = let none : None ≡ Some r = sym (ap (λ (y : Reading). as
 
 -- nor is it too large
 answer_small : (a : Admission) (x : Arrival) → x.reading ≡ reading.Response → too_large a x ≡ None
-answer_small a x is = ap (λ (y : Reading). oversized a.max_texts (asked y)) is
+answer_small a x is = ap (λ (y : Reading). oversized a.max_texts (answered y)) is
 
 answer_allowed : (a : Admission) (x : Arrival) (v : Option Verdict) (b : Admission) → x.reading ≡ reading.Response → hears a x.source.ip ≡ true → Meets a x v b
     → is_allowed v ≡ true

@@ -1,5 +1,6 @@
 -- The rows of live subscriptions after what the thread that sends did.
-use Rattle.std.proofs.Common.{◌≡◌, ◌⊎◌, ℕ, Bool, true, false, nat_lt, List, [], ◌∷◌, ◌++◌, map, length, Option, Some, refl, ap, sym, ◌∙◌, subst, inl, inr}
+use Rattle.std.proofs.Common.{◌≡◌, ◌⊎◌, ℕ, Bool, true, false, nat_lt, List, [], ◌∷◌, ◌++◌, map, length, Option, Some, refl, sym, subst, inl, inr}
+use Rattle.std.proofs.lemmas.List.{map-append}
 use Rattle.notifier_model.specs.declared.event.Note.{Note as KnownNote}
 use Rattle.notifier_model.specs.declared.event.Out.{Out}
 use Rattle.transport.specs.declared.datagram.Datagram.{Datagram}
@@ -7,9 +8,8 @@ use Rattle.watchers.specs.Rows.{Row, begins, after_notify, after_retarget, witho
 use Rattle.sip_text.specs.declared.address.Addr.{Addr}
 use Rattle.notifier_model.specs.declared.event.Out.TheVariants as out
 use Rattle.service.specs.declared.post.Note.{Note}
-use Rattle.service.specs.Sending.{Act, Repeated, GaveUp, Gone}
-use Rattle.service.specs.Watched.{known_from, has_contact, IsRetargeted, MayRetarget, HasContact, IsFull, IsTold, IsSeen, AreRowed, noted_rows}
-use Rattle.service.proofs.Acts.{noted}
+use Rattle.service.specs.Sending.{Act, Repeated, GaveUp, Gone, noting}
+use Rattle.service.specs.Watched.{known_from, has_contact, IsRetargeted, MayRetarget, HasContact, IsFull, IsTold, IsSeen, AreRowed, is_of_dialog}
 
 -- two parts of what it did
 pub rowed_more : (a b : List Act) (rows mid rows' : List Row) → AreRowed a rows mid → AreRowed b mid rows' → AreRowed (a ++ b) rows rows'
@@ -17,19 +17,12 @@ rowed_more [] b rows mid rows' first then =
     let P : List Row → Type 0 = λ r. AreRowed b r rows' in subst P first then
 rowed_more (act ∷ a) b rows mid rows' first then = (first.0, first.1, rowed_more a b first.0 mid rows' first.2 then)
 
-pub rowed_after_notes : (notes : List Note) (b : List Act) (rows mid rows' : List Row) → mid ≡ noted_rows notes rows → AreRowed b mid rows'
-    → AreRowed (map noted notes ++ b) rows rows'
-rowed_after_notes [] b rows mid rows' same then =
-    let P : List Row → Type 0 = λ r. AreRowed b r rows' in subst P same then
-rowed_after_notes (n ∷ notes) b rows mid rows' same then =
-    let next = answered_rows n.tag n.number n.status rows in (next, refl, rowed_after_notes notes b next mid rows' same then)
-
-pub rows_noted_more : (notes : List Note) (n : Note) (rows mid rows' : List Row) → mid ≡ noted_rows notes rows → rows' ≡ answered_rows n.tag n.number n.status mid
-    → rows' ≡ noted_rows (notes ++ n ∷ []) rows
-rows_noted_more notes n rows mid rows' was is = is ∙ ap (answered_rows n.tag n.number n.status) was ∙ sym (step notes rows) where
-  step : (notes : List Note) (rows : List Row) → noted_rows (notes ++ n ∷ []) rows ≡ answered_rows n.tag n.number n.status (noted_rows notes rows)
-  step [] rows = refl
-  step (m ∷ notes) rows = step notes (answered_rows m.tag m.number m.status rows)
+-- one more note is taken, of an answer of its dialog
+pub rowed_note : (notes : List Note) (n : Note) (rows mid rows' : List Row) → AreRowed (map noting notes) rows mid → is_of_dialog n.tag n.call_id mid ≡ true
+    → rows' ≡ answered_rows n.tag n.number n.status mid → AreRowed (map noting (notes ++ n ∷ [])) rows rows'
+rowed_note notes n rows mid rows' was of_dialog is =
+    let P : List Act → Type 0 = λ acts. AreRowed acts rows rows' in
+    subst P (sym (map-append noting notes (n ∷ []))) (rowed_more (map noting notes) (noting n ∷ []) rows mid rows' was (rows', (of_dialog, is), refl))
 
 -- what was due is sent again, or given up: its row stays
 pub rowed_repeat : (now : ℕ) (sent : Datagram) (fails : Bool) (rows : List Row) → AreRowed (Repeated now sent fails ∷ []) rows rows

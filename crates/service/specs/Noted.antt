@@ -12,7 +12,7 @@ unfoldable pub answered_tag : Head → Option (List ℕ)
 answered_tag head = if bytes_eq head.cseq_method (codes "NOTIFY") then head.from.tag else None
 
 abbrev pub noted : Addr → Response → List ℕ → Note
-noted source r tag = record { source = source; tag = tag; number = r.head.cseq; status = r.status }
+noted source r tag = record { source = source; tag = tag; call_id = r.head.call_id; number = r.head.cseq; status = r.status }
 
 -- the note of a response that came from this address, if it answers a NOTIFY
 abbrev pub note_of : Addr → Response → Option Note

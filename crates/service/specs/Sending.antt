@@ -3,6 +3,7 @@
 -- takes the word of a worker that a subscription is gone. Moments are milliseconds.
 use Rattle.std.specs.Prelude.{◌≡◌, ◌⊎◌, ◌<◌, ◌≤◌, ◌+◌, ℕ, Bool, true, false, not, List, [], ◌∷◌, ◌++◌, length, map, Option, Some, None, option_map, option_to_list, bytes_eq, if◌then◌else◌}
 use Rattle.std.specs.List.{filter, filter_map, AllByRecursion}
+use Rattle.std.specs.Option.{option_map_or}
 use Rattle.queues.specs.declared.items.Item.{Item}
 use Rattle.notifier_model.specs.declared.event.NotifyOut.{NotifyOut}
 use Rattle.notifier_model.specs.declared.event.Out.{Out}
@@ -19,6 +20,7 @@ use Rattle.feeds.specs.declared.sending.EmitReport.{EmitReport}
 use Rattle.feeds.specs.Emitted.{Fates, WireSeen, WriterSeen, wire_seen, writer_seen, MayMeet, AreMet, datagram_sent, sent_datagrams, fails_to_send, is_held}
 use Rattle.first_contact.specs.Steps.{tag_in}
 use Rattle.service.specs.declared.outs.Exit.{Exit}
+use Rattle.service.specs.declared.post.Note.{Note}
 use Rattle.transactions.specs.declared.allowance.Allowance.{Allowance}
 use Rattle.transactions.specs.declared.open.Open.{Open}
 use Rattle.transactions.specs.declared.open.TheConstants.{GONE}
@@ -34,8 +36,8 @@ pub data Act : Type 0 where
   Held : (now : ℕ) (o : Out) → Act
   -- at this moment this became of one that had waited
   Released : (now : ℕ) (o : Out) (fate : Fate) → Act
-  -- it took the note of this answer to a NOTIFY
-  Noted : (tag : List ℕ) (number status : ℕ) → Act
+  -- it took the note of this answer to a NOTIFY: with this local tag, Call-ID, number in its CSeq, and status
+  Noted : (tag call_id : List ℕ) (number status : ℕ) → Act
   -- at this moment it sent this again, or the wire failed at it
   Repeated : (now : ℕ) (sent : Datagram) (fails : Bool) → Act
   -- at this moment it sent this again, or the wire failed at it, and its transaction stays as it was: so the same is due again. It does so
@@ -46,13 +48,17 @@ pub data Act : Type 0 where
   -- it took the word of a worker that the subscription with this local tag is gone
   Gone : (tag : List ℕ) → Act
 
+-- the note of an answer is taken
+abbrev pub noting : Note → Act
+noting n = Noted n.tag n.call_id n.number n.status
+
 -- ---- of the outs
 
 abbrev pub fate_of : Act → Option (Out × Fate)
 fate_of (Put now o fate) = Some (o, fate)
 fate_of (Held now o) = Some (o, became.Held)
 fate_of (Released now o fate) = None
-fate_of (Noted tag number status) = None
+fate_of (Noted tag call_id number status) = None
 fate_of (Repeated now sent fails) = None
 fate_of (Tried now sent fails) = None
 fate_of (GaveUp now) = None
@@ -68,7 +74,7 @@ abbrev pub sent_by : Act → Option Datagram
 sent_by (Put now o fate) = datagram_sent o fate
 sent_by (Held now o) = None
 sent_by (Released now o fate) = datagram_sent o fate
-sent_by (Noted tag number status) = None
+sent_by (Noted tag call_id number status) = None
 sent_by (Repeated now sent fails) = if fails then None else Some sent
 sent_by (Tried now sent fails) = if fails then None else Some sent
 sent_by (GaveUp now) = None
@@ -82,7 +88,7 @@ abbrev pub fails_at : Act → Bool
 fails_at (Put now o fate) = fails_to_send o fate
 fails_at (Held now o) = false
 fails_at (Released now o fate) = fails_to_send o fate
-fails_at (Noted tag number status) = false
+fails_at (Noted tag call_id number status) = false
 fails_at (Repeated now sent fails) = fails
 fails_at (Tried now sent fails) = fails
 fails_at (GaveUp now) = false
@@ -111,7 +117,7 @@ abbrev pub call_of : Act → Option Call
 call_of (Put now o fate) = kept_by now o
 call_of (Held now o) = None
 call_of (Released now o fate) = kept_by now o
-call_of (Noted tag number status) = Some (Answer tag number status)
+call_of (Noted tag call_id number status) = Some (Answer tag number status)
 call_of (Repeated now sent fails) = Some (Turn now)
 call_of (Tried now sent fails) = None
 call_of (GaveUp now) = Some (Turn now)
@@ -135,12 +141,12 @@ kept_after now o s = state_after (option_to_list (kept_by now o)) s
 abbrev pub WentOut : Out → Fate → Type 0
 WentOut o fate = MayMeet o fate × (is_held fate ≡ false)
 
--- the transactions ask for it
+-- the transactions ask for it. What had waited needs no word of theirs, but it went out
 abbrev pub IsAsked : State → Act → Type 0
 IsAsked s (Put now o fate) = Unit {0}
 IsAsked s (Held now o) = Unit {0}
-IsAsked s (Released now o fate) = Unit {0}
-IsAsked s (Noted tag number status) = Unit {0}
+IsAsked s (Released now o fate) = WentOut o fate
+IsAsked s (Noted tag call_id number status) = Unit {0}
 IsAsked s (Repeated now sent fails) = (t : Open) × (repeated s now ≡ Some t) × (sent ≡ datagram t.to t.bytes)
 IsAsked s (Tried now sent fails) = (t : Open) × (repeated s now ≡ Some t) × (sent ≡ datagram t.to t.bytes)
 IsAsked s (GaveUp now) = (t : Open) × (due s now ≡ Some t) × (is_over now t ≡ true)
@@ -157,7 +163,7 @@ abbrev pub held_back : Act → Option Out
 held_back (Put now o fate) = None
 held_back (Held now o) = Some o
 held_back (Released now o fate) = None
-held_back (Noted tag number status) = None
+held_back (Noted tag call_id number status) = None
 held_back (Repeated now sent fails) = None
 held_back (Tried now sent fails) = None
 held_back (GaveUp now) = None
@@ -171,7 +177,7 @@ abbrev pub let_go : Act → Option Out
 let_go (Put now o fate) = None
 let_go (Held now o) = None
 let_go (Released now o fate) = Some o
-let_go (Noted tag number status) = None
+let_go (Noted tag call_id number status) = None
 let_go (Repeated now sent fails) = None
 let_go (Tried now sent fails) = None
 let_go (GaveUp now) = None
@@ -195,6 +201,36 @@ IsPart xs (y ∷ ys) = IsPart xs ys ⊎ ((rest : List Out) × (xs ≡ y ∷ rest
 abbrev pub EachWasHeld : List Act → Type 0
 EachWasHeld acts = (before after : List Act) → acts ≡ before ++ after → (tag : List ℕ)
     → IsPart (of_dialog tag (released before)) (of_dialog tag (held before))
+
+-- ---- none overtakes another
+
+-- the out that leaves by it for the first time, or fails to
+abbrev pub leaves : Act → Option Out
+leaves (Put now o fate) = Some o
+leaves (Released now o fate) = Some o
+leaves _ = None
+
+-- the outs that left, each for the first time, or failed to, in order
+abbrev pub sent_first : List Act → List Out
+sent_first acts = filter_map leaves acts
+
+-- the outs that were taken, in order
+abbrev pub taken_outs : List Act → List Out
+taken_outs acts = map (λ (x : Out × Fate). x.0) (fates acts)
+
+-- it is a NOTIFY of the dialog with this local tag
+abbrev pub notifies : List ℕ → Out → Bool
+notifies tag o = option_map_or (λ (n : NotifyOut). bytes_eq n.tag tag) (notify_of o) false
+
+-- the NOTIFYs of the dialog with this local tag
+abbrev pub notifys : List ℕ → List Out → List Out
+notifys tag outs = filter (notifies tag) outs
+
+-- At every moment: the NOTIFYs of a dialog that left are those that were taken, each once and in order, but for some. These wait still, or were
+-- dropped. So none overtakes one that leaves later
+abbrev pub NoneOvertakes : List Act → Type 0
+NoneOvertakes acts = (before after : List Act) → acts ≡ before ++ after → (tag : List ℕ)
+    → IsPart (notifys tag (sent_first before)) (notifys tag (taken_outs before))
 
 -- ---- what waits for its answer at the start
 
@@ -232,12 +268,13 @@ outflow taken failures contents old new = record {
   writer' = writer_seen contents new.sink;
 }
 
--- the outs that were got of the workers met these fates; what was released was held back before; and the wire has taken what the acts
--- tell, repeats too, where these transactions were open first
+-- the outs that were got of the workers met these fates; what was released was held back before; no NOTIFY overtook another of its dialog; and
+-- the wire has taken what the acts tell, repeats too, where these transactions were open first
 pub record IsSentOut (first : State) (workers : ℕ) (acts : List Act) (got got' : List (Item Out)) (flow : Outflow) (report : EmitReport) : Type 0 where
   pub met : AreMet workers (fates acts) got got' flow.writer flow.writer' report
   pub does : Does acts first (state_after (calls acts) first) flow.wire flow.wire'
   pub was_held : EachWasHeld acts
+  pub in_order : NoneOvertakes acts
 
 -- ---- what is sent but for repeats, and for what had waited
 
@@ -245,7 +282,7 @@ abbrev pub is_late : Act → Bool
 is_late (Put now o fate) = false
 is_late (Held now o) = false
 is_late (Released now o fate) = true
-is_late (Noted tag number status) = false
+is_late (Noted tag call_id number status) = false
 is_late (Repeated now sent fails) = true
 is_late (Tried now sent fails) = true
 is_late (GaveUp now) = false
@@ -262,7 +299,7 @@ abbrev pub ends_it : List ℕ → ℕ → Act → Bool
 ends_it tag number (Put now o fate) = false
 ends_it tag number (Held now o) = false
 ends_it tag number (Released now o fate) = false
-ends_it tag number (Noted other n status) = is_end tag number (Answer other n status)
+ends_it tag number (Noted other call_id n status) = is_end tag number (Answer other n status)
 ends_it tag number (Repeated now sent fails) = false
 ends_it tag number (Tried now sent fails) = false
 ends_it tag number (GaveUp now) = false

@@ -9,14 +9,13 @@ use Rattle.watchers.specs.declared.row.Watcher.{Watcher}
 use Rattle.watchers.specs.Notifies.{Known}
 use Rattle.watchers.specs.Rows.{Row, found, begins, after_notify, after_retarget, without, answered_rows}
 use Rattle.watchers.specs.Pages.{page, page_text}
-use Rattle.service.specs.declared.post.Note.{Note}
 use Rattle.service.specs.Sending.{Act, Put, Held, Released, Noted, Repeated, Tried, GaveUp, Gone}
 
 -- ---- what one act makes of the rows
 
 -- what a row is made of: what is known with a NOTIFY that isn't the last one, and who is known to have made the dialog
 abbrev pub known_from : Option (List ℕ) → KnownNote → Known
-known_from user note = record { watcher = note.watcher; contact = note.target; user = user; resource = note.resource; seconds = unwrap_or note.left 0 }
+known_from user note = record { watcher = note.watcher; contact = note.target; call_id = note.call_id; user = user; resource = note.resource; seconds = unwrap_or note.left 0 }
 
 -- its Contact is this one, as the row has it
 abbrev pub has_contact : List ℕ → List ℕ → List Row → Bool
@@ -57,12 +56,18 @@ IsSeen now (out.Notify to number false tag note octets) rows rows' =
     ⊎ ((begins tag rows ≡ true) × (rows' ≡ rows))
 IsSeen now (out.Start tag refer_to) rows rows' = rows' ≡ rows
 
--- The act makes these rows of those. A NOTIFY that nobody answers ends no row: its worker does, and says so
+-- Is an answer with this local tag and this Call-ID one of the dialog (RFC 3261 section 12), as its row tells? Where it has no row the tag alone
+-- names it
+abbrev pub is_of_dialog : List ℕ → List ℕ → List Row → Bool
+is_of_dialog tag call_id rows = option_map_or (λ (w : Watcher). bytes_eq w.call_id call_id) (found tag rows) true
+
+-- The act makes these rows of those. The note of an answer is taken only where it is one of its dialog. A NOTIFY that nobody answers ends no
+-- row: its worker does, and says so
 abbrev pub IsRowed : Act → List Row → List Row → Type 0
 IsRowed (Put now o fate) rows rows' = IsSeen now o rows rows'
 IsRowed (Held now o) rows rows' = rows' ≡ rows
 IsRowed (Released now o fate) rows rows' = IsSeen now o rows rows'
-IsRowed (Noted tag number status) rows rows' = rows' ≡ answered_rows tag number status rows
+IsRowed (Noted tag call_id number status) rows rows' = (is_of_dialog tag call_id rows ≡ true) × (rows' ≡ answered_rows tag number status rows)
 IsRowed (Repeated now sent fails) rows rows' = rows' ≡ rows
 IsRowed (Tried now sent fails) rows rows' = rows' ≡ rows
 IsRowed (GaveUp now) rows rows' = rows' ≡ rows
@@ -73,11 +78,6 @@ IsRowed (Gone tag) rows rows' = rows' ≡ without tag rows
 abbrev pub AreRowed : List Act → List Row → List Row → Type 0
 AreRowed [] rows rows' = rows' ≡ rows
 AreRowed (act ∷ acts) rows rows' = (next : List Row) × IsRowed act rows next × AreRowed acts next rows'
-
--- the rows after these notes
-abbrev pub noted_rows : List Note → List Row → List Row
-noted_rows [] rows = rows
-noted_rows (n ∷ notes) rows = noted_rows notes (answered_rows n.tag n.number n.status rows)
 
 -- ---- a page
 

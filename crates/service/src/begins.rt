@@ -1,8 +1,10 @@
 //! What a service begins with beside its desks: where it goes on, NOTIFYs that nobody answered yet, and who watches.
-ghost use Rattle.std.specs.Prelude.{◌≡◌, []};
+ghost use Rattle.std.specs.Prelude.{◌≡◌, [], None};
 ghost use Rattle.transactions.specs.Runs.{state_after};
 ghost use Rattle.service.specs.Releasing.{Fewer, waits};
 ghost use Rattle.service.specs.Sending.{calls, went_out};
+ghost use Rattle.service.specs.Watched.{known_from};
+ghost use Rattle.watchers.specs.Notifies.{known_seen};
 
 use crate::sending::Waiting;
 use crate::shared::Shared;
@@ -26,10 +28,13 @@ pub struct Living {
 
 impl Living {
     /// What its row tells. Who showed a password isn't kept.
-    fn known(&self) -> Known<'_> {
+    fn known(&self) -> Known<'_>
+        ensures { known_seen result ≡ known_from None self.now.note }
+    {
         Known {
             watcher: self.note.watcher.as_str(),
             contact: self.note.target.as_str(),
+            call_id: self.note.call_id.as_str(),
             user: None,
             resource: self.note.resource.as_str(),
             seconds: self.note.left.unwrap_or(0),

@@ -29,8 +29,8 @@ impl ChangeCounts {
         }
     }
 
-    /// A line was answered so when the service was up for so many milliseconds. One that came before with its token isn't counted again.
-    /// Questions are answered `unknown mailbox` too: so changes that are count themselves.
+    /// Counts a line that was answered so, when the service had been up for so many milliseconds. A line that is asked again with its token is
+    /// counted once. `unknown mailbox` isn't counted here, since questions get it too: `count_unknown` counts changes that do.
     pub(crate) fn count(&self, answer: ControlAnswer, moment: u64) {
         let counted = match answer {
             ControlAnswer::Done => &self.done,

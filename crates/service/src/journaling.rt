@@ -11,6 +11,7 @@ ghost use Rattle.service.specs.Made.{AreNames};
 use crate::made::Made;
 use crate::shelf::{Chore, Limits, Loss, Shelf};
 use crate::volume::Volume;
+use indexmap::IndexSet;
 use journal::Header;
 use keeper::{Keeper, MadeBook, Unkept};
 use notifier_model::Event;
@@ -93,6 +94,15 @@ fn no_books(alloc: Global, workers: u32) -> Result<Vec<AtomicBool>, NoMemory> {
         wanted.push(AtomicBool::new(false))?;
     }
     Ok(wanted)
+}
+
+/// These tags as a set.
+fn tag_set(alloc: Global, tags: &[String]) -> Result<IndexSet<String>, NoMemory> {
+    let mut set = IndexSet::new(alloc);
+    for tag in tags {
+        set.insert(String::from_str(alloc, tag.as_str())?)?;
+    }
+    Ok(set)
 }
 
 impl Journal {
@@ -265,6 +275,24 @@ impl Journal {
         match self.wanted.get(worker as usize) {
             Some(wanted) => wanted.load(Ordering::SeqCst),
             None => false,
+        }
+    }
+
+    /// The tags of the transfers of which this worker's book would tell, where that is wanted. Its desk knows which of them nobody watches any
+    /// more: those are told to `forget` before the book is made.
+    pub(crate) fn transfers<R: Wait>(&self, rt: &R, worker: u32) -> Option<Vec<String>> {
+        if !self.wants_book(worker) {
+            return None;
+        }
+        let tags = self.shelf.lock(rt).transfers(worker).ok()?;
+        if tags.is_empty() { None } else { Some(tags) }
+    }
+
+    /// The desk of this worker has no subscription with these tags: so its books tell nothing of these transfers. For want of memory they
+    /// do until the next time.
+    pub(crate) fn forget<R: Wait>(&self, rt: &R, worker: u32, tags: &[String]) {
+        if let Ok(tags) = tag_set(self.alloc, tags) {
+            self.shelf.lock(rt).forget(worker, &tags);
         }
     }
 

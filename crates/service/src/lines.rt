@@ -1,10 +1,11 @@
 //! Control lines, each answered.
-ghost use Rattle.std.specs.Prelude.{◌≡◌, true, List, [], Some, IfOk, IfErr, OnOk, OnErr, max};
+ghost use Rattle.std.specs.Prelude.{◌≡◌, true, is_some, List, [], Some, IfOk, IfErr, OnOk, OnErr, max};
 ghost use Rattle.std.specs.Int.NonZero.{non_zero_u32_get};
 ghost use Rattle.circular_buffer.specs.Buffer.{buffer};
 ghost use Rattle.transport.specs.Wires.{Grows, datagram};
 ghost use Rattle.crew.specs.Kept.{SameSeats};
 ghost use Rattle.control_lines.specs.Lines.{answer_text};
+ghost use Rattle.control_lines.specs.declared.answer.ControlAnswer.{ControlAnswer};
 ghost use Rattle.control_lines.specs.declared.question.Question.TheVariants as questions;
 ghost use Rattle.service.specs.declared.lines.Handled.TheVariants as did;
 ghost use Rattle.service.specs.Taken as spec;
@@ -208,9 +209,10 @@ fn find(told: &ToldCounts, question: &Question) -> Handled
     }
 }
 
-/// What is done with a RELOAD.
+/// What is done with a RELOAD. One without a token began no run: it asks for one.
 fn reload<R: Wait + Clock>(rt: &R, asking: Asking<'_>) -> Handled
-    ensures { IsReload result }
+    ensures reload { IsReload result }
+    ensures begun { (a : ControlAnswer) → result ≡ did.Repeated a → is_some asking.entry.caller.token ≡ true }
 {
     if asking.shared.reloads.is_behind(rt, asking.caller.token) {
         return Handled::Repeated(ControlAnswer::Done);
@@ -222,7 +224,8 @@ fn reload<R: Wait + Clock>(rt: &R, asking: Asking<'_>) -> Handled
     }
 }
 
-/// Does what a control line asks. `ControlAnswer::Done` is answered once its event is in the worker's inbox.
+/// Does what a control line asks. `ControlAnswer::Done` is answered once its event is in the worker's inbox. Only a line with a token is known
+/// as the RELOAD by which this run began.
 pub fn take_line<R: Wait + Clock>(
     rt: &R,
     asking: Asking<'_>,
@@ -233,6 +236,7 @@ pub fn take_line<R: Wait + Clock>(
     requires still_open { port.old.is_open ≡ true }
     ensures done { IsDone asking.entry.most octets.now told.old told.new port.old port.new result }
     ensures seats { SameSeats port.old port.new }
+    ensures begun { (a : ControlAnswer) → result ≡ did.Repeated a → is_some asking.entry.caller.token ≡ true }
 {
     match hear_line(asking.shared.alloc(), octets) {
         Asked::Change(change) => send_change(rt, asking, port, told, change),

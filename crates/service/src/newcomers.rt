@@ -1,6 +1,6 @@
 //! The requests for new subscriptions that were let through lately: one that comes again asks for none more. Its worker answers it as it
 //! did before (RFC 3261 section 17.2.2).
-ghost use Rattle.std.specs.Prelude.{◌≡◌, ℕ, List, [], Some, true, IfOk, IsTrue};
+ghost use Rattle.std.specs.Prelude.{◌≡◌, ◌≤◌, ℕ, List, [], length, max, Some, true, IfOk, IsTrue};
 ghost use Rattle.service.specs.Newcomers as spec;
 ghost use Rattle.service.specs.Newcomers.{IsPassed, IsSwept, passed_when};
 
@@ -90,7 +90,8 @@ impl Newcomers {
 
     /// Looks at the first ones, and drops those of them that come no more.
     fn sweep(&mut self, now: u64)
-        ensures { (n : List ℕ) → IsSwept (passed_when self.old.passed n) (passed_when self.new.passed n) }
+        ensures swept { (n : List ℕ) → IsSwept (passed_when self.old.passed n) (passed_when self.new.passed n) }
+        ensures fewer { length self.new.order.items ≤ length self.old.order.items }
     {
         for _ in 0..LOOKS {
             let Some(name) = self.order.front().copied() else {
@@ -107,8 +108,9 @@ impl Newcomers {
     /// This one is let through. Without memory or room it isn't known that it comes again.
     pub(crate) fn pass(&mut self, newcomer: Newcomer<'_>) -> Result<(), NoMemory>
         // None but this one is known from now on.
-        ensures { (n : List ℕ) → IsPassed (spec.request_name newcomer.entry.request.now newcomer.entry.source) newcomer.entry.moment n
+        ensures passed { (n : List ℕ) → IsPassed (spec.request_name newcomer.entry.request.now newcomer.entry.source) newcomer.entry.moment n
             (passed_when self.old.passed n) (passed_when self.new.passed n) }
+        ensures few { length self.new.order.items ≤ max MOST (length self.old.order.items) }
     {
         self.sweep(newcomer.moment);
         let Some(name) = newcomer.name(self.alloc)? else {

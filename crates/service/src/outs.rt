@@ -119,10 +119,15 @@ impl Gate for Waker {
     }
 
     fn asked<R: Wait>(&self, rt: &R, worker: u32) -> Option<Vec<String>> {
-        self.shared.roll.get()?.asked(rt, worker)
+        // Where the worker's book is wanted it comes behind that. It is to tell nothing of transfers that nobody watches.
+        match self.shared.told_transfers(rt, worker) {
+            Some(tags) => Some(tags),
+            None => self.shared.roll.get()?.asked(rt, worker),
+        }
     }
 
-    fn gone<R: Wait>(&self, rt: &R, _worker: u32, tags: Vec<String>) {
+    fn gone<R: Wait>(&self, rt: &R, worker: u32, tags: Vec<String>) {
+        self.shared.forget_transfers(rt, worker, tags.as_slice());
         self.shared.tell_gone(rt, tags);
         self.unparker.unpark();
     }

@@ -82,11 +82,12 @@ impl Post {
     }
 }
 
-/// An answer to a NOTIFY: where it came from, the local tag of its dialog, the number of its CSeq, and the status.
+/// An answer to a NOTIFY: where it came from, the local tag of its dialog and the Call-ID, the number of its CSeq, and the status.
 #[derive(Debug, Drop)]
 pub(crate) struct Note {
     pub(crate) source: Addr,
     pub(crate) tag: Text,
+    pub(crate) call_id: Text,
     pub(crate) number: u32,
     pub(crate) status: u16,
 }
@@ -114,6 +115,7 @@ fn new_note(alloc: Global, source: Addr, response: &Response) -> Result<Option<N
     Ok(Some(Note {
         source,
         tag: tag.copy(alloc)?,
+        call_id: response.head.call_id.copy(alloc)?,
         number: response.head.cseq,
         status: response.status,
     }))

@@ -7,7 +7,7 @@
 //! Where MAIL lines make mailboxes the service itself asks for it, soon behind the first one: the desks of a run have the mailboxes with which
 //! it began. The names stand in the journal alone.
 
-ghost use Rattle.std.specs.Prelude.{◌≡◌, ℕ};
+ghost use Rattle.std.specs.Prelude.{◌≡◌, ℕ, true, is_some};
 ghost use Rattle.service.specs.Naps.{reading_nap};
 ghost use Rattle.service.specs.declared.reload.Reloading.TheVariants as reloading;
 
@@ -117,8 +117,10 @@ impl Wish {
         self.done = token;
     }
 
-    /// Whether it is.
-    fn is_behind(&self, token: Option<Token>) -> bool {
+    /// Whether it is. A line without a token is never known again.
+    fn is_behind(&self, token: Option<Token>) -> bool
+        ensures known { result ≡ true → is_some token ≡ true }
+    {
         token.is_some() && self.done == token
     }
 
@@ -280,8 +282,10 @@ impl Reloads {
         self.wish.lock(rt).begin_behind(token);
     }
 
-    /// Whether it is.
-    pub(crate) fn is_behind<R: Wait>(&self, rt: &R, token: Option<Token>) -> bool {
+    /// Whether it is. A line without a token is never known again.
+    pub(crate) fn is_behind<R: Wait>(&self, rt: &R, token: Option<Token>) -> bool
+        ensures known { result ≡ true → is_some token ≡ true }
+    {
         self.wish.lock(rt).is_behind(token)
     }
 

@@ -413,6 +413,7 @@ fn make_ready<R: Wait>(
     ensures sip { IfOk result (λ r. r.sources.sip ≡ work.sip) }
     ensures coming { IfOk result (λ r. r.sources.desk.coming ≡ work.desk.coming) }
     ensures fresh { IfOk result (λ r. IsFresh (opening work.desk) workers (seen r.sources.desk)) }
+    ensures own { IfOk result (λ r. r.sources.desk.operators.own ≡ work.sip.coming.local ∷ work.desk.coming.local ∷ []) }
     ensures stopwatch { IfOk result (λ r. r.sources.stopwatch ≡ new_stopwatch work.begins.tick) }
     ensures first { IfOk result (λ r. r.sending.waiting.transactions ≡ open_first work.repeats work.begins.unanswered.items) }
     ensures none_put { IfOk result (λ r. r.sending.waiting.burst.items ≡ []) }

@@ -9,7 +9,7 @@ ghost use Rattle.transactions.specs.Machine.{State};
 ghost use Rattle.watchers.specs.Rows.{Row};
 ghost use Rattle.service.specs.Keeping.{act_of, AreKept, GoesOnBy};
 ghost use Rattle.service.specs.Sending.{Act, Held};
-ghost use Rattle.service.specs.Releasing.{Fewer, HoldsOn, WaitsBehind, waits};
+ghost use Rattle.service.specs.Releasing.{Fewer, HoldsOn, PassesNone, WaitsBehind, waits};
 
 mod keeping;
 mod repeats;
@@ -140,6 +140,7 @@ impl Waiting {
             → AreKept s rows acts self.old → AreKept s rows (acts ++ Held now out ∷ []) self.new) }
         ensures fewer { OnSome result (Fewer (waits self.old.contacts) (waits self.new.contacts)) }
         ensures behind { IfNone result (WaitsBehind out (waits self.old.contacts) (waits self.new.contacts)) }
+        ensures passes_none { OnSome result (PassesNone out (waits self.new.contacts)) }
     {
         match Notice::new(out) {
             Ok(notice) => {
@@ -151,17 +152,15 @@ impl Waiting {
         }
     }
 
-    /// Whether an out goes out as it is, and nothing is dropped by that: it is no NOTIFY, or each is sent once, or its address has answered
-    /// one of its dialog, and none waits for that.
+    /// Whether an out goes out as it is, and nothing is dropped by that: it is no NOTIFY, or its address has answered one of its dialog, and
+    /// none waits for that.
     fn goes_out(&mut self, out: &Out) -> bool
         ensures transactions { self.new.transactions ≡ self.old.transactions }
         ensures watchers { self.new.watchers ≡ self.old.watchers }
         ensures burst { self.new.burst ≡ self.old.burst }
         ensures fewer { Fewer (waits self.old.contacts) (waits self.new.contacts) }
+        ensures passes_none { result ≡ true → PassesNone out.now (waits self.new.contacts) }
     {
-        if self.is_off {
-            return true;
-        }
         let Out::Notify {
             to,
             terminated,
@@ -191,6 +190,7 @@ impl Waiting {
             → AreKept s rows acts self.old → AreKept s rows (acts ++ Held now out ∷ []) self.new) }
         ensures fewer { OnSome result (Fewer (waits self.old.contacts) (waits self.new.contacts)) }
         ensures behind { IfNone result (WaitsBehind out (waits self.old.contacts) (waits self.new.contacts)) }
+        ensures passes_none { OnSome result (PassesNone out (waits self.new.contacts)) }
     {
         if shared.is_reloading() {
             return self.leave_notify(rt, out, shared);
@@ -263,6 +263,7 @@ impl Waiting {
             × HoldsOn more (waits self.old.contacts) (waits self.new.contacts) }
         ensures given { Grows (W.given wire.old) (W.given wire.new) [] }
         ensures busy { is_busy watch.old ≡ true → (result ≡ false) × (self.new ≡ self.old) × (watch.new ≡ watch.old) }
+        ensures moment { watch.new.moment ≡ watch.old.moment }
     {
         let is_busy = watch.is_busy();
         if is_busy {

@@ -145,7 +145,7 @@ pub enum Counter {
     /// A request was refused without a look at its password: too many wrong ones came from its source, or some from there and too many for
     /// its user.
     Barred,
-    /// A request was refused since a subscription would keep more of it than it may.
+    /// A request was refused since more would be kept of it than may be.
     Large,
     /// A control line came.
     ControlLine,

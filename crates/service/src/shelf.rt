@@ -1,8 +1,9 @@
 //! The files of a journal, as one lock guards them.
-ghost use Rattle.std.specs.Prelude.{◌≡◌, ◌+◌, ◌≤◌, ◌<◌, ℕ, true, false, [], ◌++◌, is_some, OnOk, OnErr};
+ghost use Rattle.std.specs.Prelude.{◌≡◌, ◌+◌, ◌≤◌, ◌<◌, ℕ, true, false, [], ◌++◌, map, string_bytes, slice_get, option_map, Some, is_some, IfOk, OnOk, OnErr};
 ghost use Rattle.std.specs.Int.NonZero.{non_zero_u32_get};
 ghost use Rattle.journal.specs.Records.{written};
 ghost use Rattle.journal.specs.declared.record.Record.TheVariants as entry;
+ghost use Rattle.keeper.specs.Told as kept;
 ghost use Rattle.keeper.specs.Keeping as keeping;
 ghost use Rattle.control_lines.specs.Told.{with_name};
 ghost use Rattle.service.specs.Shelved as spec;
@@ -12,6 +13,7 @@ ghost use Rattle.service.specs.declared.shelf.Chore.TheVariants as chore;
 
 use crate::made::Made;
 use crate::volume::Volume;
+use indexmap::IndexSet;
 use journal::{Header, Told};
 use keeper::{Keeper, MadeBook, Unkept};
 use notifier_model::Event;
@@ -411,6 +413,20 @@ impl Shelf {
         } else {
             None
         }
+    }
+
+    /// The tags of the transfers of which a worker's book would tell.
+    pub(crate) fn transfers(&self, worker: u32) -> Result<Vec<String>, Unkept>
+        ensures { IfOk result (λ tags. option_map kept.transfers (slice_get self.now.keeper.workers worker) ≡ Some (map string_bytes tags.items)) }
+    {
+        self.keeper.transfers(worker)
+    }
+
+    /// Nobody watches the transfers with these tags at this worker any more: its books don't tell of them.
+    pub(crate) fn forget(&mut self, worker: u32, tags: &IndexSet<String>)
+        ensures { self.new ≡ record self.old { keeper = keeping.after_forgetting worker (map string_bytes tags.now.keys) self.old.keeper } }
+    {
+        self.keeper.forget(worker, tags);
     }
 
     /// The keeper counts as told again what this worker was told of mailboxes that lines made: a line for each, which is handled. The worker's desk has

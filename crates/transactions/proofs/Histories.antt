@@ -1,5 +1,5 @@
 -- Each open transaction has a history: the call that kept it, and how often it was sent again since.
-use Rattle.std.proofs.Common.{◌≡◌, ◌∙◌, sym, ap, refl, subst, inl, inr, ◌⊎◌, ℕ, zero, suc, ◌+◌, ◌<◌, ◌≤◌, Bool, true, false, ◌&&◌, ◌||◌, Option, Some, None, List, [], ◌∷◌, ◌++◌, length, arith, append_assoc, add-one}
+use Rattle.std.proofs.Common.{◌≡◌, ◌∙◌, sym, ap, refl, subst, inl, inr, ◌⊎◌, ℕ, zero, suc, ◌+◌, ◌*◌, ◌^◌, ◌<◌, ◌≤◌, min, Bool, true, false, ◌&&◌, ◌||◌, Option, Some, None, List, [], ◌∷◌, ◌++◌, length, arith, append_assoc, add-one}
 use Rattle.std.specs.Prelude.{◌==◌, option_and_then, option_map, slice_index_or, nat_le, bytes_eq, if◌then◌else◌}
 use Rattle.std.specs.List.{list_any, AllByRecursion}
 use Rattle.std.proofs.lemmas.Bool.Decides.{nat_tests}
@@ -13,8 +13,9 @@ use Rattle.transactions.specs.declared.open.Phase.{Phase}
 use Rattle.transactions.specs.declared.open.Phase.TheVariants.{Trying, Proceeding}
 use Rattle.transactions.specs.Timers.{has_name, is_named, alarm, sent, again, proceeding, longer, is_over}
 use Rattle.transactions.specs.Machine.{State, empty, refusal, is_open, is_full, is_crowded, with_sent, keep, wherever, without, at_name, answered, answer, sooner, soonest, if_up, due, turned, with_turned, turn, next_moment}
-use Rattle.transactions.specs.Runs.{Call, Keep, Answer, Turn, after, state_after, unless_over, repeated, repeat_made, times, repeats, is_end, earliest, keeping, EachRepeatIsDue, NoneIsPassedOver, NextIsInTime}
+use Rattle.transactions.specs.Runs.{Call, Keep, Answer, Turn, after, state_after, unless_over, repeated, repeat_made, times, repeats, is_end, earliest, keeping, EachRepeatIsDue, is_answer, newest_send, last_send, EachComesInTime, NoneIsPassedOver, NextIsInTime}
 use Rattle.std.proofs.lemmas.List.{append-nil}
+use Rattle.std.proofs.lemmas.Grind.{pow_more}
 use Rattle.transactions.proofs.Listing.{same_some}
 use Rattle.transactions.proofs.Among.{Among, among_push, among_filter, among_soonest, none_among}
 use Rattle.transactions.proofs.Sounds.{name_is, is_name, fired}
@@ -37,6 +38,25 @@ all_push : {X : Type 0} (P : X → Type 0) (xs : List X) (y : X) → AllByRecurs
 all_push P [] y h p = (p, tt)
 all_push P (x ∷ xs) y h p = (h.0, all_push P xs y h.1 p)
 
+last_push : (tag : List ℕ) (number last : ℕ) (calls : List Call) (call : Call) (s : State)
+    → last_send tag number last (calls ++ call ∷ []) s ≡ newest_send tag number (last_send tag number last calls s) call (state_after calls s)
+last_push tag number last [] call s = refl
+last_push tag number last (c ∷ calls) call s = last_push tag number (newest_send tag number last c s) calls call (after c s)
+
+-- a call that doesn't send it again leaves the moment of the last send
+no_send : (tag : List ℕ) (number last : ℕ) (call : Call) (s : State) → once tag number call s ≡ 0 → newest_send tag number last call s ≡ last
+no_send tag number last (Keep now other n to bytes) s e = refl
+no_send tag number last (Answer other n status) s e = refl
+no_send tag number last (Turn now) s e = by (is_named tag number (repeated s now)) e
+  where
+    by : (b : Bool) → ◌≡◌ {A = ℕ} (if b then 1 else 0) 0 → (if b then now else last) ≡ last
+    by true q = absurd (omega (arith, q))
+    by false q = refl
+
+all_before : {X : Type 0} (P : X → Type 0) (xs : List X) (y : X) → AllByRecursion P (xs ++ y ∷ []) → AllByRecursion P xs × P y
+all_before P [] y h = (tt, h.0)
+all_before P (x ∷ xs) y h = let it = all_before P xs y h.1 in ((h.0, it.0), it.1)
+
 state_append : (a b : List Call) (s : State) → state_after (a ++ b) s ≡ state_after b (state_after a s)
 state_append [] b s = refl
 state_append (c ∷ a) b s = state_append a b (after c s)
@@ -50,14 +70,29 @@ least (suc zero) = 1000
 least (suc (suc zero)) = 2000
 least (suc (suc (suc n))) = 4000
 
+-- how a transaction stands that came again so often, and last at this moment
+pub record Timed (many last : ℕ) (unanswered : Type 0) (t : Open) : Type 0 where
+  pub planned : t.first + earliest many ≤ t.next
+  pub paced : least many ≤ t.interval
+  pub set : t.next ≡ last + t.interval
+  pub longest : t.interval ≤ 4000
+  pub doubled : unanswered → (t.phase ≡ Trying) × (t.interval ≡ min 4000 (500 * 2 ^ many))
+
+-- no answer to it came in these calls
+abbrev Unanswered : Open → List Call → Type 0
+Unanswered t since = AllByRecursion (λ call. is_answer t.tag t.number call ≡ false) since
+
+-- when it was sent last, where it was kept behind these calls and those came since
+abbrev last_moment : Allowance → List Call → List Call → Open → ℕ
+last_moment allowance earlier since t = last_send t.tag t.number t.first since (state_after (earlier ++ keeping t ∷ []) (empty allowance))
+
 pub record History (allowance : Allowance) (past : List Call) (t : Open) : Type 0 where
   pub earlier : List Call
   pub since : List Call
   pub split : past ≡ earlier ++ keeping t ∷ since
   pub kept : refusal (state_after earlier (empty allowance)) t.tag t.number ≡ None
   pub unanswered : AllByRecursion (λ call. is_end t.tag t.number call ≡ false) since
-  pub planned : t.first + earliest (repeats allowance earlier since t) ≤ t.next
-  pub paced : least (repeats allowance earlier since t) ≤ t.interval
+  pub timed : Timed (repeats allowance earlier since t) (last_moment allowance earlier since t) (Unanswered t since) t
 
 -- each open transaction has one, and no two have one name
 pub record Known (allowance : Allowance) (past : List Call) (s : State) : Type 0 where
@@ -82,16 +117,24 @@ record Leaves (t u : Open) : Type 0 where
 module _ (allowance : Allowance) (past : List Call) (call : Call) (t u : Open) (h : History allowance past t) (l : Leaves t u) where
   -- the history goes on: the call didn't end it, and it was sent again with it so often
   goes_on : (n : ℕ) → is_end t.tag t.number call ≡ false → once t.tag t.number call (state_after past (empty allowance)) ≡ n
-      → ((m : ℕ) → t.first + earliest m ≤ t.next → least m ≤ t.interval → (u.first + earliest (m + n) ≤ u.next) × (least (m + n) ≤ u.interval)) → History allowance (past ++ call ∷ []) u
+      → ((m last : ℕ) (A : Type 0) → Timed m last A t → Timed (m + n) (newest_send t.tag t.number last call (state_after past (empty allowance))) (A × (is_answer t.tag t.number call ≡ false)) u)
+      → History allowance (past ++ call ∷ []) u
   goes_on n final many timing =
       let start = state_after (h.earlier ++ keeping t ∷ []) (empty allowance) in
       let m = times t.tag t.number h.since start in
       let count : times t.tag t.number (h.since ++ call ∷ []) start ≡ m + n =
       times_push t.tag t.number h.since call start ∙ ap (λ s. m + once t.tag t.number call s) (state_is allowance past h.earlier h.since (keeping t) h.split) ∙ ap (λ (k : ℕ). m + k) many in
-      let timed = timing m h.planned h.paced in
+      let was = last_moment allowance h.earlier h.since t in
+      let moved : last_send t.tag t.number t.first (h.since ++ call ∷ []) start ≡ newest_send t.tag t.number was call (state_after past (empty allowance)) =
+      last_push t.tag t.number t.first h.since call start ∙ ap (λ s. newest_send t.tag t.number was call s) (state_is allowance past h.earlier h.since (keeping t) h.split) in
+      let timed = timing m was (Unanswered t h.since) h.timed in
       let same : times u.tag u.number (h.since ++ call ∷ []) (state_after (h.earlier ++ keeping u ∷ []) (empty allowance)) ≡ m + n =
       ap (λ (k : Call). times u.tag u.number (h.since ++ call ∷ []) (state_after (h.earlier ++ k ∷ []) (empty allowance))) l.keeps
       ∙ ap (λ tag. times tag u.number (h.since ++ call ∷ []) start) l.tag ∙ ap (λ number. times t.tag number (h.since ++ call ∷ []) start) l.number ∙ count in
+      let sent : last_moment allowance h.earlier (h.since ++ call ∷ []) u ≡ newest_send t.tag t.number was call (state_after past (empty allowance)) =
+      ap (λ (k : Call). last_send u.tag u.number u.first (h.since ++ call ∷ []) (state_after (h.earlier ++ k ∷ []) (empty allowance))) l.keeps
+      ∙ ap (λ tag. last_send tag u.number u.first (h.since ++ call ∷ []) start) l.tag ∙ ap (λ number. last_send t.tag number u.first (h.since ++ call ∷ []) start) l.number
+      ∙ ap (λ first. last_send t.tag t.number first (h.since ++ call ∷ []) start) l.first ∙ moved in
       record {
         earlier = h.earlier;
         since = h.since ++ call ∷ [];
@@ -101,14 +144,30 @@ module _ (allowance : Allowance) (past : List Call) (call : Call) (t u : Open) (
             subst (λ (x : List ℕ). AllByRecursion (λ c. is_end x u.number c ≡ false) (h.since ++ call ∷ [])) (sym l.tag)
             (subst (λ (n : ℕ). AllByRecursion (λ c. is_end t.tag n c ≡ false) (h.since ++ call ∷ [])) (sym l.number)
             (all_push (λ c. is_end t.tag t.number c ≡ false) h.since call h.unanswered final));
-        planned = subst (λ (k : ℕ). u.first + earliest k ≤ u.next) (sym same) timed.0;
-        paced = subst (λ (k : ℕ). least k ≤ u.interval) (sym same) timed.1;
+        timed = record {
+          planned = subst (λ (k : ℕ). u.first + earliest k ≤ u.next) (sym same) timed.planned;
+          paced = subst (λ (k : ℕ). least k ≤ u.interval) (sym same) timed.paced;
+          set = timed.set ∙ ap (λ (k : ℕ). k + u.interval) (sym sent);
+          longest = timed.longest;
+          doubled = λ none.
+              (let all : AllByRecursion (λ c. is_answer t.tag t.number c ≡ false) (h.since ++ call ∷ []) =
+              subst (λ (n : ℕ). AllByRecursion (λ c. is_answer t.tag n c ≡ false) (h.since ++ call ∷ [])) l.number
+              (subst (λ (x : List ℕ). AllByRecursion (λ c. is_answer x u.number c ≡ false) (h.since ++ call ∷ [])) l.tag none) in
+              let it = timed.doubled (all_before (λ c. is_answer t.tag t.number c ≡ false) h.since call all) in
+              (it.0, it.1 ∙ ap (λ (k : ℕ). min 4000 (500 * 2 ^ k)) (sym same)));
+        };
       }
 
 -- where a call changes nothing of it
 untouched : (allowance : Allowance) (past : List Call) (call : Call) (t : Open) → History allowance past t → is_end t.tag t.number call ≡ false → once t.tag t.number call (state_after past (empty allowance)) ≡ 0 → History allowance (past ++ call ∷ []) t
 untouched allowance past call t h final none =
-    goes_on allowance past call t t h (record { keeps = refl; tag = refl; number = refl; first = refl }) 0 final none (λ m p q. (subst (λ (k : ℕ). t.first + earliest k ≤ t.next) (plus m) p, subst (λ (k : ℕ). least k ≤ t.interval) (plus m) q))
+    goes_on allowance past call t t h (record { keeps = refl; tag = refl; number = refl; first = refl }) 0 final none (λ m last A was. record {
+      planned = subst (λ (k : ℕ). t.first + earliest k ≤ t.next) (plus m) was.planned;
+      paced = subst (λ (k : ℕ). least k ≤ t.interval) (plus m) was.paced;
+      set = was.set ∙ ap (λ (k : ℕ). k + t.interval) (sym (no_send t.tag t.number last call (state_after past (empty allowance)) none));
+      longest = was.longest;
+      doubled = λ both. (let it = was.doubled both.0 in (it.0, it.1 ∙ ap (λ (k : ℕ). min 4000 (500 * 2 ^ k)) (plus m)));
+    })
   where
     plus : (m : ℕ) → m ≡ m + 0
     plus m = omega arith
@@ -135,8 +194,7 @@ begun allowance past serial now tag number to bytes e = record {
   split = refl;
   kept = e;
   unanswered = tt;
-  planned = omega arith;
-  paced = omega arith;
+  timed = record { planned = omega arith; paced = omega arith; set = refl; longest = omega arith; doubled = λ none. (refl, refl) };
 }
 
 sent_name : (serial now : ℕ) (tag : List ℕ) (number : ℕ) (to : Addr) (bytes : List ℕ) → ((sent serial now tag number to bytes).tag ≡ tag) × ((sent serial now tag number to bytes).number ≡ number)
@@ -273,7 +331,16 @@ known_one allowance past tag number status one known = known_rule allowance past
         let same = proceeding_times t in
         subst (History allowance (past ++ Answer tag number status ∷ [])) it.1
         (goes_on allowance past (Answer tag number status) t (proceeding t) h (proceeding_leaves t) 0 (provisional t it.0) refl
-        (λ m p q. (omega (arith, p, same.0, same.1, ap earliest (zero_more m)), omega (arith, q, same.2, ap least (zero_more m)))))
+        (λ m last A was. record {
+          planned = (let low = was.planned in omega (arith, low, same.0, same.1, ap earliest (zero_more m)));
+          paced = (let low = was.paced in omega (arith, low, same.2, ap least (zero_more m)));
+          set = same.1 ∙ was.set ∙ ap (λ (k : ℕ). last + k) (sym same.2);
+          longest = (let high = was.longest in omega (arith, high, same.2));
+          doubled = λ both. absurd (answers both.1);
+        }))
+      where
+        answers : is_answer t.tag t.number (Answer tag number status) ≡ false → ⊥
+        answers e = absurd (cc)
 
     others : (t : Open) → has_name tag number t ≡ false → (is_end t.tag t.number (Answer tag number status) ≡ false) × (once t.tag t.number (Answer tag number status) (run_state allowance past) ≡ 0)
     others t k = (quiet (bytes_eq t.tag tag) (t.number == number) (status == GONE) (nat_le 200 status) k one, refl)
@@ -296,6 +363,18 @@ again_leaves now t = record { keeps = refl; tag = refl; number = refl; first = r
 again_times : (now : ℕ) (t : Open) → ((again now t).first ≡ t.first) × ((again now t).next ≡ now + longer t.phase t.interval) × ((again now t).interval ≡ longer t.phase t.interval)
 unfolding again
 again_times now t = (refl, refl, refl)
+
+again_phase : (now : ℕ) (t : Open) → (again now t).phase ≡ t.phase
+unfolding again
+again_phase now t = refl
+
+longer_most : (phase : Phase) (interval : ℕ) → longer phase interval ≤ 4000
+longer_most Trying interval = omega arith
+longer_most Proceeding interval = omega arith
+
+-- where no answer came, the next interval is twice as long, up to T2
+twice_longer : (m interval : ℕ) → interval ≡ min 4000 (500 * 2 ^ m) → min 4000 (2 * interval) ≡ min 4000 (500 * 2 ^ (m + 1))
+twice_longer m interval e = let more = pow_more 2 m in omega (arith, e, more)
 
 earliest_more : (m : ℕ) → earliest (suc m) ≡ earliest m + least (suc m)
 earliest_more zero = refl
@@ -371,16 +450,25 @@ known_turn allowance past now known = by (due (run_state allowance past) now) re
             let fires = fired t now up it.0 in
             let early = fires.0 in
             let here : repeated (run_state allowance past) now ≡ Some t = given ∙ ap (unless_over now) is ∙ ap (λ b. if b then None else Some t) it.0 in
+            let sends : is_named t.tag t.number (repeated (run_state allowance past) now) ≡ true = ap (is_named t.tag t.number) here ∙ is_name t.tag t.number t refl refl in
             let many : once t.tag t.number (Turn now) (run_state allowance past) ≡ 1 =
-            ap (λ o. if is_named t.tag t.number o then 1 else 0) here ∙ ap (λ b. if b then 1 else 0) (is_name t.tag t.number t refl refl) in
+            ap (λ b. if b then 1 else 0) sends in
             subst (History allowance (past ++ Turn now ∷ [])) it.1
             (goes_on allowance past (Turn now) t (again now t) h (again_leaves now t) 1 refl many
-            (λ m p r.
+            (λ m last A was.
             (let more = earliest_more m in
-            let long = longer_least t.phase t.interval m r in
+            let low = was.planned in
+            let long = longer_least t.phase t.interval m was.paced in
+            let high = longer_most t.phase t.interval in
             let next = ap earliest (add-one m) in
             let pace = ap least (add-one m) in
-            (omega (arith, p, same.0, same.1, more, long, next, early), omega (arith, long, same.2, pace)))))
+            record {
+              planned = omega (arith, low, same.0, same.1, more, long, next, early);
+              paced = omega (arith, long, same.2, pace);
+              set = same.1 ∙ ap (λ (k : ℕ). now + k) (sym same.2) ∙ ap (λ (k : ℕ). k + (again now t).interval) (sym (ap (λ b. if b then now else last) sends));
+              longest = omega (arith, high, same.2);
+              doubled = λ both. (let it = was.doubled both.0 in (again_phase now t ∙ it.0, same.2 ∙ ap (λ p. longer p t.interval) it.0 ∙ twice_longer m t.interval it.1));
+            })))
 
         others : (t : Open) → has_name d.tag d.number t ≡ false → (is_end t.tag t.number (Turn now) ≡ false) × (once t.tag t.number (Turn now) (run_state allowance past) ≡ 0)
         others t k = (refl, ap (λ o. if is_named t.tag t.number o then 1 else 0) given ∙ ap (λ b. if b then 1 else 0) (not_it (unless_over now d) refl))
@@ -437,7 +525,7 @@ each_repeat allowance before now t e =
     let early = fires.0 in
     let soon = fires.1 in
     let h = (known_all allowance before).history t (among_soonest t (run_state allowance before).live is_due.0) in
-    let planned = h.planned in
+    let planned = h.timed.planned in
     record {
       earlier = h.earlier;
       since = h.since;
@@ -447,6 +535,29 @@ each_repeat allowance before now t e =
       waited = omega (arith, planned, early);
       seldom = ten (repeats allowance h.earlier h.since t) (omega (arith, planned, early, soon));
       in_time = soon;
+    }
+
+-- ---- each comes again in time
+
+contained : (xs : List Open) (t : Open) (k : ℕ) → k < length xs → slice_index_or xs k t ≡ t → Among t xs
+contained [] t k l e = absurd (omega (arith, l))
+contained (x ∷ xs) t zero l e = inl (sym e)
+contained (x ∷ xs) t (suc k) l e = inr (contained xs t k (omega (arith, l)) e)
+
+pub each_comes_in_time : EachComesInTime
+each_comes_in_time allowance calls t (k, l, e) =
+    let h = (known_all allowance calls).history t (contained (run_state allowance calls).live t k l e) in
+    let set = h.timed.set in
+    let longest = h.timed.longest in
+    record {
+      earlier = h.earlier;
+      since = h.since;
+      split = h.split;
+      kept = h.kept;
+      last = last_moment allowance h.earlier h.since t;
+      sent = refl;
+      soon = omega (arith, set, longest);
+      doubled = λ none. ap (λ (next : ℕ). min next (t.first + 32000)) (set ∙ ap (λ (k : ℕ). last_moment allowance h.earlier h.since t + k) (h.timed.doubled none).1);
     }
 
 -- ---- none is forgotten

@@ -1,10 +1,10 @@
 -- A whole run of calls, and what holds of each NOTIFY that is sent again (RFC 3261 section 17.1.2.2).
-use Rattle.std.specs.Prelude.{◌≡◌, ℕ, zero, suc, ◌+◌, ◌*◌, ◌<◌, ◌≤◌, Bool, false, ◌&&◌, ◌||◌, ◌==◌, nat_le, bytes_eq, Option, Some, None, option_and_then, List, [], ◌∷◌, ◌++◌, if◌then◌else◌}
+use Rattle.std.specs.Prelude.{◌≡◌, ℕ, zero, suc, ◌+◌, ◌*◌, ◌^◌, ◌<◌, ◌≤◌, min, Bool, false, ◌&&◌, ◌||◌, ◌==◌, nat_le, bytes_eq, Option, Some, None, option_and_then, List, [], ◌∷◌, ◌++◌, if◌then◌else◌}
 use Rattle.std.specs.List.{AllByRecursion, Contains}
 use Rattle.sip_text.specs.declared.address.Addr.{Addr}
 use Rattle.transactions.specs.declared.allowance.Allowance.{Allowance}
 use Rattle.transactions.specs.declared.open.Open.{Open}
-use Rattle.transactions.specs.declared.open.TheConstants.{PATIENCE, GONE}
+use Rattle.transactions.specs.declared.open.TheConstants.{T1, T2, PATIENCE, GONE}
 use Rattle.transactions.specs.Timers.{is_named, is_over, alarm}
 use Rattle.transactions.specs.Machine.{State, empty, refusal, keep, answer, due, turn, next_moment}
 
@@ -79,6 +79,47 @@ pub record IsDueRepeat (allowance : Allowance) (before : List Call) (now : ℕ) 
 
 abbrev pub EachRepeatIsDue : Type 0
 EachRepeatIsDue = (allowance : Allowance) (before : List Call) (now : ℕ) (t : Open) → repeated (state_after before (empty allowance)) now ≡ Some t → IsDueRepeat allowance before now t
+
+-- ---- each comes again in time
+
+-- an answer to the NOTIFY with this name
+abbrev pub is_answer : List ℕ → ℕ → Call → Bool
+is_answer tag number (Keep now other n to bytes) = false
+is_answer tag number (Answer other n status) = bytes_eq tag other && (number == n)
+is_answer tag number (Turn now) = false
+
+-- when the NOTIFY with this name was sent last, where that was at `last` before this call
+abbrev pub newest_send : List ℕ → ℕ → ℕ → Call → State → ℕ
+newest_send tag number last (Keep now other n to bytes) s = last
+newest_send tag number last (Answer other n status) s = last
+newest_send tag number last (Turn now) s = if is_named tag number (repeated s now) then now else last
+
+-- and behind these calls
+abbrev pub last_send : List ℕ → ℕ → ℕ → List Call → State → ℕ
+last_send tag number last [] s = last
+last_send tag number last (call ∷ calls) s = last_send tag number (newest_send tag number last call s) calls (after call s)
+
+-- to how long timer E is set behind a send, where the NOTIFY came again so often: T1, then twice as long each time, up to T2
+abbrev pub timer_e : ℕ → ℕ
+timer_e n = min T2 (T1 * 2 ^ n)
+
+-- what holds of a transaction that is open behind these calls
+pub record ComesInTime (allowance : Allowance) (calls : List Call) (t : Open) : Type 0 where
+  -- it was kept
+  pub earlier : List Call
+  pub since : List Call
+  pub split : calls ≡ earlier ++ keeping t ∷ since
+  pub kept : refusal (state_after earlier (empty allowance)) t.tag t.number ≡ None
+  -- and sent last at this moment
+  pub last : ℕ
+  pub sent : last ≡ last_send t.tag t.number t.first since (state_after (earlier ++ keeping t ∷ []) (empty allowance))
+  -- timer E fires T2 behind that at the latest, and timer F once the patience is over
+  pub soon : alarm t ≤ min (last + T2) (t.first + PATIENCE)
+  -- and timer E just when its time is over, where no provisional answer came
+  pub doubled : AllByRecursion (λ call. is_answer t.tag t.number call ≡ false) since → alarm t ≡ min (last + timer_e (repeats allowance earlier since t)) (t.first + PATIENCE)
+
+abbrev pub EachComesInTime : Type 0
+EachComesInTime = (allowance : Allowance) (calls : List Call) (t : Open) → Contains (state_after calls (empty allowance)).live t → ComesInTime allowance calls t
 
 -- ---- none is forgotten
 

@@ -19,8 +19,8 @@ use std::time::Duration;
 /// For how long a receive in time waits, in milliseconds: so a service that closes is seen to within a quarter of a second.
 const WAIT: u64 = 250;
 
-/// A UDP socket (IPv4) as a wire. It tells how often it failed, and nothing of its datagrams. The socket is closed once its
-/// wires are dropped.
+/// A UDP socket (IPv4) as a wire. It tells how often it failed, and nothing of its datagrams. A receive in time drops those that come from
+/// port 0. The socket is closed once its wires are dropped.
 #[derive(Drop)]
 pub struct UdpWire {
     socket: UdpSocket,
@@ -244,6 +244,10 @@ impl Ear for UdpWire {
             Ok((length, source)) => match ipv4_addr(source) {
                 Ok(source) => {
                     self.row = 0;
+                    // Nobody can be answered at port 0 (RFC 768).
+                    if source.port == 0 {
+                        return Ok(None);
+                    }
                     Ok(Some((length, source)))
                 }
                 Err(_) => Err(self.miss(ReceiveFault { number: None })),

@@ -12,18 +12,19 @@ use Rattle.watchers.specs.declared.notify.Known.{Known as Borrowed}
 use Rattle.watchers.specs.declared.notify.TheConstants.{LONGEST}
 use Rattle.watchers.specs.declared.row.Watcher.{Watcher}
 
--- The subscriber's address as its From has it, its Contact, which is the remote target of the dialog (RFC 3261 section 12.1.1), who showed
--- a password for it, the mailbox or the tag of the transfer that it watches, and how many seconds are left
+-- The subscriber's address as its From has it, its Contact, which is the remote target of the dialog (RFC 3261 section 12.1.1), the dialog's
+-- Call-ID, who showed a password for it, the mailbox or the tag of the transfer that it watches, and how many seconds are left
 pub record Known : Type 0 where
   pub watcher : List ℕ
   pub contact : List ℕ
+  pub call_id : List ℕ
   pub user : Option (List ℕ)
   pub resource : List ℕ
   pub seconds : ℕ
 
 abbrev pub known_seen : Borrowed → Known
 known_seen k =
-    record { watcher = k.watcher.now; contact = k.contact.now; user = option_map (λ name. name.now) k.user; resource = k.resource.now; seconds = k.seconds }
+    record { watcher = k.watcher.now; contact = k.contact.now; call_id = k.call_id.now; user = option_map (λ name. name.now) k.user; resource = k.resource.now; seconds = k.seconds }
 
 -- ---- a From or a To (RFC 3261 section 20.10)
 
@@ -63,4 +64,4 @@ source addr = from_be_bytes w32 addr.ip
 -- the row that begins with the NOTIFY with this number, which went out at this moment to this address
 abbrev pub first_row : ℕ → ℕ → Addr → Known → Watcher
 first_row now number to known =
-    record { watcher = watcher known.watcher; contact = word known.contact; user = known.user; mailbox = word known.resource; source = source to; to = to; sent = number; answered = 0; code = 0; since = now; until = until now known.seconds }
+    record { watcher = watcher known.watcher; contact = word known.contact; call_id = known.call_id; user = known.user; mailbox = word known.resource; source = source to; to = to; sent = number; answered = 0; code = 0; since = now; until = until now known.seconds }

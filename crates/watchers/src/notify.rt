@@ -55,6 +55,8 @@ pub struct Known<'a> {
     pub watcher: &'a str,
     /// Its Contact: the remote target of the dialog (RFC 3261 section 12.1.1).
     pub contact: &'a str,
+    /// The Call-ID of its dialog (RFC 3261 section 12).
+    pub call_id: &'a str,
     /// The user whose password it showed, where that is known.
     pub user: Option<&'a str>,
     /// What is watched: a mailbox, or the tag of a transfer.
@@ -95,6 +97,7 @@ pub fn first_row(
     Ok(Watcher {
         watcher: Text::of(alloc, watcher(known.watcher.as_bytes()))?,
         contact: Text::of(alloc, word(known.contact.as_bytes()))?,
+        call_id: Text::of(alloc, known.call_id)?,
         user: some_copy(alloc, known.user)?,
         mailbox: Text::of(alloc, word(known.resource.as_bytes()))?,
         source: source(to),

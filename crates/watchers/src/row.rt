@@ -12,6 +12,8 @@ pub struct Watcher {
     pub watcher: Text,
     /// Its Contact, as the last NOTIFY was known to go there.
     pub contact: Text,
+    /// The Call-ID of its dialog (RFC 3261 section 12), by which an answer to a NOTIFY is known as one of this dialog.
+    pub call_id: Text,
     /// The user whose password it showed, where that was known with the NOTIFY with which its row began.
     pub user: Option<Text>,
     /// What it watches: the mailbox, or the tag of its transfer.

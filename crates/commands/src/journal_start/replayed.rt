@@ -2,7 +2,7 @@
 //! that no desk has.
 ghost use Rattle.std.specs.Prelude.{◌≡◌, filter, IfOk};
 ghost use Rattle.arguments.specs.Wanted.{Gives};
-ghost use Rattle.commands.specs.GoingOn.{awaited_by, awaits_any};
+ghost use Rattle.commands.specs.GoingOn.{AreSentFirst, awaited_by, awaits_any};
 
 use crate::journal_opened::{Opened, read_file, told_since};
 use crate::journal_start::volume::{Newest, last_second};
@@ -152,6 +152,7 @@ where
     M: Fn(Wanted) -> Result<P, NoMemory>,
     requires callable { M.IsAlwaysCallable make.now }
     requires gives { Gives P.seen (M.post make.now) }
+    ensures { IfOk result (λ outs. AreSentFirst P.seen desks.now newest.items outs.items) }
 {
     let clock = last_second(desks);
     let numbers = past.opened.numbers.as_slice();

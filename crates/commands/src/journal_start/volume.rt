@@ -1,5 +1,6 @@
 //! The file of its journal in which a service goes on: a new one with the books of its desks, or the newest one.
-ghost use Rattle.std.specs.Prelude.{◌≡◌, filter, nat_lt, IfOk};
+ghost use Rattle.std.specs.Prelude.{◌≡◌, ◌++◌, filter, map, nat_lt, IfOk, OnOk};
+ghost use Rattle.commands.specs.Begun.{AreLiving, IsLastSecond, living_row};
 
 use crate::journal_opened::Opened;
 use crate::journal_start::{Order, Started};
@@ -16,7 +17,9 @@ use std::fs::File;
 use std::rt::Files;
 
 /// Adds what is known of the subscriptions that go on.
-fn add_living(living: &mut Vec<Living>, rows: Vec<Row>) -> Result<(), NoMemory> {
+fn add_living(living: &mut Vec<Living>, rows: Vec<Row>) -> Result<(), NoMemory>
+    ensures { OnOk result (living.new.items ≡ living.old.items ++ map living_row rows.items) }
+{
     for row in rows {
         let Row {
             tag,
@@ -35,7 +38,9 @@ fn add_living(living: &mut Vec<Living>, rows: Vec<Row>) -> Result<(), NoMemory> 
 }
 
 /// The last second of which one of these desks was told.
-pub(crate) fn last_second<P: Package>(desks: &[Desk<P>]) -> u64 {
+pub(crate) fn last_second<P: Package>(desks: &[Desk<P>]) -> u64
+    ensures { IsLastSecond P.seen desks.now result }
+{
     let mut second = 0u64;
     for desk in desks {
         second = second.max(desk.clock());
@@ -44,15 +49,15 @@ pub(crate) fn last_second<P: Package>(desks: &[Desk<P>]) -> u64 {
 }
 
 /// What a service begins with beside these desks, where these NOTIFYs are sent first.
-fn begin_with<P: Package>(
-    alloc: Global,
-    desks: &[Desk<P>],
-    first: Vec<Out>,
-) -> Result<Begins, Halt> {
+fn begin_with<P: Package>(alloc: Global, desks: &[Desk<P>], first: Vec<Out>) -> Result<Begins, Halt>
+    ensures unanswered { IfOk result (λ b. b.unanswered.items ≡ first.items) }
+    ensures tick { IfOk result (λ b. IsLastSecond P.seen desks.now b.tick) }
+    ensures living { IfOk result (λ b. AreLiving P.seen desks.now b.living.items) }
+{
     let mut begins = Begins::anew(alloc);
     begins.unanswered = first;
+    begins.tick = last_second(desks);
     for desk in desks {
-        begins.tick = begins.tick.max(desk.clock());
         add_living(&mut begins.living, Row::of_desk(alloc, desk)?)?;
     }
     Ok(begins)

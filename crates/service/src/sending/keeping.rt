@@ -136,6 +136,7 @@ impl Waiting {
         let known = Known {
             watcher: note.watcher.as_str(),
             contact,
+            call_id: note.call_id.as_str(),
             user,
             resource: note.resource.as_str(),
             seconds: note.left.unwrap_or(0),

@@ -1,6 +1,6 @@
 //! What is done between outs: phones' answers are taken, what waited for them is sent, and NOTIFYs are sent again or given up.
 ghost use Rattle.std.specs.Prelude.{◌≡◌, ◌<◌, ◌^◌, ℕ, List, [], ◌∷◌, map};
-ghost use Rattle.service.specs.Watched.{IsSeen, AreRowed, noted_rows};
+ghost use Rattle.service.specs.Watched.{IsSeen, AreRowed, is_of_dialog};
 ghost use Rattle.watchers.specs.Rows.{without};
 ghost use Rattle.transport.specs.Wires.{Grows};
 ghost use Rattle.transport.specs.Devices.{rises};
@@ -11,7 +11,7 @@ ghost use Rattle.first_contact.specs.Tables.{IsStepped, at};
 ghost use Rattle.transactions.specs.Machine.{answer};
 ghost use Rattle.transactions.specs.Runs.{after, state_after};
 ghost use Rattle.watchers.specs.Rows.{answered_rows};
-ghost use Rattle.service.specs.Sending.{Act, Does, WentOut, fates, sent_again};
+ghost use Rattle.service.specs.Sending.{Act, Does, WentOut, fates, noting, sent_again};
 ghost use Rattle.service.specs.Sending as act;
 ghost use Rattle.service.specs.Releasing.{AreReleased, Fewer, HoldsOn, ReleasesFirst, ahead, waits};
 ghost use Rattle.service.specs.Taken.{failures_then};
@@ -84,6 +84,17 @@ fn resource<'a>(watchers: &'a Watchers, due: &Open) -> &'a str {
     match watchers.find(due.tag.as_str()) {
         Some(row) => row.mailbox.as_str(),
         None => "-",
+    }
+}
+
+/// Whether an answer is one of the dialog that its tag names: it has the Call-ID of that one's row (RFC 3261 section 12). Where there is no
+/// row the tag alone names it.
+fn is_of_dialog(watchers: &Watchers, note: &Note) -> bool
+    ensures { result ≡ is_of_dialog note.now.tag note.now.call_id watchers.now.rows }
+{
+    match watchers.find(note.tag.as_str()) {
+        Some(row) => row.call_id.is(note.call_id.as_str()),
+        None => true,
     }
 }
 
@@ -196,7 +207,8 @@ impl Waiting {
         passed.through
     }
 
-    /// Takes notes of answers at this moment, a few at a time. Behind one for which NOTIFYs waited it takes no further one.
+    /// Takes notes of answers at this moment, a few at a time. Behind one for which NOTIFYs waited it takes no further one. One of another
+    /// dialog is dropped: who answers with another Call-ID has answered nothing.
     pub(crate) fn take_notes<R: Wait + Eprint>(
         &mut self,
         rt: &R,
@@ -205,7 +217,7 @@ impl Waiting {
     ) -> Taken
         ensures noted { (taken : List Note)
             × (self.new.transactions ≡ state_after (map answer_of taken) self.old.transactions)
-            × (self.new.watchers.rows ≡ noted_rows taken self.old.watchers.rows) }
+            × AreRowed (map noting taken) self.old.watchers.rows self.new.watchers.rows }
         ensures burst { self.new.burst ≡ self.old.burst }
         // What is to be sent had waited in one dialog, in this order, before what waits in it still.
         ensures waited { (tag : List ℕ) × Fewer (waits self.old.contacts) (ahead tag result.through.items (waits self.new.contacts)) }
@@ -217,6 +229,9 @@ impl Waiting {
                     through: Vec::new(self.alloc),
                 };
             };
+            if !is_of_dialog(&self.watchers, &note) {
+                continue;
+            }
             let through = self.take_note(rt, now, &note, shared);
             if !through.is_empty() {
                 return Taken {

@@ -150,6 +150,22 @@ impl Shared {
         }
     }
 
+    /// The tags of the transfers of which the book of this worker would tell, where that is wanted.
+    pub(crate) fn told_transfers<R: Wait>(&self, rt: &R, worker: u32) -> Option<Vec<String>> {
+        // Behind the planned stop nobody watches any: but the next run goes on from what stood before.
+        if self.is_reloading() {
+            return None;
+        }
+        self.journal.get()?.transfers(rt, worker)
+    }
+
+    /// The desk of this worker has no subscription with these tags: the journal tells no more of transfers that have them.
+    pub(crate) fn forget_transfers<R: Wait>(&self, rt: &R, worker: u32, tags: &[String]) {
+        if let Some(journal) = self.journal.get() {
+            journal.forget(rt, worker, tags);
+        }
+    }
+
     /// The book of this worker after all that it handled, for the journal.
     pub(crate) fn write_book<R: Wait>(&self, rt: &R, worker: u32, written: &[u8]) {
         if let Some(journal) = self.journal.get() {

@@ -1,6 +1,6 @@
-use Rattle.std.proofs.Common.{◌≡◌, ◌+◌, length, take}
-use Rattle.std.specs.Prelude.{sum_by}
+use Rattle.std.proofs.Common.{◌≡◌, ◌+◌, take}
+use Rattle.admission.specs.Texts.{lines_length}
 use Rattle.admission.proofs.judging.room_behind.Given as goal
 
-abbrev pub invariant-loop-text : goal.invariant-loop-text
-invariant-loop-text l = l.left + sum_by length (take l.text-index l.texts) ≡ l.room
+abbrev pub invariant-loop-value : goal.invariant-loop-value
+invariant-loop-value l = l.left + lines_length (take l.value-index l.values) ≡ l.room

@@ -9,5 +9,5 @@ was_true false e = absurd cc
 
 pub returns-clause-plan : goal.returns-clause-plan
 returns-clause-plan c =
-    let more = c.in_ok-plan.ensures in
+    let more = c.in_ok-plan.ensures.mailboxes in
     λ words is. told_too words c.args.plan c.in_ok-plan.field-0 more.0 (was_true c.args.plan.choices.any_mailbox c.if-not-plan.false) more.1 more.2 is

@@ -9,4 +9,5 @@ returns-in-Err c = (
   sym c.is_reload.ensures ∙ c.if-is_reload.false,
   λ h.
       (let never = c.in-Err.ensures.alone (codes "CLOSE") (close_bare c.args.octets.now h) close_one_word in absurd cc),
+  λ line is one. (let never = c.in-Err.ensures.alone line is one in absurd cc),
 )

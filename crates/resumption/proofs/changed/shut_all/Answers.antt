@@ -11,5 +11,5 @@ loop-desk-preserved g c =
     let steps : into_iter_items at.desk-iterator ≡ desk ∷ into_iter_items c.next.new.self = c.in-Some.ensures.steps.0 in
     record {
       whole = append_assoc at.yielded (desk ∷ []) _ ∙ rw (← steps) at.invariant.whole;
-      outs = shut_more (seen_by g.P.Package.seen) at.yielded desk _ at.outs.items c.in_ok-more.more.items _ at.invariant.outs c.in_ok-more.ensures c.in_ok-append.ensures.items;
+      outs = shut_more (seen_by g.P.Package.seen) at.yielded desk _ at.outs.items c.in_ok-more.more.items _ at.invariant.outs c.in_ok-more.ensures.outs c.in_ok-append.ensures.items;
     }

@@ -1,4 +1,4 @@
-use Rattle.std.proofs.Common.{◌≡◌, ◌++◌, ◌∷◌, [], ◌∙◌, false, refl, sym, ap, subst}
+use Rattle.std.proofs.Common.{◌≡◌, ◌++◌, ◌∷◌, [], ◌∙◌, false, sym, ap, subst}
 use Rattle.notifier_model.specs.declared.event.Out.{Out}
 use Rattle.feeds.specs.Emitted.{MayMeet, Writes, sent_datagrams, count, fails_to_send, fails_to_start, is_start}
 use Rattle.feeds.proofs.Telling.{grows_none}
@@ -8,7 +8,7 @@ use Rattle.service.specs.Sending.{Act, Put, taking}
 use Rattle.service.specs.Keeping.{AreKept}
 use Rattle.service.specs.Releasing.{HoldsOn, waits}
 use Rattle.service.proofs.Acts.{held_may, held_writes, taken_put}
-use Rattle.service.proofs.Releasing.{fewer_more, idle_on, held_on}
+use Rattle.service.proofs.Releasing.{fewer_more, fewer_passes, put_on, held_on}
 use Rattle.service.proofs.outs.send_on.Goals as goal
 
 pub returns-in_default-clause-fate : goal.returns-in_default-clause-fate
@@ -56,10 +56,11 @@ returns-clause-kept g c = λ s rows acts is.
     subst (λ (a : Act). AreKept s rows (acts ++ a ∷ []) c.put.new.self) same (c.put.ensures.put s rows acts (c.in-Some.ensures.through s rows acts is))
 
 pub returns-in_default-clause-held : goal.returns-in_default-clause-held
-returns-in_default-clause-held g c = held_on c.args.leaving.now c.args.leaving.out _ _ c.in_default.ensures.behind
+returns-in_default-clause-held g c = held_on c.args.leaving.now c.args.leaving.out _ _ c.in_default.ensures.notify c.in_default.ensures.behind
 
 pub returns-clause-held : goal.returns-clause-held
 returns-clause-held g c =
     let now = c.args.leaving.now in let out = c.args.leaving.out in let fate = c.put_out-fate.result in
     subst (λ (a : Act). HoldsOn (a ∷ []) (waits c.args.waiting.now.contacts) (waits c.put.new.self.contacts)) (sym (taken_put now out fate c.put_out-fate.ensures.not_held))
-    (idle_on (Put now out fate) _ _ refl refl (fewer_more _ _ _ c.in-Some.ensures.fewer c.put.ensures.fewer))
+    (put_on now out fate _ _ (fewer_more _ _ _ c.in-Some.ensures.fewer c.put.ensures.fewer)
+    (fewer_passes _ _ (waits c.put.new.self.contacts) c.in-Some.ensures.passes_none c.put.ensures.fewer))

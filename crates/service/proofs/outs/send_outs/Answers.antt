@@ -25,7 +25,7 @@ returns-then-is_over-clause-sent g c =
     let at = c.loop.invariant in let last = c.settle.ensures in (
       at.acts,
       at.report,
-      sent_out at.ahead (c.is_empty.ensures c.if-is_empty.true) at.does at.held.so_far,
+      sent_out at.ahead (c.is_empty.ensures c.if-is_empty.true) at.does at.held.so_far at.held.none_overtook,
       at.flushed,
       settled_rows (last.kept _ _ _ at.kept) last.none,
     )

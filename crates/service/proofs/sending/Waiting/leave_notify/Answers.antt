@@ -3,7 +3,7 @@ use Rattle.std.specs.Prelude.{is_some}
 use Rattle.service.specs.Sending.{Held}
 use Rattle.service.proofs.Keeping.{kept_more}
 use Rattle.service.specs.Releasing.{waits}
-use Rattle.service.proofs.Releasing.{fewer_same, left_behind}
+use Rattle.service.proofs.Releasing.{fewer_same, left_behind, unnoticed_passes}
 use Rattle.service.proofs.sending.Waiting.leave_notify.Goals as goal
 
 pub returns-in-Ok-clause-notify : goal.returns-in-Ok-clause-notify
@@ -19,3 +19,6 @@ returns-in-Ok-clause-behind g c = left_behind c.args.out _ _ c.settle.ensures.fe
 
 pub returns-in-Err-clause-fewer : goal.returns-in-Err-clause-fewer
 returns-in-Err-clause-fewer g c = fewer_same (waits c.args.self.now.contacts)
+
+pub returns-in-Err-clause-passes_none : goal.returns-in-Err-clause-passes_none
+returns-in-Err-clause-passes_none g c = unnoticed_passes _ (waits c.args.self.now.contacts) c.in-Err.ensures.other.1

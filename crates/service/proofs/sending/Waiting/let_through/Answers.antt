@@ -3,9 +3,10 @@ use Rattle.std.specs.Prelude.{is_some}
 use Rattle.first_contact.specs.Steps.{tag_in}
 use Rattle.first_contact.specs.Tables.{at, room}
 use Rattle.service.specs.Sending.{Held}
+use Rattle.service.specs.Releasing.{waits}
 use Rattle.service.proofs.Keeping.{kept_same, kept_beside, kept_more}
 use Rattle.service.proofs.Letting.{goes_itself, notice_itself}
-use Rattle.service.proofs.Releasing.{fewer_more, fewer_behind, behind_fewer, behind_as, offered_through, offered_behind}
+use Rattle.service.proofs.Releasing.{fewer_more, fewer_behind, behind_fewer, behind_as, offered_through, offered_behind, unnoticed_passes, other_passes, offered_passes_none}
 use Rattle.service.proofs.sending.Waiting.let_through.Goals as goal
 
 pub returns-then-lost-eq0-clause-through : goal.returns-then-lost-eq0-clause-through
@@ -77,5 +78,24 @@ returns-in_default g c = record {
       kept_beside c.args.self.now c.goes_out.new.self c.goes_out.ensures.burst c.goes_out.ensures.transactions c.goes_out.ensures.watchers is;
   held = tt;
   fewer = c.goes_out.ensures.fewer;
+  passes_none = other_passes _ (waits c.goes_out.new.self.contacts) c.in_default.not-Notify;
   behind = tt;
 }
+
+pub returns-then-lost-eq0-clause-passes_none : goal.returns-then-lost-eq0-clause-passes_none
+returns-then-lost-eq0-clause-passes_none g c =
+    let old = c.has_room-may_begin.new.self.contacts in let n = c.in-Ok.notice in
+    offered_passes_none c.args.out old _ (room c.has_room-may_begin.result old) n c.in-Ok-Through.field-0 c.in-Ok-Through.notice c.in-Ok-Through.lost
+    c.in-Ok.ensures.notify c.in-Ok-Through.field-0-is c.in-Ok-Through.ensures.offered c.in-Ok-Through.ensures.outcome
+
+pub returns-in-Ok-Through-clause-passes_none : goal.returns-in-Ok-Through-clause-passes_none
+returns-in-Ok-Through-clause-passes_none g c =
+    let old = c.has_room-may_begin.new.self.contacts in let n = c.in-Ok.notice in
+    offered_passes_none c.args.out old _ (room c.has_room-may_begin.result old) n c.in-Ok-Through.field-0 c.in-Ok-Through.notice c.in-Ok-Through.lost
+    c.in-Ok.ensures.notify c.in-Ok-Through.field-0-is c.in-Ok-Through.ensures.offered c.in-Ok-Through.ensures.outcome
+
+pub returns-in-Err-clause-passes_none : goal.returns-in-Err-clause-passes_none
+returns-in-Err-clause-passes_none g c = unnoticed_passes _ (waits c.has_room-may_begin.new.self.contacts) c.in-Err.ensures.other.1
+
+pub returns-then-goes_out-clause-passes_none : goal.returns-then-goes_out-clause-passes_none
+returns-then-goes_out-clause-passes_none g c = c.goes_out.ensures.passes_none c.if-goes_out.true
