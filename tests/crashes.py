@@ -26,6 +26,7 @@ from concurrent.futures import ThreadPoolExecutor
 sys.dont_write_bytecode = True
 
 import journal_file
+from phone import Operator as Teller, Phone as Caller
 from suite import SLOWER, free_port, run, same, started
 
 # Seconds within which lamps are right behind the last start, once it answers, and within which a phone's request is answered.
@@ -465,6 +466,67 @@ def records_in(path):
         return journal_file.payloads(file.read())[0]
 
 
+# So many lines tell of transfers for which nobody asked.
+NOBODYS = 3000
+
+
+def tell_of_nobody(town):
+    """Lines tell of transfers for which nobody asked. Each is handled: so it stands in the first file."""
+    with Teller(town.control[1]) as teller:
+        for number in range(NOBODYS):
+            same("the line of a transfer of nobody", "ok", teller.ask(f"PROGRESS nobody{number} 180 Ringing"))
+    town.wait("each is handled", lambda: len(of_nobody(f"{town.journal}/journal.1")) == NOBODYS)
+
+
+def of_nobody(path):
+    """The records of a file that tell of such a transfer."""
+    return [record for record in records_in(path) if b"nobody" in record]
+
+
+def has_books(path, workers):
+    """Whether a file is there, with the books of so many workers."""
+    return os.path.exists(path) and journal_file.kinds(records_in(path)).get("b") == workers
+
+
+def a_transfer_that_nobody_watches(program, folder):
+    """No further file tells how far a transfer came that nobody watches. It tells that of one that a phone watches, which is right behind a kill."""
+    with Town(program, folder, 0) as town, Caller(town.sip[1], MAILBOXES[0]) as caller:
+        town.words += ["--journal-bytes", "65536"]
+        town.start()
+        town.ask("STATUS")
+        tag = caller.refer("sip:carol@127.0.0.1")
+        ringing = "SIP/2.0 180 Ringing\r\n"
+        same("the line of the transfer", "ok", town.ask(f"PROGRESS {tag} 180 Ringing"))
+        caller.expect_notify("active", ringing)
+        tell_of_nobody(town)
+        second = f"{town.journal}/journal.2"
+        town.wait("a second file with all books", lambda: has_books(second, 3))
+        same("what the second file tells of nobody", [], of_nobody(second))
+        books = [record for record in records_in(second) if record[:1] == b"b"]
+        same("books that tell of the transfer", 1, sum(tag.encode() in book and b"Ringing" in book for book in books))
+        town.kill()
+        town.start()
+        town.ask("STATUS")
+        (dialog,) = caller.dialogs.values()
+        caller.refresh(dialog, 120, ringing)
+
+
+def nobody_behind_starts(program, folder):
+    """Each start with another mailbox writes a file of its own. What nobody watched at the books of one isn't in the next."""
+    with Town(program, folder, 0) as town:
+        town.start()
+        town.ask("STATUS")
+        tell_of_nobody(town)
+        town.kill()
+        for name in ("new", "newer"):
+            town.mailboxes = (*town.mailboxes, name)
+            town.start()
+            town.ask("STATUS")
+            town.kill()
+        same("the files", [2, 3], journal_file.files(town.journal)[-2:])
+        same("what the third file tells of nobody", [], of_nobody(newest(town.journal)))
+
+
 # What phones know a service by that listens now here, now there.
 ANYWHERE = ["--contact", "127.0.0.1:5999"]
 
@@ -711,6 +773,33 @@ def no_folder(program, folder):
         assert "can't be written, so nothing is kept" in town.said(), town.said()
 
 
+def no_regular_file(program, folder):
+    """A FIFO isn't opened, since that may wait for ever. In place of a journal's only file it is put aside, as one that can't be read; behind
+    another file it is one whose end is lost."""
+    with Town(program, folder, 3) as town:
+        os.mkdir(town.journal)
+        os.mkfifo(f"{town.journal}/journal.1")
+        town.start()
+        town.subscribe()
+        same("files", ["journal.1.old", "journal.2", "lock"], sorted(os.listdir(town.journal)))
+        assert "can't be read, and is put aside" in town.said(), town.said()
+    own = os.path.join(folder, "another")
+    os.mkdir(own)
+    with left_behind(program, own) as town:
+        os.mkfifo(f"{town.journal}/journal.{max(journal_file.files(town.journal)) + 1}")
+        goes_on_ahead(town)
+
+
+def no_regular_lock(program, folder):
+    """In a folder whose lock is a FIFO nothing can be kept."""
+    with Town(program, folder, 3) as town:
+        os.mkdir(town.journal)
+        os.mkfifo(f"{town.journal}/lock")
+        town.start()
+        town.subscribe()
+        assert "can't be written, so nothing is kept" in town.said(), town.said()
+
+
 def is_made_read_only(folder):
     """Whether nothing can be written there any more. The user root may write whatever has no other owner, but not on a disk that is read
     alone."""
@@ -871,6 +960,8 @@ def checks():
     yield "twenty kills while phones watch and mails come, and no lamp is wrong", twenty_kills
     yield "three kills where each record is brought to the disk at once", each_on_the_disk
     yield "a second file", another_file
+    yield "no second file tells of a transfer that nobody watches", a_transfer_that_nobody_watches
+    yield "nor does one that a start writes", nobody_behind_starts
     yield "a journal that is cut anywhere", cut_anywhere
     yield "a flipped byte", a_flipped_byte
     yield "two services have no journal together", two_services
@@ -885,6 +976,8 @@ def checks():
     yield "a new mailbox", one_more_mailbox
     yield "a kill behind a start with other mailboxes", a_kill_behind_another
     yield "no folder", no_folder
+    yield "a FIFO in place of a file", no_regular_file
+    yield "a FIFO in place of the lock", no_regular_lock
     yield "a read-only folder", a_read_only_folder
     yield "a planned stop", a_planned_stop
     yield "a full disk", a_full_disk

@@ -1,6 +1,6 @@
 """`notifyd serve` where nothing leaves the machine for a while, or the process stands still: that isn't the phones' time. What can't be
 sent to one address is no outage. The link is a pair of network interfaces between two namespaces, of which the service's is set down,
-and a datagram from port 0 needs a raw socket: where one of these can't be had, a line says what wasn't tried.
+and a datagram from a broadcast address needs a raw socket: where one of these can't be had, a line says what wasn't tried.
 
 `python3 tests/outages.py PROGRAM SECONDS` stops a service for so long, and takes its link away for so long, and prints what it tells."""
 
@@ -17,7 +17,7 @@ import time
 
 from phone import PATIENCE, Message, Operator
 from repeats import GIVEN_UP, MOMENTS, Observer, are_sends
-from service import HEARD, SUBSCRIBE, Service, counters_become, forged, rows_become
+from service import HEARD, SUBSCRIBE, Service, counters_become, forged, raw_socket, rows_become
 from suite import Running, comes_true, free_port, same, stand_still
 
 # Where the service is, and where the phone. A stranger is in another network, to which no way leads any more.
@@ -198,9 +198,9 @@ def no_way_is_no_outage(program, folder):
                 same("whether sends to the stranger failed", True, int(operator.counters()["failed"]) > 0)
 
 
-def no_port_is_no_outage(program, folder):
-    """What a stranger draws who sends from port 0 can't be sent (EINVAL). A deaf phone is sent its NOTIFY at the usual moments all the
-    same, and then it is gone."""
+def a_broadcast_address_is_no_outage(program, folder):
+    """What a stranger draws who sends from a broadcast address can't be sent (EACCES). A deaf phone is sent its NOTIFY at the usual moments
+    all the same, and then it is gone."""
     with Service(program, "alice", "bob") as service, Observer(service, "bob") as phone, service.operator() as operator:
         asked = time.time()
         phone.ask("SIP/2.0 200 OK")
@@ -208,25 +208,13 @@ def no_port_is_no_outage(program, folder):
         with raw_socket() as raw:
             while time.monotonic() < end:
                 count += 1
-                raw.sendto(forged(0, service.sip, SUBSCRIBE.replace(b"Call-ID: c1", b"Call-ID: n%d" % count)), ("127.0.0.1", 0))
+                strange = SUBSCRIBE.replace(b"Call-ID: c1", b"Call-ID: n%d" % count)
+                raw.sendto(forged(5070, service.sip, strange, "255.255.255.255"), ("127.0.0.1", 0))
                 came += phone.observe_until(time.monotonic() + 0.5)
             are_sends("the NOTIFY to a deaf phone", came, MOMENTS, asked, service)
             rows_become(operator, "WATCHERS bob")
         same("whether the answers to the stranger failed", True, comes_true(lambda: int(operator.counters()["failed"]) >= count))
         same("seconds that weren't counted", 0, seconds_told(operator))
-
-
-def raw_socket():
-    return socket.socket(socket.AF_INET, socket.SOCK_RAW, socket.IPPROTO_RAW)
-
-
-def can_forge():
-    """Whether this user may send from any port."""
-    try:
-        raw_socket().close()
-        return True
-    except PermissionError:
-        return False
 
 
 def can_link():
@@ -247,10 +235,11 @@ def checks():
         yield "serve: where no way leads to a stranger is no outage", no_way_is_no_outage
     else:
         print("  outages: a link that is down, and a stranger to whom no way leads, were not tried: no network namespaces with a link can be had", flush=True)
-    if can_forge():
-        yield "serve: what can't be sent to a stranger without a port is no outage", no_port_is_no_outage
+    if raw := raw_socket():
+        raw.close()
+        yield "serve: what can't be sent to a broadcast address is no outage", a_broadcast_address_is_no_outage
     else:
-        print("  outages: a stranger without a port was not tried: no raw socket can be had", flush=True)
+        print("  outages: a stranger at a broadcast address was not tried: no raw socket can be had", flush=True)
 
 
 if __name__ == "__main__":

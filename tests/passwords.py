@@ -470,29 +470,76 @@ def a_forged_source_is_not_barred(program, folder):
 
 
 TOO_LARGE = "SIP/2.0 413 Request Entity Too Large"
+NOT_ALLOWED = "SIP/2.0 405 Method Not Allowed"
 
 
-def subscribe_with(call_id, length):
-    """A SUBSCRIBE of which a subscription would keep so many octets."""
-    contact, event = "sip:alice@127.0.0.1:5070", "message-summary"
+# What a line of an answer counts beside the value that it repeats.
+LINE = 16
+
+
+def request_with(method, call_id, length):
+    """A request of which so many octets are kept."""
+    contact, event, via = "sip:alice@127.0.0.1:5070", "message-summary", f"SIP/2.0/UDP 127.0.0.1:5070;branch=z9hG4bK{call_id};rport"
     party, to = "<sip:{}@127.0.0.1>;tag=f1", "<sip:alice@127.0.0.1>"
-    left = length - len(party.format("")) - len(to) - len(call_id) - len(contact) - len(event)
+    counted = (party.format(""), to, call_id, contact, event, method, method, via, via)
     return "\r\n".join([
-        "SUBSCRIBE sip:alice@127.0.0.1 SIP/2.0", f"Via: SIP/2.0/UDP 127.0.0.1:5070;branch=z9hG4bK{call_id};rport",
-        f"From: {party.format('a' * left)}", f"To: {to}", f"Call-ID: {call_id}", "CSeq: 1 SUBSCRIBE", f"Contact: <{contact}>",
-        f"Event: {event}", "Content-Length: 0", "", ""]).encode()
+        f"{method} sip:alice@127.0.0.1 SIP/2.0", f"Via: {via}", f"From: {party.format('a' * (length - LINE - sum(map(len, counted))))}",
+        f"To: {to}", f"Call-ID: {call_id}", f"CSeq: 1 {method}", f"Contact: <{contact}>", f"Event: {event}", "Content-Length: 0", "", "",
+    ]).encode()
 
 
 def text_that_is_kept(program, folder):
-    """A subscription keeps of a request as many octets as it may, and no more."""
+    """As many octets as may be are kept of a request, and no more. An ACK has no answer."""
     for words, most in (((), 2048), (("--max-texts", "512"), 512), (("--max-texts", "4000"), 4000)):
         with Service(program, *words, "alice") as service, service.operator() as operator, service.phone("alice") as phone:
-            for number, (length, first) in enumerate(((most + 1, TOO_LARGE), (most, TAKEN))):
-                phone.socket.send(subscribe_with(f"k{number}", length))
-                answer = Message(persist(phone.socket.recv, 65535))
-                same(f"the answer to {length} octets", first, answer.first)
-            same("the tag of the 413", "large", Message(told_again(phone, subscribe_with("k3", most + 1))).tag("To"))
-            count_is(operator, large=2)
+            for method, first in (("SUBSCRIBE", TAKEN), ("OPTIONS", NOT_ALLOWED)):
+                for length, own in ((most + 1, TOO_LARGE), (most, first)):
+                    answer = Message(told_again(phone, request_with(method, f"{method}{length}", length)))
+                    same(f"the answer to {method}, {length} octets", own, answer.first)
+            same("the tag of the 413", "large", Message(told_again(phone, request_with("SUBSCRIBE", "k3", most + 1))).tag("To"))
+            phone.send(request_with("ACK", "k4", most + 1))
+            same("the answer behind an ACK", NOT_ALLOWED, Message(told_again(phone, request_with("OPTIONS", "k5", most))).first)
+            count_is(operator, large=3)
+
+
+def tiny(method, more):
+    """A request with these lines, as small as can be, or with these parameters of its Via."""
+    via, lines = (more, "") if more.startswith(";") else ("", more)
+    return f"{method} a:b SIP/2.0\r\nv:SIP/2.0/U h;branch=z9hG4bK{method}{via}\r\n{lines}f:<a:b>\r\nt:<a:b>\r\ni:1\r\nCSeq:1 {method}\r\n\r\n".encode()
+
+
+# Of these an answer repeats many lines, or a long one. In the last each `rport` gets a port.
+MANY = (
+    ("OPTIONS", "Via: " + ",".join(["SIP/2.0/U h"] * 671) + "\r\n"),
+    ("SUBSCRIBE", "Record-Route: " + ",".join(["<a:b>"] * 1335) + "\r\n"),
+    ("REFER", "Require: " + ",".join(["a"] * 4035) + "\r\n"),
+    ("SUBSCRIBE", "Record-Route: " + ",".join(["<a:b>"] * 320) + "\r\n"),
+    ("NOTIFY", ";rport" * 300),
+)
+
+
+def many_lines(program, folder):
+    """An answer that repeats many lines of its request isn't kept, so a forged retransmission draws none."""
+    with Service(program, "alice") as service, service.operator() as operator, service.phone("alice") as phone:
+        for count, (method, more) in enumerate(MANY, 1):
+            same(f"the answer to {method} {more[:20]}", TOO_LARGE, Message(told_again(phone, tiny(method, more))).first)
+            with Elsewhere("127.0.0.2", service.sip) as elsewhere:
+                again = tiny(method, "")
+                elsewhere.socket.send(again)
+                same(f"whether one {method} draws little", True, len(persist(elsewhere.socket.recv, 65535)) < 4 * len(again))
+            count_is(operator, large=count)
+        long_cseq = tiny("OPTIONS", "").replace(b"CSeq:1 OPTIONS", b"CSeq:1 " + b"O" * 8000)
+        same("the answer to a CSeq of another method", TOO_LARGE, Message(told_again(phone, long_cseq)).first)
+
+
+def five_proxies(program, folder):
+    """A SUBSCRIBE comes through five proxies."""
+    vias = b"".join(b"Via: SIP/2.0/UDP 192.0.2.%d:5060;branch=z9hG4bK%s\r\n" % (it, b"b" * 60) for it in range(5))
+    routes = b"".join(b"Record-Route: <sip:192.0.2.%d;lr;ftag=%s>\r\n" % (it, b"f" * 30) for it in range(5))
+    with Service(program, "alice") as service, service.phone("alice") as phone:
+        answer = Message(told_again(phone, SUBSCRIBE.replace(b"Via: ", vias + b"Via: ").replace(b"Contact: ", routes + b"Contact: ")))
+        same("the answer", TAKEN, answer.first)
+        same("how many lines it repeats", (6, 5), tuple(sum(it.startswith(name) for it in answer.lines) for name in ("Via: ", "Record-Route: ")))
 
 
 def told_again(phone, octets):
@@ -520,7 +567,7 @@ def memory_has_a_bound(program, folder):
         stranger.settimeout(PATIENCE)
         before = resident(service)
         for number in range(rows):
-            stranger.send(subscribe_with(f"m{number}", most))
+            stranger.send(request_with("SUBSCRIBE", f"m{number}", most))
             answer_next(stranger)
         lives(operator, rows)
         grown = resident(service) - before
@@ -816,7 +863,9 @@ def checks():
     yield "too many wrong passwords bar their source", too_many_guesses
     yield "any name can stand in the log", any_name_in_the_log
     yield "a forged source bars nobody", a_forged_source_is_not_barred
-    yield "a subscription keeps so much text", text_that_is_kept
+    yield "so much text is kept", text_that_is_kept
+    yield "answers of many lines aren't kept", many_lines
+    yield "a request comes through five proxies", five_proxies
     yield "a full table has a bound", memory_has_a_bound
     yield "networks are let in", networks
     yield "each source has its rate", rates

@@ -127,6 +127,10 @@ class Observer(Phone):
         self.send(Message(arrival.octets).answer(status))
         self.answered = time.time()
 
+    def reply_astray(self, arrival, status="200 OK"):
+        """Answers a NOTIFY so, but with another Call-ID, as in no dialog of its own."""
+        self.send(Message(arrival.octets).answer(status).replace(b"\r\nCall-ID: ", b"\r\nCall-ID: other-"))
+
     def is_answered(self):
         """The first line of the next answer; NOTIFYs that come before it are left alone."""
         came = Message(self.observe(1)[0].octets)
@@ -392,6 +396,44 @@ def a_481_ends_all_of_its_dialog(program, folder):
             gone.go_on(dialog, 3600)
             gone.expect(f"SIP/2.0 {GONE}")
             service.close()
+
+
+def another_call_id_answers_nothing(program, folder):
+    """A phone answers each NOTIFY at once, but with another Call-ID, so in no dialog of its own (RFC 3261 section 12). As of a silent phone one
+    NOTIFY comes again until it is given up, what waits behind it is dropped then, and the row goes as its subscription does."""
+    with Service(program, "alice") as service, Observer(service, "alice") as phone, service.operator() as operator:
+        asked = time.time()
+        phone.ask("SIP/2.0 200 OK")
+        came = phone.observe(1)
+        phone.reply_astray(came[0])
+        operator.tell("MAIL alice voice 1 0 0 0")
+        end = time.monotonic() + came[0].time - time.time() + GIVEN_UP + QUIET
+        while arrival := phone.arrival(end - time.monotonic()):
+            phone.reply_astray(arrival)
+            came.append(arrival)
+        are_sends("a NOTIFY that is answered with another Call-ID", came, MOMENTS, asked, service)
+        counters_become(operator, lambda: {"live": "0", "given_up": "1", "held": "1", "held_dropped": "1"})
+        same("the rows", [], rows_told(operator, "WATCHERS"))
+        service.close()
+
+
+def a_481_with_another_call_id_ends_nothing(program, folder):
+    """A 481 and a 603 with another Call-ID say nothing of the dialog: its subscription keeps its row, counts for its source, and is told on."""
+    with Service(program, "--per-source", "1", "alice") as service, Observer(service, "alice") as phone, service.operator() as operator:
+        dialog = phone.ask("SIP/2.0 200 OK")
+        first = phone.notified(1)
+        for status in (GONE, "603 Decline"):
+            phone.reply_astray(first, status)
+        phone.reply(first)
+        answers_noted(operator, "1")
+        phone.ask("SIP/2.0 503 Service Unavailable")
+        same("the row", [dialog.tag], [row[2] for row in rows_told(operator, "WATCHERS")])
+        counted = operator.counters()
+        names = ("live", "per_source", "gone_by_481", "notifies_refused_603")
+        same("what is counted", ("1", "1", "0", "0"), tuple(counted[name] for name in names))
+        operator.tell("MAIL alice voice 2 8 0 2")
+        phone.accept(2, HEARD)
+        service.close(lambda: phone.accept(3))
 
 
 def a_stale_number_is_done_with(program, folder):
@@ -687,6 +729,7 @@ def checks():
     yield "repeats: a row goes with its subscription where a NOTIFY was dropped", what_is_dropped_ends_its_subscription
     yield "repeats: who refuses each NOTIFY stays, and is told", a_phone_that_refuses_stays
     yield "repeats: what waits for an answer is given up with its NOTIFY", what_waits_is_given_up_too
+    yield "repeats: who answers with another Call-ID has answered nothing", another_call_id_answers_nothing
     yield "repeats: a phone that answers nothing draws one NOTIFY, and all that waited once it answers", a_stranger_draws_one
     yield "repeats: an address elsewhere draws one NOTIFY until it answers", an_address_elsewhere_draws_one
     yield "repeats: who answers for another address draws one NOTIFY there for each answer", who_answers_for_another_draws_one_each
@@ -695,6 +738,7 @@ def checks():
     yield "repeats: NOTIFYs that are sent at once come again after half a second", a_burst_comes_again_in_time
     yield "repeats: a 100 makes the interval four seconds", a_provisional_answer_slows_it_down
     yield "repeats: a 481 ends all of its dialog, and of no other", a_481_ends_all_of_its_dialog
+    yield "repeats: a 481 with another Call-ID ends nothing", a_481_with_another_call_id_ends_nothing
     yield "repeats: a number that is stale, and so answered by a 500, is done with", a_stale_number_is_done_with
     yield "repeats: a farewell comes again, and the service ends once it is answered", a_farewell_comes_again
     for words, seconds in ((("--linger", "0"), 0), (("--linger", "1"), 1), ((), 2)):

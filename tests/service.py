@@ -284,20 +284,27 @@ def services_fall_silent(program, folder):
         other.close()
 
 
-def forged(source, target, octets):
-    """An IPv4 packet (RFC 791, RFC 768) with a datagram to this port of 127.0.0.1 that seems to come from that one."""
+def forged(source, target, octets, address="127.0.0.1"):
+    """An IPv4 packet (RFC 791, RFC 768) with a datagram to this port of 127.0.0.1 that seems to come from that one of this address."""
     udp = struct.pack("!HHHH", source, target, 8 + len(octets), 0) + octets
-    here = socket.inet_aton("127.0.0.1")
-    return struct.pack("!BBHHHBBH4s4s", 0x45, 0, 20 + len(udp), 0, 0, 64, socket.IPPROTO_UDP, 0, here, here) + udp
+    addresses = socket.inet_aton(address) + socket.inet_aton("127.0.0.1")
+    return struct.pack("!BBHHHBBH8s", 0x45, 0, 20 + len(udp), 0, 0, 64, socket.IPPROTO_UDP, 0, addresses) + udp
+
+
+def raw_socket():
+    """A socket that sends IPv4 packets as they are, or None for a user who may have none."""
+    try:
+        return socket.socket(socket.AF_INET, socket.SOCK_RAW, socket.IPPROTO_RAW)
+    except PermissionError:
+        return None
 
 
 def a_service_hears_no_line_of_its_own(program, folder):
     """A line that seems to come from a socket of the service itself is dropped and counted: else it would answer itself. Who may not
     send such a packet tries nothing."""
     with Service(program, "alice") as service, service.operator() as operator:
-        try:
-            raw = socket.socket(socket.AF_INET, socket.SOCK_RAW, socket.IPPROTO_RAW)
-        except PermissionError:
+        raw = raw_socket()
+        if not raw:
             service.close()
             return
         with raw:
@@ -305,6 +312,24 @@ def a_service_hears_no_line_of_its_own(program, folder):
                 raw.sendto(forged(source, service.control, b"STATUS"), ("127.0.0.1", 0))
         counters_become(operator, lambda: {"control_foreign": "2", "datagrams": "0"})
         operator.tell("MAIL alice voice 1 0 0 0")
+        service.close()
+
+
+def a_datagram_of_nobody_is_dropped(program, folder):
+    """Nobody can be answered at port 0 (RFC 768): a datagram from there is dropped, so that no send fails. Who may not send such a packet
+    tries nothing."""
+    asked = SUBSCRIBE.replace(b"SUBSCRIBE", b"OPTIONS")
+    with Service(program, "alice") as service, service.operator() as operator:
+        raw = raw_socket()
+        if not raw:
+            service.close()
+            return
+        with raw, open_socket(("127.0.0.1", service.sip)) as other:
+            for target, octets in ((service.sip, asked), (service.control, b"STATUS")):
+                raw.sendto(forged(0, target, octets), ("127.0.0.1", 0))
+            other.send(asked.replace(b"z9hG4bKa1", b"z9hG4bKb1"))
+            next_datagram(other)
+        counters_become(operator, lambda: {"datagrams": "1", "answers": "1", "failed": "0"})
         service.close()
 
 
@@ -881,6 +906,7 @@ def checks():
     yield "serve: a line with a token is done once", a_repeat_is_no_news
     yield "serve: two services that hear each other fall silent", services_fall_silent
     yield "serve: a line that its own socket sent is dropped", a_service_hears_no_line_of_its_own
+    yield "serve: a datagram from port 0 is dropped", a_datagram_of_nobody_is_dropped
     yield "serve: two lines under way at a service that stands still are done once each", lines_wait_for_a_stalled_service
     yield "serve: STATUS as one JSON object", status_is_an_object
     yield "serve: WATCHERS tells how far each phone was told, and how far it answered", who_watches_is_told
