@@ -9,7 +9,8 @@ counters have to be exact, and most of them once more in the line by which the s
   for a NOTIFY is sent until it is answered, or eleven times; but a 481 ends the NOTIFYs of its dialog, so that who forgot it may miss some.
 - `answers` by status, and `repeats`: what the relay took from the service before it lost some. Phones see fewer of both.
 - `datagrams` and `events`: what the relay handed to the service, without what the system dropped at its socket.
-- `given_up`: the NOTIFYs to phones that were silent; `gone_by_481`: the 481s that reached the service.
+- `given_up`: one NOTIFY at least of each phone that was silent, and none of another's. The first ends the subscription, and what is still
+  unanswered of that then counts no more. `gone_by_481`: the 481s that reached the service.
 - `live`: the phones that stay, and none at the end.
 - all others: 0.
 """
@@ -133,9 +134,9 @@ class Storm:
         return now
 
     def counters(self):
-        """What STATUS counts, without the time and the lines of control by which it is asked."""
+        """What STATUS counts, without times and the lines of control by which it is asked."""
         told = self.operator.counters()
-        return {name: count for name, count in told.items() if name not in ("up", "control_lines")}
+        return {name: count for name, count in told.items() if name not in ("up", "change_age", "control_lines")}
 
     def ask(self, guests, seconds):
         """These phones ask for so many seconds, one after the other."""
@@ -190,12 +191,14 @@ class Storm:
         sent = {name for name in self.relay.notifies if name[0] not in forgotten}
         same("the NOTIFYs that phones didn't hear who forgot nothing", set(), sent - heard)
         counted = self.counted(dropped, live)
-        names = [name for name in counted if name not in without]
+        names = [name for name in counted if name not in (*without, "given_up")]
         same("the counters", {name: counted[name] for name in names}, {name: counters.get(name) for name in names})
+        given_up, most = int(counters["given_up"]), int(counted["given_up"])
+        same(f"whether {given_up} of {most} unanswered NOTIFYs were given up, of each silent phone one", True, SILENT <= given_up <= most)
         gone = int(counters["gone_by_481"])
         same(f"whether {gone} of {self.relay.gone} answers 481 came", True, self.relay.gone - dropped <= gone <= self.relay.gone)
-        shown = ("answers", "notifies", "repeats", "begun", "over", "given_up")
-        return ", ".join(f"{name} {counted[name]}" for name in shown) + f", gone_by_481 {gone}; lost {self.relay.lost}, overrun {dropped}"
+        shown = ("answers", "notifies", "repeats", "begun", "over")
+        return ", ".join(f"{name} {counted[name]}" for name in shown) + f", given_up {given_up}, gone_by_481 {gone}; lost {self.relay.lost}, overrun {dropped}"
 
 
 def counts_are_exact(program):

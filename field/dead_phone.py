@@ -2,7 +2,7 @@
 """Finds a dead phone by WATCHERS: field/dead_phone.py [<program>]. Two phones watch a mailbox, one of them dies, and the mailbox
 changes: a row,
 
-    mailbox watcher address tag sent answered since until code
+    mailbox watcher address tag sent answered since until code=.. contact=..
 
 has a number answered below the number sent where the phone is dead, and the same number where it lives. Where the service answers `busy`
 this is left out.
@@ -17,7 +17,7 @@ import cases
 from service import NO_MESSAGES, Service, address
 from suite import run, same
 
-Row = namedtuple("Row", "mailbox watcher address tag sent answered since until code")
+Row = namedtuple("Row", "mailbox watcher address tag sent answered since until named")
 
 # Seconds in which an answer is noted.
 PATIENCE = 10
@@ -27,7 +27,7 @@ def rows(program, service):
     """The rows of alice's mailbox, by the addresses of their phones."""
     told = run(program, ["tell", "--control", address(service.control), "WATCHERS", "alice"])
     same("the exit status", 0, told.status)
-    lines = [line.split(" ") for line in told.out.decode().splitlines() if line != "ok"]
+    lines = [line.split(" ", len(Row._fields) - 1) for line in told.out.decode().splitlines() if line != "ok"]
     same("words of each row", {len(Row._fields)}, {len(line) for line in lines})
     return {row.address: row for row in (Row(*line) for line in lines)}
 
