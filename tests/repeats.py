@@ -259,6 +259,8 @@ def who_answers_for_another_draws_one_each(program, folder):
         came = phone.notified(2)
         for new in range(1, CHANGES + 1):
             operator.tell(f"MAIL alice voice {new} 0 0 0")
+        # A line is answered before its NOTIFY is made.
+        counters_become(operator, lambda: {"held": str(CHANGES)})
         for number in range(3, ANSWERED + 3):
             asked = time.time()
             stranger.reply(came)
