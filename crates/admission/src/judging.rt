@@ -16,7 +16,7 @@ use crate::network::{Network, number};
 use crate::shown::{Shown, show};
 use crate::table::Rates;
 use event_headers::EventValue;
-use sip_read::{Head, Request};
+use sip_read::Request;
 use sip_text::{Addr, Field, NoMemory, Octets, Text};
 use std::alloc::Global;
 
@@ -219,23 +219,17 @@ fn room_behind_top(room: usize, vias: &[Text]) -> Option<usize>
     }
 }
 
-/// What is left of so much room behind what each answer repeats, if it fits there.
-fn room_behind_head(room: usize, head: &Head) -> Option<usize>
-    ensures { SomeIff result (amounts.head_length head.now ≤ room) (room - amounts.head_length head.now) }
+/// What is left of so much room behind all that is kept of the request, if it fits there.
+fn room_behind_all(room: usize, request: &Request) -> Option<usize>
+    ensures { SomeIff result (amounts.kept request.now ≤ room) (room - amounts.kept request.now) }
 {
+    let head = &request.head;
     let left = room.checked_sub(head.from.text.as_str().len())?;
     let left = left.checked_sub(head.to.text.as_str().len())?;
     let left = left.checked_sub(head.call_id.as_str().len())?;
     let left = left.checked_sub(head.cseq_method.as_str().len())?;
     let left = room_behind(left, head.vias.as_slice())?;
-    room_behind_top(left, head.vias.as_slice())
-}
-
-/// What is left of so much room behind all that is kept of the request, if it fits there.
-fn room_behind_all(room: usize, request: &Request) -> Option<usize>
-    ensures { SomeIff result (amounts.kept request.now ≤ room) (room - amounts.kept request.now) }
-{
-    let left = room_behind_head(room, &request.head)?;
+    let left = room_behind_top(left, head.vias.as_slice())?;
     let left = left.checked_sub(request.method.as_str().len())?;
     let left = room_behind_contact(left, &request.contact)?;
     let left = room_behind_event(left, &request.event)?;

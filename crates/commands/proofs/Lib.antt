@@ -19,3 +19,4 @@ pub mod UdpStarted
 pub mod UdpServed
 pub mod UdpEnded
 pub mod Lives
+pub mod Prompted

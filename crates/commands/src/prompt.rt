@@ -1,7 +1,9 @@
 //! Standard output, as a service writes the lines of transfers there: each whole and at once, or not at all, so that who doesn't read
 //! keeps nobody waiting.
 
+ghost use Rattle.std.specs.Prelude.{◌≡◌, [], OnOk};
 ghost use Rattle.std.specs.Io.{WritesAtMost};
+ghost use Rattle.std.specs.Io.KnownBytes.{Appends};
 
 use arrayvec::ArrayVec;
 use libc::net as c;
@@ -79,7 +81,9 @@ impl<F: Write + Drop> Prompt<F> {
     }
 
     /// Writes the line, if there is one, where there is room for it.
-    fn write_line(&mut self) -> io::Result<()> {
+    fn write_line(&mut self) -> io::Result<()>
+        ensures whole { OnOk result (Appends (F.contents self.old.writer) (F.contents self.new.writer) self.old.line.items) }
+    {
         if self.line.is_empty() {
             return Ok(());
         }
@@ -112,10 +116,15 @@ impl<F: Write + Drop> Write for Prompt<F> {
         Ok(buf.len())
     }
 
-    fn flush(&mut self) -> io::Result<()> {
+    fn flush(&mut self) -> io::Result<()>
+        ensures whole { OnOk result (Appends (F.contents self.old.writer) (F.contents self.new.writer) self.old.line.items) }
+        ensures gone { self.new.line.items ≡ [] }
+    {
         let written = self.write_line();
         self.line.clear();
-        written?;
-        self.writer.flush()
+        match written {
+            Ok(()) => self.writer.flush(),
+            Err(error) => Err(error),
+        }
     }
 }

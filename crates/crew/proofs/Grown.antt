@@ -1,8 +1,11 @@
 -- The run of a replay, after one event more, and the outs of that event.
-use Rattle.std.proofs.Common.{◌≡◌, List, [], ◌∷◌, ◌++◌, ◌↔◌, Option, Some, None, Result, Ok, Err, IfOk, OnOk, map, refl, sym, ap, subst, ◌∙◌}
+use Rattle.std.proofs.Common.{◌≡◌, ℕ, List, [], ◌∷◌, ◌++◌, ◌↔◌, Option, Some, None, Result, Ok, Err, IfOk, OnOk, map, refl, sym, ap, subst, ◌∙◌}
 use Rattle.notifier_model.specs.Book.{Book, step}
 use Rattle.notifier_model.specs.Run.{run_from}
 use Rattle.notifier.specs.Standing.{Standing, IsHandled}
+use Rattle.notifier.specs.Written.{saved_of}
+use Rattle.notifier_model.specs.declared.saved.Saved.{Saved}
+use Rattle.snapshots.specs.Books.{IsBook, IsSaved, book_text}
 use Rattle.notifier_model.specs.declared.event.Event.{Event}
 use Rattle.notifier_model.specs.declared.event.Out.{Out}
 use Rattle.notifier_model.proofs.Runs.{run_from-push}
@@ -41,3 +44,22 @@ pub begun_run : (desk : Option Standing) → IsRun desk [] desk
 unfolding run_from
 begun_run None = refl
 begun_run (Some s) = refl
+
+-- the outs of an event at a desk that isn't spent
+pub outs_there : (old new : Option Standing) (e : Event) (outs : List Out) → (old ≡ None → ⊥) → ((s : Standing) → old ≡ Some s → IsHandled s e new outs) → AreOutsOf e outs
+unfolding run_from
+outs_there None new e outs alive next = absurd (alive refl)
+outs_there (Some m) new e outs alive next = record { start = m; before = []; outs_are = (next m refl).outs_are }
+
+-- the same outs
+pub outs_same : (e : Event) (outs same : List Out) → AreOutsOf e outs → same ≡ outs → AreOutsOf e same
+outs_same e outs same are is = subst (λ (l : List Out). AreOutsOf e l) (sym is) are
+
+-- ---- books
+
+-- what a desk saved that isn't spent is a book
+pub saved_whole : (desk : Option Standing) (before items : List ℕ) → (desk ≡ None → ⊥) → before ≡ [] → ((s : Standing) → desk ≡ Some s → items ≡ before ++ book_text (saved_of s.book))
+    → ((s : Standing) → desk ≡ Some s → IsSaved (saved_of s.book)) → (saved : Saved) × IsBook items saved
+saved_whole None before items alive none text fits = absurd (alive refl)
+saved_whole (Some s) before items alive none text fits =
+    (saved_of s.book, record { is_saved = fits s refl; whole = text s refl ∙ ap (λ (l : List ℕ). l ++ book_text (saved_of s.book)) none })

@@ -1,10 +1,14 @@
 //! What a worker passes before each event, and what it tells of what it did.
+ghost use Rattle.notifier_model.specs.declared.saved.Saved.{Saved};
+ghost use Rattle.snapshots.specs.Books.{IsBook};
+ghost use Rattle.crew.specs.Recorded.{AreOutsOf};
 
 use notifier_model::{Event, Out};
 use std::sync::Wait;
 
 /// Is passed before each event that a worker handles, and told of what was handled and posted, and of a worker that handles no more. It
-/// may wait; what it does is no part of any contract.
+/// may wait; what it does is no part of any contract. What it is told has its form: outs are those of their event at some desk, and a
+/// book can be read again.
 ///
 /// Who keeps a journal of the events has each in hand before an out of it can be sent, and asks now and then for the book that they
 /// made: from that a desk goes on (`notifier::Desk::resume`).
@@ -14,7 +18,9 @@ pub trait Gate: Send + Sync {
 
     /// The worker with this number handled this event at its desk, which made these outs; none of them is posted yet. An event at which
     /// memory ran out isn't told.
-    fn handled<R: Wait>(&self, rt: &R, worker: u32, event: &Event, outs: &[Out]) {
+    fn handled<R: Wait>(&self, rt: &R, worker: u32, event: &Event, outs: &[Out])
+        requires { AreOutsOf event.now outs.now }
+    {
         let _ = rt;
         let _ = worker;
         let _ = event;
@@ -35,7 +41,9 @@ pub trait Gate: Send + Sync {
 
     /// The book of the worker with this number after all events that were handled so far, as `notifier::Desk::save` writes it. Where
     /// memory runs out no book comes.
-    fn book<R: Wait>(&self, rt: &R, worker: u32, written: Vec<u8>) {
+    fn book<R: Wait>(&self, rt: &R, worker: u32, written: Vec<u8>)
+        requires { (saved : Saved) × IsBook written.items saved }
+    {
         let _ = rt;
         let _ = worker;
         drop(written);

@@ -1,9 +1,13 @@
 //! What handles the events of a worker, and its loop.
-ghost use Rattle.std.specs.Prelude.{◌≡◌, ◌+◌, [], true, false, Some, OnOk, OnErr};
+ghost use Rattle.std.specs.Prelude.{◌≡◌, ◌+◌, [], true, false, Some, IfSome, OnOk, OnErr};
+ghost use Rattle.notifier_model.specs.declared.saved.Saved.{Saved};
+ghost use Rattle.snapshots.specs.Books.{IsBook, book_text};
 ghost use Rattle.notifier.specs.Held.{seen_by};
 ghost use Rattle.notifier.specs.Standing.{Standing};
+ghost use Rattle.notifier.specs.Written.{saved_of};
 ghost use Rattle.crew.specs.Loop.{posts_all, HandlesOne, Halted};
 ghost use Rattle.queues.specs.Ended.{count_ended};
+ghost use Rattle.crew.specs.Recorded.{AreOutsOf};
 ghost use Rattle.crew.specs.Worked.{AllFrom, KeepsQueues};
 
 use crate::gate::Gate;
@@ -38,7 +42,9 @@ struct Batch {
 
 impl Batch {
     /// Tells the gate of the event that made these outs.
+    #[tactic(auto, using(crate::proofs::Grown::outs_same))]
     fn tell<R: Wait, G: Gate>(&mut self, rt: &R, gate: &G, worker: u32, event: &Event)
+        requires { AreOutsOf event.now self.old.outs.items }
         ensures told { self.new.is_told ≡ true }
         ensures outs { self.new.outs ≡ self.old.outs }
     {
@@ -123,6 +129,18 @@ fn empty_book(alloc: Global, room: usize) -> Vec<u8>
     }
 }
 
+/// The book of a desk, written where there is room for so many bytes. None: the desk is spent, or memory ran out.
+fn written_book<P: Package>(alloc: Global, desk: &Desk<P>, room: usize) -> Option<Vec<u8>>
+    ensures desk { IfSome result (λ written. (s : Standing) → seen_by P.seen desk.now ≡ Some s → written.items ≡ book_text (saved_of s.book)) }
+    ensures book { IfSome result (λ written. (saved : Saved) × IsBook written.items saved) }
+{
+    let mut written = empty_book(alloc, room);
+    match desk.save(alloc, &mut written) {
+        Ok(()) => Some(written),
+        Err(_) => None,
+    }
+}
+
 impl<P: Package> Hand<P> {
     /// Passes the gate, handles one event and tells the gate of it, posts its outs, counts it and them, tells which subscriptions are gone
     /// of those of which the gate asks, and writes the book where the gate wants it.
@@ -174,10 +192,9 @@ impl<P: Package> Hand<P> {
         if self.desk.is_spent() || !gate.wants_book(self.worker) {
             return self.room;
         }
-        let mut written = empty_book(alloc, self.room);
-        if self.desk.save(alloc, &mut written).is_err() {
+        let Some(written) = written_book(alloc, &self.desk, self.room) else {
             return self.room;
-        }
+        };
         let length = written.len();
         gate.book(rt, self.worker, written);
         length.saturating_add(length / 8)

@@ -18,7 +18,7 @@ use Rattle.notifier.specs.declared.store.Ledger.{Ledger}
 use Rattle.notifier.specs.Ledger.{IsSound}
 use Rattle.notifier.specs.Sound.{AreTimely, IsLive, IsOwn, AreRising}
 use Rattle.notifier.specs.Stored.{rows_of, IsIndexed}
-use Rattle.notifier.specs.Resumed.{AreRows, MayFollow, IsAbove, IsRightly}
+use Rattle.notifier.specs.Resumed.{AreRows, MayFollow, IsAbove, IsRightly, NamesRow, NamesCause}
 
 cases_below : (i n : ℕ) → i < n + 1 → (i < n) ⊎ (i ≡ n)
 cases_below i n h = elim (cases_eq i n) [ inl same ↦ inr same | inr apart ↦ inl (omega (arith, h, apart)) ]
@@ -146,3 +146,24 @@ rightly X Y (BadRow serial) p q f h = λ a. h (f a)
 pub follows_whole : (place : Place) (clock next : ℕ) (rows done left : List Row) (row : Row) (rest : List Row) → done ++ left ≡ rows → left ≡ row ∷ rest → AreRows place clock next rows → MayFollow place clock next done row
 follows_whole place clock next rows done left row rest whole step are =
     follows place clock next done row rest (subst (AreRows place clock next) (sym whole ∙ ap (λ (l : List Row). done ++ l) step) are)
+
+-- a row that may not stand behind those before it, as the refusal says, is the first such row
+pub first_bad : (X Y : Type 0) (e : ResumeError) (place : Place) (clock next : ℕ) (rows done left : List Row) (row : Row) (rest : List Row) → done ++ left ≡ rows → left ≡ row ∷ rest
+    → AreRows place clock next done → NamesRow {X = X} (Err e) row → IsRightly {X = X} (Err e) (MayFollow place clock next done row) → NamesCause {X = Y} (Err e) ⊥ place clock next rows
+first_bad X Y NoMemory place clock next rows done left row rest whole step fit named bad = tt
+first_bad X Y Numbers place clock next rows done left row rest whole step fit named bad = named
+first_bad X Y (BadRow serial) place clock next rows done left row rest whole step fit named bad = record {
+  before = done;
+  row = row;
+  rest = rest;
+  whole = sym whole ∙ ap (λ (l : List Row). done ++ l) step;
+  named = named;
+  fit = fit;
+  bad = bad;
+}
+
+-- what names a row names it, whatever is said of numbers
+pub names_row : (X Y : Type 0) (e : ResumeError) (p : Type 0) (place : Place) (clock next : ℕ) (rows : List Row) → NamesCause {X = X} (Err e) ⊥ place clock next rows → NamesCause {X = Y} (Err e) p place clock next rows
+names_row X Y NoMemory p place clock next rows h = tt
+names_row X Y Numbers p place clock next rows h = absurd h
+names_row X Y (BadRow serial) p place clock next rows h = h

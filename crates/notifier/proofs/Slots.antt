@@ -15,6 +15,7 @@ use Rattle.notifier.specs.contracts.store.transaction.TransactionOrd.TheImpl as 
 use Rattle.notifier.specs.contracts.store.transaction.TransactionOrd.TheImpl.Laws.{matches_eq-law}
 use Rattle.notifier_model.specs.Requests.{same_key}
 use Rattle.notifier_model.specs.Answers.{has_key}
+use Rattle.notifier_model.specs.Home.{key_hash}
 use Rattle.notifier.specs.Keys.{parted}
 use Rattle.notifier.specs.Transactions.{key_of}
 use Rattle.notifier.specs.Slots.{after, slot_at, answers, place_of, slot_in, IsIndexed}
@@ -63,7 +64,7 @@ abbrev SameParts : Key → Key → Type 0
 SameParts k l = (k.branch ≡ l.branch) × ((k.sent_by ≡ l.sent_by) × (k.method ≡ l.method))
 
 abbrev SameText : Transaction → Transaction → Type 0
-SameText t u = (string_bytes t.texts ≡ string_bytes u.texts) × ((t.branch ≡ u.branch) × (t.sent_by ≡ u.sent_by))
+SameText t u = (t.number ≡ u.number) × ((string_bytes t.texts ≡ string_bytes u.texts) × ((t.branch ≡ u.branch) × (t.sent_by ≡ u.sent_by)))
 
 -- the parts say the text, and where each ends
 by_parts : (t u : Transaction) → SameParts (key_of t) (key_of u) → SameText t u
@@ -73,18 +74,21 @@ by_parts t u h =
     let whole : xs ≡ ys = sym (rejoined t.branch t.sent_by xs) ∙ (λ i. h.0 i ++ (h.1.0 i ++ h.1.1 i)) ∙ rejoined u.branch u.sent_by ys in
     let branch : t.branch ≡ u.branch = sym (branch_length t.branch t.sent_by xs t.within) ∙ ap length h.0 ∙ branch_length u.branch u.sent_by ys u.within in
     let sent_by : t.sent_by ≡ u.sent_by = sym (sent_by_length t.branch t.sent_by xs t.within) ∙ ap length h.1.0 ∙ sent_by_length u.branch u.sent_by ys u.within in
-    (whole, (branch, sent_by))
+    let number : t.number ≡ u.number = t.numbered ∙ ap key_hash h.0 ∙ sym u.numbered in
+    (number, (whole, (branch, sent_by)))
 
 by_text : (t u : Transaction) → SameText t u → SameParts (key_of t) (key_of u)
-by_text t u h = (
-  (λ i. take (h.1.0 i) (h.0 i)),
-  ((λ i. take (h.1.1 i) (drop (h.1.0 i) (h.0 i))), (λ i. drop (h.1.1 i) (drop (h.1.0 i) (h.0 i)))),
-)
+by_text t u h =
+    let texts = h.1 in (
+      (λ i. take (texts.1.0 i) (texts.0 i)),
+      ((λ i. take (texts.1.1 i) (drop (texts.1.0 i) (texts.0 i))), (λ i. drop (texts.1.1 i) (drop (texts.1.0 i) (texts.0 i)))),
+    )
 
 text_decides : (t u : Transaction) → Decides ((equality.ghosts).eq t u) (SameText t u)
 text_decides t u =
-    Decides-and _ _ (bytes_eq-Decides (string_bytes t.texts) (string_bytes u.texts))
-    (Decides-and _ _ (Decides-eqb t.branch u.branch) (Decides-eqb t.sent_by u.sent_by))
+    Decides-and _ _ (Decides-eqb t.number u.number)
+    (Decides-and _ _ (bytes_eq-Decides (string_bytes t.texts) (string_bytes u.texts))
+    (Decides-and _ _ (Decides-eqb t.branch u.branch) (Decides-eqb t.sent_by u.sent_by)))
 
 parts_decides : (k l : Key) → Decides (same_key k l) (SameParts k l)
 parts_decides k l =
@@ -98,7 +102,7 @@ same_answers t u kept is =
 
 -- an equal transaction has the same texts
 pub same_keys : (t u : Transaction) → (equality.ghosts).eq t u ≡ true → key_of u ≡ key_of t
-same_keys t u e = let same = (text_decides t u).0 e in sym (λ i. parted (same.1.0 i) (same.1.1 i) (same.0 i))
+same_keys t u e = let same = ((text_decides t u).0 e).1 in sym (λ i. parted (same.1.0 i) (same.1.1 i) (same.0 i))
 
 -- one that stands neither before nor behind it in the order is equal to it
 same_place_in_order : (t q : Transaction) → is_at ((order.ghosts).cmp t) q ≡ (equality.ghosts).eq t q
@@ -106,7 +110,7 @@ same_place_in_order t q = sym (matches_eq-law t q)
 
 -- a transaction is equal to itself
 itself : (t : Transaction) → (equality.ghosts).eq t t ≡ true
-itself t = (text_decides t t).1 (refl, (refl, refl))
+itself t = (text_decides t t).1 (refl, (refl, (refl, refl)))
 
 -- ---- places
 

@@ -1,5 +1,5 @@
 -- What a saved book has to be, so that a desk goes on from it.
-use Rattle.std.specs.Prelude.{◌≡◌, ℕ, ◌<◌, ◌≤◌, ◌^◌, List, length, All, Result, Ok, Err}
+use Rattle.std.specs.Prelude.{◌≡◌, ℕ, ◌<◌, ◌≤◌, ◌^◌, List, ◌∷◌, ◌++◌, length, All, Result, Ok, Err}
 use Rattle.notifier_model.specs.declared.place.Place.{Place}
 use Rattle.notifier_model.specs.declared.row.Row.{Row}
 use Rattle.notifier_model.specs.declared.saved.Saved.{Saved}
@@ -41,3 +41,34 @@ IsRightly (Ok x) p = Unit {0}
 IsRightly (Err NoMemory) p = Unit {0}
 IsRightly (Err Numbers) p = p → ⊥
 IsRightly (Err (BadRow serial)) p = p → ⊥
+
+-- the numbers of a saved book from which a desk of this place goes on
+pub record AreInRange (place : Place) (saved : Saved) : Type 0 where
+  pub clock_fits : saved.clock < 2 ^ 63
+  pub next_begins : 1 ≤ saved.next
+  pub next_fits : saved.next ≤ 2 ^ 32
+  pub ring_fits : length saved.ring ≤ place.limits.kept
+
+-- the row with this serial is the first of these that may not stand behind those before it
+pub record IsFirstBad (place : Place) (clock next : ℕ) (rows : List Row) (serial : ℕ) : Type 0 where
+  pub before : List Row
+  pub row : Row
+  pub rest : List Row
+  pub whole : rows ≡ before ++ row ∷ rest
+  pub named : row.serial ≡ serial
+  pub fit : AreRows place clock next before
+  pub bad : MayFollow place clock next before row → ⊥
+
+-- a refusal of this row names it
+abbrev pub NamesRow : {X : Type 0} → Result X ResumeError → Row → Type 0
+NamesRow (Ok x) row = Unit {0}
+NamesRow (Err NoMemory) row = Unit {0}
+NamesRow (Err Numbers) row = ⊥
+NamesRow (Err (BadRow serial)) row = row.serial ≡ serial
+
+-- a refusal names its cause: a number out of its range, which p says, or the first bad row of these
+abbrev pub NamesCause : {X : Type 0} → Result X ResumeError → Type 0 → Place → ℕ → ℕ → List Row → Type 0
+NamesCause (Ok x) p place clock next rows = Unit {0}
+NamesCause (Err NoMemory) p place clock next rows = Unit {0}
+NamesCause (Err Numbers) p place clock next rows = p
+NamesCause (Err (BadRow serial)) p place clock next rows = IsFirstBad place clock next rows serial

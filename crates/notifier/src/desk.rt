@@ -11,7 +11,7 @@ ghost use Rattle.notifier_model.specs.Start.{place_of};
 ghost use Rattle.notifier_model.specs.Saved.{book_with};
 ghost use Rattle.snapshots.specs.Books.{book_text, IsSaved};
 ghost use Rattle.notifier.specs.Written.{saved_of};
-ghost use Rattle.notifier.specs.Resumed.{MayGoOn, IsRightly};
+ghost use Rattle.notifier.specs.Resumed.{MayGoOn, AreInRange, IsRightly, NamesCause};
 ghost use Rattle.notifier.specs.Ledger.{book_of, IsStep, IsSound};
 ghost use Rattle.notifier_model.specs.Book as spec;
 ghost use Rattle.notifier_model.specs.Fields as fields;
@@ -132,7 +132,8 @@ impl<P: Package> Desk<P> {
     }
 
     /// The desk of this worker, which goes on from a saved book with these boxes. The limits may be others than they were:
-    /// of rows that are more than the table holds all go on.
+    /// of rows that are more than the table holds all go on. An error names its cause: BadRow the first row that may not stand
+    /// behind those before it.
     pub fn resume(
         alloc: Global,
         setup: &Setup,
@@ -146,6 +147,7 @@ impl<P: Package> Desk<P> {
         })) }
         ensures may { OnOk result (MayGoOn (place_of setup.now worker) saved) }
         ensures rightly { IsRightly result (MayGoOn (place_of setup.now worker) saved) }
+        ensures cause { NamesCause result (AreInRange (place_of setup.now worker) saved → ⊥) (place_of setup.now worker) saved.clock saved.next saved.rows }
     {
         setup.limits.are_in_range();
         let Saved {

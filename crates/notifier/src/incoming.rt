@@ -149,17 +149,6 @@ fn is_acceptable(content_type: &str, accept: &Field<Values<Range>>) -> bool
     }
 }
 
-fn needs_place(birth: Birth) -> bool
-    ensures { result ≡ spec.needs_place birth }
-{
-    match birth {
-        Birth::Watch => true,
-        Birth::Fetch => false,
-        Birth::Transfer => true,
-        Birth::Unwatched => false,
-    }
-}
-
 impl<'a> Incoming<'a> {
     /// A request from this address, with what the tests below look at.
     pub fn new(place: &'a Place, source: Addr, request: &'a Request) -> Incoming<'a>
@@ -317,6 +306,7 @@ impl<'a> Incoming<'a> {
         ensures { result ≡ spec.is_full self.now.place.now.limits next alive self.now.request.now }
     {
         let limits = &self.place.limits;
-        u64::from(limits.serials()) < next || limits.table() as usize <= alive && needs_place(kind)
+        u64::from(limits.serials()) < next
+            || limits.table() as usize <= alive && matches!(kind, Birth::Watch | Birth::Transfer)
     }
 }

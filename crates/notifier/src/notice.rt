@@ -125,16 +125,6 @@ fn watched<'a>(usage: &'a Usage, want: &'a Want) -> &'a Text
     }
 }
 
-/// How many seconds are left in a phase.
-fn left(phase: Phase) -> Option<u32>
-    ensures { result ≡ (state_of phase).expires }
-{
-    match phase {
-        Phase::Active(left) => Some(left),
-        Phase::Terminated(_) => None,
-    }
-}
-
 /// What is known of a subscription with a NOTIFY of it in this phase.
 pub fn note(
     alloc: Global,
@@ -155,7 +145,7 @@ pub fn note(
         resource: watched(usage, want).copy(alloc)?,
         target: usage.target.copy(alloc)?,
         call_id: usage.call_id.copy(alloc)?,
-        left: left(phase),
+        left: phase.expires(),
     };
     Boxed::new(alloc, note)
 }
@@ -205,7 +195,7 @@ impl<P: Package> Teller<'_, P> {
         Ok(Out::Notify {
             to,
             number: notice.number,
-            terminated: matches!(notice.phase, Phase::Terminated(_)),
+            terminated: notice.phase.is_terminated(),
             tag,
             note,
             bytes,

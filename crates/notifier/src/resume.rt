@@ -4,7 +4,7 @@
 ghost use Rattle.std.specs.Prelude.{◌≡◌, ◌↔◌, ◌<◌, ◌≤◌, ◌^◌, ◌++◌, ◌∷◌, [], All, IfOk, OnOk, IsTrue, vec_len};
 ghost use Rattle.circular_buffer.specs.Buffer.{buffer};
 ghost use Rattle.notifier.specs.Ledger.{IsSound};
-ghost use Rattle.notifier.specs.Resumed.{AreRows, MayFollow, IsAbove, IsRightly};
+ghost use Rattle.notifier.specs.Resumed.{AreRows, MayFollow, IsAbove, IsRightly, NamesRow, NamesCause};
 ghost use Rattle.notifier.specs.Sound.{AreTimely, IsLive, IsOwn};
 ghost use Rattle.notifier.specs.Stored.{rows_of};
 
@@ -112,6 +112,7 @@ impl<P> Ledger<P> {
         ensures same { OnOk result ((self.new.clock ≡ self.old.clock) × (self.new.next ≡ self.old.next)
             × (self.new.ring ≡ self.old.ring) × (self.new.boxes ≡ self.old.boxes)) }
         ensures rightly { IsRightly result (MayFollow place.now self.old.clock self.old.next (rows_of self.old.rows) row) }
+        ensures named { NamesRow result row }
     {
         let serial = row.serial;
         if u64::from(serial) < low || !is_live(self.clock, &row) {
@@ -138,6 +139,7 @@ impl<P> Ledger<P> {
         ensures same { OnOk result ((self.new.clock ≡ self.old.clock) × (self.new.next ≡ self.old.next)
             × (self.new.ring ≡ self.old.ring) × (self.new.boxes ≡ self.old.boxes)) }
         ensures rightly { IsRightly result (AreRows place.now self.old.clock self.old.next rows.items) }
+        ensures cause { NamesCause result ⊥ place.now self.old.clock self.old.next rows.items }
     {
         let mut low = 0;
         for row in rows {

@@ -1,7 +1,7 @@
 //! Local tags.
 #![tactic(auto, unfolding(notifier_model::specs::Tag::local_tag, notifier_model::specs::Tag::refusal_tag))]
 
-ghost use Rattle.std.specs.Prelude.{◌≡◌, true, IfOk};
+ghost use Rattle.std.specs.Prelude.{◌≡◌, IfOk};
 ghost use Rattle.hex.specs.Hex.{encode_lower};
 ghost use Rattle.rand_chacha.specs.ChaCha.{key_of};
 ghost use Rattle.notifier_model.specs.Start.{tag_of};
@@ -54,19 +54,12 @@ impl Tags {
         }
     }
 
-    /// Whether these are the tags of this place.
-    fn are_of(&self, place: &Place) -> bool
-        ensures { result ≡ true → (self.now.seed ≡ place.now.seed) × (self.now.worker ≡ place.now.worker) }
-    {
-        self.seed == place.seed && self.worker == place.worker
-    }
-
     /// These are the tags of this place from now on.
     fn turn_to(&mut self, place: &Place)
         ensures seed { self.new.seed ≡ place.now.seed }
         ensures worker { self.new.worker ≡ place.now.worker }
     {
-        if !self.are_of(place) {
+        if self.seed != place.seed || self.worker != place.worker {
             *self = Tags::new(place);
         }
     }

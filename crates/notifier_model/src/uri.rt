@@ -25,22 +25,15 @@ fn before_colon(text: &str) -> &str
     }
 }
 
-/// What stands before the first `@`, without a password. It is empty where there is no `@`.
-fn user_before_at(rest: &str) -> &str
-    ensures { result.now ≡ spec.user_before_at rest.now }
-{
-    match rest.split_once('@') {
-        Some((user, _)) => before_colon(user),
-        None => "",
-    }
-}
-
 /// What stands between its first colon and the next `@`, without a password. It is empty where either is missing.
 pub fn user_part(uri: &str) -> &str
     ensures { result.now ≡ spec.user_part uri.now }
 {
-    match uri.split_once(':') {
-        Some((_, rest)) => user_before_at(rest),
+    let Some((_, rest)) = uri.split_once(':') else {
+        return "";
+    };
+    match rest.split_once('@') {
+        Some((user, _)) => before_colon(user),
         None => "",
     }
 }

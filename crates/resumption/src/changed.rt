@@ -257,6 +257,7 @@ where
     ensures first { IfOk result (λ r. r.first.items
         ≡ spec.all_carried_outs wish.now known.entry.1 (map (seen_by P.seen) desks.items) known.entry.0.now.workers) }
     ensures told { IfOk result (λ r. r.told.items ≡ spec.all_told_since wish.now (length desks.items) known.entry.0.now.workers) }
+    ensures all { IfOk result (λ r. length r.desks.items ≡ length desks.items) }
 {
     let (keeper, is_lost) = known;
     let mut renewed = Renewed {
@@ -278,7 +279,8 @@ where
     Ok(renewed)
 }
 
-/// The desks that a journal had go on as they are wished from now on.
+/// The desks that a journal had go on as they are wished from now on, each of them. Unfit: another number of workers is wished, to which
+/// mailboxes would go that their desks don't know.
 pub fn renew<P, M>(
     alloc: Global,
     wish: &Wish<'_>,
@@ -298,8 +300,13 @@ where
         ++ spec.all_carried_outs wish.now is_lost (map (seen_by P.seen) replayed.desks.items) replayed.keeper.workers) }
     ensures told { IfOk result (λ r. r.told.items
         ≡ spec.all_told_since wish.now (length replayed.desks.items) replayed.keeper.workers) }
+    ensures same { OnOk result (length replayed.desks.items ≡ wish.now.workers) }
+    ensures all { IfOk result (λ r. length r.desks.items ≡ wish.now.workers) }
 {
     let desks = replayed.desks;
+    if desks.len() != wish.workers as usize {
+        return Err(Halt::Unfit);
+    }
     let mut renewed = renew_all(alloc, wish, desks, (&replayed.keeper, is_lost), make)?;
     let mut first = first_of(replayed.unanswered, is_lost);
     first.append(&mut renewed.first)?;

@@ -1,7 +1,7 @@
 //! Values of headers. Those of the event headers are read as far as a message keeps them: None where a value isn't in its grammar, or a number
 //! in it is too large.
 ghost use Rattle.std.specs.Prelude.{◌≡◌, IfOk, Some, ◌-◌, option_map, ◌<◌};
-ghost use Rattle.sip_read.specs.FieldsComputed.{KeptOf, event_kept, expires_kept, accept_kept};
+ghost use Rattle.sip_read.specs.FieldsComputed.{KeptOf, event_kept, expires_kept};
 ghost use Rattle.sip_read.specs.MessageComputed.{accept_field};
 ghost use Rattle.sip_read.specs.ReferSub.{truth_of};
 ghost use Rattle.sip_read.specs.ValuesComputed.{refer_sub_of, call_id_of, sequence_of};
@@ -71,17 +71,11 @@ pub fn refer_sub_of(alloc: Global, value: &[u8]) -> Result<Option<bool>, NoMemor
     Ok(truth_of(word))
 }
 
-fn accept_ranges(alloc: Global, value: &[u8]) -> Result<Option<Values<Range>>, NoMemory>
-    ensures { IfOk result (λ o. o ≡ accept_kept value.now) }
-{
-    kept(read_accept(alloc, value))
-}
-
 /// What all Accept lines say, joined with commas.
 pub fn accept_of(alloc: Global, joined: &[u8]) -> Result<Field<Values<Range>>, NoMemory>
     ensures { IfOk result (λ f. f ≡ accept_field (Some joined.now)) }
 {
-    match accept_ranges(alloc, joined)? {
+    match kept(read_accept(alloc, joined))? {
         Some(ranges) => Ok(Field::Value(ranges)),
         None => Ok(Field::Bad),
     }

@@ -1,5 +1,6 @@
 //! Speakers that ask one line behind the other.
-ghost use Rattle.std.specs.Prelude.{◌≡◌, IfOk};
+ghost use Rattle.std.specs.Prelude.{◌≡◌, ◌<◌, ◌≤◌, ℕ, length, IfOk, MatchOption, OnOk, Ok, Some};
+ghost use Rattle.transport.specs.Devices.{one_more};
 
 use control_lines::{Speaker, SpeakerFault, TRIES, UdpSpeaker};
 use sip_text::Addr;
@@ -11,10 +12,14 @@ const SHORT_WAITS: u32 = TRIES - 1;
 
 /// A speaker that asks one line behind the other.
 pub trait LineSpeaker: Speaker {
+    /// How many answers to earlier lines could be taken for one to the next line, if they still come.
+    ghost owed: { Self → ℕ };
+
     /// Makes sure that what still comes in answer to earlier lines isn't taken for an answer to the next one. Asks nothing.
     fn turn_over<R: Wait + Net>(&mut self, rt: &R) -> Result<(), SpeakerFault>
         ensures asked { Self.asked self.new ≡ Self.asked self.old }
-        ensures turns { Self.turns self.new ≡ Self.turns self.old };
+        ensures turns { Self.turns self.new ≡ Self.turns self.old }
+        ensures none { OnOk result (owed self.new ≡ 0) };
 }
 
 /// A speaker over UDP that keeps its socket for as long as each line is answered the first time it is asked: answers have no token, so
@@ -41,6 +46,18 @@ impl UdpLineSpeaker {
             owed: 0,
         })
     }
+
+    /// Nobody answered in time, so an answer may still come. The last one of a line is waited for longer.
+    fn owe(&mut self) -> Result<(), SpeakerFault>
+        ensures owed { OnOk result (0 < self.new.owed) }
+        ensures asked { self.new.asked ≡ self.old.asked }
+    {
+        self.owed = self.owed.saturating_add(1);
+        if self.owed == SHORT_WAITS {
+            self.speaker.wait_longer()?;
+        }
+        Ok(())
+    }
 }
 
 impl Speaker for UdpLineSpeaker {
@@ -51,20 +68,26 @@ impl Speaker for UdpLineSpeaker {
         rt: &R,
         line: &[u8],
         room: &mut [u8],
-    ) -> Result<Option<usize>, SpeakerFault> {
+    ) -> Result<Option<usize>, SpeakerFault>
+        ensures within { (n : ℕ) → result ≡ Ok (Some n) → n ≤ length room.new }
+        ensures asked { self.new.asked ≡ one_more self.old.asked }
+        ensures owed { IfOk result (λ came. MatchOption came (0 < self.new.owed) (λ _. self.new.owed ≡ self.old.owed)) }
+    {
         self.asked = self.asked.saturating_add(1);
         let came = self.speaker.ask(rt, line, room)?;
-        if came.is_none() {
-            self.owed = self.owed.saturating_add(1);
-            if self.owed == SHORT_WAITS {
-                self.speaker.wait_longer()?;
+        match came {
+            Some(_) => Ok(came),
+            None => {
+                self.owe()?;
+                Ok(None)
             }
         }
-        Ok(came)
     }
 }
 
 impl LineSpeaker for UdpLineSpeaker {
+    ghost owed = { λ s. s.owed };
+
     fn turn_over<R: Wait + Net>(&mut self, rt: &R) -> Result<(), SpeakerFault> {
         if self.owed > 0 {
             self.speaker = UdpSpeaker::to(rt, self.service)?;

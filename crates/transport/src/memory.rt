@@ -18,7 +18,7 @@ const NONE_LEFT: u32 = 9;
 const NO_ROOM: u32 = 105;
 
 /// A wire in memory, which tells what it gave and took. It gives the datagrams that it was made with, in order, and fails where
-/// none is left, or memory runs out; a receive and a send can be set to fail, and a receive in time to give nothing yet.
+/// none is left, or memory runs out; a receive and a send can be set to fail.
 #[derive(Drop)]
 pub struct MemoryWire {
     alloc: Global,
@@ -30,10 +30,9 @@ pub struct MemoryWire {
     row: u64,
     most: u64,
     is_lost: bool,
-    // how many receives and sends are left up to the one that fails, and how many receives in time up to the one that gives nothing
+    // how many receives and sends are left up to the one that fails
     receives: Option<u64>,
     sends: Option<u64>,
-    silences: Option<u64>,
 }
 
 /// Counts a call, and tells whether it is the one that is to fail.
@@ -63,7 +62,6 @@ impl MemoryWire {
         ensures lost { result.is_lost ≡ false }
         ensures receives { result.receives ≡ None }
         ensures sends { result.sends ≡ None }
-        ensures silences { result.silences ≡ None }
     {
         coming.reverse();
         MemoryWire {
@@ -77,7 +75,6 @@ impl MemoryWire {
             is_lost: false,
             receives: None,
             sends: None,
-            silences: None,
         }
     }
 
@@ -99,16 +96,6 @@ impl MemoryWire {
         ensures set { self.new ≡ record self.old { sends = Some after } }
     {
         self.sends = Some(after);
-    }
-
-    /// Has a receive in time give nothing yet, after so many others.
-    pub fn fall_silent(&mut self, after: u64)
-        ensures given { self.new.given ≡ self.old.given }
-        ensures taken { self.new.taken ≡ self.old.taken }
-        ensures failures { self.new.failures ≡ self.old.failures }
-        ensures set { self.new ≡ record self.old { silences = Some after } }
-    {
-        self.silences = Some(after);
     }
 
     /// The datagrams that it has given, in order.
@@ -224,10 +211,6 @@ impl Ear for MemoryWire {
     ) -> Result<Option<(usize, Addr)>, ReceiveFault> {
         if is_due(&mut self.receives) {
             return Err(self.miss(Some(NO_ROOM)));
-        }
-        if is_due(&mut self.silences) {
-            self.hear();
-            return Ok(None);
         }
         let Some(
             Datagram {

@@ -30,6 +30,7 @@ use Rattle.sip_write.specs.declared.status.Status.TheVariants as status
 use Rattle.sip_write.specs.Answer.{AnswerText, answer_text, bare}
 use Rattle.transport.specs.declared.datagram.Datagram.{Datagram}
 use Rattle.transport.specs.Wires.{datagram, Grows}
+use Rattle.transport.specs.Devices.{one_more}
 use Rattle.control_lines.specs.declared.answer.ControlAnswer.TheVariants as control
 use Rattle.control_lines.specs.declared.asking.TellOutcome.{TellOutcome}
 use Rattle.control_lines.specs.declared.asking.TellOutcome.TheVariants as outcome
@@ -140,28 +141,42 @@ allow_events_of other = None
 abbrev pub answer : Request → Addr → Status → List ℕ
 answer r source s = answer_text (record (bare r.head source (Some TAG.now) s) { allow = allow_of s; allow_events = allow_events_of s })
 
--- a wire has taken the answer, or couldn't send it, or there was no memory for it: who asks asks again
-abbrev pub IsAnswered : Request → Addr → Status → Option (List Datagram) → Option (List Datagram) → Type 0
-IsAnswered r source s taken taken' = Grows taken taken' (datagram source (answer r source s) ∷ []) ⊎ Grows taken taken' []
+-- what a wire took, and how many of its calls failed
+pub record WireSeen : Type 0 where
+  pub taken : Option (List Datagram)
+  pub failures : ℕ
 
--- the wire has taken these bytes, or couldn't send them: who asks asks again
-abbrev pub IsSent : Addr → List ℕ → Option (List Datagram) → Option (List Datagram) → Type 0
-IsSent to bytes taken taken' = Grows taken taken' (datagram to bytes ∷ []) ⊎ Grows taken taken' []
+abbrev pub wire : {W : Type 0} → (W → Option (List Datagram)) → (W → ℕ) → W → WireSeen
+wire taken failures w = record { taken = taken w; failures = failures w }
+
+-- nothing was sent
+abbrev pub IsQuiet : WireSeen → WireSeen → Type 0
+IsQuiet old new = Grows old.taken new.taken [] × (new.failures ≡ old.failures)
+
+-- the wire has taken these bytes, or counted that it couldn't send them: who asks asks again
+abbrev pub IsSent : Addr → List ℕ → WireSeen → WireSeen → Type 0
+IsSent to bytes old new =
+    (Grows old.taken new.taken (datagram to bytes ∷ []) × (new.failures ≡ old.failures))
+    ⊎ (Grows old.taken new.taken [] × (new.failures ≡ one_more old.failures))
+
+-- the answer was sent, or there was no memory for it: who asks asks again
+abbrev pub IsAnswered : Request → Addr → Status → WireSeen → WireSeen → Type 0
+IsAnswered r source s old new = IsSent source (answer r source s) old new ⊎ IsQuiet old new
 
 -- ---- one request
 
 -- what a desk asked, what its wire took, and the answers that it keeps
 pub record DeskSeen : Type 0 where
   pub speaker : SpeakerSeen
-  pub taken : Option (List Datagram)
+  pub wire : WireSeen
   pub kept : Buffer Kept
 
-abbrev pub desk : {S W : Type 0} → (S → ℕ) → (S → Option (List Turn)) → (W → Option (List Datagram)) → S → W → Buffer Kept → DeskSeen
-desk asked turns taken s w kept = record { speaker = speaker asked turns s; taken = taken w; kept = kept }
+abbrev pub desk : {S W : Type 0} → (S → ℕ) → (S → Option (List Turn)) → (W → Option (List Datagram)) → (W → ℕ) → S → W → Buffer Kept → DeskSeen
+desk asked turns taken failures s w kept = record { speaker = speaker asked turns s; wire = wire taken failures w; kept = kept }
 
 -- nothing was told, answered or kept
 abbrev pub Stays : DeskSeen → DeskSeen → Type 0
-Stays old new = (new.speaker ≡ old.speaker) × Grows old.taken new.taken [] × (new.kept ≡ old.kept)
+Stays old new = (new.speaker ≡ old.speaker) × IsQuiet old.wire new.wire × (new.kept ≡ old.kept)
 
 -- the answer to a request from there is kept, unless memory is wanting
 abbrev pub IsKept : Request → Addr → Status → Buffer Kept → Buffer Kept → Type 0
@@ -172,15 +187,15 @@ IsKept r source s kept kept' = (kept' ≡ with_answer kept (key_of_request r) (a
 abbrev pub Does : Asked → Request → Addr → DeskSeen → DeskSeen → Bool → Type 0
 Does OfNothing r source old new is_told = Stays old new × (is_told ≡ true)
 Does (OfRefusal s) r source old new is_told =
-    (new.speaker ≡ old.speaker) × IsAnswered r source s old.taken new.taken × (new.kept ≡ old.kept) × (is_told ≡ false)
+    (new.speaker ≡ old.speaker) × IsAnswered r source s old.wire new.wire × (new.kept ≡ old.kept) × (is_told ≡ false)
 Does (OfNotice n) r source old new is_told =
-    (s : Status) × Tells n old.speaker new.speaker s × IsAnswered r source s old.taken new.taken × IsKept r source s old.kept new.kept
+    (s : Status) × Tells n old.speaker new.speaker s × IsAnswered r source s old.wire new.wire × IsKept r source s old.kept new.kept
     × (is_told ≡ is_done s)
 
 -- the kept answer was sent once more, and nobody was asked
 abbrev pub Repeats : List ℕ → Addr → DeskSeen → DeskSeen → Bool → Type 0
 Repeats bytes source old new is_told =
-    (new.speaker ≡ old.speaker) × IsSent source bytes old.taken new.taken × (new.kept ≡ old.kept) × (is_told ≡ true)
+    (new.speaker ≡ old.speaker) × IsSent source bytes old.wire new.wire × (new.kept ≡ old.kept) × (is_told ≡ true)
 
 -- a request whose transaction has a kept answer is a retransmission (RFC 3261 section 17.2.2). Any other one is new
 abbrev pub Serves : Option (List ℕ) → Request → Addr → DeskSeen → DeskSeen → Bool → Type 0

@@ -4,7 +4,7 @@ ghost use Rattle.admission.specs.Verdicts.{is_one_of};
 ghost use Rattle.transport.specs.Wires.{datagram, Grows};
 ghost use Rattle.voicemail.specs.Notices.{notice_seen, meaning};
 ghost use Rattle.voicemail.specs.Served as spec;
-ghost use Rattle.voicemail.specs.Served.{Shows, IsTold, AreTold, Tells, IsAnswered, IsKept, Does, IsServed, IsTaken};
+ghost use Rattle.voicemail.specs.Served.{Shows, IsTold, AreTold, Tells, IsSent, IsAnswered, IsKept, Does, IsServed, IsTaken};
 
 use crate::kept::KeptAnswers;
 use crate::line::{mail_line, show_line};
@@ -242,27 +242,34 @@ fn tell<R: Wait, S: Speaker>(rt: &R, alloc: Global, speaker: &mut S, notice: &No
     }
 }
 
+/// Sends these bytes once. Where that fails, who asked asks again.
+fn send_once<R: Wait, W: Wire>(rt: &R, wire: &mut W, to: Addr, octets: &[u8])
+    ensures { IsSent to octets.now (spec.wire W.taken W.failures wire.old) (spec.wire W.taken W.failures wire.new) }
+{
+    let _ = wire.send(rt, to, octets);
+}
+
 impl<W: Ear, S: Speaker> VoicemailDesk<W, S> {
     /// Answers a request. One whose answer can't be sent comes again.
     fn answer<R: Wait>(&mut self, rt: &R, request: &Request, to: Addr, status: Status)
-        ensures answered { IsAnswered request.now to status (W.taken self.old.going) (W.taken self.new.going) }
+        ensures answered { IsAnswered request.now to status (spec.wire W.taken W.failures self.old.going) (spec.wire W.taken W.failures self.new.going) }
         ensures stays { (self.new.coming ≡ self.old.coming) × (self.new.speaker ≡ self.old.speaker) × (self.new.networks ≡ self.old.networks)
             × (self.new.kept ≡ self.old.kept) }
     {
         if let Ok(octets) = answer_bytes(self.alloc, request, to, status) {
-            let _ = self.going.send(rt, to, octets.as_slice());
+            send_once(rt, &mut self.going, to, octets.as_slice());
         }
     }
 
     /// Answers a request that the service was asked of, and keeps the answer for retransmissions. Where memory is wanting it is sent and not
     /// kept.
     fn conclude<R: Wait>(&mut self, rt: &R, request: &Request, to: Addr, status: Status)
-        ensures answered { IsAnswered request.now to status (W.taken self.old.going) (W.taken self.new.going) }
+        ensures answered { IsAnswered request.now to status (spec.wire W.taken W.failures self.old.going) (spec.wire W.taken W.failures self.new.going) }
         ensures kept { IsKept request.now to status self.old.kept self.new.kept }
         ensures stays { (self.new.coming ≡ self.old.coming) × (self.new.speaker ≡ self.old.speaker) × (self.new.networks ≡ self.old.networks) }
     {
         if let Ok(octets) = answer_bytes(self.alloc, request, to, status) {
-            let _ = self.going.send(rt, to, octets.as_slice());
+            send_once(rt, &mut self.going, to, octets.as_slice());
             let _ = self.kept.keep(self.alloc, request, octets);
         }
     }
@@ -270,8 +277,8 @@ impl<W: Ear, S: Speaker> VoicemailDesk<W, S> {
     /// Does what a new request asks for, and answers it. Tells whether the service was told of it, or nothing was to be done.
     fn serve_new<R: Wait>(&mut self, rt: &R, request: &Request, source: Addr) -> bool
         ensures served { Does (meaning request.now) request.now source
-            (spec.desk S.asked S.turns W.taken self.old.speaker self.old.going self.old.kept)
-            (spec.desk S.asked S.turns W.taken self.new.speaker self.new.going self.new.kept) result }
+            (spec.desk S.asked S.turns W.taken W.failures self.old.speaker self.old.going self.old.kept)
+            (spec.desk S.asked S.turns W.taken W.failures self.new.speaker self.new.going self.new.kept) result }
         ensures stays { (self.new.coming ≡ self.old.coming) × (self.new.networks ≡ self.old.networks) }
     {
         match hear_request(request) {
@@ -292,13 +299,13 @@ impl<W: Ear, S: Speaker> VoicemailDesk<W, S> {
     /// be done.
     fn serve<R: Wait>(&mut self, rt: &R, request: &Request, source: Addr) -> bool
         ensures served { IsServed request.now source
-            (spec.desk S.asked S.turns W.taken self.old.speaker self.old.going self.old.kept)
-            (spec.desk S.asked S.turns W.taken self.new.speaker self.new.going self.new.kept) result }
+            (spec.desk S.asked S.turns W.taken W.failures self.old.speaker self.old.going self.old.kept)
+            (spec.desk S.asked S.turns W.taken W.failures self.new.speaker self.new.going self.new.kept) result }
         ensures stays { (self.new.coming ≡ self.old.coming) × (self.new.networks ≡ self.old.networks) }
     {
         match self.kept.answer_to(request) {
             Some(octets) => {
-                let _ = self.going.send(rt, source, octets.as_slice());
+                send_once(rt, &mut self.going, source, octets.as_slice());
                 true
             }
             None => self.serve_new(rt, request, source),
@@ -309,8 +316,8 @@ impl<W: Ear, S: Speaker> VoicemailDesk<W, S> {
     /// read.
     fn take_one<R: Wait>(&mut self, rt: &R, source: Addr, octets: &[u8]) -> bool
         ensures taken { IsTaken self.old.networks.items source octets.now
-            (spec.desk S.asked S.turns W.taken self.old.speaker self.old.going self.old.kept)
-            (spec.desk S.asked S.turns W.taken self.new.speaker self.new.going self.new.kept) result }
+            (spec.desk S.asked S.turns W.taken W.failures self.old.speaker self.old.going self.old.kept)
+            (spec.desk S.asked S.turns W.taken W.failures self.new.speaker self.new.going self.new.kept) result }
         ensures stays { (self.new.coming ≡ self.old.coming) × (self.new.networks ≡ self.old.networks) }
     {
         if !any_contains(self.networks.as_slice(), source.ip) {

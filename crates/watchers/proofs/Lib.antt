@@ -3,3 +3,4 @@ mod Bounded
 mod Rows
 mod Same
 mod Tallies
+mod Readings

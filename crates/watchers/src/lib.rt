@@ -9,11 +9,12 @@
 //! same however many there are, but that now and then all move to more room.
 //!
 //! Begin with [`Watchers`], then `specs/Rows`: what the calls make of the rows, `specs/Notifies`: what is known with a NOTIFY, `specs/Pages`:
-//! what a page is, and `specs/Tallies`: how many rows a source has.
+//! what a page is, `specs/Readings`: what who reads all pages is told, and `specs/Tallies`: how many rows a source has.
 #![tactic(auto)]
 
 mod counts;
 mod inquiry;
+pub mod laws;
 mod notify;
 mod page;
 mod row;

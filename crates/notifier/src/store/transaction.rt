@@ -3,18 +3,23 @@
 
 ghost use Rattle.std.specs.Prelude.{◌≡◌, ◌+◌, ◌≤◌, ◌++◌, length, string_bytes, option_map, IfOk, OnOk};
 ghost use Rattle.notifier_model.specs.Requests.{key_of_request};
+ghost use Rattle.notifier_model.specs.Home.{key_hash};
 ghost use Rattle.snapshots.specs.Books.{IsKey, key_text};
 ghost use Rattle.notifier.specs.Keys.{parted, AreTexts};
 
+use notifier_model::homes::key_hash;
 use notifier_model::row::Key;
 use sip_read::Request;
 use sip_text::NoMemory;
 use snapshots::form::put_bytes;
 use std::alloc::Global;
 
-/// The texts of a key in one: the branch, the sent-by and the method.
+/// The texts of a key in one: the branch, the sent-by and the method. Transactions are ordered by a number of their
+/// branch first, since branches begin alike: so a look-up compares texts where it has found what it seeks.
 #[derive(PartialEq, Eq, PartialOrd, Ord, Drop)]
 pub struct Transaction {
+    /// The hash of the branch. Others may have the same.
+    number: u32,
     texts: String,
     /// How many bytes the branch has.
     branch: usize,
@@ -22,6 +27,7 @@ pub struct Transaction {
     sent_by: usize,
     ghost within: { branch + sent_by ≤ length (string_bytes texts) },
     ghost are_texts: { AreTexts (parted branch sent_by (string_bytes texts)) },
+    ghost numbered: { number ≡ key_hash (parted branch sent_by (string_bytes texts)).branch },
 }
 
 impl Transaction {
@@ -65,6 +71,7 @@ impl Transaction {
         texts.push_str(sent_by)?;
         texts.push_str(method)?;
         Ok(Transaction {
+            number: key_hash(branch),
             texts,
             branch: branch.len(),
             sent_by: sent_by.len(),
@@ -90,6 +97,7 @@ impl Transaction {
     {
         let texts = String::from_str(alloc, self.texts.as_str())?;
         Ok(Transaction {
+            number: self.number,
             texts,
             branch: self.branch,
             sent_by: self.sent_by,
