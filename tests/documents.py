@@ -55,8 +55,9 @@ ANYWHERE = {"Errors", "Codes", "Numbers", "Views", "LineViews"}
 
 # Crates of the edge and of the programs, whose definitions stand beside their code: `tests/cited.py` prints them.
 BESIDE = {
-    "admission", "arguments", "commands", "control_lines", "digest", "feeds", "keeper", "log_lines", "outage_clock", "restarts", "resumption",
-    "scripts", "server", "service", "shown_text", "summary_bodies", "telling", "transactions", "transport", "voicemail", "watchers",
+    "admission", "arguments", "asking", "commands", "control_lines", "digest", "feeds", "keeper", "log_lines", "outage_clock", "plans", "restarts",
+    "resumption", "scripts", "server", "service", "shown_text", "summary_bodies", "telling", "transactions", "transport", "udp_command", "voicemail",
+    "watchers",
 }
 
 # Programs of the system that a block of commands may name.

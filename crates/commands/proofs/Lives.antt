@@ -30,9 +30,9 @@ use Rattle.arguments.specs.Told.{told}
 use Rattle.service.specs.Running.{Beginning}
 use Rattle.service.specs.Sending.{fates}
 use Rattle.sip_text.specs.declared.address.Addr.{Addr}
-use Rattle.commands.specs.declared.plan.Plan.{Plan}
+use Rattle.plans.specs.declared.plan.Plan.{Plan}
 use Rattle.commands.specs.Serving.{BeginsBy, start_at}
-use Rattle.commands.specs.UdpCall as udp
+use Rattle.udp_command.specs.UdpCall as udp
 use Rattle.commands.specs.Laws.{ServeLaw, StartsOfACallLaw, StartsOfAPlanLaw, TellLives, UdpLaw}
 use Rattle.commands.proofs.Started.{count_is}
 

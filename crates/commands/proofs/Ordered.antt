@@ -1,8 +1,7 @@
 -- Mailboxes that lines made, from one run to the next: what the journal tells of them, and their order.
-use Rattle.std.proofs.Common.{◌≡◌, ◌∙◌, ℕ, ◌+◌, ◌<◌, Bool, true, false, not, cond, ◌&&◌, ◌||◌, List, [], ◌∷◌, ◌++◌, length, take, get_or, map, filter, string_bytes, String, refl, sym, ap}
+use Rattle.std.proofs.Common.{◌≡◌, ◌∙◌, ℕ, ◌+◌, ◌<◌, Bool, true, false, not, cond, ◌&&◌, ◌||◌, List, [], ◌∷◌, ◌++◌, length, take, get_or, map, filter, refl, sym, ap}
 use Rattle.std.specs.Str.{bytes_eq}
-use Rattle.std.specs.List.{list_any, flat_map}
-use Rattle.std.specs.declared.alloc.Global.{Global}
+use Rattle.std.specs.List.{flat_map}
 use Rattle.std.proofs.lemmas.List.{append-nil}
 use Rattle.std.proofs.lemmas.List.Concat.{flat_map-append}
 use Rattle.std.proofs.lemmas.List.Folds.{list_any-append}
@@ -16,11 +15,10 @@ use Rattle.notifier_model.specs.declared.event.Event.TheVariants as event
 use Rattle.journal.specs.declared.file.Account.{Account}
 use Rattle.resumption.specs.Accounts.{lines_of}
 use Rattle.resumption.specs.Told.{mails}
-use Rattle.resumption.proofs.Lists.{behind_none, one_more, taken_more}
+use Rattle.resumption.proofs.Lists.{behind_none, one_more}
 use Rattle.resumption.proofs.Telling.{any_once}
-use Rattle.commands.specs.Plans.{with_name, each_once}
+use Rattle.plans.specs.Plans.{each_once}
 use Rattle.commands.specs.Runs.{mail_told, told_since, in_former_order, NobodyIsLeftOutLaw}
-use Rattle.commands.proofs.Once.{once_push, set_with_name}
 
 -- ---- what lines told
 
@@ -54,21 +52,6 @@ all_told a none booked all later is_none first then both =
     both
     ∙ ap (λ (l : List Change). l ++ later) (behind_none none (mails a.book.told.mail) booked is_none first)
     ∙ ap (λ (l : List Change). mails a.book.told.mail ++ l) then
-
--- ---- names in a set
-
--- a set to which one name more of these was added
-pub set_more : (names : List (List ℕ)) (i : ℕ) (name : List ℕ) (keys after : List (String Global)) (key : String Global)
-    → i < length names → name ≡ get_or names i name → string_bytes key ≡ name → map string_bytes keys ≡ each_once (take i names)
-    → after ≡ cond (list_any (λ k. bytes_eq (string_bytes key) (string_bytes k)) keys) keys (keys ++ key ∷ [])
-    → map string_bytes after ≡ each_once (take (i + 1) names)
-set_more names i name keys after key below is named held new =
-    ap (map string_bytes) new
-    ∙ set_with_name keys key
-    ∙ ap (λ (ns : List (List ℕ)). with_name ns (string_bytes key)) held
-    ∙ ap (with_name (each_once (take i names))) named
-    ∙ sym (once_push (take i names) name)
-    ∙ ap each_once (sym (taken_more names i name below is))
 
 -- ---- their order
 

@@ -27,8 +27,8 @@ use Rattle.service.specs.declared.running.ServiceEnd.{ServiceEnd}
 use Rattle.service.specs.Running.{Beginning, Opening, Runs, anew, beginning}
 use Rattle.service.specs.Sending.{open_first}
 use Rattle.service.proofs.Ran.{begins_anew}
-use Rattle.commands.specs.declared.plan.Plan.{Plan}
-use Rattle.commands.specs.Plans.{IsCount, most_mailboxes, setup_of}
+use Rattle.plans.specs.declared.plan.Plan.{Plan}
+use Rattle.plans.specs.Plans.{IsCount, most_mailboxes, setup_of}
 use Rattle.commands.specs.Serving.{BeginsAnew, BeginsBy, OpensBy, allowance_of, start_at, Ran}
 
 pub count_is : (asked : Option ℕ) (n : ℕ) → IsCount asked n → IsWithin 1 256 n

@@ -5,7 +5,7 @@ use Rattle.transport.specs.Sockets.{loopback}
 use Rattle.transport.specs.declared.udp.UdpWire.{UdpWire}
 use Rattle.control_lines.specs.declared.udp.UdpSpeaker.{UdpSpeaker}
 use Rattle.voicemail.specs.declared.desk.VoicemailDesk.{VoicemailDesk}
-use Rattle.commands.specs.declared.plan.Plan.{Plan}
+use Rattle.plans.specs.declared.plan.Plan.{Plan}
 use Rattle.commands.specs.Serving.{IsAt}
 
 -- where this machine reaches what is bound here: 0.0.0.0 is each of its addresses

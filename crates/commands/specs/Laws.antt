@@ -15,11 +15,11 @@ use Rattle.service.specs.declared.running.ServiceEnd.{ServiceEnd}
 use Rattle.arguments.specs.declared.exit_status.ExitStatus.{ExitStatus}
 use Rattle.arguments.specs.declared.udp_arguments.UdpArguments.{UdpArguments}
 use Rattle.arguments.specs.UdpArguments.{AreUdpArguments}
-use Rattle.commands.specs.declared.plan.Plan.{Plan}
-use Rattle.commands.specs.Plans.{IsPlan}
+use Rattle.plans.specs.declared.plan.Plan.{Plan}
+use Rattle.plans.specs.Plans.{IsPlan}
 use Rattle.commands.specs.Serving.{Serves, start_at}
-use Rattle.commands.specs.UdpCall as udp
-use Rattle.commands.specs.UdpEnds.{Runs}
+use Rattle.udp_command.specs.UdpCall as udp
+use Rattle.udp_command.specs.UdpEnds.{Runs}
 
 -- ---- with which starts
 

@@ -1,8 +1,3 @@
-pub mod Lines
-pub mod State
-pub mod Heard
-pub mod Ranges
-pub mod Plans
 pub mod Serving
 pub mod Reloading
 pub mod Runs
@@ -10,11 +5,4 @@ pub mod GoingOn
 pub mod Begun
 pub mod Feeding
 pub mod Refused
-pub mod Telling
-pub mod UdpCall
-pub mod UdpLines
-pub mod UdpHearing
-pub mod UdpServing
-pub mod UdpEnds
-pub mod UdpRunning
 pub mod Laws

@@ -13,7 +13,7 @@ use Rattle.sip_text.specs.declared.address.Addr.{Addr}
 use Rattle.transport.specs.Devices.{one_more}
 use Rattle.transport.specs.Wires.{datagram, Grows}
 use Rattle.transport.specs.declared.datagram.Datagram.{Datagram}
-use Rattle.commands.specs.Plans.{IsPlan}
+use Rattle.plans.specs.Plans.{IsPlan}
 use Rattle.commands.specs.Serving.{AreOpen}
 use Rattle.commands.specs.declared.reloading.Carried.{Carried}
 use Rattle.commands.specs.declared.reloading.Reloader.{Reloader}

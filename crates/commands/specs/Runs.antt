@@ -14,7 +14,7 @@ use Rattle.resumption.specs.declared.found.Found.{Found}
 use Rattle.resumption.specs.Accounts.{events_since}
 use Rattle.resumption.specs.Told.{mails}
 use Rattle.commands.specs.declared.journal_opened.Opened.{Opened}
-use Rattle.commands.specs.declared.plan.Plan.{Plan}
+use Rattle.plans.specs.declared.plan.Plan.{Plan}
 
 -- ---- of which mailboxes lines told (RFC 3842 section 5.2)
 

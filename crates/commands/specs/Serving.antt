@@ -12,7 +12,7 @@ use Rattle.notifier_model.specs.Start.{Start, place_of}
 use Rattle.arguments.specs.Setup.{dealt_names}
 use Rattle.arguments.specs.Told.{boxes_told}
 use Rattle.feeds.specs.Emitted.{WireSeen, writer_seen}
-use Rattle.commands.specs.UdpEnds.{all_closed, Tells}
+use Rattle.udp_command.specs.UdpEnds.{all_closed, Tells}
 use Rattle.service.specs.declared.running.ServiceEnd.{ServiceEnd}
 use Rattle.service.specs.declared.running.ServiceWork.{ServiceWork}
 use Rattle.service.specs.Listening.{IsDeaf}
@@ -22,9 +22,9 @@ use Rattle.admission.specs.declared.judging.Admission.{Admission}
 use Rattle.arguments.specs.declared.choices.Choices.{Choices}
 use Rattle.transport.specs.Ears.{no_misses}
 use Rattle.transport.specs.Sockets.{misses}
-use Rattle.commands.specs.declared.plan.Plan.{Plan}
+use Rattle.plans.specs.declared.plan.Plan.{Plan}
 use Rattle.commands.specs.declared.sockets.Sockets.{Sockets}
-use Rattle.commands.specs.Plans.{IsPlan, most_mailboxes, setup_of}
+use Rattle.plans.specs.Plans.{IsPlan, most_mailboxes, setup_of}
 
 -- a socket is here, where port 0 stands for a port of the machine's choice
 pub record IsAt (asked local : Addr) : Type 0 where

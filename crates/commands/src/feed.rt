@@ -5,10 +5,10 @@ ghost use Rattle.commands.specs.Feeding.{IsFeedDesk, reached_at};
 ghost use Rattle.commands.specs.Refused.{IsOther};
 
 use crate::error::ServeError;
-use crate::plan::Plan;
 use crate::sockets::bind;
 use arguments::AddressFlag;
 use control_lines::UdpSpeaker;
+use plans::Plan;
 use service::{Counter, Shared};
 use sip_text::Addr;
 use std::alloc::Global;

@@ -4,11 +4,11 @@ ghost use Rattle.crew.specs.Desks.{standing_of};
 ghost use Rattle.arguments.specs.Wanted.{Gives};
 ghost use Rattle.transport.specs.Sockets.{misses};
 ghost use Rattle.service.specs.Running.{AreFaults, beginning, is_faulty, opening};
-ghost use Rattle.commands.specs.UdpEnds as ends;
-ghost use Rattle.commands.specs.UdpEnds.{Tells};
+ghost use Rattle.udp_command.specs.UdpEnds as ends;
+ghost use Rattle.udp_command.specs.UdpEnds.{Tells};
 ghost use Rattle.commands.specs.Refused.{AskForText, IsOther, IsRefusal, IsStatus, status_after, status_of};
 ghost use Rattle.commands.specs.declared.error.ServeError.TheVariants as error;
-ghost use Rattle.commands.specs.Plans.{IsPlan};
+ghost use Rattle.plans.specs.Plans.{IsPlan};
 ghost use Rattle.commands.specs.Reloading.{IsCarried, IsRereading};
 ghost use Rattle.commands.specs.Serving.{AreOpen, BeginsAnew, CanEndWell, IsWork, Ran, Serves, new_sink};
 
@@ -22,16 +22,14 @@ use crate::journal_start::{Started, start};
 use crate::logging::{
     say_goodbye, say_hello, say_journal, say_spent_worker, say_why, warn_of_control,
 };
-use crate::plan::{Plan, adopted, local_setup, most_mailboxes, new_plan, with_told};
 use crate::prompt::{Patience, Prompt};
 use crate::reloading::{Carried, Reloader, all_mailboxes, answer_reload, first_mailboxes};
 use crate::sockets::{Sockets, Standby, find};
-use crate::udp::all_closed;
-use crate::udp_printing::worker_lines;
 use arguments::{ExitStatus, Wanted};
 use log_lines::Course;
 use notifier::Desk;
 use package::{Change, Package};
+use plans::{Plan, adopted, local_setup, most_mailboxes, new_plan, with_told};
 use scripts::write_page;
 use service::{
     Allowance, Begins, ControlPort, Exit, Journal, ServiceEnd, ServiceWork, Shared, SipDesk,
@@ -49,6 +47,8 @@ use std::sync::{Arc, Wait};
 use std::thread::Threads;
 use std::time::Instant;
 use transport::{Sink, UdpWire};
+use udp_command::udp::all_closed;
+use udp_command::worker_lines;
 
 /// A service that has ended: what came of it, and what its lines of transfers were written to.
 #[derive(Drop)]
@@ -109,7 +109,7 @@ where
 {
     match known {
         Some(plan) => Ok(plan),
-        None => new_plan(rt, words),
+        None => Ok(new_plan(rt, words)?),
     }
 }
 

@@ -3,17 +3,17 @@
 //! A thread of its own reads them while the service runs, so that it is known whether they are good before anything ends. Where they are, the
 //! run ends, and the next one begins from the journal as a start would, with the plan that this thread made. The lock on the folder of the
 //! journal is held from run to run, and the sockets stay open: what comes meanwhile waits there. The next run answers the RELOAD.
-ghost use Rattle.std.specs.Prelude.{◌≡◌, None, option_map, IfOk, IfErr, IfSome};
-ghost use Rattle.commands.specs.Plans.{IsPlan};
+ghost use Rattle.std.specs.Prelude.{◌≡◌, ℕ, List, None, true, option_map, IfOk, IfErr, IfSome, IsSome};
+ghost use Rattle.plans.specs.Plans.{IsPlan};
 ghost use Rattle.commands.specs.Refused.{IsOther};
 ghost use Rattle.commands.specs.Reloading.{IsAnswered, IsRereading};
 ghost use Rattle.commands.specs.Runs.{AreFirst, AreAll};
 
 use crate::error::ServeError;
 use crate::journal_folder::Folder;
-use crate::plan::{Plan, next_plan};
 use crate::sockets::Standby;
 use control_lines::ControlAnswer;
+use plans::{Plan, PlanError, next_plan};
 use service::{Caller, Rereader, Shared};
 use sip_text::{Addr, NoMemory, Text};
 use std::alloc::{AllocError, Global};
@@ -109,14 +109,14 @@ pub(crate) fn answer_reload<R: Wait>(
 }
 
 /// Why files are refused: the exit status of a start with them, and the words that such a start has for it. None where memory runs out.
-fn refusal(alloc: Global, error: &ServeError) -> Option<String> {
+fn refusal(alloc: Global, error: &PlanError) -> Option<String> {
     let status = error.status();
     let text: Result<String, AllocError> = format!(in alloc; "{status} {error}");
     text.ok()
 }
 
 /// Refuses files for this reason. Where nobody asked, since they were read for mailboxes that lines made, it is told on standard error.
-fn refuse<R>(rt: &R, rereader: &Rereader, number: u64, error: &ServeError)
+fn refuse<R>(rt: &R, rereader: &Rereader, number: u64, error: &PlanError)
 where
     R: Wait + Clock + Eprint + AllocGlobal,
 {
@@ -125,6 +125,15 @@ where
         let words = text.as_ref().map_or("out of memory", |text| text.as_str());
         rereader.say_why(rt, error.status(), words);
     }
+}
+
+/// Accepts good files: the next run begins with what they say, which it answers.
+fn accept<R: Wait>(rt: &R, rereader: &Rereader, number: u64, plan: Plan) -> Plan
+    ensures same { result ≡ plan }
+    ensures plan { (words : List (List ℕ)) → IsPlan words plan → IsPlan words result }
+{
+    rereader.accept(rt, number);
+    plan
 }
 
 /// Reads the files that the words name whenever that is asked for, until the service has ended. Answers what was read last, if it was good.
@@ -138,16 +147,13 @@ where
         let Some(number) = rereader.next(rt) else {
             return last;
         };
-        match next_plan(rt, words) {
-            Ok(plan) => {
-                last = Some(plan);
-                rereader.accept(rt, number);
-            }
+        last = match next_plan(rt, words) {
+            Ok(plan) => Some(accept(rt, rereader, number, plan)),
             Err(error) => {
-                last = None;
                 refuse(rt, rereader, number, &error);
+                None
             }
-        }
+        };
     }
     unreachable!()
 }
@@ -160,7 +166,7 @@ pub(crate) struct Rereading {
 
 impl Promise<Option<Plan>> for Rereading {
     ghost use Rattle.std.specs.Prelude.{IfSome};
-    ghost use Rattle.commands.specs.Plans.{IsPlan};
+    ghost use Rattle.plans.specs.Plans.{IsPlan};
 
     ghost kept_by = { λ rereading plan. IfSome plan (IsPlan rereading.words.value.items) };
 }
@@ -245,6 +251,7 @@ impl Reloader {
             + 'static,
         R::Dir: Send,
         ensures words { IfOk result (IsRereading words.now) }
+        ensures reads { has_journal ≡ true → IfOk result (λ r. IsSome r.reader) }
         ensures refused { IfErr result IsOther }
     {
         let ours = Arc::try_clone(shared)?;

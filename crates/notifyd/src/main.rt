@@ -6,7 +6,7 @@
 //! <workers> <mailbox>...` reads a script from standard input and prints what the notifier sends; without arguments it is
 //! `notifyd script 1 alice`.
 //!
-//! What is proved of them are the contracts of the crate `commands`, of [`commands::udp::run`] and of [`server::run`]. Here
+//! What is proved of them are the contracts of [`commands::serve`], [`asking::tell`], [`udp_command::udp::run`] and [`server::run`]. Here
 //! stand the words, the packages, each in a box, the two streams and the exit status. Begin with `server::run` where a script is
 //! meant, with `commands::serve` where a server is.
 #![tactic(auto)]
@@ -15,7 +15,8 @@ ghost use Rattle.std.specs.Prelude.{◌≡◌, IfOk};
 ghost use Rattle.arguments.specs.Wanted.{first_seen};
 
 use arguments::{ExitStatus, Wanted};
-use commands::{print_help, say_what_is_read, serve, tell, udp};
+use asking::{say_what_is_read, tell};
+use commands::{print_help, serve};
 use message_summary::Mailboxes;
 use package::{ClosingCell, Package};
 use refer::Transfers;
@@ -24,6 +25,7 @@ use std::process::ExitCode;
 use std::rt::Env;
 use std::{env, io};
 use transport::{Sink, Source};
+use udp_command::udp;
 
 /// The words behind the program's name. One that isn't UTF-8 is a bad argument.
 fn words_of(rt: &(impl Env + AllocGlobal)) -> Result<Vec<Text>, ExitStatus> {

@@ -1,5 +1,5 @@
 use Rattle.std.specs.Prelude.{IfSome}
-use Rattle.commands.specs.Plans.{IsPlan}
+use Rattle.plans.specs.Plans.{IsPlan}
 use Rattle.commands.proofs.reloading.read_again.Given as goal
 
 abbrev pub invariant-loop : goal.invariant-loop

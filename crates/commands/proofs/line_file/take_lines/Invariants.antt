@@ -1,4 +1,0 @@
-use Rattle.commands.proofs.line_file.take_lines.Given as goal
-
-abbrev pub invariant-loop-line : goal.invariant-loop-line
-invariant-loop-line g l = g.T.TakesLines.is_sound l.taker

@@ -1,7 +1,0 @@
-use Rattle.std.proofs.Common.{take}
-use Rattle.std.specs.List.{All}
-use Rattle.commands.specs.Ranges.{Fits}
-use Rattle.commands.proofs.ranged.first_out.Given as goal
-
-abbrev pub invariant-loop-ranged : goal.invariant-loop-ranged
-invariant-loop-ranged l = All Fits (take l.ranged-index l.ranges)

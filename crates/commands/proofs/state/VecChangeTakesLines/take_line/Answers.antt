@@ -1,6 +1,0 @@
-use Rattle.commands.proofs.ToldLines.{adds_told}
-use Rattle.commands.proofs.state.VecChangeTakesLines.take_line.Goals as goal
-
-pub returns-clause-sound : goal.returns-clause-sound
-returns-clause-sound c =
-    adds_told _ c.args.self.now.items c.add_told.new.changes.items c.requires.sound c.in_ok-add_told.ensures.added

@@ -1,6 +1,0 @@
-use Rattle.std.proofs.Common.{◌≡◌, take, true}
-use Rattle.commands.specs.UdpEnds.{all_closed}
-use Rattle.commands.proofs.udp.all_closed.Given as goal
-
-abbrev pub invariant-loop-report : goal.invariant-loop-report
-invariant-loop-report l = all_closed (take l.report-index l.reports) ≡ true

@@ -1,8 +1,0 @@
-use Rattle.commands.specs.UdpCall.{start_at}
-use Rattle.commands.proofs.udp.serve_sockets.Goals as goal
-
-pub listen_and_serve-requires-clause-new : goal.listen_and_serve-requires-clause-new
-listen_and_serve-requires-clause-new g c κs within = (start_at c.args.call.now, c.in_ok-crew.ensures.started)
-
-pub returns-in-Ok-clause-served : goal.returns-in-Ok-clause-served
-returns-in-Ok-clause-served g c = c.in-Ok.ensures.served (start_at c.args.call.now) c.in_ok-crew.ensures.started

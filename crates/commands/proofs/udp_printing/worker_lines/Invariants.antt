@@ -1,6 +1,0 @@
-use Rattle.std.proofs.Common.{◌≡◌, take, string_bytes}
-use Rattle.commands.specs.UdpLines.{worker_lines}
-use Rattle.commands.proofs.udp_printing.worker_lines.Given as goal
-
-abbrev pub invariant-loop-at : goal.invariant-loop-at
-invariant-loop-at l = string_bytes l.lines ≡ worker_lines (take l.at l.reports)

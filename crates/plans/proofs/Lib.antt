@@ -1,0 +1,9 @@
+pub mod Named
+pub mod Once
+pub mod Further
+pub mod FirstOut
+pub mod Planned
+pub mod Urgent
+pub mod ToldLines
+pub mod Heard
+pub mod Refused

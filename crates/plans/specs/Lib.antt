@@ -1,0 +1,6 @@
+pub mod Lines
+pub mod State
+pub mod Heard
+pub mod Ranges
+pub mod Plans
+pub mod Refused

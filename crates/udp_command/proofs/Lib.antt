@@ -1,0 +1,5 @@
+pub mod UdpPrinted
+pub mod UdpClosed
+pub mod UdpStarted
+pub mod UdpServed
+pub mod UdpEnded
