@@ -561,7 +561,11 @@ def cited_definitions_say_what_they_are(_program, _folder):
 
 def crates_beside_are_named(_program, _folder):
     section = read("docs/definitions.md").partition("## The edge and the programs\n")[2]
-    told([f"docs/definitions.md doesn't name {it}" for it in sorted(BESIDE) if f"`{it}`" not in section])
+    wrong = [f"docs/definitions.md doesn't name {it}" for it in sorted(BESIDE) if f"`{it}`" not in section]
+    count = f"{len(BESIDE)} crates"
+    for page, words in {"docs/definitions.md": f"[those of {count}](", "CONTRIBUTING.md": f"For the {count} of ["}.items():
+        wrong += [] if words in read(page) else [f"{page} doesn't say: {words}"]
+    told(wrong)
 
 
 def others_cite_what_is_there(_program, _folder):
