@@ -1,8 +1,8 @@
 -- The last line of an answer of several pages.
-use Rattle.std.proofs.Common.{◌≡◌, ◌≢◌, ℕ, List, [], ◌∷◌, ◌++◌, Option, Some, None, MatchOption, refl, sym, ap, ◌∙◌, append_assoc}
+use Rattle.std.proofs.Common.{◌≡◌, ◌≢◌, ℕ, suc, ◌+◌, ◌-◌, List, [], ◌∷◌, ◌++◌, length, take, Option, Some, None, MatchOption, refl, sym, ap, ◌∙◌, append_assoc, length-append, arith}
 use Rattle.std.specs.Borrow.{Bor}
 use Rattle.std.specs.Prelude.{codes}
-use Rattle.std.proofs.lemmas.List.{append_cancel_left, append_cancel_right}
+use Rattle.std.proofs.lemmas.List.{append_cancel_left, append_cancel_right, take_at}
 use Rattle.std.proofs.lemmas.List.Elements.{All-head, All-tail, All-cons, All-drop}
 use Rattle.asking.specs.Telling.{IsFollowed, HasNoLineFeed}
 
@@ -89,3 +89,15 @@ pub told_place : (answer lines whole before last : List ℕ) → answer ≡ code
     → MatchOption r ((place : List ℕ) → ¬ (IsFollowed answer place)) (λ place. IsFollowed answer place.now)
 told_place answer lines whole before last ok ended cut feedless None none = λ place. no_more answer whole before last place ended cut feedless none
 told_place answer lines whole before last ok ended cut feedless (Some place) more = followed answer lines whole before last place.now ok ended cut feedless more
+
+-- ---- what stands before that line
+
+pub before_it : (lines front place : List ℕ) (n : ℕ) → lines ≡ front ++ (codes "more " ++ (place ++ codes "\n")) → n ≡ length lines - (6 + length place)
+    → take n lines ≡ front
+before_it lines front place n whole cut =
+    let last = codes "more " ++ (place ++ codes "\n") in
+    let long : length last ≡ suc (suc (suc (suc (suc (length (place ++ codes "\n")))))) = refl in
+    let longer : length lines ≡ length front + length last = ap length whole ∙ length-append front last in
+    let end : length (place ++ codes "\n") ≡ length place + 1 = length-append place (codes "\n") in
+    let same : n ≡ length front = omega (arith, cut, long, longer, end) in
+    ap (λ (l : List ℕ). take n l) whole ∙ take_at front last n (sym same)

@@ -1,1 +1,2 @@
 pub mod LastLine
+pub mod Input

@@ -1,6 +1,7 @@
 //! What a service answered, as `notifyd tell` prints it, and where it says that more is told.
 ghost use Rattle.std.specs.Prelude.{◌≡◌, ◌≢◌, ℕ, List, ◌++◌, codes, IfOk, MatchOption, None};
 ghost use Rattle.sip_text.specs.Reading.{text_of};
+ghost use Rattle.asking.specs.Telling as spec;
 ghost use Rattle.asking.specs.Telling.{IsFollowed, HasNoLineFeed};
 
 use control_lines::ControlAnswer;
@@ -24,7 +25,9 @@ pub enum Form {
 }
 
 /// The first word of a line.
-fn first_word(line: &str) -> &str {
+fn first_word(line: &str) -> &str
+    ensures { result.now ≡ spec.first_word line.now }
+{
     match line.split_once(' ') {
         Some((word, _)) => word,
         None => line,
@@ -33,7 +36,9 @@ fn first_word(line: &str) -> &str {
 
 impl Form {
     /// That of an answer to this line: what may have several pages is told as lines.
-    pub(crate) fn of(line: &Text, is_json: bool) -> Form {
+    pub(crate) fn of(line: &Text, is_json: bool) -> Form
+        ensures { result ≡ spec.form_of line.now is_json }
+    {
         let word = first_word(line.as_str());
         if is_json {
             Form::Json
@@ -88,7 +93,11 @@ pub(crate) fn next_place(alloc: Global, answer: &[u8]) -> Result<Option<Text>, N
 }
 
 /// The lines of an answer without the last one, where that says that more is told.
-fn page<'a>(answer: &'a [u8], lines: &'a [u8]) -> &'a [u8] {
+fn page<'a>(answer: &'a [u8], lines: &'a [u8]) -> &'a [u8]
+    ensures whole { ((place : List ℕ) → ¬ (IsFollowed answer.now place)) → result.now ≡ lines.now }
+    ensures cut { (place front : List ℕ) → IsFollowed answer.now place
+        → lines.now ≡ front ++ (codes "more " ++ (place ++ codes "\n")) → result.now ≡ front }
+{
     match last_place(answer) {
         Some(place) => &lines[..lines.len().saturating_sub(b"more \n".len() + place.len())],
         None => lines,
@@ -96,7 +105,9 @@ fn page<'a>(answer: &'a [u8], lines: &'a [u8]) -> &'a [u8] {
 }
 
 /// The mailbox that a WATCHERS line names, `*` where it names none.
-fn watched(line: &str) -> &str {
+fn watched(line: &str) -> &str
+    ensures { result.now ≡ spec.watched line.now }
+{
     match line.split_once(' ') {
         Some((_, rest)) => first_word(rest),
         None => "*",
@@ -104,11 +115,9 @@ fn watched(line: &str) -> &str {
 }
 
 /// The line that asks for what follows this place, where this line is one that may have several pages.
-pub(crate) fn next_line(
-    alloc: Global,
-    line: &Text,
-    place: &Text,
-) -> Result<Option<Text>, NoMemory> {
+pub(crate) fn next_line(alloc: Global, line: &Text, place: &Text) -> Result<Option<Text>, NoMemory>
+    ensures { IfOk result (λ next. next ≡ spec.next_line line.now place.now) }
+{
     let line = line.as_str();
     let place = place.as_str();
     let word = first_word(line);

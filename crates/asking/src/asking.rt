@@ -1,5 +1,6 @@
 //! `notifyd tell`.
-ghost use Rattle.std.specs.Prelude.{◌≡◌, ◌≢◌, ◌⊎◌, IfOk, codes, true};
+ghost use Rattle.std.specs.Prelude.{◌≡◌, ◌≢◌, ◌⊎◌, IfOk, OnErr, IsErr, codes, true, take, option_map};
+ghost use Rattle.control_lines.specs.Asking.{status_of as outcome_status};
 ghost use Rattle.arguments.specs.declared.tell.TellCall.{TellCall};
 ghost use Rattle.arguments.specs.declared.lines_call.LinesCall.{LinesCall};
 ghost use Rattle.arguments.specs.LinesCall.{IsLinesCall};
@@ -8,6 +9,7 @@ ghost use Rattle.arguments.specs.Tell.{IsTellCall};
 ghost use Rattle.plans.specs.Plans.{reached};
 ghost use Rattle.asking.specs.Telling.{TellsLine, TellsPage, IsAskedAs, AskForNoObject, asks_json, behind_json};
 ghost use Rattle.asking.specs.Telling as spec;
+ghost use Rattle.asking.specs.Input.{TellsInput};
 
 use crate::answers::{Form, next_line, next_place, print_answer};
 use crate::input_telling::tell_input;
@@ -16,6 +18,7 @@ use control_lines::{ControlAnswer, Speaker, SpeakerFault, TellOutcome, UdpSpeake
 use plans::is_too_urgent;
 use sip_text::{Addr, NoMemory, Text};
 use std::alloc::Global;
+use std::io;
 use std::io::Input;
 use std::net::Net;
 use std::random::RandomSource;
@@ -34,9 +37,65 @@ const ROOM: usize = 65536;
 /// How many pages are asked for at most.
 const PAGES: u32 = 100_000;
 
-/// The answer, which stands at the beginning of the room.
-fn received(room: &[u8], length: usize) -> &[u8] {
+/// So many bytes at the beginning of the room, or all.
+fn received(room: &[u8], length: usize) -> &[u8]
+    ensures { result.now ≡ take length room.now }
+{
     &room[..length.min(room.len())]
+}
+
+/// The answer, which stands at the beginning of the room, if one came.
+fn answer_in(outcome: TellOutcome, room: &[u8]) -> Option<&[u8]>
+    ensures { option_map (λ a. a.now) result ≡ spec.answer_in outcome room.now }
+{
+    match outcome {
+        TellOutcome::Done(length) | TellOutcome::Refused(length) => Some(received(room, length)),
+        TellOutcome::Silent | TellOutcome::Fault => None,
+    }
+}
+
+/// The word that says where an answer tells more, if one came.
+fn place_in(alloc: Global, answer: Option<&[u8]>) -> Result<Option<Text>, NoMemory>
+    ensures { IfOk result (spec.IsNext (option_map (λ a. a.now) answer.entry)) }
+{
+    match answer {
+        Some(answer) => next_place(alloc, answer),
+        None => Ok(None),
+    }
+}
+
+/// Whether the answer that came is `bad line`.
+fn is_bad_line(answer: Option<&[u8]>) -> bool
+    ensures { result ≡ spec.is_bad_line (option_map (λ a. a.now) answer.entry) }
+{
+    match answer {
+        Some(answer) => answer == ControlAnswer::BadLine.text().as_bytes(),
+        None => false,
+    }
+}
+
+/// Prints the answer, or says on standard error why none came.
+fn print_outcome<R: Print + Eprint + AllocGlobal>(
+    rt: &R,
+    outcome: TellOutcome,
+    answer: Option<&[u8]>,
+    form: Form,
+) -> io::Result<()> {
+    match answer {
+        Some(answer) => print_answer(rt, answer, form),
+        None if outcome == TellOutcome::Fault => eprintln!(rt; "notifyd: device fault"),
+        None => eprintln!(rt; "notifyd: nobody answered"),
+    }
+}
+
+/// The exit status of what came of a line: 3 also where that couldn't be printed.
+fn status_of(outcome: TellOutcome, printed: io::Result<()>) -> u8
+    ensures { (result ≡ outcome_status outcome) ⊎ (result ≡ 3) }
+{
+    match printed {
+        Ok(()) => outcome.status(),
+        Err(_) => ExitStatus::DeviceFault.code(),
+    }
 }
 
 /// A speaker for the service that a call names, or for the one at 127.0.0.1:5061. For a RELOAD it is one that has more patience.
@@ -65,40 +124,26 @@ pub struct Told {
     pub is_bad: bool,
 }
 
-/// Asks a line by this speaker, and prints what came of it. Answers the exit status: 3 also where that couldn't be printed.
+/// Asks a line by this speaker, and prints what came of it. The exit status is 3 also where that couldn't be printed.
 pub fn ask_line<R: Wait + Print + Eprint + AllocGlobal, S: Speaker>(
     rt: &R,
     speaker: &mut S,
     line: &Text,
     form: Form,
 ) -> Told
-    // This line is asked and no other, and the status is that of what came of it.
+    // This line is asked and no other, and all that is told is of what came of it.
     ensures asked { TellsLine line.now
         (record { asked = S.asked speaker.old; turns = S.turns speaker.old })
-        (record { asked = S.asked speaker.new; turns = S.turns speaker.new }) result.status }
+        (record { asked = S.asked speaker.new; turns = S.turns speaker.new }) result }
 {
     let mut room = [0; ROOM];
     let outcome = tell_line(rt, speaker, line.as_str().as_bytes(), &mut room);
-    let mut more = Ok(None);
-    let mut is_bad = false;
-    let written = match outcome {
-        TellOutcome::Done(length) | TellOutcome::Refused(length) => {
-            let answer = received(&room, length);
-            more = next_place(rt.alloc(), answer);
-            is_bad = answer == ControlAnswer::BadLine.text().as_bytes();
-            print_answer(rt, answer, form)
-        }
-        TellOutcome::Silent => eprintln!(rt; "notifyd: nobody answered"),
-        TellOutcome::Fault => eprintln!(rt; "notifyd: device fault"),
-    };
-    let status = match written {
-        Ok(()) => outcome.status(),
-        Err(_) => ExitStatus::DeviceFault.code(),
-    };
+    let answer = answer_in(outcome, &room);
+    let printed = print_outcome(rt, outcome, answer, form);
     Told {
-        status,
-        more,
-        is_bad,
+        status: status_of(outcome, printed),
+        more: place_in(rt.alloc(), answer),
+        is_bad: is_bad_line(answer),
     }
 }
 
@@ -151,7 +196,7 @@ pub fn ask_page<R: Wait + RandomSource + Print + Eprint + AllocGlobal, S: Speake
 ) -> Result<Told, NoMemory>
     ensures { IfOk result (λ told. TellsPage line.now
         (record { asked = S.asked speaker.old; turns = S.turns speaker.old })
-        (record { asked = S.asked speaker.new; turns = S.turns speaker.new }) told.status) }
+        (record { asked = S.asked speaker.new; turns = S.turns speaker.new }) told) }
 {
     let token = new_token(rt);
     let asked = with_token(rt.alloc(), token, line)?;
@@ -163,7 +208,10 @@ fn following(
     alloc: Global,
     line: &Text,
     more: Result<Option<Text>, NoMemory>,
-) -> Result<Option<Text>, NoMemory> {
+) -> Result<Option<Text>, NoMemory>
+    ensures next { IfOk more (λ place. IfOk result (λ next. next ≡ spec.following line.now place)) }
+    ensures none { OnErr more (IsErr result) }
+{
     match more? {
         Some(place) => next_line(alloc, line, &place),
         None => Ok(None),
@@ -302,12 +350,11 @@ where
     ensures no_call { ((call : TellCall) → ¬ IsTellCall (behind_json words.now) call)
         → ((call : LinesCall) → ¬ IsLinesCall words.now call) → (result ≡ 1) ⊎ (result ≡ 4) }
     ensures no_object { AskForNoObject words.now → (result ≡ 1) ⊎ (result ≡ 4) }
+    ensures input { (call : LinesCall) → IsLinesCall words.now call → TellsInput call result }
 {
-    let (is_json, line) = cut_json(words);
-    if !is_json {
-        if let Some(call) = parse_lines_call(words) {
-            return tell_input(rt, call);
-        }
+    if let Some(call) = parse_lines_call(words) {
+        return tell_input(rt, call);
     }
+    let (is_json, line) = cut_json(words);
     tell_line_of(rt, line, is_json)
 }

@@ -3,6 +3,7 @@
 -- Phones know a service by their dialogs (RFC 3261 section 12): by its local tags, which come from its seed and its number of workers, and by its
 -- contact, their remote target. In a dialog no CSeq may stand in front of two NOTIFYs (section 12.2.1.1).
 use Rattle.std.specs.Prelude.{◌≡◌, ◌≢◌, ◌↔◌, ℕ, Bool, true, false, List, [], ◌++◌, Option}
+use Rattle.sip_text.specs.declared.address.Addr.{Addr}
 use Rattle.std.specs.List.{list_any, list_all, flat_map}
 use Rattle.package.specs.Content.{Seen}
 use Rattle.notifier_model.specs.declared.event.Out.{Out}
@@ -16,13 +17,40 @@ use Rattle.arguments.specs.declared.syncing.Syncing.{Syncing as Said}
 use Rattle.arguments.specs.declared.syncing.Syncing.TheVariants as said
 use Rattle.resumption.specs.declared.found.Found.{Found}
 use Rattle.resumption.specs.declared.terms.Terms.{Terms}
+use Rattle.resumption.specs.declared.desks.Worked.{Worked}
 use Rattle.resumption.specs.Told.{held_names}
 use Rattle.service.specs.declared.journaling.Syncing.{Syncing as Kept}
 use Rattle.service.specs.declared.journaling.Syncing.TheVariants as kept
+use Rattle.plans.specs.declared.plan.Plan.{Plan}
+use Rattle.plans.specs.Plans.{reached, setup_of}
 use Rattle.commands.specs.declared.journal_start.Course.{Course}
 use Rattle.commands.specs.declared.journal_start.Course.TheVariants as course
 
+-- ---- what a service is to be
+
+-- under what its desks work that is planned so and hears SIP here
+abbrev pub worked_here : Plan → Addr → Worked
+worked_here plan local = record { setup = setup_of plan local; no_refer = plan.choices.no_refer }
+
+-- the terms of that, as its journal says them
+abbrev pub terms_of : Plan → Terms
+terms_of plan = record { limits = plan.limits; no_refer = plan.choices.no_refer }
+
+-- what its journal begins with: who knows it knows the next service that begins so. Which start of the machine it is no contract can tell
+pub record IsHeaderOf (plan : Plan) (local : Addr) (header : Header) : Type 0 where
+  pub seed : header.seed ≡ plan.seed
+  pub workers : header.workers ≡ plan.workers
+  pub listen : header.listen ≡ local
+  pub contact : header.contact ≡ reached plan.choices.contact local
+
 -- ---- what was found
+
+-- under what the desks worked that wrote it. Whether a stop ends subscriptions stands in no file
+abbrev pub worked_then : Found → Bool → Worked
+worked_then found stop = record {
+  setup = record { limits = found.terms.limits; seed = found.generation.header.seed; me = found.generation.header.contact; stop = stop };
+  no_refer = found.terms.no_refer;
+}
 
 -- who knows the service that wrote the file knows this one
 pub record IsOwn (was is : Header) : Type 0 where

@@ -2,17 +2,20 @@
 --
 -- No file of the operator names such a mailbox. It stands in the journal: in what each worker was told. Pages of a DUMP that began in one run go
 -- on in the next one, so the order of its mailboxes goes on too.
-use Rattle.std.specs.Prelude.{◌≡◌, ℕ, true, not, List, [], ◌∷◌, ◌++◌, Option, Some, None, filter, if◌then◌else◌}
+use Rattle.std.specs.Prelude.{◌≡◌, ℕ, true, not, List, [], ◌∷◌, ◌++◌, Option, Some, None, filter, map, if◌then◌else◌}
 use Rattle.std.specs.List.{flat_map}
 use Rattle.control_lines.specs.Told.{is_held}
 use Rattle.package.specs.declared.change.Change.{Change}
 use Rattle.package.specs.declared.change.Change.TheVariants as change
+use Rattle.package.specs.Values.{MailChange}
 use Rattle.notifier_model.specs.declared.event.Event.{Event}
 use Rattle.notifier_model.specs.declared.event.Event.TheVariants as event
 use Rattle.journal.specs.declared.file.Account.{Account}
+use Rattle.journal.specs.declared.header.Header.{Header}
+use Rattle.journal.specs.declared.record.Told.{Told}
 use Rattle.resumption.specs.declared.found.Found.{Found}
 use Rattle.resumption.specs.Accounts.{events_since}
-use Rattle.resumption.specs.Told.{mails}
+use Rattle.resumption.specs.Told.{held_names, mails}
 use Rattle.commands.specs.declared.journal_opened.Opened.{Opened}
 use Rattle.plans.specs.declared.plan.Plan.{Plan}
 
@@ -55,6 +58,27 @@ abbrev pub journal_accounts : Option Opened → List Account
 journal_accounts None = []
 journal_accounts (Some opened) = accounts_found opened.found
 
+-- ---- what was told of mailboxes that no worker has yet
+
+-- the change, if it is of a mailbox that isn't among these
+abbrev pub unheld : List (List ℕ) → Change → List MailChange
+unheld held (change.Mail m) = if is_held held m.mailbox then [] else m ∷ []
+unheld held (change.Begin tag) = []
+unheld held (change.Step step) = []
+unheld held (change.Forget tag) = []
+
+-- what lines told a worker since its book of mailboxes that it didn't hold
+abbrev pub unheld_since : Account → List MailChange
+unheld_since a = flat_map (unheld (held_names a.book.told.mail)) (told_since a)
+
+-- the same of each worker, where lines make mailboxes
+abbrev pub all_unheld : Plan → Found → List (List MailChange)
+all_unheld plan found = if plan.choices.any_mailbox then map unheld_since found.generation.accounts else []
+
+-- what a worker was told, and these changes behind it
+abbrev pub told_also : Told → List MailChange → Told
+told_also told changes = record told { mail = told.mail ++ changes }
+
 -- ---- in which order
 
 -- first those of the run before that are still there, in its order, and then those that are new, in theirs
@@ -73,6 +97,17 @@ in_order (Some former) names = in_former_order former names
 -- those of which the journal tells, where lines make mailboxes, in the order of the run before
 abbrev pub told_mailboxes : Plan → Option Opened → Option (List (List ℕ)) → List (List ℕ)
 told_mailboxes plan opened former = if plan.choices.any_mailbox then in_order former (names_told (journal_accounts opened)) else []
+
+-- ---- what a run takes over
+
+-- what the journal begins with that is gone on from, where a service goes on from one
+abbrev pub header_there : Option (ℕ × Found) → Option Header
+header_there None = None
+header_there (Some found) = Some found.1.generation.header
+
+abbrev pub header_found : Option Opened → Option Header
+header_found None = None
+header_found (Some opened) = header_there opened.found
 
 -- ---- what a run leaves to the next
 

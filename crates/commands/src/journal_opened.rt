@@ -110,15 +110,24 @@ where
 }
 
 /// The folder, which the service holds on to.
-pub(crate) fn held_folder(opened: Option<Opened>) -> Option<Folder> {
+pub(crate) fn held_folder(opened: Option<Opened>) -> Option<Folder>
+    ensures { result ≡ option_map (λ o. o.folder) opened }
+{
     let Opened { folder, .. } = opened?;
     Some(folder)
 }
 
 /// What the journal begins with that is gone on from, if one is.
-pub(crate) fn found_header(opened: &Option<Opened>) -> Option<&Header> {
-    let (_, found) = opened.as_ref()?.found.as_ref()?;
-    Some(&found.generation.header)
+pub(crate) fn found_header(opened: &Option<Opened>) -> Option<&Header>
+    ensures { option_map (λ h. h.now) result ≡ spec.header_found opened.now }
+{
+    match opened {
+        Some(opened) => match &opened.found {
+            Some((_, found)) => Some(&found.generation.header),
+            None => None,
+        },
+        None => None,
+    }
 }
 
 /// What the journal tells of each worker that is gone on from, if one is.

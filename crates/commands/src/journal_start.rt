@@ -5,7 +5,7 @@ ghost use Rattle.std.specs.Prelude.{◌<◌, ◌≤◌, ◌≡◌, ◌↔◌, �
 ghost use Rattle.arguments.specs.Wanted.{Gives};
 ghost use Rattle.resumption.specs.Told.{held_names};
 ghost use Rattle.commands.specs.GoingOn as spec;
-ghost use Rattle.commands.specs.GoingOn.{GoesOn, IsComplete, IsOwn, kept_as};
+ghost use Rattle.commands.specs.GoingOn.{GoesOn, IsComplete, IsHeaderOf, IsOwn, kept_as};
 ghost use Rattle.commands.specs.Refused.{IsOther};
 ghost use Rattle.commands.specs.Serving.{BeginsAnew};
 
@@ -58,6 +58,9 @@ fn new_order<'a, R>(rt: &R, plan: &'a Plan, local: Addr) -> Result<Order<'a>, No
 where
     R: Files<File = File> + AllocGlobal,
     ensures plan { IfOk result (λ o. o.plan.now ≡ plan.now) }
+    ensures work { IfOk result (λ o. o.work ≡ spec.worked_here plan.now local) }
+    ensures terms { IfOk result (λ o. o.terms ≡ spec.terms_of plan.now) }
+    ensures header { IfOk result (λ o. IsHeaderOf plan.now local o.header) }
 {
     let setup = local_setup(plan, local);
     let no_refer = plan.choices.no_refer;
@@ -96,6 +99,8 @@ impl Order<'_> {
     /// What its desks are to be.
     fn wish(&self) -> Wish<'_>
         ensures workers { result.workers ≡ self.now.plan.now.workers }
+        ensures mailboxes { result.mailboxes.now ≡ self.now.plan.now.mailboxes.items }
+        ensures work { result.work.now ≡ self.now.work }
     {
         Wish {
             work: &self.work,
@@ -124,7 +129,9 @@ impl Order<'_> {
     }
 
     /// Under what the desks worked that a journal tells of.
-    fn worked(&self, found: &Found) -> Worked {
+    fn worked(&self, found: &Found) -> Worked
+        ensures { result ≡ spec.worked_then found.now self.now.work.setup.stop }
+    {
         let header = &found.generation.header;
         Worked {
             setup: Setup {

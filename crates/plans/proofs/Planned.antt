@@ -7,7 +7,7 @@ use Rattle.std.proofs.lemmas.List.Elements.{All-append}
 use Rattle.notifier_model.specs.Limits.{AreLimits}
 use Rattle.arguments.specs.Settings.{IsMailbox}
 use Rattle.plans.specs.declared.plan.Plan.{Plan}
-use Rattle.plans.specs.Plans.{each_once, AreRead, AreChanges, AreHeard, AreOperators, AreFeeds, IsJournal, IsReached, AreSome, AreKept, AreTold, limits_of, IsCount, IsSeed, IsPlan, seed_or, workers_or, adopted}
+use Rattle.plans.specs.Plans.{each_once, AreRead, AreChanges, AreHeard, HasWatched, AreOperators, AreFeeds, IsJournal, IsReached, AreSome, AreKept, AreTold, limits_of, IsCount, IsSeed, IsPlan, seed_or, workers_or, adopted}
 use Rattle.plans.proofs.Once.{once_some, once_more, once_alone}
 
 pub seed_is : (asked : Option (List ℕ)) (seed planned : List ℕ) → IsSeed asked planned → IsSeed asked (seed_or asked seed planned)
@@ -27,6 +27,7 @@ still_a_plan words seed workers plan is = record {
   once = is.once;
   changes = is.changes;
   heard = is.heard;
+  watched = is.watched;
   operators = is.operators;
   feeds = is.feeds;
   journal = is.journal;
@@ -44,11 +45,11 @@ none_is_named = λ k d low. absurd (omega (arith, low))
 
 -- a plan of which no line told yet
 pub planned : (words : List (List ℕ)) (plan : Plan) (named : List (List ℕ)) → AreRead words plan.choices named → plan.mailboxes.items ≡ each_once named
-    → AreChanges words plan.changes.items → AreHeard words plan.admission → AreOperators words plan.operators.items → AreFeeds words plan.feeds.items
+    → AreChanges words plan.changes.items → AreHeard words plan.admission → HasWatched words named → AreOperators words plan.operators.items → AreFeeds words plan.feeds.items
     → IsJournal words plan.journal → IsReached plan.choices → AreSome plan.choices named → AreKept plan.choices plan.journal
     → plan.limits ≡ limits_of plan.choices.numbers → AreLimits plan.limits → IsSeed plan.choices.seed plan.seed
     → IsCount plan.choices.numbers.workers plan.workers → IsPlan words plan
-planned words plan named read once changes heard operators feeds journal reached some kept limits within seed workers = record {
+planned words plan named read once changes heard watched operators feeds journal reached some kept limits within seed workers = record {
   named = named;
   read = read;
   told = [];
@@ -56,6 +57,7 @@ planned words plan named read once changes heard operators feeds journal reached
   once = once ∙ sym (once_alone named);
   changes = changes;
   heard = heard;
+  watched = watched;
   operators = operators;
   feeds = feeds;
   journal = journal;
@@ -83,6 +85,7 @@ told_too words plan all further any mailboxes items is = record {
   once = items ∙ ap (λ n. each_once (n ++ further)) is.once ∙ once_more (is.named ++ is.told) further ∙ ap each_once (append_assoc is.named is.told further);
   changes = is.changes;
   heard = is.heard;
+  watched = is.watched;
   operators = is.operators;
   feeds = is.feeds;
   journal = is.journal;

@@ -1,19 +1,21 @@
 -- Why words and files ask for no service.
-use Rattle.std.proofs.Common.{◌≡◌, inl, inr, ⊎_elim, [], length, sym, subst}
+use Rattle.std.proofs.Common.{◌≡◌, Bool, true, false, refl, inl, inr, ⊎_elim, [], length, sym, subst}
 use Rattle.std.proofs.lemmas.List.{nil_from_length}
 use Rattle.std.specs.Prelude.{IfErr, Result, Ok, Err, Option, Some, None, ℕ, List, slice_get}
 use Rattle.arguments.specs.declared.setting.Setting.{Setting}
 use Rattle.arguments.specs.declared.setting.Setting.TheVariants as setting
 use Rattle.arguments.specs.Settings.{AreSettings}
-use Rattle.arguments.specs.Choices.{state_of, further_mailboxes}
+use Rattle.digest.specs.declared.passwords.Passwords.{Passwords}
+use Rattle.arguments.specs.Choices.{choices_of, state_of, further_mailboxes}
 use Rattle.arguments.specs.declared.choices.Choices.{Choices}
 use Rattle.notifier_model.specs.Limits.{AreLimits}
 use Rattle.plans.specs.declared.ranged.Ranged.{Ranged}
 use Rattle.plans.specs.Ranges.{ranges, IsFirstOut}
-use Rattle.plans.specs.Plans.{limits_of, AreRead, IsJournal}
+use Rattle.plans.specs.Heard.{AreUsers}
+use Rattle.plans.specs.Plans.{limits_of, AreRead, IsJournal, AreNamed}
 use Rattle.plans.specs.declared.error.PlanError.{PlanError}
 use Rattle.plans.specs.declared.error.PlanError.TheVariants as error
-use Rattle.plans.specs.Refused.{IsOther, IsOfFile, IsOfState, IsOfNamedState, IsOfPasswords, IsOfFurther, IsOfAdmission, IsOfSetting, IsOfOne, IsOfMailboxes, NameFile, NameState, NamePasswords, IsRefusal}
+use Rattle.plans.specs.Refused.{IsOther, IsOfFile, IsOfState, IsOfNamedState, IsOfPasswords, IsOfWatched, IsOfFurther, IsOfAdmission, IsOfSetting, IsOfOne, IsOfMailboxes, NameFile, NameState, NamePasswords, IsRefusal}
 
 pub other_is : (words : List (List ℕ)) (e : PlanError) → IsOther e → IsRefusal words e
 other_is words (error.Options e) is = absurd is
@@ -142,17 +144,44 @@ of_users_is words path (error.NoFurther mailbox) names is = absurd is
 of_users_is words path error.System names is = absurd is
 of_users_is words path error.NoMemory names is = tt
 
+-- a password is wanting of a user of these passwords
+pub of_watched_is : (settings : List Setting) (passwords : Passwords) (e : PlanError) → AreUsers passwords → IsOfWatched passwords (further_mailboxes settings) e
+    → IsOfAdmission settings e
+of_watched_is settings passwords e are is = inr (inr (inr (inl (passwords, are, is))))
+
 pub of_admission_is : (words : List (List ℕ)) (settings : List Setting) (e : PlanError) → AreSettings words settings → IsOfAdmission settings e → IsRefusal words e
 of_admission_is words settings e are (inl is) = subst (IsRefusal words) (sym is) tt
-of_admission_is words settings e are (inr (inl is)) = subst (IsRefusal words) (sym is.0) (settings, are, is.1)
-of_admission_is words settings e are (inr (inr (inl (inl none)))) = no_memory_is words e none
-of_admission_is words settings e are (inr (inr (inl (inr is)))) = subst (IsRefusal words) (sym is.3) (settings, is.1, are, is.2)
-of_admission_is words settings e are (inr (inr (inr is))) = of_users_is words is.0 e (settings, are, is.1) is.2
+of_admission_is words settings e are (inr (inl none)) = no_memory_is words e none
+of_admission_is words settings e are (inr (inr (inl is))) = subst (IsRefusal words) (sym is.0) (settings, are, is.1)
+of_admission_is words settings e are (inr (inr (inr (inl (passwords, users, inl none))))) = no_memory_is words e none
+of_admission_is words settings e are (inr (inr (inr (inl (passwords, users, inr is))))) = subst (IsRefusal words) (sym is.4) (record {
+  settings = settings;
+  are_settings = are;
+  mailbox = is.1;
+  named = is.2;
+  passwords = passwords;
+  are_users = users;
+  unknown = is.3;
+})
+of_admission_is words settings e are (inr (inr (inr (inr is)))) = of_users_is words is.0 e (settings, are, is.1) is.2
 
-pub of_further_is : (words : List (List ℕ)) (settings : List Setting) (mailboxes : List (List ℕ)) (e : PlanError) → AreSettings words settings
-    → IsOfFurther mailboxes (further_mailboxes settings) e → IsRefusal words e
-of_further_is words settings mailboxes e are (inl none) = no_memory_is words e none
-of_further_is words settings mailboxes e are (inr is) = subst (IsRefusal words) (sym is.4) (settings, is.0, are, is.2)
+not_true : (b : Bool) → ¬ (b ≡ true) → b ≡ false
+not_true true none = absurd (none refl)
+not_true false none = refl
+
+pub of_further_is : (words : List (List ℕ)) (settings : List Setting) (mailboxes : List (List ℕ)) (e : PlanError) → AreSettings words settings → AreNamed settings mailboxes
+    → ¬ ((choices_of settings).any_mailbox ≡ true) → IsOfFurther mailboxes (further_mailboxes settings) e → IsRefusal words e
+of_further_is words settings mailboxes e are named none (inl unsaid) = no_memory_is words e unsaid
+of_further_is words settings mailboxes e are named none (inr is) = subst (IsRefusal words) (sym is.4) (record {
+  settings = settings;
+  are_settings = are;
+  user = is.0;
+  named = is.2;
+  made = not_true (choices_of settings).any_mailbox none;
+  mailboxes = mailboxes;
+  are_mailboxes = named;
+  missing = is.3;
+})
 
 -- words that name no mailbox are read all the same
 pub none_read : (words : List (List ℕ)) (choices : Choices) (mailboxes : List (List ℕ)) → AreRead words choices mailboxes → length mailboxes ≡ 0
@@ -164,6 +193,6 @@ pub of_mailboxes_is : (words : List (List ℕ)) (choices : Choices) (mailboxes :
     → IsJournal words journal → IsOfMailboxes choices mailboxes journal e → IsRefusal words e
 of_mailboxes_is words choices mailboxes journal e read folder is =
     ⊎_elim
-    (λ none. subst (IsRefusal words) (sym none.0) (choices, subst (λ l. AreRead words choices l) none.1 read))
+    (λ none. subst (IsRefusal words) (sym none.0) (choices, subst (λ l. AreRead words choices l) none.2 read, none.1))
     (λ none. subst (IsRefusal words) (sym none.0) (choices, mailboxes, read, none.1, subst (λ j. IsJournal words j) none.2 folder))
     is

@@ -1,5 +1,6 @@
 -- Who is heard by a service, as its settings and its file of passwords say.
-use Rattle.std.specs.Prelude.{◌≡◌, ◌≢◌, ℕ, Bool, true, false, not, ◌||◌, ◌==◌, is_some, length, List, [], ◌∷◌, All, Option, Some, None}
+use Rattle.std.specs.Prelude.{◌≡◌, ◌≢◌, ℕ, Bool, true, false, not, ◌||◌, ◌==◌, is_some, length, List, [], ◌∷◌, All, Option, Some, None, bytes_eq}
+use Rattle.std.specs.List.{list_any}
 use Rattle.notifier_model.specs.Tag.{refusal_tag}
 use Rattle.digest.specs.declared.algorithm.Algorithm.{Algorithm}
 use Rattle.digest.specs.declared.algorithm.Algorithm.TheVariants as algorithm
@@ -73,6 +74,14 @@ abbrev pub Asks : Option (List ℕ) → Choices → List (List ℕ × List ℕ) 
 Asks None choices further k = (k ≡ None) × (needs_passwords choices further ≡ false)
 Asks (Some path) choices further None = ⊥
 Asks (Some path) choices further (Some k) = IsAuthentication choices further k
+
+-- the service has this mailbox
+abbrev pub has_mailbox : List (List ℕ) → List ℕ → Bool
+has_mailbox mailboxes mailbox = list_any (λ name. bytes_eq name mailbox) mailboxes
+
+-- a service with these mailboxes has each further one that a user may watch
+abbrev pub HasFurther : List (List ℕ) → List (List ℕ × List ℕ) → Type 0
+HasFurther mailboxes further = All (λ pair. has_mailbox mailboxes pair.1 ≡ true) further
 
 -- ---- all of it
 

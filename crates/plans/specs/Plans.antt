@@ -12,9 +12,9 @@ use Rattle.arguments.specs.declared.setting.Setting.{Setting}
 use Rattle.admission.specs.declared.judging.Admission.{Admission}
 use Rattle.arguments.specs.declared.setting.Setting.TheVariants as setting
 use Rattle.admission.specs.declared.network.Network.{Network}
-use Rattle.arguments.specs.Choices.{choices_of, state_of, journal_folder, control_networks, feed_networks}
+use Rattle.arguments.specs.Choices.{choices_of, state_of, journal_folder, control_networks, feed_networks, further_mailboxes}
 use Rattle.plans.specs.State.{IsState}
-use Rattle.plans.specs.Heard.{IsAdmission}
+use Rattle.plans.specs.Heard.{IsAdmission, HasFurther}
 use Rattle.arguments.specs.Settings.{IsMailbox, AreSettings}
 use Rattle.arguments.specs.Reading.{is_mailbox}
 use Rattle.arguments.specs.MailboxFile as file
@@ -134,6 +134,12 @@ pub record AreHeard (words : List (List ℕ)) (admission : Admission) : Type 0 w
   pub are_settings : AreSettings words settings
   pub is_admission : IsAdmission settings admission
 
+-- each further mailbox that the words let a user watch is one of these, unless lines make mailboxes
+pub record HasWatched (words names : List (List ℕ)) : Type 0 where
+  pub settings : List Setting
+  pub are_settings : AreSettings words settings
+  pub there : (choices_of settings).any_mailbox ≡ false → HasFurther names (further_mailboxes settings)
+
 -- the words name these networks, whose control lines are heard
 pub record AreOperators (words : List (List ℕ)) (networks : List Network) : Type 0 where
   pub settings : List Setting
@@ -179,6 +185,7 @@ pub record IsPlan (words : List (List ℕ)) (plan : Plan) : Type 0 where
   pub once : plan.mailboxes.items ≡ each_once (named ++ told)
   pub changes : AreChanges words plan.changes.items
   pub heard : AreHeard words plan.admission
+  pub watched : HasWatched words named
   pub operators : AreOperators words plan.operators.items
   pub feeds : AreFeeds words plan.feeds.items
   pub journal : IsJournal words plan.journal

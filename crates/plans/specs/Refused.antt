@@ -4,8 +4,7 @@
 --   1        the words ask for no service
 --   3        an address is in another form, or a file or randomness can't be had
 --   4        memory was wanting
-use Rattle.std.specs.Prelude.{◌≡◌, ◌⊎◌, ℕ, Bool, true, false, List, [], Option, Some, None, All, Contains, slice_get, bytes_eq}
-use Rattle.std.specs.List.{list_any}
+use Rattle.std.specs.Prelude.{◌≡◌, ◌⊎◌, ℕ, Bool, true, false, List, [], Option, Some, None, Contains, slice_get}
 use Rattle.notifier_model.specs.Limits.{AreLimits}
 use Rattle.digest.specs.declared.passwords.Passwords.{Passwords}
 use Rattle.digest.specs.declared.passwords.PasswordsError.{PasswordsError}
@@ -21,10 +20,10 @@ use Rattle.arguments.specs.Choices.{choices_of, state_of, password_file, further
 use Rattle.arguments.specs.Settings.{AreSettings, AreWrong}
 use Rattle.plans.specs.declared.error.PlanError.{PlanError}
 use Rattle.plans.specs.declared.error.PlanError.TheVariants as error
-use Rattle.plans.specs.Plans.{limits_of, IsReached, AreRead, IsJournal}
+use Rattle.plans.specs.Plans.{limits_of, IsReached, AreRead, IsJournal, AreNamed}
 use Rattle.plans.specs.Ranges.{ranges, IsFirstOut}
 use Rattle.plans.specs.State.{IsNoChange, IsFault}
-use Rattle.plans.specs.Heard.{needs_passwords}
+use Rattle.plans.specs.Heard.{needs_passwords, AreUsers, is_user, has_mailbox}
 
 -- an address in another form may be a host that can't be found
 abbrev pub status_of_words : OptionsError → ℕ
@@ -99,10 +98,11 @@ IsUnread path e = (e ≡ error.File path) ⊎ (e ≡ error.NoMemory)
 
 -- ---- mailboxes
 
--- none is named, or lines are to make them and no journal keeps these
+-- none is named and no line makes one, or lines are to make them and no journal keeps these
 abbrev pub IsOfMailboxes : Choices → List (List ℕ) → Option (List ℕ) → PlanError → Type 0
 IsOfMailboxes choices mailboxes journal e =
-    ((e ≡ error.NoMailbox) × (mailboxes ≡ [])) ⊎ ((e ≡ error.NoJournal) × (choices.any_mailbox ≡ true) × (journal ≡ None))
+    ((e ≡ error.NoMailbox) × (choices.any_mailbox ≡ false) × (mailboxes ≡ []))
+    ⊎ ((e ≡ error.NoJournal) × (choices.any_mailbox ≡ true) × (journal ≡ None))
 
 -- ---- files of mailboxes
 
@@ -208,18 +208,11 @@ IsOfPasswords path (error.NoFurther mailbox) = ⊥
 IsOfPasswords path error.System = ⊥
 IsOfPasswords path error.NoMemory = Unit {0}
 
--- one of these users has no password, or memory ran out
-abbrev pub IsOfWatched : List (List ℕ × List ℕ) → PlanError → Type 0
-IsOfWatched further e =
-    (e ≡ error.NoMemory) ⊎ ((user mailbox : List ℕ) × Contains further (user, mailbox) × (e ≡ error.NoUser user))
-
--- the service has this mailbox
-abbrev pub has_mailbox : List (List ℕ) → List ℕ → Bool
-has_mailbox mailboxes mailbox = list_any (λ name. bytes_eq name mailbox) mailboxes
-
--- a service with these mailboxes has each further one that a user may watch
-abbrev pub HasFurther : List (List ℕ) → List (List ℕ × List ℕ) → Type 0
-HasFurther mailboxes further = All (λ pair. has_mailbox mailboxes pair.1 ≡ true) further
+-- no password of one of these users is known, or memory ran out
+abbrev pub IsOfWatched : Passwords → List (List ℕ × List ℕ) → PlanError → Type 0
+IsOfWatched passwords further e =
+    (e ≡ error.NoMemory)
+    ⊎ ((user mailbox : List ℕ) × Contains further (user, mailbox) × (is_user passwords user ≡ false) × (e ≡ error.NoUser user))
 
 -- one of these mailboxes isn't the service's, or memory ran out
 abbrev pub IsOfFurther : List (List ℕ) → List (List ℕ × List ℕ) → PlanError → Type 0
@@ -235,22 +228,34 @@ HaveNoPasswords settings =
 -- who is heard can't be told for this cause
 abbrev pub IsOfAdmission : List Setting → PlanError → Type 0
 IsOfAdmission settings e =
-    (e ≡ error.System) ⊎ ((e ≡ error.NoPasswords) × HaveNoPasswords settings) ⊎ IsOfWatched (further_mailboxes settings) e
+    (e ≡ error.System) ⊎ (e ≡ error.NoMemory) ⊎ ((e ≡ error.NoPasswords) × HaveNoPasswords settings)
+    ⊎ ((passwords : Passwords) × AreUsers passwords × IsOfWatched passwords (further_mailboxes settings) e)
     ⊎ ((path : List ℕ) × (password_file settings ≡ Some path) × IsOfPasswords path e)
 
 -- the words name this file of passwords
 abbrev pub NamePasswords : List (List ℕ) → List ℕ → Type 0
 NamePasswords words path = (settings : List Setting) × AreSettings words settings × (password_file settings ≡ Some path)
 
--- the words name this user with a further mailbox
-abbrev pub NameUser : List (List ℕ) → List ℕ → Type 0
-NameUser words user =
-    (settings : List Setting) × (mailbox : List ℕ) × AreSettings words settings × Contains (further_mailboxes settings) (user, mailbox)
+-- the words name this user with a further mailbox, and the users of a file are known without him
+pub record NameUser (words : List (List ℕ)) (user : List ℕ) : Type 0 where
+  pub settings : List Setting
+  pub are_settings : AreSettings words settings
+  pub mailbox : List ℕ
+  pub named : Contains (further_mailboxes settings) (user, mailbox)
+  pub passwords : Passwords
+  pub are_users : AreUsers passwords
+  pub unknown : is_user passwords user ≡ false
 
--- the words let a user watch this further mailbox
-abbrev pub NameFurther : List (List ℕ) → List ℕ → Type 0
-NameFurther words mailbox =
-    (settings : List Setting) × (user : List ℕ) × AreSettings words settings × Contains (further_mailboxes settings) (user, mailbox)
+-- the words let a user watch this further mailbox, name others, and no line makes it
+pub record NameFurther (words : List (List ℕ)) (mailbox : List ℕ) : Type 0 where
+  pub settings : List Setting
+  pub are_settings : AreSettings words settings
+  pub user : List ℕ
+  pub named : Contains (further_mailboxes settings) (user, mailbox)
+  pub made : (choices_of settings).any_mailbox ≡ false
+  pub mailboxes : List (List ℕ)
+  pub are_mailboxes : AreNamed settings mailboxes
+  pub missing : has_mailbox mailboxes mailbox ≡ false
 
 -- ---- all of it
 
@@ -261,7 +266,7 @@ IsRefusal words (error.Times r) =
     (choices : Choices) × (names : List (List ℕ)) × AreRead words choices names × IsFirstOut (ranges choices.numbers) r
     × ¬ (AreLimits (limits_of choices.numbers))
 IsRefusal words error.NoContact = (choices : Choices) × (names : List (List ℕ)) × AreRead words choices names × ¬ (IsReached choices)
-IsRefusal words error.NoMailbox = (choices : Choices) × AreRead words choices []
+IsRefusal words error.NoMailbox = (choices : Choices) × AreRead words choices [] × (choices.any_mailbox ≡ false)
 IsRefusal words error.NoJournal =
     (choices : Choices) × (names : List (List ℕ)) × AreRead words choices names × (choices.any_mailbox ≡ true) × IsJournal words None
 IsRefusal words (error.File path) = NameFile words path ⊎ NameState words path ⊎ NamePasswords words path

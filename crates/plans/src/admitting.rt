@@ -4,8 +4,8 @@ ghost use Rattle.notifier_model.specs.Tag.{refusal_tag};
 ghost use Rattle.arguments.specs.Choices.{choices_of, password_file as path_of, further_mailboxes as pairs_of};
 ghost use Rattle.plans.specs.declared.error.PlanError.TheVariants as error;
 ghost use Rattle.plans.specs.Heard as spec;
-ghost use Rattle.plans.specs.Heard.{Asks, IsAdmission};
-ghost use Rattle.plans.specs.Refused.{has_mailbox, HasFurther, IsOfWatched, IsOfFurther, IsOfAdmission};
+ghost use Rattle.plans.specs.Heard.{Asks, IsAdmission, has_mailbox, HasFurther};
+ghost use Rattle.plans.specs.Refused.{IsOfWatched, IsOfFurther, IsOfAdmission};
 
 use crate::error::PlanError;
 use crate::passwords::file_users;
@@ -112,7 +112,7 @@ fn check_users(
     further: &[(Text, Text)],
 ) -> Result<(), PlanError>
     ensures known { OnOk result (All (λ pair. spec.is_user passwords.now pair.0 ≡ true) further.now) }
-    ensures refused { IfErr result (IsOfWatched further.now) }
+    ensures refused { IfErr result (IsOfWatched passwords.now further.now) }
 {
     for pair in further {
         if !is_user(passwords, pair.0.as_str()) {
@@ -186,7 +186,7 @@ fn nonces<R: RandomSource>(rt: &R, choices: &Choices) -> Result<Nonces, PlanErro
 }
 
 /// Who may subscribe and refer: the users of the file that the settings name, or anyone, where they name none.
-#[tactic(auto, using(crate::proofs::Heard::asks_none, crate::proofs::Heard::asks_some))]
+#[tactic(auto, using(crate::proofs::Heard::asks_none, crate::proofs::Heard::asks_some, crate::proofs::Refused::of_watched_is))]
 fn new_authentication<R>(rt: &R, settings: &[Setting]) -> Result<Option<Authentication>, PlanError>
 where
     R: Files + RandomSource + AllocGlobal,

@@ -164,6 +164,7 @@ where
     ensures read { IfOk result (λ r. spec.AreRead words.now r.choices r.mailboxes.items) }
     ensures changes { IfOk result (λ r. spec.AreChanges words.now r.changes.items) }
     ensures heard { IfOk result (λ r. spec.AreHeard words.now r.admission) }
+    ensures watched { IfOk result (λ r. spec.HasWatched words.now r.mailboxes.items) }
     ensures operators { IfOk result (λ r. spec.AreOperators words.now r.operators.items) }
     ensures feeds { IfOk result (λ r. spec.AreFeeds words.now r.feeds.items) }
     ensures journal { IfOk result (λ r. spec.IsJournal words.now r.journal) }

@@ -38,6 +38,8 @@ impl UdpLineSpeaker {
     /// A speaker for the service whose control lines come in at this address. It has asked nothing yet.
     pub fn to<R: Wait + Net>(rt: &R, service: Addr) -> Result<UdpLineSpeaker, SpeakerFault>
         ensures service { IfOk result (λ s. s.service ≡ service) }
+        ensures speaker { IfOk result (λ s. s.speaker.service ≡ service) }
+        ensures none { IfOk result (λ s. (s.asked ≡ 0) × (s.owed ≡ 0)) }
     {
         Ok(UdpLineSpeaker {
             speaker: UdpSpeaker::to(rt, service)?,
@@ -88,7 +90,13 @@ impl Speaker for UdpLineSpeaker {
 impl LineSpeaker for UdpLineSpeaker {
     ghost owed = { λ s. s.owed };
 
-    fn turn_over<R: Wait + Net>(&mut self, rt: &R) -> Result<(), SpeakerFault> {
+    fn turn_over<R: Wait + Net>(&mut self, rt: &R) -> Result<(), SpeakerFault>
+        ensures asked { self.new.asked ≡ self.old.asked }
+        ensures none { OnOk result (self.new.owed ≡ 0) }
+        ensures service { self.new.service ≡ self.old.service }
+        // Where answers are owed, the next line is asked by a speaker made anew for that service.
+        ensures speaker { OnOk result (0 < self.old.owed → self.new.speaker.service ≡ self.old.service) }
+    {
         if self.owed > 0 {
             self.speaker = UdpSpeaker::to(rt, self.service)?;
             self.owed = 0;

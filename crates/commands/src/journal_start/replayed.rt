@@ -1,19 +1,24 @@
 //! What goes on from the files of a journal: its desks, the NOTIFYs of earlier files that nobody answered, and what lines told of mailboxes
 //! that no desk has.
-ghost use Rattle.std.specs.Prelude.{◌≡◌, filter, IfOk};
+ghost use Rattle.std.specs.Prelude.{◌≡◌, ◌++◌, filter, map, string_bytes, IfOk, OnOk};
 ghost use Rattle.arguments.specs.Wanted.{Gives};
+ghost use Rattle.control_lines.specs.Told.{is_held};
+ghost use Rattle.plans.specs.Plans.{each_once};
+ghost use Rattle.resumption.specs.Told as told;
 ghost use Rattle.commands.specs.GoingOn.{AreSentFirst, awaited_by, awaits_any};
+ghost use Rattle.commands.specs.Runs as runs;
 
 use crate::journal_opened::{Opened, read_file, told_since};
 use crate::journal_start::volume::{Newest, last_second};
-use crate::journal_start::{Order, is_own, may_miss};
+use crate::journal_start::{Order, add_held, is_own, may_miss};
 use arguments::Wanted;
 use indexmap::IndexSet;
 use journal::{Account, Told};
 use keeper::Keeper;
 use notifier::{Desk, Out, Saved};
 use package::{Change, MailChange, Package};
-use resumption::{Found, Halt, Reading, Replayed, held_names, replay, saved};
+use plans::copied_names;
+use resumption::{Found, Halt, Reading, Replayed, replay, saved};
 use service::SETTLED;
 use sip_text::{NoMemory, Values};
 use std::alloc::Global;
@@ -214,21 +219,59 @@ where
     })
 }
 
-/// What lines told a worker since its book of mailboxes that it doesn't hold.
-fn unheld_since(alloc: Global, account: &Account) -> Result<Vec<MailChange>, NoMemory> {
-    let mut held = IndexSet::new(alloc);
-    for name in held_names(alloc, &account.book.told)? {
-        held.insert(name)?;
-    }
-    let mut unheld = Vec::new(alloc);
-    for change in told_since(alloc, account)? {
-        if let Change::Mail(change) = change {
-            if !held.contains(change.mailbox()) {
-                unheld.push(change)?;
-            }
+/// The mailboxes that a worker held at its book, as a set.
+fn held_set(alloc: Global, account: &Account) -> Result<IndexSet<String>, NoMemory>
+    ensures { IfOk result (λ set. map string_bytes set.keys ≡ each_once (told.held_names account.now.book.told.mail)) }
+{
+    let mut names = Vec::new(alloc);
+    add_held(alloc, &mut names, account)?;
+    copied_names(alloc, names.as_slice())
+}
+
+/// Whether the mailbox of this change is in the set.
+fn has_mailbox(set: &IndexSet<String>, change: &MailChange) -> bool
+    ensures { result ≡ is_held (map string_bytes set.now.keys) change.now.mailbox }
+{
+    set.contains(change.mailbox())
+}
+
+/// Adds the change, if it is of a mailbox that isn't in the set.
+fn add_unheld(
+    unheld: &mut Vec<MailChange>,
+    held: &IndexSet<String>,
+    change: Change,
+) -> Result<(), NoMemory>
+    ensures { OnOk result (unheld.new.items ≡ unheld.old.items ++ runs.unheld (map string_bytes held.now.keys) change) }
+{
+    if let Change::Mail(change) = change {
+        if !has_mailbox(held, &change) {
+            unheld.push(change)?;
         }
     }
+    Ok(())
+}
+
+/// What lines told a worker since its book of mailboxes that it doesn't hold.
+fn unheld_since(alloc: Global, account: &Account) -> Result<Vec<MailChange>, NoMemory>
+    ensures { IfOk result (λ unheld. unheld.items ≡ runs.unheld_since account.now) }
+{
+    let held = held_set(alloc, account)?;
+    let mut unheld = Vec::new(alloc);
+    for change in told_since(alloc, account)? {
+        add_unheld(&mut unheld, &held, change)?;
+    }
     Ok(unheld)
+}
+
+/// The same of each worker.
+fn each_unheld(alloc: Global, accounts: &[Account]) -> Result<Vec<Vec<MailChange>>, NoMemory>
+    ensures { IfOk result (λ all. map (λ u. u.items) all.items ≡ map runs.unheld_since accounts.now) }
+{
+    let mut all = Vec::new(alloc);
+    for account in accounts {
+        all.push(unheld_since(alloc, account)?)?;
+    }
+    Ok(all)
 }
 
 /// The same of each worker, where lines make mailboxes. They are of mailboxes that the next run has.
@@ -236,24 +279,35 @@ pub(crate) fn all_unheld(
     alloc: Global,
     order: &Order<'_>,
     found: &Found,
-) -> Result<Vec<Vec<MailChange>>, NoMemory> {
-    let mut all = Vec::new(alloc);
+) -> Result<Vec<Vec<MailChange>>, NoMemory>
+    ensures { IfOk result (λ all. map (λ u. u.items) all.items ≡ runs.all_unheld order.now.plan.now found.now) }
+{
     if order.plan.choices.any_mailbox {
-        for account in found.generation.accounts.as_slice() {
-            all.push(unheld_since(alloc, account)?)?;
-        }
+        each_unheld(alloc, found.generation.accounts.as_slice())
+    } else {
+        Ok(Vec::new(alloc))
     }
-    Ok(all)
 }
 
 /// What a worker was told, with these changes behind it.
-fn told_also(alloc: Global, told: Told, changes: Vec<MailChange>) -> Result<Told, NoMemory> {
+fn told_also(told: Told, changes: Vec<MailChange>) -> Result<Told, NoMemory>
+    ensures { IfOk result (λ also. also ≡ runs.told_also told changes.items) }
+{
+    let Told {
+        events,
+        mails,
+        mail,
+        progress,
+    } = told;
+    let mut mail = mail.into_vec();
     let mut changes = changes;
-    let mut told = told;
-    let mut mail = told.mail.into_vec();
     mail.append(&mut changes)?;
-    told.mail = Values::new(mail);
-    Ok(told)
+    Ok(Told {
+        events,
+        mails,
+        mail: Values::new(mail),
+        progress,
+    })
 }
 
 /// Desks that go on, whose workers were told these changes too, of mailboxes that they didn't hold.
@@ -270,7 +324,7 @@ pub(crate) fn with_unheld<P: Package>(
     let mut worker = 0u32;
     for changes in unheld {
         let told = replayed.keeper.told(worker)?;
-        all.push(told_also(alloc, told, changes)?)?;
+        all.push(told_also(told, changes)?)?;
         worker = worker.saturating_add(1);
     }
     replayed.keeper = Keeper::new(alloc, all)?;

@@ -2,7 +2,7 @@ use Rattle.std.proofs.Common.{◌≡◌, ◌≤◌, true, false, length, inr, sy
 use Rattle.std.specs.Prelude.{All}
 use Rattle.std.proofs.lemmas.List.{take_all}
 use Rattle.plans.specs.declared.error.PlanError.TheVariants as error
-use Rattle.plans.specs.Refused.{has_mailbox}
+use Rattle.plans.specs.Heard.{has_mailbox}
 use Rattle.plans.proofs.admitting.check_mailboxes.Goals as goal
 
 pub returns-then-not-has_mailbox-clause-refused : goal.returns-then-not-has_mailbox-clause-refused

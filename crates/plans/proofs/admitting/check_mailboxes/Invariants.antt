@@ -1,6 +1,6 @@
 use Rattle.std.proofs.Common.{◌≡◌, true, take}
 use Rattle.std.specs.List.{All}
-use Rattle.plans.specs.Refused.{has_mailbox}
+use Rattle.plans.specs.Heard.{has_mailbox}
 use Rattle.plans.proofs.admitting.check_mailboxes.Given as goal
 
 abbrev pub invariant-loop-pair : goal.invariant-loop-pair

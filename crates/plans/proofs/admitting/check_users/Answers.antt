@@ -1,4 +1,4 @@
-use Rattle.std.proofs.Common.{◌≡◌, ◌≤◌, true, length, inr, sym, ap, subst, arith}
+use Rattle.std.proofs.Common.{◌≡◌, ◌≤◌, true, false, length, inr, sym, ap, subst, arith, rules}
 use Rattle.std.specs.Prelude.{All}
 use Rattle.std.proofs.lemmas.List.{take_all}
 use Rattle.plans.specs.declared.error.PlanError.TheVariants as error
@@ -8,7 +8,8 @@ use Rattle.plans.proofs.admitting.check_users.Goals as goal
 pub returns-then-not-is_user-clause-refused : goal.returns-then-not-is_user-clause-refused
 returns-then-not-is_user-clause-refused c =
     let pair = c.pair-item.result in
-    inr (pair.0, pair.1, (c.loop-pair.pair-index, c.loop-pair-test.true, sym c.pair-item.is), ap error.NoUser c.in_ok-user.ensures)
+    let none : is_user c.args.passwords.now pair.0 ≡ false = search rules in
+    inr (pair.0, pair.1, (c.loop-pair.pair-index, c.loop-pair-test.true, sym c.pair-item.is), none, ap error.NoUser c.in_ok-user.ensures)
 
 pub returns-clause-known : goal.returns-clause-known
 returns-clause-known c =
