@@ -524,6 +524,24 @@ def the_last_send_is_answered_too_late(program, folder):
         service.close()
 
 
+def a_loss_behind_a_late_answer_is_counted(program, folder):
+    """A phone answers one NOTIFY so late that its worker is asked whether the subscription lives, and the next one never. That this one is given
+    up is counted and told, and then its row goes."""
+    with Service(program, "--log-requests", "alice") as service, Observer(service, "alice") as phone, service.operator() as operator:
+        dialog = phone.ask("SIP/2.0 200 OK")
+        phone.accept(1)
+        answers_noted(operator, "1")
+        operator.tell("MAIL alice voice 1 0 0 0")
+        phone.reply(phone.observe(9)[-1])
+        answers_noted(operator, "1")
+        operator.tell("MAIL alice voice 2 0 0 0")
+        phone.leave_unanswered()
+        counters_become(operator, lambda: {"given_up": "1", "live": "0"})
+        ended = service.close()
+        line = f"notifyd: {phone.me} NOTIFY alice;tag={dialog.tag} unanswered\n"
+        assert line.encode() in ended.err, ended.err
+
+
 def who_leaves_one_unanswered_has_no_row(program, folder):
     """Where each NOTIFY is sent once, nothing tells but its worker that a subscription is over. It tells of a phone that never answers, and of
     one that answers all but one: for 32 seconds both have their rows, then neither a row nor a place among those of their source. One that
@@ -726,6 +744,7 @@ def one_dialog_leaves_room(program, folder):
 def checks():
     # The longest stands first, so that others are tried beside it.
     yield "repeats: eleven times at most, and one who answers the fifth is told of the next change", it_is_given_up
+    yield "repeats: a NOTIFY that is lost behind a late answer is counted as given up", a_loss_behind_a_late_answer_is_counted
     yield "repeats: who answers the eleventh may have no subscription, and WATCHERS no row then", the_last_send_is_answered_too_late
     yield "repeats: with --repeats 0 a row goes with its subscription", who_leaves_one_unanswered_has_no_row
     yield "repeats: a row goes with its subscription where a NOTIFY was dropped", what_is_dropped_ends_its_subscription

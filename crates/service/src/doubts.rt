@@ -39,6 +39,8 @@ struct Doubt {
     number: u32,
     /// When it was sent first, or was to be.
     since: u64,
+    /// Whether nothing waits for its answer any more: it was given up, or never kept.
+    is_over: bool,
 }
 
 impl Doubt {
@@ -76,7 +78,7 @@ fn add_doubt(doubts: &mut Vec<Doubt>, doubt: Doubt) -> Result<(), NoMemory> {
     doubts.pop();
     doubts.push(Doubt {
         number: NEVER_SENT,
-        since: doubt.since,
+        ..doubt
     })?;
     Ok(())
 }
@@ -131,10 +133,8 @@ impl Doubts {
         }
     }
 
-    /// The NOTIFY with this tag and this number, which was sent at this moment, or was to be, may stay unanswered. Without memory it isn't
-    /// asked about.
-    pub(crate) fn add(&mut self, tag: &str, number: u32, since: u64) {
-        let doubt = Doubt { number, since };
+    /// This NOTIFY of this subscription is in doubt. Without memory it isn't asked about.
+    fn insert(&mut self, tag: &str, doubt: Doubt) {
         let added = match self.subscriptions.get_mut(tag) {
             Some(doubts) => add_doubt(doubts, doubt),
             None => self.begin(tag, doubt),
@@ -142,10 +142,36 @@ impl Doubts {
         let _ = added;
     }
 
+    /// The NOTIFY with this tag and this number, which was sent at this moment, or was to be, may stay unanswered: it isn't kept.
+    pub(crate) fn add(&mut self, tag: &str, number: u32, since: u64) {
+        let doubt = Doubt {
+            number,
+            since,
+            is_over: true,
+        };
+        self.insert(tag, doubt);
+    }
+
     /// This NOTIFY is sent again at this moment. It is in doubt, where its answer may come too late for its worker from now on.
     pub(crate) fn sent_again(&mut self, now: u64, due: &Open) {
         if is_long(now, due.first) {
-            self.add(due.tag.as_str(), due.number, due.first);
+            let doubt = Doubt {
+                number: due.number,
+                since: due.first,
+                is_over: false,
+            };
+            self.insert(due.tag.as_str(), doubt);
+        }
+    }
+
+    /// This NOTIFY is given up.
+    pub(crate) fn give_up(&mut self, due: &Open) {
+        self.add(due.tag.as_str(), due.number, due.first);
+        let Some(doubts) = self.subscriptions.get_mut(due.tag.as_str()) else {
+            return;
+        };
+        if let Some(place) = doubts.iter().position(|doubt| doubt.number == due.number) {
+            doubts[place].is_over = true;
         }
     }
 
@@ -184,8 +210,21 @@ impl Doubts {
         self.is_noted = !self.heard.is_empty();
     }
 
+    /// Whether the NOTIFY for which its worker ended this subscription was given up, and so counted, unless it was answered too late: one is
+    /// over, or each is due. A worker may end a subscription up to a second before that, and may be asked just then for an earlier NOTIFY, whose
+    /// answer came late.
+    fn is_counted(&self, tag: &str) -> bool {
+        match self.subscriptions.get(tag) {
+            Some(doubts) => {
+                doubts.iter().any(|doubt| doubt.is_over)
+                    || doubts.iter().all(|doubt| doubt.is_due(self.moment))
+            }
+            None => true,
+        }
+    }
+
     /// Which subscriptions are gone: those that a worker told, once all that came before its word was taken. Of one without a row all was
-    /// told.
+    /// told. Where a NOTIFY of one may yet be given up, its worker is asked again a second later.
     pub(crate) fn over(&mut self, watchers: &Watchers) -> Vec<String> {
         if !self.is_clear {
             return Vec::new(self.alloc);
@@ -193,7 +232,7 @@ impl Doubts {
         self.is_clear = false;
         self.is_noted = false;
         let mut over = mem::replace(&mut self.heard, Vec::new(self.alloc));
-        over.retain(|tag| watchers.find(tag.as_str()).is_some());
+        over.retain(|tag| watchers.find(tag.as_str()).is_some() && self.is_counted(tag.as_str()));
         over
     }
 

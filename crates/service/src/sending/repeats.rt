@@ -369,7 +369,7 @@ impl Waiting {
             let unanswered = Unanswered { due, resource };
             count_given_up(rt, &mut self.given_up, now, unanswered, shared);
             drop_held(&mut self.contacts, due.tag.as_str(), due.number, shared);
-            self.doubts.add(due.tag.as_str(), due.number, due.first);
+            self.doubts.give_up(due);
             self.transactions.turn(now);
             return true;
         }
