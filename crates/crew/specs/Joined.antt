@@ -21,7 +21,7 @@ pub record HasEndOf (taker : TakerSeat) (h : Hired) : Type 0 where
   pub outbox : h.posts.outbox ≡ taker.outbox
   pub mark : has_end (items_of h.posts.number taker.got) ≡ true
 
--- the seat is one of a port of the worker's inbox
+-- The seat is one of a port of the worker's inbox, which has `h.reads.ports` of them.
 pub record IsSeatOf (h : Hired) (seat : SenderSeat) : Type 0 where
   pub inbox : seat.inbox ≡ h.reads.inbox
   pub number : seat.number < h.reads.ports

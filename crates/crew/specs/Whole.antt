@@ -34,8 +34,10 @@ TookLaw = (outbox : Outbox) (workers : ℕ) (took : List Posted) (taker : TakerS
 -- a crew from its start to its end, whose workers began with desks that stood so: how it started, what its taker got, and what its
 -- report tells
 pub record IsCrewRunFrom (start : ℕ → Start) (stands : ℕ → Standing) (crew : List Hired) (got : List (Item Out)) (reports : List WorkerReport) : Type 0 where
+  -- so many ports were dealt at its start
   pub n : ℕ
   pub dealt : List PortSeats
+  -- and these were handed to `join` at its end
   pub ports : List PortSeats
   pub taker : TakerSeat
   pub starts : AreStarts (record { ports = n; workers = length crew; start = start })

@@ -96,8 +96,8 @@ abbrev pub IsUnanswered : Addr → Option ContactSeen → Type 0
 IsUnanswered to None = Unit {0}
 IsUnanswered to (Some c) = (same_addr c.to to ≡ false) ⊎ (c.is_known ≡ false)
 
--- a call is no final answer of this address to the dialog, no end of it but by an answer from elsewhere, and no offer to another address; where
--- one is offered a dialog may begin
+-- A call is neither a final answer of this address to the dialog, nor an end of the dialog (but by an answer from elsewhere), nor an offer to
+-- another address, nor one where no dialog may begin.
 abbrev pub is_silent_of : Addr → Call → Bool
 is_silent_of to (Offer tag room n) = room.begins && same_addr n.to to
 is_silent_of to (Answer tag number status source) = not (nat_le FINAL status) || not (is_from source to)

@@ -10,7 +10,7 @@ use Rattle.journal.specs.declared.chain.ChainError.TheVariants.{NoMemory, OtherS
 abbrev pub between : Account → Account → ℕ
 between older newer = newer.book.told.events - older.book.told.events
 
--- the newer book is behind the older one, and all events between them stand in the older file
+-- the newer book counts at least as many events as the older one, and all events between them stand in the older file
 pub record Follows (older newer : Account) : Type 0 where
   pub behind : older.book.told.events ≤ newer.book.told.events
   pub whole : between older newer ≤ length older.events

@@ -1,4 +1,5 @@
--- What the records of a file say: of each worker its last book, what it handled since, and which control lines still wait for it.
+-- What the records of a file say: of each worker its last book, what it handled since, and which control lines still wait for it. A
+-- record of a book is named `Had` here, one of a line `Answered`, one of a clock `Shown`, and the header `First`.
 use Rattle.std.specs.Prelude.{◌≡◌, ℕ, ◌+◌, ◌<◌, ◌≤◌, Bool, true, false, nat_lt, List, [], ◌∷◌, ◌++◌, length, fold, All, Contains, count_by, slice_get, ◌==◌, if◌then◌else◌, Option, Some, None, option_map, IfSome, Result, Ok, Err}
 use Rattle.package.specs.Values.{MailChange}
 use Rattle.notifier_model.specs.declared.event.Event.{Event}

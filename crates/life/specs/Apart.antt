@@ -34,7 +34,7 @@ has_new_key past (Progresses p) = true
 has_new_key past (Ticks t) = true
 has_new_key past Shuts = true
 
--- is the event a request that this life, unless it is gone, would hear if that is fresh?
+-- is the event a request that this life, unless it is gone, would hear, were it fresh?
 abbrev pub is_open_to : Limits → Option Life → Event → Bool
 is_open_to limits None e = false
 is_open_to limits (Some l) (Comes source r) = not (is_gone limits l) && may_hear r l

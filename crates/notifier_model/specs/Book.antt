@@ -144,7 +144,7 @@ new_row serial r sub = record { serial = serial; sub = sub; last_cseq = r.head.c
 unfoldable pub first_word : List ℕ → Request → List Send
 first_word tag r = if is_refer r then Starts tag (or_empty (value_of r.refer_to)) ∷ [] else []
 
--- a transfer that ends at its birth is forgotten
+-- a transfer that ends at its birth, as its first number is the last that may be, is forgotten
 unfoldable pub first_gone : List ℕ → Birth → Bool → List (List ℕ)
 first_gone tag Transfer true = tag ∷ []
 first_gone tag Transfer false = []

@@ -9,7 +9,7 @@ use Rattle.queues.specs.Items.{items_of, has_end, NothingAfterEnd}
 module _ {T : Type 0} where
   -- ---- what is known at a seat
 
-  -- nothing: at a seat that was taken over
+  -- nothing: at a seat that was joined to another one
   abbrev pub no_view : View T
   no_view = record { is_sender = false; number = 0; sent = []; is_receiver = false; taken = []; senders = 0 }
 
@@ -17,7 +17,7 @@ module _ {T : Type 0} where
   abbrev pub sender_view : ℕ → List (Item T) → View T
   sender_view number sent = record no_view { is_sender = true; number = number; sent = sent }
 
-  -- at the receiver's, which has taken over no sender's seat
+  -- at the receiver's, to which no sender's seat was joined
   abbrev pub receiver_view : ℕ → List (Item T) → View T
   receiver_view senders taken = record no_view { is_receiver = true; taken = taken; senders = senders }
 
@@ -42,7 +42,7 @@ module _ {T : Type 0} where
   abbrev pub TakesItem : View T → Item T → View T → Type 0
   TakesItem v x w = (w ≡ with_item v x) × (x.from < v.senders) × (has_end (items_of x.from v.taken) ≡ false)
 
-  -- of the sender whose seat the receiver's has taken over, what was taken and then what is held is all that it sent
+  -- of the sender whose seat was joined to the receiver's, what was taken and then what is held is all that it sent
   abbrev pub RestIsHeld : View T → List (Item T) → Type 0
   RestIsHeld v held = v.is_sender ≡ true → items_of v.number (v.taken ++ held) ≡ v.sent
 
