@@ -11,7 +11,7 @@ from collections import namedtuple
 from contextlib import ExitStack
 
 from burst import held
-from phone import MOMENT, OVER, PATIENCE, Message, Phone
+from phone import MOMENT, NO_MESSAGES, OVER, PATIENCE, Message, Phone
 from service import HEARD, Service, counters_become, last_counters, rows_told
 from suite import SLOWER, comes_true, same
 
@@ -741,6 +741,54 @@ def one_dialog_leaves_room(program, folder):
             service.close()
 
 
+def a_silent_dialog_leaves_places(program, folder):
+    """A phone that answers nothing asks for more time, again and again. Its NOTIFYs take half of the places of those that wait for a first
+    answer, and what is more is dropped. So a change waits for the first answer of another phone, too, which is told of it then."""
+    with Service(program, "--repeats", "8", "alice", "bob") as service, service.operator() as operator:
+        with Observer(service, "alice") as silent, Observer(service, "bob") as other:
+            dialog = silent.ask("SIP/2.0 200 OK")
+            for _ in range(12):
+                silent.go_on(dialog, 3600)
+            counters_become(operator, lambda: {"held": "4", "held_dropped": "8"})
+            other.ask("SIP/2.0 200 OK")
+            first = other.notified(1, NO_MESSAGES)
+            operator.tell("MAIL bob voice 2 8 0 2")
+            counters_become(operator, lambda: {"held": "5", "held_dropped": "8", "once": "0"})
+            other.reply(first)
+            other.accept(2, HEARD)
+            operator.tell("MAIL bob voice 0 10 0 0")
+            other.accept(3, "Messages-Waiting: no\r\nVoice-Message: 0/10 (0/0)\r\n")
+            service.close(lambda: other.accept(4))
+
+
+def fetches_leave_room(program, folder):
+    """Who asks for the state alone (`Expires: 0`), again and again, and answers nothing, takes half of the room for NOTIFYs that wait for answers.
+    What is more is sent once, also the first one to a phone that subscribes then. A NOTIFY of a change comes again, to that phone and to one
+    that was there before, which answer it late."""
+    with Service(program, "--repeats", "8", "alice", "bob") as service, service.operator() as operator, ExitStack() as stack:
+        early, late = phones = [stack.enter_context(Observer(service, "bob")) for _ in range(2)]
+        fetcher = stack.enter_context(Observer(service, "alice"))
+        early.ask("SIP/2.0 200 OK")
+        early.accept(1)
+        answers_noted(operator, "1")
+        for _ in range(12):
+            fetcher.begin("SUBSCRIBE", "message-summary", ("Event: message-summary", "Expires: 0"))
+        counters_become(operator, lambda: {"notifies": "13", "once": "8"})
+        late.ask("SIP/2.0 200 OK")
+        late.accept(1)
+        answers_noted(operator, "2")
+        counters_become(operator, lambda: {"notifies": "14", "once": "9"})
+        asked = time.time()
+        operator.tell("MAIL bob voice 2 8 0 2")
+        for phone in phones:
+            came = [phone.notified(2, HEARD), *phone.observe(2)]
+            are_sends("the NOTIFY of a change", came, MOMENTS[:3], asked, service)
+            phone.reply(came[-1])
+        answers_noted(operator, "2")
+        same("NOTIFYs sent once", "9", operator.counters()["once"])
+        service.close(*(lambda phone=phone: phone.accept(3) for phone in phones))
+
+
 def checks():
     # The longest stands first, so that others are tried beside it.
     yield "repeats: eleven times at most, and one who answers the fifth is told of the next change", it_is_given_up
@@ -769,3 +817,5 @@ def checks():
     yield "repeats: with --repeats 0 each is sent once", nothing_is_repeated
     yield "repeats: with --repeats 1 one at a time", one_is_repeated_at_a_time
     yield "repeats: with --open 3 one dialog's refreshes leave room for others", one_dialog_leaves_room
+    yield "repeats: with --repeats 8 a silent dialog leaves places to another phone that waits", a_silent_dialog_leaves_places
+    yield "repeats: with --repeats 8 fetches leave room for NOTIFYs of changes", fetches_leave_room

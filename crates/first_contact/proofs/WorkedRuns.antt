@@ -29,7 +29,7 @@ abbrev notify : ℕ → Notice
 notify number = record { number = number; to = phone; is_last = false; out = out.Answer phone [] }
 
 abbrev offered : ℕ → Call
-offered number = Offer d (record { begins = true; waits = true }) (notify number)
+offered number = Offer d (record { begins = true; first_waits = true; more_wait = true }) (notify number)
 
 abbrev answer : ℕ → Addr → Call
 answer number source = Answer d number 200 source

@@ -92,9 +92,9 @@ waits n c = record { contact = Some (record c { is_ending = n.is_last; held = c.
 abbrev pub drops : Notice → ContactSeen → Step
 drops n c = record { contact = Some (record c { is_ending = n.is_last }); through = []; lost = n ∷ [] }
 
--- may one more of this dialog wait?
+-- may one more of this dialog wait, behind none that waits, or behind others?
 abbrev pub has_place : Room → ContactSeen → Bool
-has_place room c = room.waits && nat_lt (length c.held) MOST
+has_place room c = if length c.held == 0 then room.first_waits else room.more_wait && nat_lt (length c.held) MOST
 
 -- it goes where the latest one went
 abbrev pub offered_there : Room → Notice → ContactSeen → Step

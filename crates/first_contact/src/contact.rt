@@ -34,8 +34,10 @@ pub struct Notice {
 pub struct Room {
     /// Whether one more dialog may begin.
     pub begins: bool,
-    /// Whether one more NOTIFY may wait.
-    pub waits: bool,
+    /// Whether a NOTIFY may wait of a dialog in which none waits.
+    pub first_waits: bool,
+    /// Whether one more may wait of a dialog in which one does.
+    pub more_wait: bool,
 }
 
 /// What is known of a dialog.
@@ -160,7 +162,10 @@ impl Contact {
     fn has_place(&self, room: Room) -> bool
         ensures { result ≡ steps.has_place room (steps.seen self.now) }
     {
-        room.waits && self.held.len() < MOST
+        if self.held.is_empty() {
+            return room.first_waits;
+        }
+        room.more_wait && self.held.len() < MOST
     }
 
     /// A NOTIFY waits. An `Err` says that an allocation failed: it is dropped, and nothing changes.

@@ -138,7 +138,8 @@ impl Contacts {
     {
         Room {
             begins: may_begin && self.known.len() < self.limit as usize,
-            waits: self.waiting < self.places,
+            first_waits: self.waiting < self.places,
+            more_wait: self.waiting < self.places - self.places / 2,
         }
     }
 
@@ -171,7 +172,8 @@ impl Contacts {
     /// A NOTIFY is offered that goes where the latest one of its dialog went.
     fn offer_there(&mut self, room: Room, notice: Notice) -> Result<Offered, NoMemory>
         requires there { steps.is_there notice.to (at self.old (steps.tag_in notice.out)) ≡ true }
-        requires places { room.waits ≡ true → self.old.waiting < self.old.places }
+        requires first { room.first_waits ≡ true → self.old.waiting < self.old.places }
+        requires more { room.more_wait ≡ true → self.old.waiting < self.old.places }
         ensures offered { MatchResult result
             (λ o. IsStepped self.old self.new (steps.tag_in notice.out) (steps.offered room notice (at self.old (steps.tag_in notice.out))))
             (λ _. IsSame self.old self.new) }

@@ -25,7 +25,8 @@
 //! all that waits, one after the other.
 //!
 //! All that is offered behind a first NOTIFY waits, in order: of one dialog [`MOST`] at most, and of all dialogs as many as
-//! [`Contacts::new`] says. Whoever makes NOTIFYs needn't know of that, as long as it takes a NOTIFY that nobody answered within 32 seconds as one
+//! [`Contacts::new`] says. Once half as many wait, one waits only where none of its dialog does: so who has few dialogs leaves half of the places
+//! to others. Whoever makes NOTIFYs needn't know of that, as long as it takes a NOTIFY that nobody answered within 32 seconds as one
 //! that was lost: what waits is sent before the one under way is given up, or dropped then, or when the dialog is closed.
 //!
 //! It sends nothing, reads no clock and starts no thread. A call's time does not grow with what is known of other dialogs. Memory is taken for

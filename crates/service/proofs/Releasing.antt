@@ -580,7 +580,7 @@ offered_through old new room n told m lost is stepped outcome =
 pub gone_on_fewer : (old new : Contacts) (tag : List ℕ) (to : Addr) (is_last goes : Bool) → (goes ≡ true → IsLetOn old new tag to is_last)
     → (goes ≡ false → IsSame old new) → Fewer (waits old) (waits new)
 gone_on_fewer old new tag to is_last true let_on same =
-    let room : Room = record { begins = true; waits = true } in
+    let room : Room = record { begins = true; first_waits = true; more_wait = true } in
     let note : KnownNote = record { watcher = []; resource = []; target = []; call_id = []; left = None } in
     let n : Notice = record { number = 0; to = to; is_last = is_last; out = out.Notify to 0 is_last tag note [] } in
     let so = let_on refl room n refl refl in through_fewer old new room n n so.0 so.1.0
@@ -626,7 +626,7 @@ other_passes (out.Start tag refer_to) w other = unnoticed_passes (out.Start tag 
 pub gone_on_passes : (o : Out) (old new : Contacts) (tag : List ℕ) (to : Addr) (is_last : Bool) → tag_in o ≡ tag
     → IsLetOn old new tag to is_last → PassesNone o (waits new)
 gone_on_passes o old new tag to is_last same let_on some =
-    let room : Room = record { begins = true; waits = true } in
+    let room : Room = record { begins = true; first_waits = true; more_wait = true } in
     let note : KnownNote = record { watcher = []; resource = []; target = []; call_id = []; left = None } in
     let n : Notice = record { number = 0; to = to; is_last = is_last; out = out.Notify to 0 is_last tag note [] } in
     let so = let_on room n refl refl in

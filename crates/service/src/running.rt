@@ -1,5 +1,5 @@
 //! A crew that runs as a service, to its end.
-ghost use Rattle.std.specs.Prelude.{◌≡◌, ◌<◌, ◌≤◌, ◌⊎◌, ◌∷◌, [], ℕ, List, get_or, vec_len, vec_capacity, Err, IfOk, IfErr, OnOk, OnErr};
+ghost use Rattle.std.specs.Prelude.{◌≡◌, ◌<◌, ◌≤◌, ◌⊎◌, ◌*◌, ◌∷◌, [], ℕ, List, get_or, vec_len, vec_capacity, Err, IfOk, IfErr, OnOk, OnErr};
 ghost use Rattle.notifier.specs.Standing.{Standing};
 ghost use Rattle.crew.specs.Desks.{standing_of, AllMayBegin, IsUnfit};
 ghost use Rattle.crew.specs.Ports.{PortSeats};
@@ -369,6 +369,7 @@ fn new_waiting(
     admission: &Admission,
 ) -> Result<Waiting, NoMemory>
     ensures none { IfOk result (λ w. w.transactions ≡ empty repeats) }
+    ensures places { IfOk result (λ w. w.contacts.places ≡ repeats.all) }
     ensures none_put { IfOk result (λ w. w.burst.items ≡ []) }
     ensures none_waits { IfOk result (λ w. (tag : List ℕ) → waits w.contacts tag ≡ []) }
 {
@@ -418,6 +419,7 @@ fn make_ready<R: Wait>(
     ensures first { IfOk result (λ r. r.sending.waiting.transactions ≡ open_first work.repeats work.begins.unanswered.items) }
     ensures none_put { IfOk result (λ r. r.sending.waiting.burst.items ≡ []) }
     ensures none_waits { IfOk result (λ r. (tag : List ℕ) → waits r.sending.waiting.contacts tag ≡ []) }
+    ensures linger { IfOk result (λ r. r.sending.linger ≡ work.linger * 1000) }
 {
     let rows = work.setup.limits.table().saturating_mul(workers);
     let mut waiting = new_waiting(alloc, work.repeats, rows, &work.sip.admission)?;

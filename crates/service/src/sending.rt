@@ -114,14 +114,14 @@ impl Waiting {
         self.sent().saturating_add(self.contacts.waiting())
     }
 
-    /// Whether a NOTIFY that is sent now is kept, so that its answer is told, or its giving up. Where too many of its dialog are open alone
-    /// it isn't, but what waits behind it ends with its subscription: so a stranger who has so many open draws no more by it.
+    /// Whether a NOTIFY with this number that is sent now is kept, so that its answer is told, or its giving up. Where too many of its dialog are
+    /// open alone it isn't, but what waits behind it ends with its subscription: so a stranger who has so many open draws no more by it.
     #[tactic(auto, using(crate::proofs::Releasing::fewer_same))]
-    fn has_room<R: Wait + Eprint>(&mut self, rt: &R, shared: &Shared) -> bool
+    fn has_room<R: Wait + Eprint>(&mut self, rt: &R, number: u32, shared: &Shared) -> bool
         ensures kept { (s : State) (rows : List Row) (acts : List Act) → AreKept s rows acts self.old → AreKept s rows acts self.new }
         ensures fewer { Fewer (waits self.old.contacts) (waits self.new.contacts) }
     {
-        let room = self.contacts.places() as usize;
+        let room = self.transactions.places(number) as usize;
         if self.sent() < room {
             return true;
         }
@@ -202,7 +202,7 @@ impl Waiting {
             return Some(out);
         };
         let number = *number;
-        let may_begin = self.has_room(rt, shared);
+        let may_begin = self.has_room(rt, number, shared);
         take_down(&mut self.offered, tag.as_str());
         let notice = match Notice::new(out) {
             Ok(notice) => notice,

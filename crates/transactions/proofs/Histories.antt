@@ -178,7 +178,7 @@ refusal_cases : (s : State) (tag : List ℕ) (number : ℕ) → refusal s tag nu
 unfolding refusal
 refusal_cases s tag number e = by (is_open tag number s) refl e
   where
-    by : (b : Bool) → is_open tag number s ≡ b → (if b then Some Twice else if is_full s then Some Full else if is_crowded tag s then Some Many else None) ≡ None → list_any (has_name tag number) s.live ≡ false
+    by : (b : Bool) → is_open tag number s ≡ b → (if b then Some Twice else if is_full number s then Some Full else if is_crowded tag s then Some Many else None) ≡ None → list_any (has_name tag number) s.live ≡ false
     by true k q = absurd (cc)
     by false k q = k
 

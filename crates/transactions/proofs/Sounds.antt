@@ -421,25 +421,19 @@ module _ (allowance : Allowance) (b : Book) (tag : List ℕ) (number : ℕ) wher
 
   pub refusal_twice : list_any (has_name tag number) (live_list b) ≡ true → Some Twice ≡ refusal stored tag number
   unfolding refusal
-  refusal_twice e = sym (ap (λ x. reason x (is_full stored) (is_crowded tag stored)) e)
+  refusal_twice e = sym (ap (λ x. reason x (is_full number stored) (is_crowded tag stored)) e)
 
-  pub refusal_full : list_any (has_name tag number) (live_list b) ≡ false → is_full stored ≡ true → Some Full ≡ refusal stored tag number
+  pub refusal_full : list_any (has_name tag number) (live_list b) ≡ false → is_full number stored ≡ true → Some Full ≡ refusal stored tag number
   unfolding refusal
-  refusal_full e full = sym (ap (λ x. reason x (is_full stored) (is_crowded tag stored)) e ∙ ap (λ x. reason false x (is_crowded tag stored)) full)
+  refusal_full e full = sym (ap (λ x. reason x (is_full number stored) (is_crowded tag stored)) e ∙ ap (λ x. reason false x (is_crowded tag stored)) full)
 
-  pub refusal_many : list_any (has_name tag number) (live_list b) ≡ false → is_full stored ≡ false → is_crowded tag stored ≡ true → Some Many ≡ refusal stored tag number
+  pub refusal_many : list_any (has_name tag number) (live_list b) ≡ false → is_full number stored ≡ false → is_crowded tag stored ≡ true → Some Many ≡ refusal stored tag number
   unfolding refusal
-  refusal_many e full many = sym (ap (λ x. reason x (is_full stored) (is_crowded tag stored)) e ∙ ap (λ x. reason false x (is_crowded tag stored)) full ∙ ap (reason false false) many)
+  refusal_many e full many = sym (ap (λ x. reason x (is_full number stored) (is_crowded tag stored)) e ∙ ap (λ x. reason false x (is_crowded tag stored)) full ∙ ap (reason false false) many)
 
-  pub refusal_none : list_any (has_name tag number) (live_list b) ≡ false → is_full stored ≡ false → is_crowded tag stored ≡ false → None ≡ refusal stored tag number
+  pub refusal_none : list_any (has_name tag number) (live_list b) ≡ false → is_full number stored ≡ false → is_crowded tag stored ≡ false → None ≡ refusal stored tag number
   unfolding refusal
-  refusal_none e full many = sym (ap (λ x. reason x (is_full stored) (is_crowded tag stored)) e ∙ ap (λ x. reason false x (is_crowded tag stored)) full ∙ ap (reason false false) many)
-
-pub full_is : (allowance : Allowance) (b : Book) → IsSound b → (allowance.all ≤ slab_len b.slab) ⊎ (b.kept ≡ 2 ^ 64 - 1) → is_full (book_state allowance b) ≡ true
-full_is allowance b h full = let counted = h.counted in grind (arith, nat_tests)
-
-pub not_full : (allowance : Allowance) (b : Book) → IsSound b → slab_len b.slab < allowance.all → b.kept ≢ 2 ^ 64 - 1 → is_full (book_state allowance b) ≡ false
-not_full allowance b h some more = let counted = h.counted in grind (arith, nat_tests)
+  refusal_none e full many = sym (ap (λ x. reason x (is_full number stored) (is_crowded tag stored)) e ∙ ap (λ x. reason false x (is_crowded tag stored)) full ∙ ap (reason false false) many)
 
 -- ---- what is kept
 

@@ -1,8 +1,9 @@
 -- The open transactions of a sender of NOTIFYs, and what each call makes of them (RFC 3261 section 17.1.2).
-use Rattle.std.specs.Prelude.{ℕ, ◌+◌, ◌-◌, ◌^◌, Bool, not, ◌||◌, ◌==◌, nat_le, Option, Some, None, option_map, option_and_then, List, [], ◌∷◌, ◌++◌, length, filter_map, if◌then◌else◌}
+use Rattle.std.specs.Prelude.{ℕ, ◌+◌, ◌-◌, ◌/◌, ◌^◌, Bool, not, ◌||◌, ◌==◌, nat_le, Option, Some, None, option_map, option_and_then, List, [], ◌∷◌, ◌++◌, length, filter_map, if◌then◌else◌}
 use Rattle.std.specs.List.{list_any, filter}
 use Rattle.sip_text.specs.declared.address.Addr.{Addr}
 use Rattle.transactions.specs.declared.allowance.Allowance.{Allowance}
+use Rattle.transactions.specs.declared.allowance.TheConstants.{FIRST}
 use Rattle.transactions.specs.declared.open.Open.{Open}
 use Rattle.transactions.specs.declared.open.TheConstants.{GONE}
 use Rattle.transactions.specs.declared.unkept.Unkept.{Unkept}
@@ -23,8 +24,12 @@ empty allowance = record { allowance = allowance; kept = 0; live = [] }
 abbrev pub is_open : List ℕ → ℕ → State → Bool
 is_open tag number s = list_any (has_name tag number) s.live
 
-abbrev pub is_full : State → Bool
-is_full s = nat_le s.allowance.all (length s.live) || (s.kept == 2 ^ 64 - 1)
+-- how many may be open where one with this number is to be kept: of a subscription's first NOTIFYs half of all
+abbrev pub places : Allowance → ℕ → ℕ
+places allowance number = if number == FIRST then allowance.all - allowance.all / 2 else allowance.all
+
+abbrev pub is_full : ℕ → State → Bool
+is_full number s = nat_le (places s.allowance number) (length s.live) || (s.kept == 2 ^ 64 - 1)
 
 -- as many with this tag are open as may be
 abbrev pub is_crowded : List ℕ → State → Bool
@@ -32,11 +37,11 @@ is_crowded tag s = nat_le s.allowance.per_tag (length (filter (has_tag tag) s.li
 
 -- why it is not kept, if it is not
 unfoldable pub refusal : State → List ℕ → ℕ → Option Unkept
-refusal s tag number = if is_open tag number s then Some Twice else if is_full s then Some Full else if is_crowded tag s then Some Many else None
+refusal s tag number = if is_open tag number s then Some Twice else if is_full number s then Some Full else if is_crowded tag s then Some Many else None
 
--- one more with this tag is kept, if its number is not open
-unfoldable pub has_room : State → List ℕ → Bool
-has_room s tag = not (is_full s || is_crowded tag s)
+-- one with this name is kept, if none is open that has it
+unfoldable pub has_room : State → List ℕ → ℕ → Bool
+has_room s tag number = not (is_full number s || is_crowded tag s)
 
 abbrev pub with_sent : Option Unkept → Open → State → State
 with_sent None t s = record s { kept = s.kept + 1; live = s.live ++ t ∷ [] }

@@ -23,7 +23,7 @@
 //!
 //! It sends nothing, reads no clock and starts no thread: its caller hands in the time, in milliseconds, and each NOTIFY that it
 //! has sent, asks which is due, sends that, and says so. So a NOTIFY is sent again not before a timer of the RFC fires; how soon
-//! behind it is up to the caller. [`Transactions::new`] makes the room for all of it; no later call takes
+//! behind it is up to the caller. First NOTIFYs of subscriptions take half of the room at most ([`Allowance::places`]). [`Transactions::new`] makes the room for all of it; no later call takes
 //! memory. An answer is matched by tag and CSeq number, not by the branch of its Via.
 //!
 //! Begin with [`Transactions`], then `specs/Timers` and `specs/Machine`, which say what the calls make of the open transactions.
@@ -41,7 +41,7 @@ mod steps;
 mod transactions;
 mod unkept;
 
-pub use allowance::Allowance;
+pub use allowance::{Allowance, FIRST};
 pub use open::{Open, Phase};
 pub use sip_text::NoMemory;
 pub use transactions::Transactions;

@@ -14,14 +14,14 @@ use crate::open::{GONE, Open};
 use crate::places::tag_head;
 use crate::unkept::Unkept;
 
-/// Whether as many are open as may be, or 2^64 - 1 were kept.
-fn is_full(book: &Book, allowance: Allowance) -> bool
+/// Whether as many are open as may be where one with this number is to be kept, or 2^64 - 1 were kept.
+fn is_full(book: &Book, allowance: Allowance, number: u32) -> bool
     requires { IsSound book.now }
-    ensures value { result ≡ machine.is_full (book_state allowance book.now) }
+    ensures value { result ≡ machine.is_full number (book_state allowance book.now) }
     ensures room { result ≡ false → slab_len book.now.slab < allowance.all }
     ensures more { result ≡ false → book.now.kept + 1 < 2 ^ 64 }
 {
-    if allowance.all as usize <= book.slab.len() {
+    if allowance.places(number) as usize <= book.slab.len() {
         return true;
     }
     book.kept == u64::MAX
@@ -68,7 +68,7 @@ pub fn refusal(book: &Book, allowance: Allowance, tag: &str, number: u32) -> Opt
     if let Some(_place) = named_place(book, tag, number) {
         return Some(Unkept::Twice);
     }
-    if is_full(book, allowance) {
+    if is_full(book, allowance, number) {
         return Some(Unkept::Full);
     }
     if is_crowded(book, allowance, tag) {
@@ -77,13 +77,13 @@ pub fn refusal(book: &Book, allowance: Allowance, tag: &str, number: u32) -> Opt
     None
 }
 
-/// Whether one more with this tag is kept, if its number isn't open.
+/// Whether one with this name is kept, if none is open that has it.
 #[tactic(auto, unfolding(crate::specs::Machine::has_room))]
-pub fn has_room(book: &Book, allowance: Allowance, tag: &str) -> bool
+pub fn has_room(book: &Book, allowance: Allowance, tag: &str, number: u32) -> bool
     requires { IsSound book.now }
-    ensures { result ≡ machine.has_room (book_state allowance book.now) tag.now }
+    ensures { result ≡ machine.has_room (book_state allowance book.now) tag.now number }
 {
-    !(is_full(book, allowance) || is_crowded(book, allowance, tag))
+    !(is_full(book, allowance, number) || is_crowded(book, allowance, tag))
 }
 
 /// One comes.

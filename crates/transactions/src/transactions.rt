@@ -78,11 +78,18 @@ impl Transactions {
         Ok(())
     }
 
-    /// Whether one more with this tag is kept, if its number isn't open.
-    pub fn has_room(&self, tag: &str) -> bool
-        ensures { result ≡ machine.has_room self.now tag.now }
+    /// Whether one with this tag and this number is kept, if none is open that has both.
+    pub fn has_room(&self, tag: &str, number: u32) -> bool
+        ensures { result ≡ machine.has_room self.now tag.now number }
     {
-        steps::has_room(&self.book, self.allowance, tag)
+        steps::has_room(&self.book, self.allowance, tag, number)
+    }
+
+    /// How many may be open where one with this number is to be kept ([`Allowance::places`]).
+    pub fn places(&self, number: u32) -> u32
+        ensures { result ≡ machine.places self.now.allowance number }
+    {
+        self.allowance.places(number)
     }
 
     /// An answer with this status came to the NOTIFY with this tag and this number. A provisional one sets timer E to T2, a final

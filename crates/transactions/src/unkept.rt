@@ -8,7 +8,7 @@ pub enum Unkept {
     /// One with its tag and its number is open already.
     #[error("already open")]
     Twice,
-    /// As many as may be open are, or 2^64 - 1 were kept.
+    /// As many as may be open are ([`Allowance::places`](crate::Allowance::places)), or 2^64 - 1 were kept.
     #[error("too many open")]
     Full,
     /// As many with its tag as may be open are.

@@ -164,7 +164,7 @@ impl Waiting {
         ensures burst { self.new.burst ≡ self.old.burst }
         ensures fewer { Fewer (waits self.old.contacts) (waits self.new.contacts) }
     {
-        if self.transactions.has_room(tag) {
+        if self.transactions.has_room(tag, number) {
             return;
         }
         self.doubts.add(tag, number, now);
