@@ -6,4 +6,5 @@ pub mod Planned
 pub mod Urgent
 pub mod ToldLines
 pub mod Heard
+pub mod LineFiles
 pub mod Refused

@@ -6,6 +6,7 @@ use Rattle.digest.specs.declared.algorithm.Algorithm.{Algorithm}
 use Rattle.digest.specs.declared.algorithm.Algorithm.TheVariants as algorithm
 use Rattle.digest.specs.declared.passwords.Passwords.{Passwords}
 use Rattle.digest.specs.Passwords.{known, Takes}
+use Rattle.plans.specs.Lines.{IsTaken}
 use Rattle.admission.specs.declared.bucket.Rate.{Rate}
 use Rattle.admission.specs.declared.table.Rates.{Rates}
 use Rattle.admission.specs.Table.{empty}
@@ -40,6 +41,12 @@ pub record IsTable (p : Passwords) : Type 0 where
 pub record AreUsers (p : Passwords) : Type 0 where
   pub table : IsTable p
   pub some : p.realm ≢ None
+
+-- just what the lines that a reader gives make of an empty table
+pub record AreUsersOf (given : Option (List ℕ)) (p : Passwords) : Type 0 where
+  pub start : Passwords
+  pub is_empty : IsEmpty start
+  pub taken : IsTaken Takes given start p
 
 -- a password of this user is known
 abbrev pub is_user : Passwords → List ℕ → Bool

@@ -13,6 +13,7 @@ use Rattle.admission.specs.declared.judging.Admission.{Admission}
 use Rattle.arguments.specs.declared.setting.Setting.TheVariants as setting
 use Rattle.admission.specs.declared.network.Network.{Network}
 use Rattle.arguments.specs.Choices.{choices_of, state_of, journal_folder, control_networks, feed_networks, further_mailboxes}
+use Rattle.plans.specs.Lines.{IsTaken}
 use Rattle.plans.specs.State.{IsState}
 use Rattle.plans.specs.Heard.{IsAdmission, HasFurther}
 use Rattle.arguments.specs.Settings.{IsMailbox, AreSettings}
@@ -46,6 +47,10 @@ pub record AddsNames (line : List ℕ) (old new : List (List ℕ)) : Type 0 wher
   pub more : List (List ℕ)
   pub names : file.Names line more
   pub added : new ≡ old ++ more
+
+-- just the mailboxes that the lines name which a reader gives, in order
+abbrev pub AreMailboxesOf : Option (List ℕ) → List (List ℕ) → Type 0
+AreMailboxesOf given names = IsTaken (λ old line new. AddsNames line old new) given [] names
 
 -- the settings name these, one behind the other
 abbrev pub AreNamed : List Setting → List (List ℕ) → Type 0

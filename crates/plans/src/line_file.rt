@@ -1,9 +1,10 @@
 //! Files that are read line by line.
-ghost use Rattle.std.specs.Prelude.{◌≡◌, List, ℕ, IfErr, OnOk};
+ghost use Rattle.std.specs.Prelude.{◌≡◌, List, ℕ, IfOk, IfErr, OnOk};
+ghost use Rattle.std.specs.Io.Buffered.{reader_remaining};
 ghost use Rattle.std.specs.IoError.{error_kind};
 ghost use Rattle.plans.specs.declared.error.PlanError.{PlanError};
 ghost use Rattle.plans.specs.declared.error.PlanError.TheVariants as error;
-ghost use Rattle.plans.specs.Lines.{IsLineText};
+ghost use Rattle.plans.specs.Lines.{IsLineText, IsTaken};
 ghost use Rattle.plans.specs.Refused.{IsUnread};
 
 use crate::error::PlanError;
@@ -46,6 +47,9 @@ pub(crate) trait TakesLines {
     /// What is so of it after any lines.
     ghost is_sound: { Self → Type 0 };
 
+    /// What a line, without the mark in front, makes of it.
+    ghost takes: { Self → List ℕ → Self → Type 0 };
+
     /// Why the file at this path is refused.
     ghost refuses: { List ℕ → PlanError → Type 0 };
 
@@ -53,6 +57,7 @@ pub(crate) trait TakesLines {
     fn take_line(&mut self, alloc: Global, line: FileLine<'_>) -> Result<(), PlanError>
         requires sound { is_sound self.old }
         ensures sound { OnOk result (is_sound self.new) }
+        ensures taken { OnOk result (takes self.old line.entry.text.now self.new) }
         ensures refused { IfErr result (refuses line.entry.path.now) };
 
     /// A file that can't be read is refused.
@@ -73,7 +78,7 @@ fn unread(alloc: Global, path: &Text, fault: &io::Error) -> PlanError
     }
 }
 
-/// Takes in what a reader gives, line by line.
+/// Takes in what a reader gives, line by line: each line of it, in order, and no other.
 fn take_lines<B: BufRead + Drop, T: TakesLines>(
     alloc: Global,
     reader: B,
@@ -82,6 +87,7 @@ fn take_lines<B: BufRead + Drop, T: TakesLines>(
 ) -> Result<(), PlanError>
     requires sound { T.is_sound taker.old }
     ensures sound { OnOk result (T.is_sound taker.new) }
+    ensures taken { OnOk result (IsTaken T.takes (B.remaining reader) taker.old taker.new) }
     ensures refused { IfErr result (T.refuses path.now) }
 {
     let mut number = 0u64;
@@ -96,6 +102,15 @@ fn take_lines<B: BufRead + Drop, T: TakesLines>(
     Ok(())
 }
 
+/// A reader of the file at this path, from its start on.
+fn file_reader<R: Files + AllocGlobal>(rt: &R, path: &Text) -> io::Result<BufReader<R::File>>
+    ensures whole { IfOk result (λ reader. (file : R.File) × (reader_remaining R.File.remaining reader ≡ R.File.remaining file)) }
+{
+    let file = fs::open(rt, path.as_str())?;
+    let reader = BufReader::new(rt.alloc(), file)?;
+    Ok(reader)
+}
+
 /// Takes in the lines of the file at this path, in order. An error where it can't be read, and at the first line that is refused.
 pub(crate) fn take_file<R: Files + AllocGlobal, T: TakesLines>(
     rt: &R,
@@ -104,15 +119,14 @@ pub(crate) fn take_file<R: Files + AllocGlobal, T: TakesLines>(
 ) -> Result<(), PlanError>
     requires sound { T.is_sound taker.old }
     ensures sound { OnOk result (T.is_sound taker.new) }
+    ensures taken { OnOk result ((file : R.File) × IsTaken T.takes (R.File.remaining file) taker.old taker.new) }
     ensures refused { IfErr result (T.refuses path.now) }
 {
     let alloc = rt.alloc();
-    let opened = match fs::open(rt, path.as_str()) {
-        Ok(file) => BufReader::new(alloc, file),
-        Err(fault) => Err(fault),
+    let reader = match file_reader(rt, path) {
+        Ok(reader) => reader,
+        Err(fault) => return Err(unread(alloc, path, &fault)),
     };
-    match opened {
-        Ok(reader) => take_lines(alloc, reader, path, taker),
-        Err(fault) => Err(unread(alloc, path, &fault)),
-    }
+    take_lines(alloc, reader, path, taker)?;
+    Ok(())
 }

@@ -4,7 +4,7 @@ ghost use Rattle.std.specs.List.{All};
 ghost use Rattle.control_lines.specs.Told.{is_held};
 ghost use Rattle.arguments.specs.Settings.{IsMailbox};
 ghost use Rattle.plans.specs.Plans as spec;
-ghost use Rattle.plans.specs.Plans.{Names, AddsNames, AreNamed};
+ghost use Rattle.plans.specs.Plans.{Names, AddsNames, AreMailboxesOf, AreNamed};
 ghost use Rattle.plans.specs.Refused.{IsOfFile, IsOfSetting, IsOfOne};
 
 use crate::error::PlanError;
@@ -20,16 +20,19 @@ impl TakesLines for Vec<Text> {
     ghost use Rattle.std.proofs.Common.{⊎_elim, subst, sym, refl};
     ghost use Rattle.std.specs.List.{All};
     ghost use Rattle.arguments.specs.Settings.{IsMailbox};
+    ghost use Rattle.plans.specs.Plans.{AddsNames};
     ghost use Rattle.plans.specs.Refused.{IsOfFile};
 
     ghost is_sound = { λ names. All IsMailbox names.items };
+
+    ghost takes = { λ old line new. AddsNames line old.items new.items };
 
     ghost refuses = { IsOfFile };
 
     fn take_line(&mut self, alloc: Global, line: FileLine<'_>) -> Result<(), PlanError>
         requires sound { All IsMailbox self.old.items }
         ensures sound { OnOk result (All IsMailbox self.new.items) }
-        ensures added { OnOk result (AddsNames line.entry.text.now self.old.items self.new.items) }
+        ensures taken { OnOk result (AddsNames line.entry.text.now self.old.items self.new.items) }
         ensures refused { IfErr result (IsOfFile line.entry.path.now) }
     {
         let mut more = match line_mailboxes(alloc, line.text) {
@@ -43,6 +46,17 @@ impl TakesLines for Vec<Text> {
     ghost unread = { λ path e is. ⊎_elim (λ file. subst (IsOfFile path) (sym file) refl) (λ memory. subst (IsOfFile path) (sym memory) tt) is };
 }
 
+/// The mailboxes that the file at this path names, in order.
+fn file_mailboxes<R: Files + AllocGlobal>(rt: &R, path: &Text) -> Result<Vec<Text>, PlanError>
+    ensures mailboxes { IfOk result (λ names. All IsMailbox names.items) }
+    ensures told { IfOk result (λ names. (file : R.File) × AreMailboxesOf (R.File.remaining file) names.items) }
+    ensures refused { IfErr result (IsOfFile path.now) }
+{
+    let mut names = Vec::new(rt.alloc());
+    take_file(rt, path, &mut names)?;
+    Ok(names)
+}
+
 /// The mailboxes that one setting names.
 fn setting_names<R: Files + AllocGlobal>(rt: &R, setting: &Setting) -> Result<Vec<Text>, PlanError>
     ensures names { IfOk result (λ names. Names setting.now names.items) }
@@ -54,11 +68,7 @@ fn setting_names<R: Files + AllocGlobal>(rt: &R, setting: &Setting) -> Result<Ve
             names.push(name.copy(rt.alloc())?)?;
             Ok(names)
         }
-        Setting::MailboxFile(path) => {
-            let mut names = Vec::new(rt.alloc());
-            take_file(rt, path, &mut names)?;
-            Ok(names)
-        }
+        Setting::MailboxFile(path) => file_mailboxes(rt, path),
         Setting::Address(..)
         | Setting::Number(..)
         | Setting::StateFile(_)

@@ -1,7 +1,7 @@
 //! The users of a service and their passwords' hashes, from a file.
 ghost use Rattle.std.specs.Prelude.{IfOk, IfErr, OnOk};
 ghost use Rattle.digest.specs.Passwords.{Takes};
-ghost use Rattle.plans.specs.Heard.{IsTable, AreUsers};
+ghost use Rattle.plans.specs.Heard.{IsTable, AreUsers, AreUsersOf};
 ghost use Rattle.plans.specs.Refused.{IsOfPasswords};
 
 use crate::error::PlanError;
@@ -14,10 +14,13 @@ use std::rt::Files;
 /// Users, to whom the lines of a file add.
 impl TakesLines for Passwords {
     ghost use Rattle.std.proofs.Common.{⊎_elim, subst, sym, refl};
+    ghost use Rattle.digest.specs.Passwords.{Takes};
     ghost use Rattle.plans.specs.Heard.{IsTable};
     ghost use Rattle.plans.specs.Refused.{IsOfPasswords};
 
     ghost is_sound = { IsTable };
+
+    ghost takes = { Takes };
 
     ghost refuses = { IsOfPasswords };
 
@@ -45,6 +48,7 @@ pub(crate) fn file_users<R: Files + AllocGlobal>(
     path: &Text,
 ) -> Result<Passwords, PlanError>
     ensures users { IfOk result AreUsers }
+    ensures told { IfOk result (λ users. (file : R.File) × AreUsersOf (R.File.remaining file) users) }
     ensures refused { IfErr result (IsOfPasswords path.now) }
 {
     let alloc = rt.alloc();

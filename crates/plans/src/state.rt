@@ -59,17 +59,19 @@ fn add_told(alloc: Global, changes: &mut Vec<Change>, line: FileLine<'_>) -> Res
 /// Changes, to which the lines of a file add, in order.
 impl TakesLines for Vec<Change> {
     ghost use Rattle.std.proofs.Common.{⊎_elim, subst, sym, refl};
-    ghost use Rattle.plans.specs.State.{AreFromLines};
+    ghost use Rattle.plans.specs.State.{Adds, AreFromLines};
     ghost use Rattle.plans.specs.Refused.{IsOfState};
 
     ghost is_sound = { λ changes. AreFromLines changes.items };
+
+    ghost takes = { λ old line new. Adds line old.items new.items };
 
     ghost refuses = { IsOfState };
 
     fn take_line(&mut self, alloc: Global, line: FileLine<'_>) -> Result<(), PlanError>
         requires sound { AreFromLines self.old.items }
         ensures sound { OnOk result (AreFromLines self.new.items) }
-        ensures added { OnOk result (Adds line.entry.text.now self.old.items self.new.items) }
+        ensures taken { OnOk result (Adds line.entry.text.now self.old.items self.new.items) }
         ensures refused { IfErr result (IsOfState line.entry.path.now) }
     {
         add_told(alloc, self, line)?;
