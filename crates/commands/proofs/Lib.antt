@@ -2,6 +2,7 @@ pub mod Ordered
 pub mod FormerNames
 pub mod Begun
 pub mod Unheld
+pub mod GoneOn
 pub mod Started
 pub mod Carried
 pub mod Refused

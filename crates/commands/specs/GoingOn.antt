@@ -2,13 +2,12 @@
 --
 -- Phones know a service by their dialogs (RFC 3261 section 12): by its local tags, which come from its seed and its number of workers, and by its
 -- contact, their remote target. In a dialog no CSeq may stand in front of two NOTIFYs (section 12.2.1.1).
-use Rattle.std.specs.Prelude.{◌≡◌, ◌≢◌, ◌↔◌, ℕ, Bool, true, false, List, [], ◌++◌, Option}
+use Rattle.std.specs.Prelude.{◌≡◌, ◌≢◌, ◌⊎◌, ◌↔◌, ℕ, Bool, true, false, List, [], ◌++◌, length, take, Option, if◌then◌else◌}
 use Rattle.sip_text.specs.declared.address.Addr.{Addr}
 use Rattle.std.specs.List.{list_any, list_all, flat_map}
-use Rattle.package.specs.Content.{Seen}
 use Rattle.notifier_model.specs.declared.event.Out.{Out}
 use Rattle.notifier_model.specs.declared.event.Out.TheVariants as out
-use Rattle.notifier.specs.Held.{Held, seen_by}
+use Rattle.notifier.specs.Standing.{Standing}
 use Rattle.notifier.specs.Awaiting.{is_awaited}
 use Rattle.journal.specs.declared.file.Account.{Account}
 use Rattle.journal.specs.declared.header.Header.{Header}
@@ -18,11 +17,21 @@ use Rattle.arguments.specs.declared.syncing.Syncing.TheVariants as said
 use Rattle.resumption.specs.declared.found.Found.{Found}
 use Rattle.resumption.specs.declared.terms.Terms.{Terms}
 use Rattle.resumption.specs.declared.desks.Worked.{Worked}
+use Rattle.resumption.specs.declared.changed.Wish.{Wish}
+use Rattle.resumption.specs.Accounts.{all_unanswered, all_kept}
+use Rattle.resumption.specs.Changed.{all_carried, all_carried_outs, all_mails, all_shut}
+use Rattle.resumption.specs.Reloaded.{stood}
 use Rattle.resumption.specs.Told.{held_names}
+use Rattle.service.specs.declared.begins.Begins.{Begins}
 use Rattle.service.specs.declared.journaling.Syncing.{Syncing as Kept}
 use Rattle.service.specs.declared.journaling.Syncing.TheVariants as kept
 use Rattle.plans.specs.declared.plan.Plan.{Plan}
 use Rattle.plans.specs.Plans.{reached, setup_of}
+use Rattle.keeper.specs.Told.{Kept as Known}
+use Rattle.keeper.specs.Keeping.{State}
+use Rattle.commands.specs.Anew.{AreNew}
+use Rattle.commands.specs.Begun.{BeginsOver}
+use Rattle.commands.specs.Runs.{all_unheld, kept_also}
 use Rattle.commands.specs.declared.journal_start.Course.{Course}
 use Rattle.commands.specs.declared.journal_start.Course.TheVariants as course
 
@@ -88,20 +97,94 @@ GoesOn names terms is found (course.Renewed lost) =
     IsOwn found.generation.header is × ¬ (IsAsItStood names terms is found) × ((lost ≡ false) ↔ IsComplete found is)
 GoesOn names terms is found course.Ended = ¬ (IsOwn found.generation.header is)
 
--- one of these desks waits for the answer to the NOTIFY with this local tag and this number (RFC 3261 section 17.1.2)
-abbrev pub awaits_any : {P : Type 0} → (P → Seen) → List (Option (Held P)) → List ℕ → ℕ → Bool
-awaits_any seen desks tag number = list_any (λ desk. is_awaited (seen_by seen desk) tag number) desks
+-- one of the desks that stand so waits for the answer to the NOTIFY with this local tag and this number (RFC 3261 section 17.1.2)
+abbrev pub awaits_any : List (Option Standing) → List ℕ → ℕ → Bool
+awaits_any desks tag number = list_any (λ desk. is_awaited desk tag number) desks
 
 -- the same of an out, if it is a NOTIFY
-abbrev pub awaited_by : {P : Type 0} → (P → Seen) → List (Option (Held P)) → Out → Bool
-awaited_by seen desks (out.Answer to octets) = false
-awaited_by seen desks (out.Notify to number terminated tag note octets) = awaits_any seen desks tag number
-awaited_by seen desks (out.Start tag refer_to) = false
+abbrev pub awaited_by : List (Option Standing) → Out → Bool
+awaited_by desks (out.Answer to octets) = false
+awaited_by desks (out.Notify to number terminated tag note octets) = awaits_any desks tag number
+awaited_by desks (out.Start tag refer_to) = false
 
 -- NOTIFYs that earlier files tell of stand in front of those of the newest one, and a desk waits for the answer to each of them. Which files are
 -- read no contract tells
-abbrev pub AreSentFirst : {P : Type 0} → (P → Seen) → List (Option (Held P)) → List Out → List Out → Type 0
-AreSentFirst seen desks newest outs = (earlier : List Out) × (list_all (awaited_by seen desks) earlier ≡ true) × (outs ≡ earlier ++ newest)
+abbrev pub AreSentFirst : List (Option Standing) → List Out → List Out → Type 0
+AreSentFirst desks newest outs = (earlier : List Out) × (list_all (awaited_by desks) earlier ≡ true) × (outs ≡ earlier ++ newest)
+
+-- ---- from what it goes on
+
+-- where the desks stood that wrote what was found, over all that they handled
+abbrev pub stood_then : Found → Bool → List (Option Standing)
+stood_then found stop = stood (worked_then found stop) found.generation.accounts
+
+-- the NOTIFYs of theirs to which nobody had answered
+abbrev pub unanswered_then : Found → Bool → List Out
+unanswered_then found stop = all_unanswered (worked_then found stop) found.generation.accounts
+
+-- what is kept of what they were told, also of mailboxes that lines made since
+abbrev pub kept_then : Plan → Found → List Known
+kept_then plan found = (kept_also (all_unheld plan found) (all_kept found.generation.accounts)).workers
+
+-- desks stand there again, with these NOTIFYs and with what is kept
+pub record IsReplayed (found : Found) (stop : Bool) (desks : List (Option Standing)) (unanswered : List Out) (kept : State) : Type 0 where
+  pub stand : desks ≡ stood_then found stop
+  pub awaited : AreSentFirst (stood_then found stop) (unanswered_then found stop) unanswered
+  pub told : kept ≡ all_kept found.generation.accounts
+
+-- ---- with what it goes on
+
+-- a service is wished as it is planned, and works so
+pub record IsWishOf (plan : Plan) (work : Worked) (wish : Wish) : Type 0 where
+  pub workers : wish.workers ≡ plan.workers
+  pub mailboxes : wish.mailboxes.now ≡ plan.mailboxes.items
+  pub works : wish.work.now ≡ work
+
+-- The desks that stood so are carried on as it is wished, with what is kept of what their workers were told. These NOTIFYs are sent first, unless
+-- the numbers leap, and then the last ones of those subscriptions that end
+pub record IsCarriedOn (wish : Wish) (is_lost : Bool) (former : List (Option Standing)) (unanswered : List Out) (kept : List Known)
+    (desks : List (Option Standing)) (begins : Begins) : Type 0 where
+  pub stand : desks ≡ all_carried wish is_lost former kept
+  pub begins_so : BeginsOver desks ((if is_lost then [] else unanswered) ++ all_carried_outs wish is_lost former kept) begins
+
+-- all their subscriptions end, of which each is told first, and new desks begin with what their workers were told of mailboxes
+pub record IsEnded (wish : Wish) (former : List (Option Standing)) (kept : List Known) (desks : List (Option Standing)) (begins : Begins) : Type 0 where
+  pub stand : AreNew wish (all_mails (take (length former) kept)) desks
+  pub begins_so : BeginsOver desks (all_shut former) begins
+
+-- a service that is planned so and works so starts by this course, where desks stood so and these NOTIFYs are unanswered
+abbrev pub StartsBy : Plan → Worked → Course → List (Option Standing) → List Out → List Known → List (Option Standing) → Begins → Type 0
+StartsBy plan work course.Straight former unanswered kept desks begins = (desks ≡ former) × BeginsOver desks unanswered begins
+StartsBy plan work (course.Renewed is_lost) former unanswered kept desks begins =
+    (wish : Wish) × IsWishOf plan work wish × IsCarriedOn wish is_lost former unanswered kept desks begins
+StartsBy plan work course.Ended former unanswered kept desks begins =
+    (wish : Wish) × IsWishOf plan work wish × IsEnded wish former kept desks begins
+
+-- a service that is planned so and works so goes on from what was found: its desks stand so, and it begins with this beside them
+pub record IsGoneOn (plan : Plan) (work : Worked) (terms : Terms) (header : Header) (found : Found) (desks : List (Option Standing)) (begins : Begins) : Type 0 where
+  pub course : Course
+  pub goes_on : GoesOn plan.mailboxes.items terms header found course
+  pub unanswered : List Out
+  pub awaited : AreSentFirst (stood_then found work.setup.stop) (unanswered_then found work.setup.stop) unanswered
+  pub starts : StartsBy plan work course (stood_then found work.setup.stop) unanswered (kept_then plan found) desks begins
+
+-- it begins with new desks
+pub record IsBegunAnew (plan : Plan) (work : Worked) (desks : List (Option Standing)) (begins : Begins) : Type 0 where
+  pub wish : Wish
+  pub is_wish : IsWishOf plan work wish
+  pub stand : AreNew wish plan.changes.items desks
+  pub begins_so : BeginsOver desks [] begins
+
+-- it goes on from what was found in its folder. Which files stand there, and what they hold, no contract tells
+pub record IsFromJournal (plan : Plan) (local : Addr) (desks : List (Option Standing)) (begins : Begins) : Type 0 where
+  pub header : Header
+  pub is_header : IsHeaderOf plan local header
+  pub found : Found
+  pub gone_on : IsGoneOn plan (worked_here plan local) (terms_of plan) header found desks begins
+
+-- a service with a journal goes on from that, or begins with new desks
+abbrev pub StartsThere : Plan → Addr → List (Option Standing) → Begins → Type 0
+StartsThere plan local desks begins = IsFromJournal plan local desks begins ⊎ IsBegunAnew plan (worked_here plan local) desks begins
 
 -- ---- how its journal is kept
 

@@ -3,6 +3,7 @@ pub mod Reloading
 pub mod Runs
 pub mod GoingOn
 pub mod Begun
+pub mod Anew
 pub mod Feeding
 pub mod Refused
 pub mod Laws

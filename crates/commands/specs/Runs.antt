@@ -3,7 +3,7 @@
 -- No file of the operator names such a mailbox. It stands in the journal: in what each worker was told. Pages of a DUMP that began in one run go
 -- on in the next one, so the order of its mailboxes goes on too.
 use Rattle.std.specs.Prelude.{◌≡◌, ℕ, true, not, List, [], ◌∷◌, ◌++◌, Option, Some, None, filter, map, if◌then◌else◌}
-use Rattle.std.specs.List.{flat_map}
+use Rattle.std.specs.List.{flat_map, zip}
 use Rattle.control_lines.specs.Told.{is_held}
 use Rattle.package.specs.declared.change.Change.{Change}
 use Rattle.package.specs.declared.change.Change.TheVariants as change
@@ -13,11 +13,15 @@ use Rattle.notifier_model.specs.declared.event.Event.TheVariants as event
 use Rattle.journal.specs.declared.file.Account.{Account}
 use Rattle.journal.specs.declared.header.Header.{Header}
 use Rattle.journal.specs.declared.record.Told.{Told}
+use Rattle.keeper.specs.Told.{Kept, told_of}
+use Rattle.keeper.specs.Keeping.{State}
+use Rattle.keeper.specs.Keeping as keeping
 use Rattle.resumption.specs.declared.found.Found.{Found}
 use Rattle.resumption.specs.Accounts.{events_since}
 use Rattle.resumption.specs.Told.{held_names, mails}
 use Rattle.commands.specs.declared.journal_opened.Opened.{Opened}
 use Rattle.plans.specs.declared.plan.Plan.{Plan}
+use Rattle.plans.specs.Plans.{IsPlan, adopted, mailboxes_told}
 
 -- ---- of which mailboxes lines told (RFC 3842 section 5.2)
 
@@ -79,6 +83,15 @@ all_unheld plan found = if plan.choices.any_mailbox then map unheld_since found.
 abbrev pub told_also : Told → List MailChange → Told
 told_also told changes = record told { mail = told.mail ++ changes }
 
+-- the same of each worker with changes of its own
+abbrev pub all_told_also : List (List MailChange) → List Kept → List Told
+all_told_also unheld kept = map (λ (n : List MailChange × Kept). told_also (told_of n.1) n.0) (zip unheld kept)
+
+-- what is kept of that; as it was, where lines make no mailboxes
+abbrev pub kept_also : List (List MailChange) → State → State
+kept_also [] keeper = keeper
+kept_also (changes ∷ unheld) keeper = keeping.first (all_told_also (changes ∷ unheld) keeper.workers)
+
 -- ---- in which order
 
 -- first those of the run before that are still there, in its order, and then those that are new, in theirs
@@ -108,6 +121,22 @@ header_there (Some found) = Some found.1.generation.header
 abbrev pub header_found : Option Opened → Option Header
 header_found None = None
 header_found (Some opened) = header_there opened.found
+
+-- the plan with the seed and the number of workers of this journal, where the words ask for none
+abbrev pub adopted_from : Option Header → Plan → Plan
+adopted_from None plan = plan
+adopted_from (Some header) plan = adopted header.seed header.workers plan
+
+-- The plan of a run: this one, with the mailboxes of which lines told, and with what it adopts from the journal
+pub record IsRunOf (plan : Plan) (opened : Option Opened) (former : Option (List (List ℕ))) (run : Plan) : Type 0 where
+  pub mailboxes : run.mailboxes.items ≡ mailboxes_told plan (told_mailboxes plan opened former)
+  pub others : run ≡ adopted_from (header_found opened) (record plan { mailboxes = run.mailboxes })
+
+-- of a plan that these words ask for
+pub record IsRunBy (words : List (List ℕ)) (opened : Option Opened) (former : Option (List (List ℕ))) (run : Plan) : Type 0 where
+  pub plan : Plan
+  pub is_plan : IsPlan words plan
+  pub is_run : IsRunOf plan opened former run
 
 -- ---- what a run leaves to the next
 

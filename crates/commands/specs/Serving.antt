@@ -1,10 +1,11 @@
 -- A service that an operator runs, from its words to its end.
-use Rattle.std.specs.Prelude.{◌≡◌, ◌≢◌, ◌<◌, ℕ, true, false, List, [], get_or, Option, Some, None, Vec}
+use Rattle.std.specs.Prelude.{◌≡◌, ◌≢◌, ◌⊎◌, ◌<◌, ℕ, true, false, List, [], get_or, unwrap_or, Option, Some, None, Vec}
 use Rattle.std.specs.declared.alloc.Global.{Global}
 use Rattle.package.specs.Content.{Seen}
 use Rattle.package.specs.declared.change.Change.{Change}
 use Rattle.notifier.specs.Held.{Held, seen_by}
-use Rattle.notifier.specs.Standing.{first_standing}
+use Rattle.notifier.specs.Standing.{Standing, first_standing}
+use Rattle.crew.specs.Desks.{nowhere}
 use Rattle.service.specs.declared.begins.Begins.{Begins}
 use Rattle.sip_text.specs.declared.address.Addr.{Addr}
 use Rattle.transport.specs.Devices.{SinkSeen}
@@ -16,7 +17,7 @@ use Rattle.udp_command.specs.UdpEnds.{all_closed, Tells}
 use Rattle.service.specs.declared.running.ServiceEnd.{ServiceEnd}
 use Rattle.service.specs.declared.running.ServiceWork.{ServiceWork}
 use Rattle.service.specs.Listening.{IsDeaf}
-use Rattle.service.specs.Running.{Beginning, Opening, Runs, anew, AreFaults, is_faulty, opening}
+use Rattle.service.specs.Running.{Beginning, Opening, Runs, anew, beginning, AreFaults, is_faulty, opening}
 use Rattle.transactions.specs.declared.allowance.Allowance.{Allowance}
 use Rattle.admission.specs.declared.judging.Admission.{Admission}
 use Rattle.arguments.specs.declared.choices.Choices.{Choices}
@@ -25,6 +26,7 @@ use Rattle.transport.specs.Sockets.{misses}
 use Rattle.plans.specs.declared.plan.Plan.{Plan}
 use Rattle.commands.specs.declared.sockets.Sockets.{Sockets}
 use Rattle.plans.specs.Plans.{IsPlan, most_mailboxes, setup_of}
+use Rattle.commands.specs.GoingOn.{IsFromJournal}
 
 -- a socket is here, where port 0 stands for a port of the machine's choice
 pub record IsAt (asked local : Addr) : Type 0 where
@@ -64,11 +66,18 @@ opening_of plan = record { mailboxes = plan.mailboxes.items; changes = plan.chan
 abbrev pub allowance_of : Plan → Allowance
 allowance_of plan = record { all = plan.choices.numbers.repeats; per_tag = plan.choices.numbers.per_subscription }
 
--- A service without a journal has new desks, and nothing of its begin is left of a former one. With one it may go on from that: no contract tells
--- what a file holds.
+-- it goes on from its journal: its workers begin with desks that stand so
+pub record GoesOnFrom (plan : Plan) (local : Addr) (b : Beginning) : Type 0 where
+  pub desks : List (Option Standing)
+  pub begins : Begins
+  pub from_journal : IsFromJournal plan local desks begins
+  pub begins_so : b ≡ beginning (λ w. unwrap_or (get_or desks w None) nowhere) (allowance_of plan) begins
+
+-- A service without a journal has new desks, and nothing of its begin is left of a former one. One with a journal begins so too, or goes on from
+-- that: no contract tells what its folder holds
 abbrev pub BeginsBy : Option (List ℕ) → Plan → Addr → Beginning → Type 0
 BeginsBy None plan local b = b ≡ anew (start_at plan local) (allowance_of plan)
-BeginsBy (Some folder) plan local b = Unit {0}
+BeginsBy (Some folder) plan local b = (b ≡ anew (start_at plan local) (allowance_of plan)) ⊎ GoesOnFrom plan local b
 
 abbrev pub BeginsAs : Plan → Addr → Beginning → Type 0
 BeginsAs plan local b = BeginsBy plan.journal plan local b

@@ -1,11 +1,12 @@
 //! How a service with a journal begins: its desks go on from what stands in its folder. [`replayed`] makes them of its files, and [`volume`] has
 //! the file in which the journal goes on.
 
-ghost use Rattle.std.specs.Prelude.{◌<◌, ◌≤◌, ◌≡◌, ◌↔◌, ◌++◌, false, None, IsTrue, IfOk, IfErr, OnOk, vec_len};
+ghost use Rattle.std.specs.Prelude.{◌<◌, ◌≤◌, ◌≡◌, ◌↔◌, ◌⊎◌, ◌++◌, false, map, None, IsTrue, IfOk, IfErr, OnOk, vec_len};
 ghost use Rattle.arguments.specs.Wanted.{Gives};
+ghost use Rattle.notifier.specs.Held.{seen_by};
 ghost use Rattle.resumption.specs.Told.{held_names};
 ghost use Rattle.commands.specs.GoingOn as spec;
-ghost use Rattle.commands.specs.GoingOn.{GoesOn, IsComplete, IsHeaderOf, IsOwn, kept_as};
+ghost use Rattle.commands.specs.GoingOn.{GoesOn, IsBegunAnew, IsComplete, IsGoneOn, IsHeaderOf, IsOwn, StartsThere, kept_as};
 ghost use Rattle.commands.specs.Refused.{IsOther};
 ghost use Rattle.commands.specs.Serving.{BeginsAnew};
 
@@ -225,6 +226,8 @@ where
     requires callable { M.IsAlwaysCallable make.now }
     requires gives { Gives P.seen (M.post make.now) }
     requires some { 0 < order.plan.now.workers }
+    ensures { IfOk result (λ s. IsGoneOn order.entry.plan.now order.entry.work order.entry.terms order.entry.header from.1
+        (map (seen_by P.seen) s.desks.items) s.begins) }
 {
     let alloc = rt.alloc();
     let (number, found) = from;
@@ -239,20 +242,21 @@ where
     let replayed = replay_found(rt, past, found, make)?;
     let is_json = order.plan.choices.log_json;
     say_journal(rt, is_json, &opened.folder.path, told(course));
+    let wish = order.wish();
     match course {
         Course::Straight => go_straight(rt, order, opened, newest, replayed),
         Course::Renewed { is_lost } => {
-            let replayed = with_unheld(alloc, replayed, unheld)?;
-            let renewed = renew(alloc, &order.wish(), replayed, is_lost, make)?;
+            let again = with_unheld(alloc, replayed, unheld)?;
+            let renewed = renew(alloc, &wish, again, is_lost, make)?;
             // Behind a leap nothing of an older file is sent again.
             let kept = if is_lost { 0 } else { number };
             let spare = spare_numbers(alloc, opened.numbers.as_slice(), kept)?;
             begin_file(rt, order, opened, renewed, spare.as_slice())
         }
         Course::Ended => {
-            let replayed = with_unheld(alloc, replayed, unheld)?;
-            let renewed = end_and_begin(alloc, &order.wish(), replayed, make)?;
-            begin_file(rt, order, opened, renewed, opened.numbers.as_slice())
+            let last = with_unheld(alloc, replayed, unheld)?;
+            let anew = end_and_begin(alloc, &wish, last, make)?;
+            begin_file(rt, order, opened, anew, opened.numbers.as_slice())
         }
     }
 }
@@ -271,9 +275,11 @@ where
     requires callable { M.IsAlwaysCallable make.now }
     requires gives { Gives P.seen (M.post make.now) }
     requires some { 0 < order.plan.now.workers }
+    ensures { IfOk result (λ s. IsBegunAnew order.entry.plan.now order.entry.work (map (seen_by P.seen) s.desks.items) s.begins) }
 {
     let changes = order.plan.changes.as_slice();
-    let renewed = begin_desks(rt.alloc(), &order.wish(), changes, make)?;
+    let wish = order.wish();
+    let renewed = begin_desks(rt.alloc(), &wish, changes, make)?;
     opened.folder.put_aside(rt, opened.numbers.as_slice())?;
     begin_file(rt, order, opened, renewed, &[])
 }
@@ -337,6 +343,7 @@ where
     requires callable { M.IsAlwaysCallable make.now }
     requires gives { Gives P.seen (M.post make.now) }
     requires some { 0 < plan.now.workers }
+    ensures { IfOk result (λ s. StartsThere plan.now local (map (seen_by P.seen) s.desks.items) s.begins) }
 {
     let order = new_order(rt, plan, local)?;
     match opened.found.take() {
@@ -360,6 +367,7 @@ where
     requires callable { M.IsAlwaysCallable make.now }
     requires gives { Gives P.seen (M.post make.now) }
     requires some { 0 < plan.now.workers }
+    ensures there { IfOk result (λ s. StartsThere plan.now local (map (seen_by P.seen) s.desks.items) s.begins) }
     ensures refused { IfErr result IsOther }
 {
     let is_json = plan.choices.log_json;
@@ -395,6 +403,8 @@ where
     requires some { 0 < plan.now.workers }
     requires few { plan.now.workers ≤ 256 }
     ensures anew { IfOk result (λ s. plan.now.journal ≡ None → BeginsAnew P.seen plan.now local s.desks.items s.begins s.changes) }
+    ensures starts { IfOk result (λ s. StartsThere plan.now local (map (seen_by P.seen) s.desks.items) s.begins
+        ⊎ BeginsAnew P.seen plan.now local s.desks.items s.begins s.changes) }
     ensures refused { IfErr result IsOther }
 {
     match (&plan.journal, opened) {
@@ -421,6 +431,8 @@ where
     requires few { plan.now.workers ≤ 256 }
     ensures workers { IfOk result (λ s. vec_len s.desks ≡ plan.now.workers) }
     ensures anew { IfOk result (λ s. plan.now.journal ≡ None → BeginsAnew P.seen plan.now local s.desks.items s.begins s.changes) }
+    ensures starts { IfOk result (λ s. StartsThere plan.now local (map (seen_by P.seen) s.desks.items) s.begins
+        ⊎ BeginsAnew P.seen plan.now local s.desks.items s.begins s.changes) }
     ensures refused { IfErr result IsOther }
 {
     let started = begin_as_planned(rt, plan, local, opened, make)?;

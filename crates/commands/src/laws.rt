@@ -3,7 +3,8 @@
 //! `crew::laws` and `feeds::laws` ask of a crew that its workers' starts are such as `AreStarts` says, and that it ran from its start to its
 //! end. [`the_starts_of_a_plan`] and [`the_starts_of_a_call`] say the first of each plan and each call, and the contracts of
 //! [`crate::serve_words`] and [`udp_command::udp::run`] promise the second. So [`serve_tells_lives`] and [`udp_tells_lives`] have no other premise
-//! than what these promise. Where a service keeps a journal no contract says with which desks it begins, so no law says what it tells.
+//! than what these promise. A service with a journal may go on from that (`Serves`): what its subscriptions were told before, another run told, so
+//! no law here says it.
 ghost use Rattle.commands.specs.Laws.{ServeLaw, StartsOfACallLaw, StartsOfAPlanLaw, UdpLaw};
 
 use std::io::Write;

@@ -1,7 +1,8 @@
 //! `notifyd serve`.
-ghost use Rattle.std.specs.Prelude.{◌≡◌, ◌≢◌, ◌<◌, ◌≤◌, ◌⊎◌, ℕ, List, None, true, false, get_or, vec_len, IfOk, IfErr, IfSome, IsSome, OnOk};
+ghost use Rattle.std.specs.Prelude.{◌≡◌, ◌≢◌, ◌<◌, ◌≤◌, ◌⊎◌, ℕ, List, None, true, false, get_or, vec_len, option_map, map, IfOk, IfErr, IfSome, IsSome, OnOk};
 ghost use Rattle.crew.specs.Desks.{standing_of};
 ghost use Rattle.arguments.specs.Wanted.{Gives};
+ghost use Rattle.notifier.specs.Held.{seen_by};
 ghost use Rattle.transport.specs.Sockets.{misses};
 ghost use Rattle.service.specs.Running.{AreFaults, beginning, is_faulty, opening};
 ghost use Rattle.udp_command.specs.UdpEnds as ends;
@@ -9,6 +10,9 @@ ghost use Rattle.udp_command.specs.UdpEnds.{Tells};
 ghost use Rattle.commands.specs.Refused.{AskForText, IsOther, IsRefusal, IsStatus, status_after, status_of};
 ghost use Rattle.commands.specs.declared.error.ServeError.TheVariants as error;
 ghost use Rattle.plans.specs.Plans.{IsPlan};
+ghost use Rattle.commands.specs.GoingOn.{StartsThere};
+ghost use Rattle.commands.specs.Runs as runs;
+ghost use Rattle.commands.specs.Runs.{IsRunBy, IsRunOf};
 ghost use Rattle.commands.specs.Reloading.{IsCarried, IsRereading};
 ghost use Rattle.commands.specs.Serving.{AreOpen, BeginsAnew, CanEndWell, IsWork, Ran, Serves, new_sink};
 
@@ -26,6 +30,7 @@ use crate::prompt::{Patience, Prompt};
 use crate::reloading::{Carried, Reloader, all_mailboxes, answer_reload, first_mailboxes};
 use crate::sockets::{Sockets, Standby, find};
 use arguments::{ExitStatus, Wanted};
+use journal::Header;
 use log_lines::Course;
 use notifier::Desk;
 use package::{Change, Package};
@@ -113,6 +118,32 @@ where
     }
 }
 
+/// The plan with seed and number of workers of the journal that begins so, if there is one, where the words ask for none.
+fn adopted_from(plan: Plan, header: Option<&Header>) -> Plan
+    ensures adopted { result ≡ runs.adopted_from (option_map (λ h. h.now) header.entry) plan }
+    ensures plan { (words : List (List ℕ)) → IsPlan words plan → IsPlan words result }
+{
+    match header {
+        Some(header) => adopted(plan, header.seed, header.workers),
+        None => plan,
+    }
+}
+
+/// The plan of a run with this journal: also with the mailboxes of which lines told, in the order of the former run.
+fn run_plan(
+    alloc: Global,
+    plan: Plan,
+    opened: &Option<Opened>,
+    former: Option<Vec<Text>>,
+) -> Result<Plan, NoMemory>
+    ensures run { IfOk result (IsRunOf plan opened.now (option_map (λ f. f.items) former)) }
+    ensures plan { (words : List (List ℕ)) → IsPlan words plan → IfOk result (IsPlan words) }
+{
+    let told = told_mailboxes(alloc, &plan, opened, former)?;
+    let plan = with_told(alloc, plan, told)?;
+    Ok(adopted_from(plan, found_header(opened)))
+}
+
 /// What the words ask for, as it was read last, if it was, and the folder of the journal that they name, with what stands there. Seed and
 /// number of workers are then those of the journal, where the words ask for none, and the mailboxes of which lines told are there too, where
 /// lines make mailboxes, in the order of the former run.
@@ -128,19 +159,13 @@ where
     R: Threads + Files<File = File> + RandomSource + AllocGlobal + Clone + Drop,
     requires known { IfSome known (IsPlan words.now) }
     ensures plan { IfOk result (λ r. IsPlan words.now r.0) }
+    ensures run { IfOk result (λ r. IsRunBy words.now r.1 (option_map (λ f. f.items) former) r.0) }
     ensures refused { IfErr result (IsRefusal words.now) }
 {
     let plan = known_plan(rt, words, known)?;
     let opened = open_journal(rt, &plan, held)?;
-    let told = told_mailboxes(rt.alloc(), &plan, &opened, former)?;
-    let plan = with_told(rt.alloc(), plan, told)?;
-    match found_header(&opened) {
-        Some(header) => {
-            let plan = adopted(plan, header.seed, header.workers);
-            Ok((plan, opened))
-        }
-        None => Ok((plan, opened)),
-    }
+    let plan = run_plan(rt.alloc(), plan, &opened, former)?;
+    Ok((plan, opened))
 }
 
 /// What a service is run with, beside its plan.
@@ -192,6 +217,8 @@ where
     ensures workers { IfOk result (λ f. vec_len f.desks ≡ plan.now.workers) }
     ensures anew { IfOk result (λ f. plan.now.journal ≡ None
         → BeginsAnew P.seen plan.now f.sockets.sip.local f.desks.items f.begins f.changes) }
+    ensures starts { IfOk result (λ f. StartsThere plan.now f.sockets.sip.local (map (seen_by P.seen) f.desks.items) f.begins
+        ⊎ BeginsAnew P.seen plan.now f.sockets.sip.local f.desks.items f.begins f.changes) }
     ensures refused { IfErr result IsOther }
 {
     let sockets = open_sockets(rt, plan, standby)?;
@@ -465,8 +492,8 @@ where
     // What `make` answers is a new package of those that are wanted.
     requires callable { M.IsAlwaysCallable make.now }
     requires gives { Gives P.seen (M.post make.now) }
-    // It ran as the words ask for it: whose datagrams its ports sent, what its workers did with them, what became of their outs, and
-    // which faults of its sockets and of the clock it tells.
+    // It ran as the words ask for it: with which desks it began, whose datagrams its ports sent, what its workers did with them, what became of
+    // their outs, and which faults of its sockets and of the clock it tells. With a journal it went on from what some file says, or began anew.
     ensures served { IfOk result (λ s. Serves F.contents words.now (new_sink writer) s.sink s.outcome) }
     // A cause that is in the words stands in them.
     ensures refused { IfErr result (IsRefusal words.now) }

@@ -1,13 +1,17 @@
 //! What goes on from the files of a journal: its desks, the NOTIFYs of earlier files that nobody answered, and what lines told of mailboxes
 //! that no desk has.
 ghost use Rattle.std.specs.Prelude.{◌≡◌, ◌++◌, filter, map, string_bytes, IfOk, OnOk};
+ghost use Rattle.std.specs.List.{list_any};
 ghost use Rattle.arguments.specs.Wanted.{Gives};
 ghost use Rattle.control_lines.specs.Told.{is_held};
+ghost use Rattle.notifier.specs.Awaiting.{is_awaited as waits_for};
+ghost use Rattle.notifier.specs.Held.{seen_by};
 ghost use Rattle.plans.specs.Plans.{each_once};
 ghost use Rattle.resumption.specs.Told as told;
-ghost use Rattle.commands.specs.GoingOn.{AreSentFirst, awaited_by, awaits_any};
+ghost use Rattle.commands.specs.GoingOn.{AreSentFirst, IsReplayed, awaited_by};
 ghost use Rattle.commands.specs.Runs as runs;
 
+use crate::journal_new::worker_count;
 use crate::journal_opened::{Opened, read_file, told_since};
 use crate::journal_start::volume::{Newest, last_second};
 use crate::journal_start::{Order, add_held, is_own, may_miss};
@@ -109,14 +113,15 @@ fn count_awaited<P: Package>(alloc: Global, desks: &[Desk<P>]) -> Result<usize, 
 
 /// Whether one of these desks waits for the answer to the NOTIFY with this local tag and this number.
 fn any_awaits<P: Package>(desks: &[Desk<P>], tag: &str, number: u32) -> bool
-    ensures { result ≡ awaits_any P.seen desks.now tag.now number }
+    ensures { result ≡ list_any (λ desk. waits_for (seen_by P.seen desk) tag.now number) desks.now }
 {
     desks.iter().any(|desk| desk.awaits(tag, number))
 }
 
 /// Whether one of these desks waits for the answer to this NOTIFY.
+#[tactic(auto, using(crate::proofs::GoneOn::awaits_so))]
 fn is_awaited<P: Package>(desks: &[Desk<P>], out: &Out) -> bool
-    ensures { result ≡ awaited_by P.seen desks.now out.now }
+    ensures { result ≡ awaited_by (map (seen_by P.seen) desks.now) out.now }
 {
     match out {
         Out::Notify { tag, number, .. } => any_awaits(desks, tag.as_str(), *number),
@@ -130,7 +135,7 @@ fn awaited<P: Package>(
     desks: &[Desk<P>],
     outs: Vec<Out>,
 ) -> Result<Vec<Out>, NoMemory>
-    ensures { IfOk result (λ awaited. awaited.items ≡ filter (awaited_by P.seen desks.now) outs.items) }
+    ensures { IfOk result (λ awaited. awaited.items ≡ filter (awaited_by (map (seen_by P.seen) desks.now)) outs.items) }
 {
     let mut awaited = Vec::new(alloc);
     for out in outs {
@@ -157,7 +162,7 @@ where
     M: Fn(Wanted) -> Result<P, NoMemory>,
     requires callable { M.IsAlwaysCallable make.now }
     requires gives { Gives P.seen (M.post make.now) }
-    ensures { IfOk result (λ outs. AreSentFirst P.seen desks.now newest.items outs.items) }
+    ensures { IfOk result (λ outs. AreSentFirst (map (seen_by P.seen) desks.now) newest.items outs.items) }
 {
     let clock = last_second(desks);
     let numbers = past.opened.numbers.as_slice();
@@ -203,6 +208,8 @@ where
     M: Fn(Wanted) -> Result<P, NoMemory>,
     requires callable { M.IsAlwaysCallable make.now }
     requires gives { Gives P.seen (M.post make.now) }
+    ensures { IfOk result (λ r. IsReplayed found past.entry.order.now.work.setup.stop (map (seen_by P.seen) r.desks.items)
+        r.unanswered.items r.keeper) }
 {
     let worked = past.order.worked(&found);
     let Found { generation, .. } = found;
@@ -310,23 +317,54 @@ fn told_also(told: Told, changes: Vec<MailChange>) -> Result<Told, NoMemory>
     })
 }
 
+/// What these workers were told, each with these changes of its own behind it.
+fn all_told_also(
+    alloc: Global,
+    keeper: &Keeper,
+    unheld: Vec<Vec<MailChange>>,
+) -> Result<Vec<Told>, Halt>
+    ensures { IfOk result (λ all. all.items ≡ runs.all_told_also (map (λ u. u.items) unheld.items) keeper.now.workers) }
+{
+    let mut all = Vec::new(alloc);
+    for changes in unheld {
+        let worker = worker_count(all.len())?;
+        let told = keeper.told(worker)?;
+        all.push(told_also(told, changes)?)?;
+    }
+    Ok(all)
+}
+
+/// What was told to workers, each with these changes of its own, if there are some, of mailboxes that it didn't hold.
+fn kept_also(alloc: Global, keeper: Keeper, unheld: Vec<Vec<MailChange>>) -> Result<Keeper, Halt>
+    ensures { IfOk result (λ kept. kept ≡ runs.kept_also (map (λ u. u.items) unheld.items) keeper) }
+{
+    if unheld.is_empty() {
+        return Ok(keeper);
+    }
+    let told = all_told_also(alloc, &keeper, unheld)?;
+    let kept = Keeper::new(alloc, told)?;
+    Ok(kept)
+}
+
 /// Desks that go on, whose workers were told these changes too, of mailboxes that they didn't hold.
 pub(crate) fn with_unheld<P: Package>(
     alloc: Global,
     replayed: Replayed<P>,
     unheld: Vec<Vec<MailChange>>,
-) -> Result<Replayed<P>, Halt> {
-    if unheld.is_empty() {
-        return Ok(replayed);
-    }
-    let mut replayed = replayed;
-    let mut all = Vec::new(alloc);
-    let mut worker = 0u32;
-    for changes in unheld {
-        let told = replayed.keeper.told(worker)?;
-        all.push(told_also(told, changes)?)?;
-        worker = worker.saturating_add(1);
-    }
-    replayed.keeper = Keeper::new(alloc, all)?;
-    Ok(replayed)
+) -> Result<Replayed<P>, Halt>
+    ensures desks { IfOk result (λ r. r.desks ≡ replayed.desks) }
+    ensures unanswered { IfOk result (λ r. r.unanswered ≡ replayed.unanswered) }
+    ensures kept { IfOk result (λ r. r.keeper ≡ runs.kept_also (map (λ u. u.items) unheld.items) replayed.keeper) }
+{
+    let Replayed {
+        desks,
+        unanswered,
+        keeper,
+    } = replayed;
+    let keeper = kept_also(alloc, keeper, unheld)?;
+    Ok(Replayed {
+        desks,
+        unanswered,
+        keeper,
+    })
 }

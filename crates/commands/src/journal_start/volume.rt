@@ -1,6 +1,7 @@
 //! The file of its journal in which a service goes on: a new one with the books of its desks, or the newest one.
 ghost use Rattle.std.specs.Prelude.{◌≡◌, ◌++◌, filter, map, nat_lt, IfOk, OnOk};
-ghost use Rattle.commands.specs.Begun.{AreLiving, IsLastSecond, living_row};
+ghost use Rattle.notifier.specs.Held.{seen_by};
+ghost use Rattle.commands.specs.Begun.{AreLiving, BeginsOver, IsLastSecond, living_row};
 
 use crate::journal_opened::Opened;
 use crate::journal_start::{Order, Started};
@@ -39,7 +40,7 @@ fn add_living(living: &mut Vec<Living>, rows: Vec<Row>) -> Result<(), NoMemory>
 
 /// The last second of which one of these desks was told.
 pub(crate) fn last_second<P: Package>(desks: &[Desk<P>]) -> u64
-    ensures { IsLastSecond P.seen desks.now result }
+    ensures { IsLastSecond (map (seen_by P.seen) desks.now) result }
 {
     let mut second = 0u64;
     for desk in desks {
@@ -51,8 +52,8 @@ pub(crate) fn last_second<P: Package>(desks: &[Desk<P>]) -> u64
 /// What a service begins with beside these desks, where these NOTIFYs are sent first.
 fn begin_with<P: Package>(alloc: Global, desks: &[Desk<P>], first: Vec<Out>) -> Result<Begins, Halt>
     ensures unanswered { IfOk result (λ b. b.unanswered.items ≡ first.items) }
-    ensures tick { IfOk result (λ b. IsLastSecond P.seen desks.now b.tick) }
-    ensures living { IfOk result (λ b. AreLiving P.seen desks.now b.living.items) }
+    ensures tick { IfOk result (λ b. IsLastSecond (map (seen_by P.seen) desks.now) b.tick) }
+    ensures living { IfOk result (λ b. AreLiving (map (seen_by P.seen) desks.now) b.living.items) }
 {
     let mut begins = Begins::anew(alloc);
     begins.unanswered = first;
@@ -143,6 +144,8 @@ pub(crate) fn begin_file<R, P>(
 where
     R: Files<File = File> + AllocGlobal,
     P: Package,
+    ensures desks { IfOk result (λ s. s.desks ≡ renewed.desks) }
+    ensures begins { IfOk result (λ s. BeginsOver (map (seen_by P.seen) renewed.desks.items) renewed.first.items s.begins) }
 {
     let alloc = rt.alloc();
     let Renewed { desks, first, told } = renewed;
@@ -206,6 +209,8 @@ pub(crate) fn go_straight<R, P>(
 where
     R: Files<File = File> + AllocGlobal,
     P: Package,
+    ensures desks { IfOk result (λ s. s.desks ≡ replayed.desks) }
+    ensures begins { IfOk result (λ s. BeginsOver (map (seen_by P.seen) replayed.desks.items) replayed.unanswered.items s.begins) }
 {
     let alloc = rt.alloc();
     let Replayed {

@@ -1,5 +1,7 @@
 use Rattle.commands.proofs.program.plan_with_journal.Goals as goal
 
-pub returns-in-Some-clause-plan : goal.returns-in-Some-clause-plan
-returns-in-Some-clause-plan g c =
-    let words = c.args.words.now in c.adopted-plan.ensures.plan words (c.in_ok-plan-2.ensures.plan words c.in_ok-plan.ensures.plan)
+pub returns-clause-plan : goal.returns-clause-plan
+returns-clause-plan g c = c.in_ok-plan-2.ensures.plan c.args.words.now c.in_ok-plan.ensures.plan
+
+pub returns-clause-run : goal.returns-clause-run
+returns-clause-run g c = record { plan = c.in_ok-plan.plan; is_plan = c.in_ok-plan.ensures.plan; is_run = c.in_ok-plan-2.ensures.run }

@@ -1,4 +1,4 @@
-use Rattle.std.proofs.Common.{None, subst, arith}
+use Rattle.std.proofs.Common.{◌≡◌, None, length, subst, arith}
 use Rattle.admission.specs.declared.judging.Admission.{Admission}
 use Rattle.service.specs.Running.{opening}
 use Rattle.service.proofs.Faults.{faults_new}
@@ -20,9 +20,11 @@ returns-clause-served g c =
     let work = c.new_work-work.result.0 in let is_work = c.new_work-work.ensures.work in
     let before = new_sink c.args.writer in let served = c.in_ok-served.served in
     let ran = rw (c.new-sink.ensures, c.new_work-work.ensures.begins) at c.in_ok-served.ensures.ran in
+    let size = fitted.desks.ok.0 in let workers = c.in_ok-desks.ensures.workers in
+    let many : length fitted.desks.items ≡ plan.workers = omega (arith, size, workers) in
     let start =
     begun g.P.Package.seen plan local fitted.desks.items work.repeats fitted.begins fitted.changes g.F.Write.contents plan.journal _
-    c.in_ok-desks.ensures.workers is_work.repeats c.in_ok-desks.ensures.anew (ran None) in
+    c.in_ok-desks.ensures.workers many is_work.repeats c.in_ok-desks.ensures.anew c.in_ok-desks.ensures.starts (ran None) in
     let A : Admission → Type 0 = λ a. Ran g.F.Write.contents start.begins plan.workers (opening work.desk) a before served.sink served.outcome in record {
       plan = plan;
       is_plan = c.in_ok-plan.ensures.plan;

@@ -1,7 +1,7 @@
-use Rattle.std.proofs.Common.{◌≡◌, Bool, true, false, cond, ◌&&◌, List, [], ◌∷◌, ◌++◌, Option, filter, refl, sym, ap, ◌∙◌, append_assoc}
+use Rattle.std.proofs.Common.{◌≡◌, Bool, true, false, cond, ◌&&◌, List, [], ◌∷◌, ◌++◌, Option, filter, map, refl, sym, ap, ◌∙◌, append_assoc}
 use Rattle.std.specs.List.{list_all}
-use Rattle.package.specs.Content.{Seen}
-use Rattle.notifier.specs.Held.{Held}
+use Rattle.notifier.specs.Held.{seen_by}
+use Rattle.notifier.specs.Standing.{Standing}
 use Rattle.notifier_model.specs.declared.event.Out.{Out}
 use Rattle.commands.specs.GoingOn.{AreSentFirst, awaited_by}
 use Rattle.commands.proofs.journal_start.replayed.all_awaited.Goals as goal
@@ -13,11 +13,11 @@ all_pass p (x ∷ xs) more all = step (p x) refl (all_pass p xs more all) where
   step true is rest = ap (λ b. b && list_all p (filter p xs ++ more)) is ∙ rest
   step false is rest = rest
 
-sent_more : {P : Type 0} (seen : P → Seen) (desks : List (Option (Held P))) (newest outs earlier : List Out) → AreSentFirst seen desks newest outs
-    → AreSentFirst seen desks newest (filter (awaited_by seen desks) earlier ++ outs)
-sent_more seen desks newest outs earlier are =
-    let more = filter (awaited_by seen desks) earlier in
-    (more ++ are.0, all_pass (awaited_by seen desks) earlier are.0 are.1, ap (λ (l : List Out). more ++ l) are.2 ∙ sym (append_assoc more are.0 newest))
+sent_more : (desks : List (Option Standing)) (newest outs earlier : List Out) → AreSentFirst desks newest outs
+    → AreSentFirst desks newest (filter (awaited_by desks) earlier ++ outs)
+sent_more desks newest outs earlier are =
+    let more = filter (awaited_by desks) earlier in
+    (more ++ are.0, all_pass (awaited_by desks) earlier are.0 are.1, ap (λ (l : List Out). more ++ l) are.2 ∙ sym (append_assoc more are.0 newest))
 
 pub loop-place-init : goal.loop-place-init
 loop-place-init g c = ([], refl, refl)
@@ -25,4 +25,4 @@ loop-place-init g c = ([], refl, refl)
 pub loop-place-preserved : goal.loop-place-preserved
 loop-place-preserved g c =
     rw (c.in_ok-append.ensures.items, c.in_ok-first.ensures)
-    (sent_more g.P.Package.seen c.args.desks.now c.args.newest.items c.loop-place.outs.items c.in-Some.earlier.outs.items c.loop-place.invariant)
+    (sent_more (map (seen_by g.P.Package.seen) c.args.desks.now) c.args.newest.items c.loop-place.outs.items c.in-Some.earlier.outs.items c.loop-place.invariant)
