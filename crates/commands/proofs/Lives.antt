@@ -120,12 +120,12 @@ new-desks (Some folder) plan local b none is = absurd (cc)
 module _ {W : Type 0} (contents : W → Option (List ℕ)) where
   pub serve_tells : ServeLaw contents
   serve_tells words before after outcome run none =
-      let ran = run.ran.runs in
-      tell_lives (start_at run.plan run.local) run.plan.workers 3 ran.crew (ran.sip ∷ ran.lines ∷ ran.time ∷ []) ran.taker
+      let so = run.as_planned in let ran = so.ran.runs in
+      tell_lives (start_at run.plan so.local) run.plan.workers 3 ran.crew (ran.sip ∷ ran.lines ∷ ran.time ∷ []) ran.taker
       (ran.sip_closed ∷ ran.lines_closed ∷ ran.time_closed ∷ []) ran.got outcome.report.workers.items (fates ran.acts)
-      (starts_of_a_plan words run.plan run.local 3 run.is_plan)
+      (starts_of_a_plan words run.plan so.local 3 run.is_plan)
       (subst (λ (stands : ℕ → Standing). HaveBegun stands run.plan.workers 3 ran.crew (ran.sip ∷ ran.lines ∷ ran.time ∷ []) ran.taker)
-      (new-desks run.plan.journal run.plan run.local run.begins none run.begins_as) ran.started)
+      (new-desks run.plan.journal run.plan so.local so.begins none so.begins_as) ran.started)
       ran.joined ran.sent.met.outs
 
   pub udp_tells : UdpLaw contents

@@ -49,9 +49,9 @@ pub ended_well : {W : Type 0} (contents : W → Option (List ℕ)) (words : List
 ended_well contents words before between after o served no_fault closed told = record {
   between = between;
   serves = served;
-  sip_hears = (unfailed o served.faults no_fault).0;
-  lines_hear = (unfailed o served.faults no_fault).1;
-  clock_failures = (unfailed o served.faults no_fault).2;
+  sip_hears = (unfailed o served.as_planned.faults no_fault).0;
+  lines_hear = (unfailed o served.as_planned.faults no_fault).1;
+  clock_failures = (unfailed o served.as_planned.faults no_fault).2;
   no_fault = no_fault;
   closed = closed;
   told = told;
@@ -70,17 +70,19 @@ can_end_well contents words before after o ended = record {
   outcome = o;
   well = record {
     between = as_told contents ended.between;
-    serves = record {
+    serves = let run = ended.serves.as_planned in record {
       plan = ended.serves.plan;
       is_plan = ended.serves.is_plan;
-      local = ended.serves.local;
-      is_at = ended.serves.is_at;
-      begins = ended.serves.begins;
-      begins_as = ended.serves.begins_as;
-      opened = ended.serves.opened;
-      opens_as = ended.serves.opens_as;
-      ran = record { wire = ended.serves.ran.wire; wire' = ended.serves.ran.wire'; runs = ended.serves.ran.runs };
-      faults = ended.serves.faults;
+      as_planned = record {
+        local = run.local;
+        is_at = run.is_at;
+        begins = run.begins;
+        begins_as = run.begins_as;
+        opened = run.opened;
+        opens_as = run.opens_as;
+        ran = record { wire = run.ran.wire; wire' = run.ran.wire'; runs = run.ran.runs };
+        faults = run.faults;
+      };
     };
     sip_hears = ended.sip_hears;
     lines_hear = ended.lines_hear;

@@ -50,7 +50,8 @@ module _ {W : Type 0} (contents : W → Option (List ℕ)) where
   abbrev pub ServeLaw : Type 0
   ServeLaw = (words : List (List ℕ)) (before after : SinkSeen W) (outcome : ServiceEnd) (run : Serves contents words before after outcome) →
       run.plan.journal ≡ None →
-      TellLives (start_at run.plan run.local) run.ran.runs.crew outcome.report.workers.items (outs_of (fates run.ran.runs.acts))
+      let ran = run.as_planned.ran.runs in
+      TellLives (start_at run.plan run.as_planned.local) ran.crew outcome.report.workers.items (outs_of (fates ran.acts))
 
   -- so does each run of `udp`
   abbrev pub UdpLaw : Type 0

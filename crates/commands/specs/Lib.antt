@@ -1,5 +1,6 @@
 pub mod Serving
 pub mod Reloading
+pub mod Readiness
 pub mod Runs
 pub mod GoingOn
 pub mod Begun

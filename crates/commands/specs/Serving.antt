@@ -127,10 +127,8 @@ module _ {W : Type 0} (contents : W → Option (List ℕ)) where
     pub runs : Runs begins workers opened admission
         (record { wire = wire; wire' = wire'; writer = writer_seen contents before; writer' = writer_seen contents after }) outcome
 
-  -- the words ask for a service, which ran to its end, and tells each fault of its sockets and of the clock
-  pub record Serves (words : List (List ℕ)) (before after : SinkSeen W) (outcome : ServiceEnd) : Type 0 where
-    pub plan : Plan
-    pub is_plan : IsPlan words plan
+  -- a service that is planned so ran to its end, and tells each fault of its sockets and of the clock
+  pub record RanAsPlanned (plan : Plan) (before after : SinkSeen W) (outcome : ServiceEnd) : Type 0 where
     pub local : Addr
     pub is_at : IsAt plan.choices.listen local
     pub begins : Beginning
@@ -139,6 +137,12 @@ module _ {W : Type 0} (contents : W → Option (List ℕ)) where
     pub opens_as : OpensAs plan opened
     pub ran : Ran begins plan.workers opened plan.admission before after outcome
     pub faults : AreFaults no_misses no_misses outcome
+
+  -- the words ask for a service, which ran as planned
+  pub record Serves (words : List (List ℕ)) (before after : SinkSeen W) (outcome : ServiceEnd) : Type 0 where
+    pub plan : Plan
+    pub is_plan : IsPlan words plan
+    pub as_planned : RanAsPlanned plan before after outcome
 
   -- that service ended well: neither of its two sockets was deaf, no read of the clock failed, no thread tells of a fault, each worker
   -- came to the end of what was sent to it, and then the lines of the workers were written

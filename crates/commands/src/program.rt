@@ -2,7 +2,6 @@
 ghost use Rattle.std.specs.Prelude.{◌≡◌, ◌≢◌, ◌<◌, ◌≤◌, ◌⊎◌, ℕ, List, None, true, false, get_or, vec_len, option_map, map, IfOk, IfErr, IfSome, IsSome, OnOk};
 ghost use Rattle.crew.specs.Desks.{standing_of};
 ghost use Rattle.arguments.specs.Wanted.{Gives};
-ghost use Rattle.notifier.specs.Held.{seen_by};
 ghost use Rattle.transport.specs.Sockets.{misses};
 ghost use Rattle.service.specs.Running.{AreFaults, beginning, is_faulty, opening};
 ghost use Rattle.udp_command.specs.UdpEnds as ends;
@@ -10,11 +9,11 @@ ghost use Rattle.udp_command.specs.UdpEnds.{Tells};
 ghost use Rattle.commands.specs.Refused.{AskForText, IsOther, IsRefusal, IsStatus, status_after, status_of};
 ghost use Rattle.commands.specs.declared.error.ServeError.TheVariants as error;
 ghost use Rattle.plans.specs.Plans.{IsPlan};
-ghost use Rattle.commands.specs.GoingOn.{StartsThere};
+ghost use Rattle.commands.specs.Readiness.{IsFitted, IsReady};
 ghost use Rattle.commands.specs.Runs as runs;
 ghost use Rattle.commands.specs.Runs.{IsRunBy, IsRunOf};
 ghost use Rattle.commands.specs.Reloading.{IsCarried, IsRereading};
-ghost use Rattle.commands.specs.Serving.{AreOpen, BeginsAnew, CanEndWell, IsWork, Ran, Serves, new_sink};
+ghost use Rattle.commands.specs.Serving.{AreOpen, CanEndWell, IsWork, Ran, RanAsPlanned, Serves, new_sink};
 
 use crate::error::ServeError;
 use crate::feed::{FeedDesk, open_feed};
@@ -37,8 +36,8 @@ use package::{Change, Package};
 use plans::{Plan, adopted, local_setup, most_mailboxes, new_plan, with_told};
 use scripts::write_page;
 use service::{
-    Allowance, Begins, ControlPort, Exit, Journal, ServiceEnd, ServiceWork, Shared, SipDesk,
-    run_crew,
+    Allowance, Begins, Caller, ControlPort, Exit, Journal, ServiceEnd, ServiceWork, Shared,
+    SipDesk, run_crew,
 };
 use sip_text::{Addr, NoMemory, Text};
 use std::alloc::{AllocError, Global};
@@ -170,13 +169,13 @@ where
 
 /// What a service is run with, beside its plan.
 #[derive(Drop)]
-struct Fitted<P> {
-    desks: Vec<Desk<P>>,
-    begins: Begins,
-    changes: Option<Vec<Change>>,
-    shared: Arc<Shared, Global>,
-    theirs: Arc<Shared, Global>,
-    sockets: Sockets,
+pub(crate) struct Fitted<P> {
+    pub(crate) desks: Vec<Desk<P>>,
+    pub(crate) begins: Begins,
+    pub(crate) changes: Option<Vec<Change>>,
+    pub(crate) shared: Arc<Shared, Global>,
+    pub(crate) theirs: Arc<Shared, Global>,
+    pub(crate) sockets: Sockets,
 }
 
 /// Has a service keep the journal that it begins with. Where one is asked for and can't be written, it is said once.
@@ -213,12 +212,7 @@ where
     requires callable { M.IsAlwaysCallable make.now }
     requires gives { Gives P.seen (M.post make.now) }
     requires open { IfSome standby (λ s. AreOpen s.choices s.sockets) }
-    ensures opened { IfOk result (λ f. AreOpen plan.now.choices f.sockets) }
-    ensures workers { IfOk result (λ f. vec_len f.desks ≡ plan.now.workers) }
-    ensures anew { IfOk result (λ f. plan.now.journal ≡ None
-        → BeginsAnew P.seen plan.now f.sockets.sip.local f.desks.items f.begins f.changes) }
-    ensures starts { IfOk result (λ f. StartsThere plan.now f.sockets.sip.local (map (seen_by P.seen) f.desks.items) f.begins
-        ⊎ BeginsAnew P.seen plan.now f.sockets.sip.local f.desks.items f.begins f.changes) }
+    ensures fitted { IfOk result (IsFitted P.seen plan.now) }
     ensures refused { IfErr result IsOther }
 {
     let sockets = open_sockets(rt, plan, standby)?;
@@ -325,6 +319,35 @@ where
     })
 }
 
+/// Runs the service that is planned so, with what it was fitted out with, and writes its lines here.
+fn run_fitted<R, F, P>(
+    rt: R,
+    plan: Plan,
+    fitted: Fitted<P>,
+    writer: F,
+) -> Result<Served<F>, ServeError>
+where
+    R: Threads + Wait + Clock + Files<File = File> + Eprint + AllocGlobal + Copy + Send + 'static,
+    F: Write + Drop,
+    P: Package + 'static,
+    requires few { plan.workers ≤ 256 }
+    requires fitted { IsFitted P.seen plan fitted }
+    ensures ran { IfOk result (λ s. RanAsPlanned F.contents plan (new_sink writer) s.sink s.outcome) }
+    ensures refused { IfErr result IsOther }
+{
+    let Fitted {
+        desks,
+        begins,
+        changes,
+        shared,
+        theirs,
+        sockets,
+    } = fitted;
+    let (work, wire) = new_work(plan, sockets, theirs, begins, changes);
+    let sink = Sink::new(writer);
+    run(rt, desks, work, shared, Exit { wire, sink })
+}
+
 /// Has each line on standard error be as a plan asks for it.
 fn set_log<R: Clock>(rt: &R, plan: &Plan, shared: &Shared) {
     if plan.choices.log_requests {
@@ -348,21 +371,14 @@ fn stand_by(plan: &Plan, sockets: &Sockets) -> Result<Option<Standby>, ServeErro
     }
 }
 
-/// What looks for the end of standard input, and what reads files again.
-#[derive(Drop)]
-struct Aides {
-    watch: Watch,
-    reloader: Reloader,
-}
-
-/// Starts what a plan asks for beside the service.
-fn start_aides<R>(
+/// Starts what looks for the end of standard input, and what reads files again, where a plan asks for them.
+fn start_threads<R>(
     rt: R,
     words: &[Text],
     plan: &Plan,
     shared: &Arc<Shared, Global>,
     feed: Option<FeedDesk>,
-) -> Result<Aides, ServeError>
+) -> Result<(Watch, Reloader), ServeError>
 where
     R: Threads
         + Wait
@@ -375,14 +391,151 @@ where
         + Send
         + 'static,
     R::Dir: Send,
-    ensures reads { IfOk result (λ a. IsRereading words.now a.reloader) }
+    ensures reads { IfOk result (λ r. IsRereading words.now r.1) }
     ensures refused { IfErr result IsOther }
 {
     let reloader = Reloader::begin(rt, shared, words, plan.journal.is_some())?;
     match Watch::begin(rt, shared, plan.choices.until_input_ends, feed) {
-        Ok(watch) => Ok(Aides { watch, reloader }),
+        Ok(watch) => Ok((watch, reloader)),
         Err(error) => {
             drop(reloader.end(&rt));
+            Err(error)
+        }
+    }
+}
+
+/// What runs beside a service, and the sockets that stay open for its next run.
+#[derive(Drop)]
+pub(crate) struct Aides {
+    pub(crate) watch: Watch,
+    pub(crate) reloader: Reloader,
+    pub(crate) standby: Option<Standby>,
+}
+
+/// Starts what a plan asks for beside the service, and answers who asked for the run, if somebody did.
+fn start_aides<R, P>(
+    rt: R,
+    words: &[Text],
+    plan: &Plan,
+    fitted: &Fitted<P>,
+    caller: Option<Caller>,
+) -> Result<Aides, ServeError>
+where
+    R: Threads
+        + Wait
+        + Net
+        + Clock
+        + Files<File = File>
+        + RandomSource
+        + Eprint
+        + AllocGlobal
+        + Copy
+        + Send
+        + 'static,
+    R::Dir: Send,
+    requires open { AreOpen plan.now.choices fitted.now.sockets }
+    ensures reads { IfOk result (λ a. IsRereading words.now a.reloader) }
+    ensures open { IfOk result (λ a. IfSome a.standby (λ s. AreOpen s.choices s.sockets)) }
+    ensures refused { IfErr result IsOther }
+{
+    let standby = stand_by(plan, &fitted.sockets)?;
+    set_log(&rt, plan, &fitted.shared);
+    let feed = open_feed(&rt, plan, fitted.sockets.lines.local())?;
+    let (watch, reloader) = start_threads(rt, words, plan, &fitted.shared, feed)?;
+    answer_reload(&rt, &fitted.shared, &fitted.sockets.replies, caller);
+    Ok(Aides {
+        watch,
+        reloader,
+        standby,
+    })
+}
+
+impl Aides {
+    /// Ends what runs beside a service that has ended. Answers what its next run goes on with: what was read last for it, if that was good, and
+    /// the sockets.
+    fn end<R: Threads + Wait>(self, rt: &R) -> (Option<Plan>, Option<Standby>)
+        ensures plan { (words : _) → IsRereading words self.reloader → IfSome result.0 (IsPlan words) }
+        ensures sockets { result.1 ≡ self.standby }
+    {
+        let Aides {
+            watch,
+            reloader,
+            standby,
+        } = self;
+        watch.end(rt);
+        (reloader.end(rt), standby)
+    }
+}
+
+/// A run of a service that may begin: what it is run with, what runs beside it, and what goes on from it to the next one.
+#[derive(Drop)]
+pub(crate) struct Ready<P> {
+    pub(crate) plan: Plan,
+    pub(crate) opened: Option<Opened>,
+    /// The mailboxes with which it begins, in order, where lines make some.
+    pub(crate) mailboxes: Option<Vec<Text>>,
+    pub(crate) fitted: Fitted<P>,
+    pub(crate) aides: Aides,
+}
+
+/// Makes a run of the service ready that the words behind `serve` ask for, with what its last run left, and says on standard error where it is.
+#[tactic(auto, using(crate::proofs::Refused::other_is))]
+fn make_ready<R, P, M>(
+    rt: R,
+    words: &[Text],
+    make: &M,
+    carried: Carried,
+) -> Result<Ready<P>, ServeError>
+where
+    R: Threads
+        + Wait
+        + Net
+        + Clock
+        + Files<File = File>
+        + RandomSource
+        + Eprint
+        + AllocGlobal
+        + Copy
+        + Clone
+        + Drop
+        + Send
+        + 'static,
+    R::Dir: Send,
+    P: Package + 'static,
+    M: Fn(Wanted) -> Result<P, NoMemory>,
+    requires callable { M.IsAlwaysCallable make.now }
+    requires gives { Gives P.seen (M.post make.now) }
+    requires carried { IsCarried words.now carried }
+    ensures ready { IfOk result (IsReady P.seen words.now) }
+    ensures refused { IfErr result (IsRefusal words.now) }
+{
+    let Carried {
+        plan,
+        folder,
+        sockets,
+        mailboxes,
+        caller,
+    } = carried;
+    let (plan, mut opened) = plan_with_journal(&rt, words, plan, folder, mailboxes)?;
+    let mailboxes = first_mailboxes(rt.alloc(), &plan);
+    // What is dropped here is dropped by a call: in place it would be taken apart field by field, and so would every proof.
+    let fitted = match fit_out(&rt, &plan, &mut opened, sockets, make) {
+        Ok(fitted) => fitted,
+        Err(error) => {
+            drop((plan, opened, mailboxes));
+            return Err(error);
+        }
+    };
+    match start_aides(rt, words, &plan, &fitted, caller) {
+        Ok(aides) => Ok(Ready {
+            plan,
+            opened,
+            mailboxes,
+            fitted,
+            aides,
+        }),
+        Err(error) => {
+            drop((plan, opened, mailboxes, fitted));
             Err(error)
         }
     }
@@ -423,44 +576,33 @@ where
     ensures carried { IfOk result (λ r. IsCarried words.now r.1) }
     ensures refused { IfErr result (IsRefusal words.now) }
 {
-    let Carried {
+    let Ready {
         plan,
-        folder,
-        sockets,
+        opened,
         mailboxes,
-        caller,
-    } = carried;
-    let (plan, mut opened) = plan_with_journal(&rt, words, plan, folder, mailboxes)?;
-    let first = first_mailboxes(rt.alloc(), &plan);
-    let Fitted {
-        desks,
-        begins,
-        changes,
-        shared,
-        theirs,
-        sockets,
-    } = fit_out(&rt, &plan, &mut opened, sockets, make)?;
-    let standby = stand_by(&plan, &sockets)?;
-    set_log(&rt, &plan, &shared);
-    let feed = open_feed(&rt, &plan, sockets.lines.local())?;
-    let Aides { watch, reloader } = start_aides(rt, words, &plan, &shared, feed)?;
-    answer_reload(&rt, &shared, &sockets.replies, caller);
-    let (work, wire) = new_work(plan, sockets, theirs, begins, changes);
-    let sink = Sink::new(writer);
-    let served = run(rt, desks, work, shared, Exit { wire, sink });
-    watch.end(&rt);
-    let plan = reloader.end(&rt);
+        fitted,
+        aides,
+    } = make_ready(rt, words, make, carried)?;
+    let served = run_fitted(rt, plan, fitted, writer);
+    let (plan, sockets) = aides.end(&rt);
     // No other service may write the folder till the next run has it.
     let folder = held_folder(opened);
-    let served = served?;
-    let next = Carried {
-        plan,
-        folder,
-        sockets: standby,
-        mailboxes: all_mailboxes(&rt, first, &served.shared),
-        caller: served.shared.reload_caller(&rt),
-    };
-    Ok((served, next))
+    match served {
+        Ok(served) => {
+            let next = Carried {
+                plan,
+                folder,
+                sockets,
+                mailboxes: all_mailboxes(&rt, mailboxes, &served.shared),
+                caller: served.shared.reload_caller(&rt),
+            };
+            Ok((served, next))
+        }
+        Err(error) => {
+            drop((plan, folder, sockets, mailboxes));
+            Err(error)
+        }
+    }
 }
 
 /// Runs the service that the words behind `serve` ask for until a CLOSE, a RELOAD with good files, a fault or a worker that is gone, and says
@@ -535,9 +677,117 @@ where
     }
 }
 
-/// Runs the service that the words ask for to its end, one run behind the other, each over a writer of its own to standard output, and writes there
-/// what the workers of the last one did. It answers a service that ended well. Who reads is waited for once the service has ended.
+/// Where the lines of a run go, and whether who reads them is waited for.
+#[derive(Drop)]
+struct Output<F> {
+    writer: F,
+    patience: Patience,
+}
+
+impl<F: Write + Drop> Output<Prompt<F>> {
+    /// Whole lines to this writer, which is standard output.
+    fn new(writer: F, patience: &Patience) -> Result<Output<Prompt<F>>, NoMemory> {
+        Ok(Output {
+            writer: Prompt::new(writer, patience)?,
+            patience: patience.further()?,
+        })
+    }
+}
+
+/// Runs the service that the words ask for once, with what its last run left, and writes its lines here. Answers what the next run goes on with, or
+/// none where this was the last one and ended well: then it has written there what the workers did. Who reads is waited for once the service has
+/// ended.
 #[tactic(auto, using(crate::proofs::Refused::other_is))]
+fn serve_over<R, F, P, M>(
+    rt: R,
+    words: &[Text],
+    output: Output<F>,
+    make: &M,
+    carried: Carried,
+) -> Result<Option<Carried>, ServeError>
+where
+    R: Threads
+        + Wait
+        + Net
+        + Clock
+        + Files<File = File>
+        + RandomSource
+        + Eprint
+        + AllocGlobal
+        + Copy
+        + Clone
+        + Drop
+        + Send
+        + 'static,
+    R::Dir: Send,
+    F: Write + Drop,
+    P: Package + 'static,
+    M: Fn(Wanted) -> Result<P, NoMemory>,
+    requires callable { M.IsAlwaysCallable make.now }
+    requires gives { Gives P.seen (M.post make.now) }
+    requires carried { IsCarried words.now carried }
+    ensures well { IfOk result (λ next. next ≡ None → CanEndWell words.now) }
+    ensures carried { IfOk result (λ next. IfSome next (IsCarried words.now)) }
+    ensures refused { IfErr result (IsRefusal words.now) }
+{
+    let Output { writer, patience } = output;
+    let (mut served, next) = serve_on(rt, words, writer, make, carried)?;
+    if served.shared.is_reloading() {
+        drop(served);
+        return Ok(Some(next));
+    }
+    drop(next);
+    patience.wait();
+    let closed = close_off(&rt, &mut served);
+    drop(served);
+    match closed {
+        Ok(()) => Ok(None),
+        Err(error) => Err(error),
+    }
+}
+
+/// The same, over a writer of its own to standard output.
+#[tactic(auto, using(crate::proofs::Refused::other_is))]
+fn serve_once<R, P, M>(
+    rt: R,
+    words: &[Text],
+    patience: &Patience,
+    make: &M,
+    carried: Carried,
+) -> Result<Option<Carried>, ServeError>
+where
+    R: Threads
+        + Wait
+        + Net
+        + Clock
+        + Files<File = File>
+        + RandomSource
+        + Print
+        + Eprint
+        + AllocGlobal
+        + Copy
+        + Clone
+        + Drop
+        + Send
+        + 'static,
+    R::Dir: Send,
+    P: Package + 'static,
+    M: Fn(Wanted) -> Result<P, NoMemory>,
+    requires callable { M.IsAlwaysCallable make.now }
+    requires gives { Gives P.seen (M.post make.now) }
+    requires carried { IsCarried words.now carried }
+    ensures well { IfOk result (λ next. next ≡ None → CanEndWell words.now) }
+    ensures carried { IfOk result (λ next. IfSome next (IsCarried words.now)) }
+    ensures refused { IfErr result (IsRefusal words.now) }
+{
+    let Ok(output) = Output::new(io::writer(&rt), patience) else {
+        drop(carried);
+        return Err(ServeError::NoMemory);
+    };
+    serve_over(rt, words, output, make, carried)
+}
+
+/// Runs the service that the words ask for to its end, one run behind the other. It answers a service that ended well.
 fn attempt<R, P, M>(rt: R, words: &[Text], patience: &Patience, make: &M) -> Result<(), ServeError>
 where
     R: Threads
@@ -564,14 +814,10 @@ where
 {
     let mut carried = Carried::new();
     for _ in rt.forever() {
-        let writer = Prompt::new(io::writer(&rt), patience)?;
-        let (mut served, next) = serve_on(rt, words, writer, make, carried)?;
-        if !served.shared.is_reloading() {
-            patience.wait();
-            close_off(&rt, &mut served)?;
-            return Ok(());
+        match serve_once(rt, words, patience, make, carried)? {
+            Some(next) => carried = next,
+            None => return Ok(()),
         }
-        carried = next;
     }
     unreachable!()
 }

@@ -45,7 +45,7 @@ impl Patience {
     }
 
     /// The same once more.
-    fn further(&self) -> Result<Patience, NoMemory> {
+    pub(crate) fn further(&self) -> Result<Patience, NoMemory> {
         let waits = Arc::try_clone(&self.waits)?;
         Ok(Patience { waits })
     }
