@@ -7,8 +7,8 @@ use Rattle.plans.specs.Plans.{IsPlan}
 use Rattle.commands.specs.GoingOn.{StartsThere}
 use Rattle.commands.specs.Serving.{AreOpen, BeginsAnew}
 use Rattle.commands.specs.Reloading.{IsRereading}
-use Rattle.commands.specs.declared.program.Fitted.{Fitted}
-use Rattle.commands.specs.declared.program.Ready.{Ready}
+use Rattle.commands.specs.declared.ready.Fitted.{Fitted}
+use Rattle.commands.specs.declared.ready.Ready.{Ready}
 use Rattle.commands.specs.declared.sockets.Standby.{Standby}
 
 module _ {P : Type 0} (seen : P → Seen) where

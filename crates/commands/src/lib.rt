@@ -23,6 +23,7 @@ mod logging;
 mod names;
 pub mod program;
 mod prompt;
+mod ready;
 mod reloading;
 mod sockets;
 

@@ -1,5 +1,5 @@
 use Rattle.std.proofs.Common.{sym}
-use Rattle.commands.proofs.program.fit_out.Goals as goal
+use Rattle.commands.proofs.ready.fit_out.Goals as goal
 
 pub returns-clause-fitted : goal.returns-clause-fitted
 returns-clause-fitted g c =

@@ -1,5 +1,5 @@
 use Rattle.commands.proofs.GoneOn.{run_is}
-use Rattle.commands.proofs.program.run_plan.Goals as goal
+use Rattle.commands.proofs.ready.run_plan.Goals as goal
 
 pub returns-clause-run : goal.returns-clause-run
 returns-clause-run c =

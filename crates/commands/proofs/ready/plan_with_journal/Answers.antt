@@ -1,4 +1,4 @@
-use Rattle.commands.proofs.program.plan_with_journal.Goals as goal
+use Rattle.commands.proofs.ready.plan_with_journal.Goals as goal
 
 pub returns-clause-plan : goal.returns-clause-plan
 returns-clause-plan g c = c.in_ok-plan-2.ensures.plan c.args.words.now c.in_ok-plan.ensures.plan
