@@ -136,7 +136,14 @@ where
     ensures refused { IfErr result (IsRefusal words.now) }
 {
     let plan = known_plan(rt, words, known)?;
-    let opened = open_journal(rt, &plan, held)?;
+    // What is left is dropped by a call: in place the proof would take it apart, field by field.
+    let opened = match open_journal(rt, &plan, held) {
+        Ok(opened) => opened,
+        Err(error) => {
+            drop(plan);
+            return Err(error);
+        }
+    };
     let plan = run_plan(rt.alloc(), plan, &opened, former)?;
     Ok((plan, opened))
 }
@@ -196,7 +203,13 @@ where
         changes,
         journal,
     } = start(rt, plan, sockets.sip.local(), opened, make)?;
-    let (shared, theirs) = begin(rt, sockets.sip.local())?;
+    let (shared, theirs) = match begin(rt, sockets.sip.local()) {
+        Ok(both) => both,
+        Err(error) => {
+            drop((desks, begins, changes, journal, sockets));
+            return Err(error);
+        }
+    };
     keep_journal(rt, plan, &shared, journal);
     Ok(Fitted {
         desks,
@@ -301,13 +314,20 @@ where
     let standby = stand_by(plan, &fitted.sockets)?;
     set_log(&rt, plan, &fitted.shared);
     let feed = open_feed(&rt, plan, fitted.sockets.lines.local())?;
-    let (watch, reloader) = start_threads(rt, words, plan, &fitted.shared, feed)?;
-    answer_reload(&rt, &fitted.shared, &fitted.sockets.replies, caller);
-    Ok(Aides {
-        watch,
-        reloader,
-        standby,
-    })
+    match start_threads(rt, words, plan, &fitted.shared, feed) {
+        Ok((watch, reloader)) => {
+            answer_reload(&rt, &fitted.shared, &fitted.sockets.replies, caller);
+            Ok(Aides {
+                watch,
+                reloader,
+                standby,
+            })
+        }
+        Err(error) => {
+            drop(standby);
+            Err(error)
+        }
+    }
 }
 
 impl Aides {
@@ -377,7 +397,6 @@ where
         caller,
     } = carried;
     let (plan, mut opened) = plan_with_journal(&rt, words, plan, folder, mailboxes)?;
-    // What is left is dropped by a call: in place the proof would take it apart, field by field.
     let fitted = match fit_out(&rt, &plan, &mut opened, sockets, make) {
         Ok(fitted) => fitted,
         Err(error) => {

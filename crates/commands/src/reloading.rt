@@ -136,6 +136,21 @@ fn accept<R: Wait>(rt: &R, rereader: &Rereader, number: u64, plan: Plan) -> Plan
     plan
 }
 
+/// Reads the files that the words name, as this call asks. Answers what they say, if they are good.
+fn read_once<R>(rt: &R, words: &[Text], rereader: &Rereader, number: u64) -> Option<Plan>
+where
+    R: Threads + Wait + Clock + Files + RandomSource + Eprint + AllocGlobal,
+    ensures { IfSome result (IsPlan words.now) }
+{
+    match next_plan(rt, words) {
+        Ok(plan) => Some(accept(rt, rereader, number, plan)),
+        Err(error) => {
+            refuse(rt, rereader, number, &error);
+            None
+        }
+    }
+}
+
 /// Reads the files that the words name whenever that is asked for, until the service has ended. Answers what was read last, if it was good.
 fn read_again<R>(rt: &R, words: &[Text], rereader: &Rereader) -> Option<Plan>
 where
@@ -147,13 +162,9 @@ where
         let Some(number) = rereader.next(rt) else {
             return last;
         };
-        last = match next_plan(rt, words) {
-            Ok(plan) => Some(accept(rt, rereader, number, plan)),
-            Err(error) => {
-                refuse(rt, rereader, number, &error);
-                None
-            }
-        };
+        // Dropped by a call, and not where the next one takes its place: there the proof would take it apart, field by field.
+        drop(last);
+        last = read_once(rt, words, rereader, number);
     }
     unreachable!()
 }

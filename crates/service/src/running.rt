@@ -33,7 +33,7 @@ use notifier::Desk;
 use notifier_model::Setup;
 use package::Package;
 use queues::outbox::Taker;
-use sip_text::NoMemory;
+use sip_text::{Addr, NoMemory};
 use std::alloc::Global;
 use std::fs::File;
 use std::io::Write;
@@ -187,12 +187,14 @@ fn start_feeders<R: Threads + Wait + Clock + Eprint + Copy + Send + 'static>(
         stopwatch,
     } = sources;
     let Ok(time) = start_feeder(rt, alloc, third, Task::Time(stopwatch), shared) else {
+        drop((first, second, sip, desk));
         return Err(Begun {
             time: None,
             lines: None,
         });
     };
     let Ok(lines) = start_feeder(rt, alloc, second, Task::Lines(desk), shared) else {
+        drop((first, sip));
         return Err(Begun {
             time: Some(time),
             lines: None,
@@ -231,8 +233,14 @@ fn wind_up<R: Threads + Wait + Clock + Files<File = File> + Eprint, W: Wire, F: 
     shared.finish();
     begun.end(rt);
     send_outs(rt, exit, &mut outgoing, &shared);
-    let report = crew.join(rt, Vec::new(alloc), outgoing.taker);
-    drop(report);
+    let Outgoing {
+        taker,
+        waiting,
+        parker,
+        ..
+    } = outgoing;
+    let report = crew.join(rt, Vec::new(alloc), taker);
+    drop((report, waiting, parker));
 }
 
 /// Sends out what the workers post until the ports have ended, and joins all threads. There is room for the ports.
@@ -271,7 +279,14 @@ fn send_to_end<R: Threads + Wait + Clock + Files<File = File> + Eprint, W: Wire,
     ports.push_reserved(sip.port);
     ports.push_reserved(lines.port);
     ports.push_reserved(time.port);
-    let report = crew.join(rt, ports, outgoing.taker);
+    let Outgoing {
+        taker,
+        waiting,
+        parker,
+        ..
+    } = outgoing;
+    let report = crew.join(rt, ports, taker);
+    drop((waiting, parker));
     ServiceEnd {
         sip: sip.end,
         sip_fails_late: sip.fails_late,
@@ -404,6 +419,21 @@ fn new_sources(
     })
 }
 
+/// Has the threads of a service with so many workers know them, how long an outage may last, and where control lines are heard.
+fn tell_shared(
+    alloc: Global,
+    shared: &Shared,
+    workers: u32,
+    outage: u32,
+    control: Addr,
+) -> Result<(), NoMemory> {
+    shared.watch_control(control)?;
+    shared.set_workers(workers);
+    shared.allow_outages(outage);
+    shared.set_roll(RollCall::new(alloc, workers)?);
+    Ok(())
+}
+
 /// Makes what a service with so many workers begins with.
 fn make_ready<R: Wait>(
     rt: &R,
@@ -422,7 +452,14 @@ fn make_ready<R: Wait>(
     ensures linger { IfOk result (λ r. r.sending.linger ≡ work.linger * 1000) }
 {
     let rows = work.setup.limits.table().saturating_mul(workers);
-    let mut waiting = new_waiting(alloc, work.repeats, rows, &work.sip.admission)?;
+    // What is left is dropped by a call: in place the proof would take it apart, field by field.
+    let mut waiting = match new_waiting(alloc, work.repeats, rows, &work.sip.admission) {
+        Ok(waiting) => waiting,
+        Err(error) => {
+            drop(work);
+            return Err(error);
+        }
+    };
     let ServiceWork {
         setup: _,
         sip,
@@ -433,11 +470,18 @@ fn make_ready<R: Wait>(
         linger,
         outage,
     } = work;
-    let sources = new_sources(alloc, workers, sip, desk, begins.tick)?;
-    shared.watch_control(sources.desk.coming.local())?;
-    shared.set_workers(workers);
-    shared.allow_outages(outage);
-    shared.set_roll(RollCall::new(alloc, workers)?);
+    let sources = match new_sources(alloc, workers, sip, desk, begins.tick) {
+        Ok(sources) => sources,
+        Err(error) => {
+            drop((waiting, begins, shared));
+            return Err(error);
+        }
+    };
+    let control = sources.desk.coming.local();
+    if let Err(error) = tell_shared(alloc, &shared, workers, outage, control) {
+        drop((sources, waiting, begins, shared));
+        return Err(error);
+    }
     waiting.begin(rt, begins, &shared);
     let linger = u64::from(linger) * 1000;
     let sending = Sending {
@@ -468,8 +512,21 @@ where
     ensures bad_desk { (worker : ℕ) → result ≡ Err (error.BadDesk worker) → IsUnfit P.seen desks.items worker }
 {
     let workers = desks.len() as u32;
-    let (parker, waker) = Waker::pair(alloc, &sending.shared)?;
-    let (crew, ports, taker) = start_crew(rt, alloc, desks, waker)?;
+    // What is left is dropped by a call: in place the proof would take it apart, field by field.
+    let (parker, waker) = match Waker::pair(alloc, &sending.shared) {
+        Ok(pair) => pair,
+        Err(error) => {
+            drop((desks, sending));
+            return Err(error.into());
+        }
+    };
+    let (crew, ports, taker) = match start_crew(rt, alloc, desks, waker) {
+        Ok(started) => started,
+        Err(error) => {
+            drop((sending, parker));
+            return Err(error);
+        }
+    };
     let Sending {
         waiting,
         linger,

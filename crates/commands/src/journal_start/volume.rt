@@ -5,7 +5,7 @@ ghost use Rattle.commands.specs.Begun.{AreLiving, BeginsOver, IsLastSecond, livi
 
 use crate::journal_opened::Opened;
 use crate::journal_start::{Order, Started};
-use journal::Header;
+use journal::{Header, Told};
 use keeper::Keeper;
 use notifier::{Desk, Out};
 use package::{Change, Package};
@@ -132,8 +132,105 @@ where
     Ok(Some(volume))
 }
 
-/// A service with these desks, which writes a new file. Once it stands there those with these numbers are removed. Where it can't be written
-/// nobody goes on from an older one any more: numbers of NOTIFYs would come twice.
+/// Where a new file of a journal is written: the folder, and the numbers of files there that go once it stands.
+#[derive(Clone, Copy)]
+struct Place<'a> {
+    opened: &'a Opened,
+    spare: &'a [u64],
+}
+
+/// The journal that goes on in this file, which was the current one for so many seconds.
+fn journal_in(
+    alloc: Global,
+    order: Order<'_>,
+    opened: &Opened,
+    been: u64,
+    kept: (Keeper, Volume),
+) -> Result<Journal, Halt> {
+    let upkeep = match order.upkeep(alloc, opened, been) {
+        Ok(upkeep) => upkeep,
+        Err(error) => {
+            drop((order, kept));
+            return Err(error.into());
+        }
+    };
+    let (keeper, volume) = kept;
+    Ok(Journal::new(alloc, keeper, order.header, volume, upkeep)?)
+}
+
+/// A new file with the books of these desks, if it can be written, and what the keeper was told of mailboxes.
+fn first_file<R, P>(
+    rt: &R,
+    order: &Order<'_>,
+    opened: &Opened,
+    keeper: &mut Keeper,
+    desks: &[Desk<P>],
+) -> Result<(Option<Volume>, Vec<Change>), Halt>
+where
+    R: Files<File = File> + AllocGlobal,
+    P: Package,
+{
+    let volume = new_volume(rt, opened, &order.header, keeper, desks)?;
+    match told_changes(rt.alloc(), keeper, order.plan.workers) {
+        Ok(changes) => Ok((volume, changes)),
+        Err(halt) => {
+            drop(volume);
+            Err(halt)
+        }
+    }
+}
+
+/// The journal that goes on in this new file. Once it stands there spare files are removed. Where it can't be written nobody goes on from an
+/// older one any more: numbers of NOTIFYs would come twice.
+fn begin_journal<R>(
+    rt: &R,
+    order: Order<'_>,
+    place: Place<'_>,
+    keeper: Keeper,
+    volume: Option<Volume>,
+) -> Result<Option<Journal>, Halt>
+where
+    R: Files<File = File> + AllocGlobal,
+{
+    let opened = place.opened;
+    let Some(volume) = volume else {
+        drop((order, keeper));
+        opened.folder.put_aside(rt, opened.numbers.as_slice())?;
+        return Ok(None);
+    };
+    let journal = journal_in(rt.alloc(), order, opened, 0, (keeper, volume))?;
+    match opened.folder.remove(rt, place.spare) {
+        Ok(()) => Ok(Some(journal)),
+        Err(error) => {
+            drop(journal);
+            Err(error.into())
+        }
+    }
+}
+
+/// The journal of a service with these desks, if it can be written, and what was told of mailboxes.
+fn new_journal<R, P>(
+    rt: &R,
+    order: Order<'_>,
+    place: Place<'_>,
+    told: Vec<Told>,
+    desks: &[Desk<P>],
+) -> Result<(Vec<Change>, Option<Journal>), Halt>
+where
+    R: Files<File = File> + AllocGlobal,
+    P: Package,
+{
+    let mut keeper = Keeper::new(rt.alloc(), told)?;
+    match first_file(rt, &order, place.opened, &mut keeper, desks) {
+        Ok((volume, changes)) => Ok((changes, begin_journal(rt, order, place, keeper, volume)?)),
+        Err(halt) => {
+            drop((order, keeper));
+            Err(halt)
+        }
+    }
+}
+
+/// A service with these desks, which writes a new file, if it can. Once that stands there the files with these numbers are removed.
 pub(crate) fn begin_file<R, P>(
     rt: &R,
     order: Order<'_>,
@@ -147,30 +244,26 @@ where
     ensures desks { IfOk result (λ s. s.desks ≡ renewed.desks) }
     ensures begins { IfOk result (λ s. BeginsOver (map (seen_by P.seen) renewed.desks.items) renewed.first.items s.begins) }
 {
-    let alloc = rt.alloc();
     let Renewed { desks, first, told } = renewed;
-    let mut keeper = Keeper::new(alloc, told)?;
-    let volume = new_volume(rt, opened, &order.header, &mut keeper, desks.as_slice())?;
-    let begins = begin_with(alloc, desks.as_slice(), first)?;
-    let changes = told_changes(alloc, &keeper, order.plan.workers)?;
-    let upkeep = order.upkeep(alloc, opened, 0)?;
-    let journal = match volume {
-        Some(volume) => {
-            let journal = Journal::new(alloc, keeper, order.header, volume, upkeep)?;
-            opened.folder.remove(rt, spare)?;
-            Some(journal)
-        }
-        None => {
-            opened.folder.put_aside(rt, opened.numbers.as_slice())?;
-            None
+    let begins = match begin_with(rt.alloc(), desks.as_slice(), first) {
+        Ok(begins) => begins,
+        Err(halt) => {
+            drop((order, desks, told));
+            return Err(halt);
         }
     };
-    Ok(Started {
-        desks,
-        begins,
-        changes: Some(changes),
-        journal,
-    })
+    match new_journal(rt, order, Place { opened, spare }, told, desks.as_slice()) {
+        Ok((changes, journal)) => Ok(Started {
+            desks,
+            begins,
+            changes: Some(changes),
+            journal,
+        }),
+        Err(halt) => {
+            drop((desks, begins));
+            Err(halt)
+        }
+    }
 }
 
 /// Where the newest file of a journal stands.
@@ -198,6 +291,42 @@ impl Newest {
     }
 }
 
+/// The journal that goes on in this file, which was the current one for so many seconds, if it can be written, and what was told of mailboxes.
+fn old_journal<R>(
+    rt: &R,
+    order: Order<'_>,
+    opened: &Opened,
+    aged: (Newest, u64),
+    keeper: Keeper,
+) -> Result<(Vec<Change>, Option<Journal>), Halt>
+where
+    R: Files<File = File> + AllocGlobal,
+{
+    let (newest, been) = aged;
+    let mut keeper = keeper;
+    let changes = match told_changes(rt.alloc(), &keeper, order.plan.workers) {
+        Ok(changes) => changes,
+        Err(halt) => {
+            drop((order, keeper));
+            return Err(halt);
+        }
+    };
+    match old_volume(rt, opened, newest, &mut keeper) {
+        Ok(Some(volume)) => {
+            let journal = journal_in(rt.alloc(), order, opened, been, (keeper, volume))?;
+            Ok((changes, Some(journal)))
+        }
+        Ok(None) => {
+            drop((order, keeper));
+            Ok((changes, None))
+        }
+        Err(halt) => {
+            drop((order, keeper, changes));
+            Err(halt)
+        }
+    }
+}
+
 /// A service whose desks stand where they stood, and which goes on in this file.
 pub(crate) fn go_straight<R, P>(
     rt: &R,
@@ -212,26 +341,31 @@ where
     ensures desks { IfOk result (λ s. s.desks ≡ replayed.desks) }
     ensures begins { IfOk result (λ s. BeginsOver (map (seen_by P.seen) replayed.desks.items) replayed.unanswered.items s.begins) }
 {
-    let alloc = rt.alloc();
     let Replayed {
         desks,
         unanswered,
-        mut keeper,
+        keeper,
     } = replayed;
-    let begins = begin_with(alloc, desks.as_slice(), unanswered)?;
-    let changes = told_changes(alloc, &keeper, order.plan.workers)?;
-    let been = begins.tick.saturating_sub(newest.begun);
-    let upkeep = order.upkeep(alloc, opened, been)?;
-    let journal = match old_volume(rt, opened, newest, &mut keeper)? {
-        Some(volume) => Some(Journal::new(alloc, keeper, order.header, volume, upkeep)?),
-        None => None,
+    let begins = match begin_with(rt.alloc(), desks.as_slice(), unanswered) {
+        Ok(begins) => begins,
+        Err(halt) => {
+            drop((order, desks, keeper));
+            return Err(halt);
+        }
     };
-    Ok(Started {
-        desks,
-        begins,
-        changes: Some(changes),
-        journal,
-    })
+    let been = begins.tick.saturating_sub(newest.begun);
+    match old_journal(rt, order, opened, (newest, been), keeper) {
+        Ok((changes, journal)) => Ok(Started {
+            desks,
+            begins,
+            changes: Some(changes),
+            journal,
+        }),
+        Err(halt) => {
+            drop((desks, begins));
+            Err(halt)
+        }
+    }
 }
 
 /// Those of these files that a service doesn't need which goes on from the one with this number, or from none: newer ones, which were never
